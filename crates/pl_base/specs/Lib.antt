@@ -1,0 +1,10 @@
+pub mod Address
+pub mod Date
+pub mod Frecency
+pub mod Marks
+pub mod Redirects
+pub mod Refusal
+pub mod Store
+pub mod Tables
+pub mod Transition
+pub mod Visits

@@ -1,0 +1,40 @@
+-- Visits that came by a redirect, and visits that led to one.
+use Rattle.std.specs.Prelude.{◌&&◌, ◌==◌, Bool, true, false, Option, Some, None, if◌then◌else◌}
+use Rattle.std.specs.List.{list_any, find}
+use Rattle.std.specs.Option.{option_and_then, option_map}
+use Rattle.pl_base.specs.declared.id.VisitId.{VisitId}
+use Rattle.pl_base.specs.declared.transition.Transition.{Transition}
+use Rattle.pl_base.specs.declared.transition.Transition.TheVariants.{Link, Typed, Bookmark, Embed, RedirectPermanent, RedirectTemporary, Download, FramedLink, Reload}
+use Rattle.pl_base.specs.Store.{Store, Visit}
+
+abbrev pub is_redirect : Transition → Bool
+is_redirect RedirectPermanent = true
+is_redirect RedirectTemporary = true
+is_redirect Link = false
+is_redirect Typed = false
+is_redirect Bookmark = false
+is_redirect Embed = false
+is_redirect Download = false
+is_redirect FramedLink = false
+is_redirect Reload = false
+
+-- the visit with this id
+abbrev pub visit_at : Store → VisitId → Option Visit
+visit_at store id = find (λ v. v.id.0 == id.0) store.visits
+
+abbrev pub transition_at : Store → VisitId → Option Transition
+transition_at store id = option_map (λ (v : Visit). v.transition) (visit_at store id)
+
+-- the transition of the visit that a redirect came from
+abbrev pub source_transition : Store → Visit → Option Transition
+source_transition store v =
+    if is_redirect v.transition then option_and_then (transition_at store) v.source else None
+
+abbrev pub came_from : Visit → Option VisitId → Bool
+came_from v None = false
+came_from v (Some source) = source.0 == v.id.0
+
+-- some redirect came from the visit
+abbrev pub is_redirect_source : Store → Visit → Bool
+is_redirect_source store v =
+    list_any (λ w. is_redirect w.transition && came_from v w.source) store.visits

@@ -1,0 +1,15 @@
+-- How a visit came about: the transition types of Mozilla's nsINavHistoryService, by their numbers.
+use Rattle.std.specs.Prelude.{ℕ}
+use Rattle.pl_base.specs.declared.transition.Transition.{Transition}
+use Rattle.pl_base.specs.declared.transition.Transition.TheVariants.{Link, Typed, Bookmark, Embed, RedirectPermanent, RedirectTemporary, Download, FramedLink, Reload}
+
+abbrev pub transition_number : Transition → ℕ
+transition_number Link = 1
+transition_number Typed = 2
+transition_number Bookmark = 3
+transition_number Embed = 4
+transition_number RedirectPermanent = 5
+transition_number RedirectTemporary = 6
+transition_number Download = 7
+transition_number FramedLink = 8
+transition_number Reload = 9

@@ -1,0 +1,36 @@
+ghost use Rattle.std.specs.Prelude.{◌≡◌};
+ghost use Rattle.pl_base.specs.Refusal.{refusal_number};
+
+use crate::IdKind;
+use thiserror::Error;
+
+/// Why a command was refused. A refused command changes nothing.
+#[derive(Clone, Copy, Debug, PartialEq, Eq, Error)]
+pub enum Refusal {
+    /// The address is no URL of the store.
+    #[error("no URL of the store")]
+    BadUrl,
+    /// Visits to this scheme are not recorded.
+    #[error("visits to this scheme are not recorded")]
+    NotRecorded,
+    /// The next id of this kind is the one that is never given.
+    #[error("no id is left")]
+    NoIds(IdKind),
+    /// The line is no command. Columns count its bytes from 1.
+    #[error("no command, at column {0}")]
+    BadLine(u32),
+}
+
+impl Refusal {
+    /// The number by which replies name the refusal.
+    pub fn number(&self) -> u8
+        ensures { result ≡ refusal_number self.now }
+    {
+        match self {
+            Refusal::BadUrl => 1,
+            Refusal::NotRecorded => 2,
+            Refusal::NoIds(_) => 13,
+            Refusal::BadLine(_) => 14,
+        }
+    }
+}

@@ -1,0 +1,43 @@
+ghost use Rattle.std.specs.Prelude.{◌≡◌, ◌<◌, ◌↔◌, IsSome, IfSome};
+ghost use Rattle.pl_base.specs.Transition.{transition_number};
+
+/// How a visit came about, by the numbers of `nsINavHistoryService`.
+#[derive(Clone, Copy, Debug, PartialEq, Eq, Hash)]
+pub enum Transition {
+    Link = 1,
+    Typed = 2,
+    Bookmark = 3,
+    Embed = 4,
+    RedirectPermanent = 5,
+    RedirectTemporary = 6,
+    Download = 7,
+    FramedLink = 8,
+    Reload = 9,
+}
+
+impl Transition {
+    /// The transition with this number.
+    pub fn from_number(number: u8) -> Option<Self>
+        ensures known { IsSome result ↔ ((0 < number) × (number < 10)) }
+        ensures numbered { IfSome result (λ transition. transition_number transition ≡ number) }
+    {
+        match number {
+            1 => Some(Transition::Link),
+            2 => Some(Transition::Typed),
+            3 => Some(Transition::Bookmark),
+            4 => Some(Transition::Embed),
+            5 => Some(Transition::RedirectPermanent),
+            6 => Some(Transition::RedirectTemporary),
+            7 => Some(Transition::Download),
+            8 => Some(Transition::FramedLink),
+            9 => Some(Transition::Reload),
+            _ => None,
+        }
+    }
+
+    pub fn number(self) -> u8
+        ensures { result ≡ transition_number self }
+    {
+        self as u8
+    }
+}
