@@ -27,7 +27,7 @@ visited_frecency total sampled count =
 -- the frecency of a page without such visits, by whether it is in the tree, was typed, and is a query
 abbrev pub unvisited_frecency : Bool → Bool → Bool → ℤ
 unvisited_frecency referenced typed place =
-    if place || not referenced then pos 0 else if typed then pos 340 else pos 140
+    if not referenced || place then pos 0 else if typed then pos 340 else pos 140
 
 -- a frecency from what the sample adds together, its length, the `visit_count` and the page's marks
 abbrev pub frecency_from : ℕ → ℕ → ℕ → Bool → Bool → Bool → ℤ

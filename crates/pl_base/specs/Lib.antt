@@ -1,6 +1,7 @@
 pub mod Address
 pub mod Date
 pub mod Frecency
+pub mod Good
 pub mod Marks
 pub mod Redirects
 pub mod Refusal

@@ -1,0 +1,2 @@
+mod AddressRows
+mod WorkedRows

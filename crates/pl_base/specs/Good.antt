@@ -1,0 +1,124 @@
+-- What holds of every store that the program makes or opens.
+use Rattle.std.specs.Prelude.{◌≡◌, ◌≢◌, ◌↔◌, ℕ, ◌+◌, ◌-◌, ◌<◌, ◌≤◌, ◌==◌, ◌||◌, not, Bool, List, [], ◌∷◌, length, map, slice_index, chars, encode_utf8_all, Option, Some, None, IfSome, IsSome, IsSomeAnd, IsTrue}
+use Rattle.std.specs.List.{All, AllPairs, filter_map, find, flat_map, list_any, range_with_len}
+use Rattle.std.specs.List.Sorted.{IsPermutation, IsStrictlyIncreasing}
+use Rattle.std.specs.Str.{IsUtf8}
+use Rattle.caseless.specs.Caseless.{default_case_fold}
+use Rattle.pl_base.specs.declared.id.ItemId.{ItemId}
+use Rattle.pl_base.specs.declared.id.PageId.{PageId}
+use Rattle.pl_base.specs.declared.transition.Transition.TheVariants.{Typed}
+use Rattle.pl_base.specs.Address.{canon}
+use Rattle.pl_base.specs.Date.{IsDate, IsDay}
+use Rattle.pl_base.specs.Marks.{is_referenced}
+use Rattle.pl_base.specs.Redirects.{visit_at}
+use Rattle.pl_base.specs.Store.{Store, Page, Visit, Item, bookmark, folder, root_folder, top_folders}
+
+-- ids ascend, are given from 1 on, and lie below the next one, which is at least `first`; the id
+-- 4,294,967,295 is never given
+pub record AreIds (first next : ℕ) (ids : List ℕ) : Type 0 where
+  pub ascending : IsStrictlyIncreasing ids
+  pub given : All (λ id. (0 < id) × (id < next)) ids
+  pub next_first : first ≤ next
+  pub next_last : next ≤ 4_294_967_295
+
+-- a text of at most 4,096 bytes
+abbrev pub IsTitle : List ℕ → Type 0
+IsTitle title = IsUtf8 title × (length title ≤ 4096)
+
+abbrev pub has_page_at : Store → PageId → Bool
+has_page_at store id = list_any (λ (p : Page). p.id.0 == id.0) store.pages
+
+abbrev pub is_visited : Store → PageId → Bool
+is_visited store id = list_any (λ (v : Visit). v.page.0 == id.0) store.visits
+
+-- a page has a URL of the store, stands there by a visit or an item, and is typed if a visit to it was
+pub record IsGoodPage (store : Store) (p : Page) : Type 0 where
+  pub url : canon p.url ≡ Some p.url
+  pub title : IsTitle p.title
+  pub typed : All (λ (v : Visit). v.page ≡ p.id → v.transition ≡ Typed → IsTrue p.typed) store.visits
+  pub kept : IsTrue (is_visited store p.id || is_referenced store p.id)
+
+-- a visit has a page, and as its source, if any, an earlier visit
+pub record IsGoodVisit (store : Store) (v : Visit) : Type 0 where
+  pub date : IsDate v.date
+  pub page : IsTrue (has_page_at store v.page)
+  pub source : IfSome v.source (λ id. (id.0 < v.id.0) × IsSome (visit_at store id))
+
+-- an item has a page exactly where it is a bookmark, and children only where it is a folder
+pub record IsGoodItem (store : Store) (i : Item) : Type 0 where
+  pub title : IsTitle i.title
+  pub added : IsDate i.added
+  pub modified : IsDate i.modified
+  pub bookmark : IsSome i.page ↔ (i.kind ≡ bookmark)
+  pub page : IfSome i.page (λ id. IsTrue (has_page_at store id))
+  pub children : i.children ≢ [] → i.kind ≡ folder
+
+-- ---- the bookmark tree
+
+abbrev pub item_at : Store → ItemId → Option Item
+item_at store id = find (λ (i : Item). i.id.0 == id.0) store.items
+
+abbrev children_in : Store → Option Item → List Item
+children_in store None = []
+children_in store (Some i) = filter_map (item_at store) i.children
+
+-- the children of an item, and none where there is no such item
+abbrev pub children_of : Store → ItemId → List Item
+children_of store id = children_in store (item_at store id)
+
+-- the items are one tree: all but item 1 are a child once, and each child lies one deeper than its parent
+pub record IsTree (items : List Item) : Type 0 where
+  pub one_parent : IsPermutation (map (λ (i : Item). i.id.0) items) (1 ∷ flat_map (λ (i : Item). map (λ (c : ItemId). c.0) i.children) items)
+  pub depth : ℕ → ℕ
+  pub deeper : All (λ (i : Item). All (λ (c : ItemId). depth c.0 ≡ depth i.id.0 + 1) i.children) items
+
+-- the six roots stand as they stood at first, but for the children of 2 to 6
+pub record HasRoots (store : Store) : Type 0 where
+  pub root : item_at store (record { 0 = 1 }) ≡ Some (root_folder 1 top_folders)
+  pub top : All (λ n. IsSomeAnd (item_at store (record { 0 = n })) (λ i. i ≡ root_folder n i.children)) (range_with_len 2 5)
+
+-- ---- tags
+
+abbrev pub is_blank : ℕ → Bool
+is_blank b = (b == 9) || (b == 10) || (b == 12) || (b == 13) || (b == 32)
+
+-- a text of 1 to 100 bytes with no comma and no blank at either end
+pub record IsTagName (name : List ℕ) : Type 0 where
+  pub text : IsUtf8 name
+  pub some : 0 < length name
+  pub few : length name ≤ 100
+  pub no_comma : All (λ b. b ≢ 44) name
+  pub no_blank_before : IsTrue (not (is_blank (slice_index name 0)))
+  pub no_blank_after : IsTrue (not (is_blank (slice_index name (length name - 1))))
+
+-- the text with its case folded, by which names are compared
+abbrev pub folded : List ℕ → List ℕ
+folded text = encode_utf8_all (default_case_fold (chars text))
+
+-- a tag folder is named by the tag, and holds a bookmark without a title for each page that has it
+pub record IsTagFolder (store : Store) (tag : Item) : Type 0 where
+  pub kind : tag.kind ≡ folder
+  pub name : IsTagName tag.title
+  pub used : tag.children ≢ []
+  pub entries : All (λ (i : Item). (i.kind ≡ bookmark) × (i.title ≡ [])) (children_of store tag.id)
+  pub pages : AllPairs (λ (i j : Item). i.page ≢ j.page) (children_of store tag.id)
+
+-- the children of the tags root, item 4, are tag folders, and no two have the same name
+pub record HasTags (store : Store) : Type 0 where
+  pub folders : All (IsTagFolder store) (children_of store (record { 0 = 4 }))
+  pub names : AllPairs (λ (a b : Item). folded a.title ≢ folded b.title) (children_of store (record { 0 = 4 }))
+
+-- ---- the whole
+
+pub record IsGood (store : Store) : Type 0 where
+  pub day : IsDay store.day
+  pub page_ids : AreIds 1 store.ids.page (map (λ (p : Page). p.id.0) store.pages)
+  pub visit_ids : AreIds 1 store.ids.visit (map (λ (v : Visit). v.id.0) store.visits)
+  pub item_ids : AreIds 7 store.ids.item (map (λ (i : Item). i.id.0) store.items)
+  pub pages : All (IsGoodPage store) store.pages
+  pub urls : AllPairs (λ (p q : Page). p.url ≢ q.url) store.pages
+  pub visits : All (IsGoodVisit store) store.visits
+  pub items : All (IsGoodItem store) store.items
+  pub roots : HasRoots store
+  pub tree : IsTree store.items
+  pub tags : HasTags store
