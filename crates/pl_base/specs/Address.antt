@@ -77,3 +77,11 @@ unrecorded_schemes =
 -- visits to the address are recorded
 abbrev pub is_recorded : Parts → Bool
 is_recorded url = not (list_any (bytes_eq url.scheme) unrecorded_schemes)
+
+abbrev is_unrecorded_record : Parsed Parts → Bool
+is_unrecorded_record (Ok url) = not (is_recorded url)
+is_unrecorded_record (Err e) = false
+
+-- the text is an address whose visits are not recorded
+abbrev pub is_unrecorded_url : List ℕ → Bool
+is_unrecorded_url text = is_unrecorded_record (record_of text)

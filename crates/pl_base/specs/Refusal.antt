@@ -1,5 +1,7 @@
 -- The numbers by which replies name refusals.
-use Rattle.std.specs.Prelude.{ℕ}
+use Rattle.std.specs.Prelude.{ℕ, List, [], ◌∷◌}
+use Rattle.pl_base.specs.declared.id.IdKind.{IdKind}
+use Rattle.pl_base.specs.declared.id.IdKind.TheVariants.{Page, Visit, Item}
 use Rattle.pl_base.specs.declared.refusal.Refusal.{Refusal}
 use Rattle.pl_base.specs.declared.refusal.Refusal.TheVariants.{BadUrl, NotRecorded, NoIds, BadLine}
 
@@ -8,3 +10,15 @@ refusal_number BadUrl = 1
 refusal_number NotRecorded = 2
 refusal_number (NoIds kind) = 13
 refusal_number (BadLine column) = 14
+
+abbrev pub kind_number : IdKind → ℕ
+kind_number Page = 1
+kind_number Visit = 2
+kind_number Item = 3
+
+-- the values that a refusal tells besides
+abbrev pub refusal_values : Refusal → List ℕ
+refusal_values BadUrl = []
+refusal_values NotRecorded = []
+refusal_values (NoIds kind) = kind_number kind ∷ []
+refusal_values (BadLine column) = column ∷ []

@@ -1,5 +1,6 @@
 -- How a visit came about: the transition types of Mozilla's nsINavHistoryService, by their numbers.
-use Rattle.std.specs.Prelude.{ℕ}
+use Rattle.std.specs.Prelude.{ℕ, List, [], ◌∷◌, ◌==◌, Option}
+use Rattle.std.specs.List.{find}
 use Rattle.pl_base.specs.declared.transition.Transition.{Transition}
 use Rattle.pl_base.specs.declared.transition.Transition.TheVariants.{Link, Typed, Bookmark, Embed, RedirectPermanent, RedirectTemporary, Download, FramedLink, Reload}
 
@@ -13,3 +14,12 @@ transition_number RedirectTemporary = 6
 transition_number Download = 7
 transition_number FramedLink = 8
 transition_number Reload = 9
+
+abbrev pub transitions : List Transition
+transitions =
+    Link ∷ Typed ∷ Bookmark ∷ Embed ∷ RedirectPermanent ∷ RedirectTemporary ∷ Download ∷ FramedLink
+    ∷ Reload ∷ []
+
+-- the transition with this number
+abbrev pub transition_at : ℕ → Option Transition
+transition_at n = find (λ t. transition_number t == n) transitions

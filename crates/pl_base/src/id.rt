@@ -1,3 +1,6 @@
+ghost use Rattle.std.specs.Prelude.{◌≡◌};
+ghost use Rattle.pl_base.specs.Refusal.{kind_number};
+
 /// Names a page. Ids are at least 1 and are never used again.
 #[derive(Clone, Copy, Debug, PartialEq, Eq, PartialOrd, Ord, Hash)]
 pub struct PageId(pub u32);
@@ -36,4 +39,13 @@ pub enum IdKind {
     Page = 1,
     Visit = 2,
     Item = 3,
+}
+
+impl IdKind {
+    /// The number by which replies name the kind.
+    pub fn number(self) -> u8
+        ensures { result ≡ kind_number self }
+    {
+        self as u8
+    }
 }

@@ -1,5 +1,5 @@
-ghost use Rattle.std.specs.Prelude.{◌≡◌, ◌<◌, ◌↔◌, IsSome, IfSome};
-ghost use Rattle.pl_base.specs.Transition.{transition_number};
+ghost use Rattle.std.specs.Prelude.{◌≡◌};
+ghost use Rattle.pl_base.specs.Transition.{transition_number, transition_at};
 
 /// How a visit came about, by the numbers of `nsINavHistoryService`.
 #[derive(Clone, Copy, Debug, PartialEq, Eq, Hash)]
@@ -17,9 +17,8 @@ pub enum Transition {
 
 impl Transition {
     /// The transition with this number.
-    pub fn from_number(number: u8) -> Option<Self>
-        ensures known { IsSome result ↔ ((0 < number) × (number < 10)) }
-        ensures numbered { IfSome result (λ transition. transition_number transition ≡ number) }
+    pub fn from_number(number: u64) -> Option<Self>
+        ensures { result ≡ transition_at number }
     {
         match number {
             1 => Some(Transition::Link),

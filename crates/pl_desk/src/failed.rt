@@ -1,0 +1,6 @@
+use thiserror::Error;
+
+/// A call of the outside failed.
+#[derive(Clone, Copy, Debug, PartialEq, Eq, Error)]
+#[error("a call of the outside failed")]
+pub struct Failed;

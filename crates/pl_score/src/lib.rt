@@ -1,0 +1,9 @@
+//! The frecency of a page by a sample of its visits, after the classic algorithm of Mozilla Places
+//! with the defaults of its preferences.
+#![tactic(auto)]
+
+mod sample;
+mod table;
+
+pub use sample::{Sampled, score};
+pub use table::{bonus, weight};

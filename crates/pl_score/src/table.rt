@@ -1,0 +1,107 @@
+ghost use Rattle.std.specs.Prelude.{◌≡◌, ◌≤◌};
+ghost use Rattle.pl_base.specs.Tables.{weight_of, transition_bonus, bonus_of};
+
+use pl_base::Transition;
+
+/// What a visit that led to a redirect counts.
+const REDIRECT_SOURCE_BONUS: u32 = 25;
+
+/// What each visit counts more where the bookmark tree refers to its page.
+const REFERENCED_BONUS: u32 = 75;
+
+/// The weight of a visit of this age in days, from 10 to 100. The age of a visit on a later day is
+/// negative.
+pub fn weight(age: i64) -> u32
+    ensures { result ≡ weight_of age }
+{
+    match age {
+        ..=4 => 100,
+        5..=14 => 70,
+        15..=31 => 50,
+        32..=90 => 30,
+        _ => 10,
+    }
+}
+
+/// What a visit counts, by its own transition, the transition of the visit that it came from by a
+/// redirect, whether it led to a redirect itself, and whether the bookmark tree refers to its page.
+pub fn bonus(own: Transition, source: Option<Transition>, is_source: bool, referenced: bool) -> u32
+    ensures exact { result ≡ bonus_of own source is_source referenced }
+    ensures greatest { result ≤ 2075 }
+{
+    let visited = if is_source {
+        REDIRECT_SOURCE_BONUS
+    } else {
+        transition_bonus(source.unwrap_or(own))
+    };
+    if referenced {
+        visited + REFERENCED_BONUS
+    } else {
+        visited
+    }
+}
+
+fn transition_bonus(transition: Transition) -> u32
+    ensures exact { result ≡ transition_bonus transition }
+    ensures greatest { result ≤ 2000 }
+{
+    match transition {
+        Transition::Link => 100,
+        Transition::Typed => 2000,
+        Transition::Bookmark => 75,
+        Transition::RedirectPermanent => 50,
+        Transition::RedirectTemporary => 40,
+        Transition::Embed | Transition::Download | Transition::FramedLink | Transition::Reload => 0,
+    }
+}
+
+#[cfg(test)]
+mod tests {
+    use super::*;
+    use pl_base::Transition::*;
+
+    #[test]
+    fn weights(rt: HostRuntime) {
+        let cases = [
+            (-3, 100),
+            (4, 100),
+            (5, 70),
+            (14, 70),
+            (15, 50),
+            (31, 50),
+            (32, 30),
+            (90, 30),
+            (91, 10),
+        ];
+        for (age, want) in cases {
+            assert_eq!(rt; weight(age), want, "at {age} days");
+        }
+    }
+
+    #[test]
+    fn bonuses(rt: HostRuntime) {
+        let cases = [
+            (Link, None, false, false, 100),
+            (Typed, None, false, false, 2000),
+            (Typed, None, false, true, 2075),
+            (Bookmark, None, false, false, 75),
+            (Bookmark, None, false, true, 150),
+            (Embed, None, false, false, 0),
+            (RedirectPermanent, None, false, false, 50),
+            (RedirectPermanent, Some(Typed), false, false, 2000),
+            (RedirectPermanent, Some(RedirectTemporary), false, true, 115),
+            (RedirectPermanent, Some(Typed), true, false, 25),
+            (RedirectTemporary, None, false, false, 40),
+            (RedirectTemporary, Some(Reload), false, false, 0),
+            (Download, None, false, false, 0),
+            (FramedLink, None, false, false, 0),
+            (Reload, None, false, false, 0),
+            (Link, None, true, false, 25),
+            (Link, None, true, true, 100),
+        ];
+        for (own, source, is_source, referenced, want) in cases {
+            let got = bonus(own, source, is_source, referenced);
+            assert_eq!(rt; got, want, "{own:?} {source:?} {is_source} {referenced}");
+        }
+    }
+}
