@@ -2,11 +2,10 @@
 use Rattle.std.specs.Prelude.{ℕ, ◌/◌, ◌≤◌}
 use Rattle.pl_base.specs.declared.date.Micros.{Micros}
 use Rattle.pl_base.specs.declared.date.Day.{Day}
-use Rattle.pl_base.specs.declared.date.TheConstants.{MICROS_PER_DAY}
 
 -- the day on which a date lies
 abbrev pub day_number : Micros → ℕ
-day_number date = date.0 / MICROS_PER_DAY
+day_number date = date.0 / 86_400_000_000
 
 -- 9999-12-31 is the last day, and its last microsecond the last date
 abbrev pub IsDate : Micros → Type 0
