@@ -1,0 +1,243 @@
+-- A run goes on by the bytes of its input.
+use Rattle.std.proofs.Common.{◌≡◌, ◌≢◌, ⊎_elim, ◌<◌, ◌≤◌, ◌+◌, ◌-◌, ℕ, List, [], ◌∷◌, ◌++◌, length, take, drop, Some, None, Option, option_to_list, refl, ap, sym, ◌∙◌, append_assoc, append-nil, arith, length-append, get_or, add-one, drop-cons}
+use Rattle.std.specs.Option.{option_map}
+use Rattle.std.specs.List.{flat_map}
+use Rattle.std.specs.Str.Lines.{strip_carriage_return}
+use Rattle.std.proofs.lemmas.Grind.{flat_map-append}
+use Rattle.std.proofs.lemmas.Bool.{cases_eq}
+use Rattle.std.proofs.lemmas.List.{length-take, take-append-drop, take-append-le, take_all}
+use Rattle.pl_base.specs.Store.{Store, opening}
+use Rattle.places.specs.declared.answer.AnswerError.{AnswerError}
+use Rattle.places.specs.declared.answer.AnswerError.TheVariants.{SayFault, NoMemory}
+use Rattle.places.specs.declared.command.Command.{Command}
+use Rattle.places.specs.declared.reply.Reply.{Reply}
+use Rattle.places.specs.declared.script_run.ScriptRun.{ScriptRun}
+use Rattle.places.specs.Lines.{ended_lines, entries_of, entries_in, open_line}
+use Rattle.places.specs.Plain.{store_of}
+use Rattle.places.specs.Progress.{IsAt, StoppedAt, ended_entries}
+use Rattle.places.specs.Reply.{reply_text}
+use Rattle.places.specs.Run.{replies, after}
+use Rattle.places.specs.Said.{Says, SaysOfAnswer, SaysPart, SaysUntil, SaysWhole, texts}
+use Rattle.places.specs.Script.{Parsed, entry, script}
+use Rattle.places.specs.Step.{step}
+use Rattle.places.proofs.LineLemmas.{ended_lines-lf, ended_lines-on, entries_of-append, entries_of-one, open_line-lf, open_line-on, script-is}
+use Rattle.places.proofs.LongLines.{entry-kept, entry-kept_stripped}
+use Rattle.places.proofs.SaidLemmas.{says_more}
+
+-- ---- runs, one after another
+
+replies-append : (store : Store) (xs ys : List (Parsed Command)) → replies store (xs ++ ys) ≡ replies store xs ++ replies (after store xs) ys
+replies-append store [] ys = refl
+replies-append store (x ∷ xs) ys = ap (λ rest. (step store x).0 ∷ rest) (replies-append (step store x).1 xs ys)
+
+after-append : (store : Store) (xs ys : List (Parsed Command)) → after store (xs ++ ys) ≡ after (after store xs) ys
+after-append store [] ys = refl
+after-append store (x ∷ xs) ys = after-append (step store x).1 xs ys
+
+texts-append : (store : Store) (xs ys : List (Parsed Command)) → texts (replies store (xs ++ ys)) ≡ texts (replies store xs) ++ texts (replies (after store xs) ys)
+texts-append store xs ys =
+    ap texts (replies-append store xs ys) ∙ flat_map-append reply_text (replies store xs) (replies (after store xs) ys)
+
+-- ---- answers behind what was answered
+
+says_further : (xs ys : List (Parsed Command)) (store : Store) (begun said now : Option (List ℕ)) → store ≡ after opening xs → Says begun (texts (replies opening xs)) said → Says said (texts (replies store ys)) now → Says begun (texts (replies opening (xs ++ ys))) now
+says_further xs ys store begun said now at before more =
+    rw (texts-append opening xs ys, ← at) (says_more _ _ _ _ _ before more)
+
+part_of_answer : (xs : List (Parsed Command)) (found : Option (Parsed Command)) (begun said now : Option (List ℕ)) → Says begun (texts (replies opening xs)) said → SaysOfAnswer SayFault (replies (after opening xs) (option_to_list found)) said now → StoppedAt SayFault (xs ++ option_to_list found) begun now
+part_of_answer xs None begun said now before (n, below, more) = absurd (omega arith)
+part_of_answer xs (Some e) begun said now before (n, below, more) =
+    let reply = (step (after opening xs) e).0 in
+    let one : texts (reply ∷ []) ≡ reply_text reply = append-nil (reply_text reply) in
+    record {
+      piece = texts (replies opening xs) ++ take n (reply_text reply);
+      text = says_more _ _ _ _ _ before (rw one at more);
+      until = record {
+        answered = replies opening xs;
+        next = reply;
+        more = [];
+        part = n;
+        order = replies-append opening xs (e ∷ []);
+        proper = rw one at below;
+        text = refl;
+      };
+    }
+
+stopped_answer : (error : AnswerError) (xs : List (Parsed Command)) (found : Option (Parsed Command)) (begun said now : Option (List ℕ)) → Says begun (texts (replies opening xs)) said → SaysOfAnswer error (replies (after opening xs) (option_to_list found)) said now → StoppedAt error (xs ++ option_to_list found) begun now
+stopped_answer SayFault xs found begun said now before part = part_of_answer xs found begun said now before part
+stopped_answer NoMemory xs found begun said now before same = record {
+  piece = texts (replies opening xs);
+  text = same ∙ before;
+  until = record {
+    answered = replies opening xs;
+    more = replies (after opening xs) (option_to_list found);
+    order = replies-append opening xs (option_to_list found);
+    text = refl;
+  };
+}
+
+-- what was said at a stop is so of more entries too
+stopped_part : (rs more : List Reply) (piece : List ℕ) → SaysPart rs piece → SaysPart (rs ++ more) piece
+stopped_part rs more piece part = record {
+  answered = part.answered;
+  next = part.next;
+  more = part.more ++ more;
+  part = part.part;
+  order = ap (λ all. all ++ more) part.order ∙ append_assoc part.answered (part.next ∷ part.more) more;
+  proper = part.proper;
+  text = part.text;
+}
+
+stopped_whole : (rs more : List Reply) (piece : List ℕ) → SaysWhole rs piece → SaysWhole (rs ++ more) piece
+stopped_whole rs more piece whole = record {
+  answered = whole.answered;
+  more = whole.more ++ more;
+  order = ap (λ all. all ++ more) whole.order ∙ append_assoc whole.answered whole.more more;
+  text = whole.text;
+}
+
+until_further : (error : AnswerError) (rs more : List Reply) (piece : List ℕ) → SaysUntil error rs piece → SaysUntil error (rs ++ more) piece
+until_further SayFault rs more piece until = stopped_part rs more piece until
+until_further NoMemory rs more piece until = stopped_whole rs more piece until
+
+pub stopped_further : (error : AnswerError) (xs ys : List (Parsed Command)) (begun said : Option (List ℕ)) → StoppedAt error xs begun said → StoppedAt error (xs ++ ys) begun said
+stopped_further error xs ys begun said stopped = record {
+  piece = stopped.piece;
+  text = stopped.text;
+  until =
+      rw (replies-append opening xs ys)
+      (until_further error (replies opening xs) (replies (after opening xs) ys) stopped.piece stopped.until);
+}
+
+-- ---- lines
+
+ended_lf : (bytes : List ℕ) → ended_entries (bytes ++ 10 ∷ []) ≡ ended_entries bytes ++ entries_in (strip_carriage_return (open_line bytes))
+ended_lf bytes =
+    ap entries_of (ended_lines-lf bytes)
+    ∙ entries_of-append (ended_lines bytes) (strip_carriage_return (open_line bytes) ∷ [])
+    ∙ ap (λ more. ended_entries bytes ++ more) (entries_of-one (strip_carriage_return (open_line bytes)))
+
+ended_on : (bytes : List ℕ) (b : ℕ) → b ≢ 10 → ended_entries (bytes ++ b ∷ []) ≡ ended_entries bytes
+ended_on bytes b on = ap entries_of (ended_lines-on bytes b on)
+
+kept_stripped : (bytes kept line : List ℕ) → kept ≡ take 262_146 (open_line bytes) → line ≡ strip_carriage_return kept → entries_in line ≡ entries_in (strip_carriage_return (open_line bytes))
+kept_stripped bytes kept line is stripped =
+    ap entries_in stripped ∙ ap (λ l. entries_in (strip_carriage_return l)) is ∙ ap option_to_list (entry-kept_stripped (open_line bytes))
+
+kept_open : (bytes kept : List ℕ) → kept ≡ take 262_146 (open_line bytes) → entries_in kept ≡ entries_in (open_line bytes)
+kept_open bytes kept is = ap entries_in is ∙ ap option_to_list (entry-kept (open_line bytes))
+
+-- ---- the steps of a run
+
+pub line_ended : (bytes line : List ℕ) (begun said now : Option (List ℕ)) (old new : ScriptRun) → IsAt bytes begun old said → line ≡ strip_carriage_return old.line.items → store_of new.store ≡ after (store_of old.store) (entries_in line) → new.line.items ≡ [] → Says said (texts (replies (store_of old.store) (entries_in line))) now → IsAt (bytes ++ 10 ∷ []) begun new now
+line_ended bytes line begun said now old new at is store empty says =
+    let same = kept_stripped bytes old.line.items line at.line is in
+    let more = entries_in (strip_carriage_return (open_line bytes)) in
+    record {
+      store = rw (ended_lf bytes, after-append opening (ended_entries bytes) more, ← at.store, ← same) store;
+      line = rw (open_line-lf bytes) empty;
+      text = rw (ended_lf bytes) (says_further (ended_entries bytes) more (store_of old.store) begun said now at.store at.text (rw same at says));
+    }
+
+pub line_stopped : (error : AnswerError) (bytes line : List ℕ) (begun said now : Option (List ℕ)) (old : ScriptRun) → IsAt bytes begun old said → line ≡ strip_carriage_return old.line.items → SaysOfAnswer error (replies (store_of old.store) (entries_in line)) said now → StoppedAt error (ended_entries (bytes ++ 10 ∷ [])) begun now
+line_stopped error bytes line begun said now old at is says =
+    rw (ended_lf bytes)
+    (stopped_answer error (ended_entries bytes) (entry (strip_carriage_return (open_line bytes))) begun said now at.text
+    (rw (at.store, kept_stripped bytes old.line.items line at.line is) at says))
+
+-- of a line of fewer bytes than may be kept all are kept, and of a longer one no more
+keeps_all : (n : ℕ) (line kept : List ℕ) (b : ℕ) → kept ≡ take n line → length kept < n → kept ++ b ∷ [] ≡ take n (line ++ b ∷ [])
+keeps_all n line kept b is short =
+    let long = length-take n line in
+    let kept_len = ap length is in
+    let more = length-append line (b ∷ []) in
+    let all : take n line ≡ line = take_all n line (omega arith) in
+    ap (λ l. l ++ b ∷ []) (is ∙ all) ∙ sym (take_all n (line ++ b ∷ []) (omega arith))
+
+keeps_front : (n : ℕ) (line kept : List ℕ) (b : ℕ) → kept ≡ take n line → n ≤ length kept → kept ≡ take n (line ++ b ∷ [])
+keeps_front n line kept b is long =
+    let all = length-take n line in
+    let kept_len = ap length is in
+    is ∙ sym (take-append-le n line (b ∷ []) (omega arith))
+
+pub line_kept : (bytes : List ℕ) (b : ℕ) (begun said : Option (List ℕ)) (old new : ScriptRun) → IsAt bytes begun old said → b ≢ 10 → new.store ≡ old.store → length old.line.items < 262_146 → new.line.items ≡ old.line.items ++ b ∷ [] → IsAt (bytes ++ b ∷ []) begun new said
+line_kept bytes b begun said old new at on store short pushed =
+    record {
+      store = rw (ended_on bytes b on, store) at.store;
+      line =
+          pushed ∙ keeps_all 262_146 (open_line bytes) old.line.items b at.line short
+          ∙ ap (take 262_146) (sym (open_line-on bytes b on));
+      text = rw (ended_on bytes b on) at.text;
+    }
+
+pub line_passed : (bytes : List ℕ) (b : ℕ) (begun said : Option (List ℕ)) (run : ScriptRun) → IsAt bytes begun run said → b ≢ 10 → 262_146 ≤ length run.line.items → IsAt (bytes ++ b ∷ []) begun run said
+line_passed bytes b begun said run at on long = record {
+  store = rw (ended_on bytes b on) at.store;
+  line =
+      keeps_front 262_146 (open_line bytes) run.line.items b at.line long
+      ∙ ap (take 262_146) (sym (open_line-on bytes b on));
+  text = rw (ended_on bytes b on) at.text;
+}
+
+pub finished : (bytes line : List ℕ) (begun said now : Option (List ℕ)) (run : ScriptRun) → IsAt bytes begun run said → line ≡ run.line.items → Says said (texts (replies (store_of run.store) (entries_in line))) now → Says begun (texts (replies opening (script bytes))) now
+finished bytes line begun said now run at is says =
+    let same = ap entries_in is ∙ kept_open bytes run.line.items at.line in
+    rw (script-is bytes) (says_further (ended_entries bytes) (entries_in (open_line bytes)) (store_of run.store) begun said now at.store at.text (rw same at says))
+
+pub finish_stopped : (error : AnswerError) (bytes line : List ℕ) (begun said now : Option (List ℕ)) (run : ScriptRun) → IsAt bytes begun run said → line ≡ run.line.items → SaysOfAnswer error (replies (store_of run.store) (entries_in line)) said now → StoppedAt error (script bytes) begun now
+finish_stopped error bytes line begun said now run at is says =
+    rw (script-is bytes)
+    (stopped_answer error (ended_entries bytes) (entry (open_line bytes)) begun said now at.text
+    (rw (at.store, ap entries_in is ∙ kept_open bytes run.line.items at.line) at says))
+
+-- ---- more of the input
+
+one_further : (bytes : List ℕ) (b : ℕ) → (ys : List (Parsed Command)) × (ended_entries (bytes ++ b ∷ []) ≡ ended_entries bytes ++ ys)
+one_further bytes b =
+    ⊎_elim
+    (λ lf. (entries_in (strip_carriage_return (open_line bytes)), ap (λ c. ended_entries (bytes ++ c ∷ [])) lf ∙ ended_lf bytes))
+    (λ on. ([], ended_on bytes b on ∙ sym (append-nil (ended_entries bytes))))
+    (cases_eq b 10)
+
+pub ended_further : (bytes piece : List ℕ) → (ys : List (Parsed Command)) × (ended_entries (bytes ++ piece) ≡ ended_entries bytes ++ ys)
+ended_further bytes [] = ([], ap ended_entries (append-nil bytes) ∙ sym (append-nil (ended_entries bytes)))
+ended_further bytes (b ∷ piece) =
+    let one = one_further bytes b in
+    let rest = ended_further (bytes ++ b ∷ []) piece in
+    (one.0 ++ rest.0, ap ended_entries (sym (append_assoc bytes (b ∷ []) piece)) ∙ rest.1 ∙ ap (λ xs. xs ++ rest.0) one.1 ∙ append_assoc (ended_entries bytes) one.0 rest.0)
+
+pub stopped_later : (error : AnswerError) (bytes piece : List ℕ) (begun said : Option (List ℕ)) → StoppedAt error (ended_entries bytes) begun said → StoppedAt error (ended_entries (bytes ++ piece)) begun said
+stopped_later error bytes piece begun said stopped =
+    let further = ended_further bytes piece in
+    rw further.1 (stopped_further error (ended_entries bytes) further.0 begun said stopped)
+
+-- a run that stops before anything more is said
+pub stopped_here : (bytes piece : List ℕ) (begun said : Option (List ℕ)) (run : ScriptRun) → IsAt bytes begun run said → StoppedAt NoMemory (ended_entries (bytes ++ piece)) begun said
+stopped_here bytes piece begun said run at = stopped_later NoMemory bytes piece begun said (record {
+  piece = texts (replies opening (ended_entries bytes));
+  text = at.text;
+  until = record {
+    answered = replies opening (ended_entries bytes);
+    more = [];
+    order = sym (append-nil (replies opening (ended_entries bytes)));
+    text = refl;
+  };
+})
+
+-- what was said at a stop is so of the script whose front was read
+pub stopped_script : (error : AnswerError) (bytes rest : List ℕ) (begun said : Option (List ℕ)) → StoppedAt error (ended_entries bytes) begun said → StoppedAt error (script (bytes ++ rest)) begun said
+stopped_script error bytes rest begun said stopped =
+    rw (script-is (bytes ++ rest))
+    (stopped_further error (ended_entries (bytes ++ rest)) (entries_in (open_line (bytes ++ rest))) begun said (stopped_later error bytes rest begun said stopped))
+
+around : (bytes piece : List ℕ) (i : ℕ) → i < length piece → ((bytes ++ take i piece) ++ get_or piece i 0 ∷ []) ++ drop (i + 1) piece ≡ bytes ++ piece
+around bytes piece i within =
+    append_assoc (bytes ++ take i piece) (get_or piece i 0 ∷ []) (drop (i + 1) piece)
+    ∙ append_assoc bytes (take i piece) (get_or piece i 0 ∷ drop (i + 1) piece)
+    ∙ ap (λ rest. bytes ++ (take i piece ++ rest)) (sym (rw (add-one, drop-cons piece i 0)))
+    ∙ ap (λ all. bytes ++ all) (take-append-drop i piece)
+
+pub stopped_within : (error : AnswerError) (bytes piece : List ℕ) (i : ℕ) (begun said : Option (List ℕ)) → i < length piece → StoppedAt error (ended_entries ((bytes ++ take i piece) ++ get_or piece i 0 ∷ [])) begun said → StoppedAt error (ended_entries (bytes ++ piece)) begun said
+stopped_within error bytes piece i begun said within stopped =
+    rw (← around bytes piece i within)
+    (stopped_later error ((bytes ++ take i piece) ++ get_or piece i 0 ∷ []) (drop (i + 1) piece) begun said stopped)

@@ -1,0 +1,14 @@
+use Rattle.std.proofs.Common.{◌≤◌, ◌-◌, length, take}
+use Rattle.places.specs.Said.{Says}
+use Rattle.places.proofs.say.say_all.Given as goal
+
+-- the bytes said so far are a front
+abbrev pub invariant-loop-said : goal.invariant-loop-said
+invariant-loop-said g l = let desk = g.D.Desk in record {
+  within : l.said ≤ length l.bytes;
+  front : Says (desk.said l.initial.desk) (take l.said l.bytes) (desk.said l.desk);
+  counted : desk.line_faults l.initial.desk ≤ desk.line_faults l.desk;
+}
+
+abbrev pub decreases-loop-said : goal.decreases-loop-said
+decreases-loop-said g l = length l.bytes - l.said

@@ -1,0 +1,28 @@
+-- How far a run has come.
+use Rattle.std.specs.Prelude.{◌≡◌, ℕ, List, ◌++◌, take, Option}
+use Rattle.pl_base.specs.Store.{opening}
+use Rattle.places.specs.declared.command.Command.{Command}
+use Rattle.places.specs.declared.script_run.ScriptRun.{ScriptRun}
+use Rattle.places.specs.declared.answer.AnswerError.{AnswerError}
+use Rattle.places.specs.Lines.{ended_lines, entries_of, open_line}
+use Rattle.places.specs.Plain.{store_of}
+use Rattle.places.specs.Run.{replies, after}
+use Rattle.places.specs.Said.{Says, SaysUntil, texts}
+use Rattle.places.specs.Script.{Parsed}
+
+-- what the lines ask for that ended within the bytes
+abbrev pub ended_entries : List ℕ → List (Parsed Command)
+ended_entries bytes = entries_of (ended_lines bytes)
+
+-- after these bytes of the input: the lines that ended were answered, and of the line that has not as much
+-- is kept as tells its entry
+pub record IsAt (bytes : List ℕ) (begun : Option (List ℕ)) (run : ScriptRun) (said : Option (List ℕ)) : Type 0 where
+  pub store : store_of run.store ≡ after opening (ended_entries bytes)
+  pub line : run.line.items ≡ take 262_146 (open_line bytes)
+  pub text : Says begun (texts (replies opening (ended_entries bytes))) said
+
+-- a run that stopped at one of these entries
+pub record StoppedAt (error : AnswerError) (entries : List (Parsed Command)) (begun said : Option (List ℕ)) : Type 0 where
+  pub piece : List ℕ
+  pub text : Says begun piece said
+  pub until : SaysUntil error (replies opening entries) piece

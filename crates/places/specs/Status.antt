@@ -1,0 +1,30 @@
+-- Exit statuses.
+use Rattle.std.specs.Prelude.{◌≡◌, ℕ, Option, Some, None}
+use Rattle.places.specs.declared.status.Status.{Status}
+use Rattle.places.specs.declared.status.Status.TheVariants.{Done, Usage, ReadFault, SayFault, NoMemory, TooLong}
+use Rattle.places.specs.declared.stop.Stop.{Stop}
+use Rattle.places.specs.declared.stop.Stop.TheVariants as stop
+
+abbrev pub status_number : Status → ℕ
+status_number Done = 0
+status_number Usage = 2
+status_number ReadFault = 3
+status_number SayFault = 4
+status_number NoMemory = 6
+status_number (TooLong read) = 10
+
+-- the number that a status tells besides
+abbrev pub status_value : Status → Option ℕ
+status_value Done = None
+status_value Usage = None
+status_value ReadFault = None
+status_value SayFault = None
+status_value NoMemory = None
+status_value (TooLong read) = Some read
+
+-- the status of a run that stopped
+abbrev pub EndsIn : Stop → Status → Type 0
+EndsIn stop.ReadFault status = status ≡ ReadFault
+EndsIn stop.SayFault status = status ≡ SayFault
+EndsIn stop.NoMemory status = status ≡ NoMemory
+EndsIn stop.TooLong status = status ≡ TooLong 2_147_483_648

@@ -1,0 +1,71 @@
+//! `places`: the store behind a browser's history window and address bar.
+//!
+//! `places try` answers the commands of its input, one a line, on a store that is empty at first.
+#![tactic(auto)]
+
+mod answer;
+mod command;
+mod input;
+mod reply;
+mod run;
+mod say;
+mod script;
+mod script_run;
+mod status;
+mod stdio;
+mod stop;
+mod store;
+#[cfg(test)]
+mod tests;
+mod try_script;
+
+use run::run;
+use status::Status;
+use std::alloc::Global;
+use std::env::Env;
+use std::process::ExitCode;
+use std::{env, io};
+use stdio::{InputStream, OutputStream};
+
+fn main(rt: HostRuntime) -> ExitCode {
+    let status = match words(&rt) {
+        Ok(words) => run_words(&rt, &words),
+        Err(status) => status,
+    };
+    // A status that cannot be told here is told by the exit status still.
+    let _ = tell(&rt, &status);
+    ExitCode::from(status.number())
+}
+
+// The words behind the program's name.
+fn words(rt: &(impl Env + AllocGlobal)) -> Result<Vec<String>, Status> {
+    match env::args(rt) {
+        Ok(args) => args
+            .skip(1)
+            .collect(rt.alloc())
+            .map_err(|_| Status::NoMemory),
+        Err(error) if error.kind() == io::ErrorKind::OutOfMemory => Err(Status::NoMemory),
+        Err(_) => Err(Status::Usage),
+    }
+}
+
+fn run_words(rt: &HostRuntime, words: &[String]) -> Status {
+    let alloc = rt.alloc();
+    let texts: Result<Vec<&str>, _> = words.iter().map(|word| word.as_str()).collect(alloc);
+    let Ok(texts) = texts else {
+        return Status::NoMemory;
+    };
+    let mut input = InputStream::new(rt.reader());
+    let mut desk = OutputStream::new(io::writer(rt));
+    run(alloc, &texts, &mut input, &mut desk)
+}
+
+// The line on standard error of a status other than Done.
+fn tell(rt: &impl Eprint, status: &Status) -> io::Result<()> {
+    let number = status.number();
+    match (status, status.value()) {
+        (Status::Done, _) => Ok(()),
+        (_, Some(value)) => eprintln!(rt; "places: status {number} value {value}"),
+        (_, None) => eprintln!(rt; "places: status {number}"),
+    }
+}

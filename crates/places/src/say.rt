@@ -1,0 +1,20 @@
+// Saying a whole text.
+ghost use Rattle.std.specs.Prelude.{◌≡◌, ℕ, ◌<◌, ◌≤◌, length, take, OnOk, OnErr};
+ghost use Rattle.pl_desk.specs.Counts.{Rose};
+ghost use Rattle.places.specs.Said.{Says};
+
+use pl_desk::{Desk, Failed};
+
+/// Says all the bytes, each turn at least one. A failure leaves a front of them said.
+pub fn say_all<D: Desk>(desk: &mut D, bytes: &[u8]) -> Result<(), Failed>
+    ensures whole { OnOk result (Says (D.said desk.old) bytes.now (D.said desk.new)) }
+    ensures front { OnErr result ((n : ℕ) × (n < length bytes.now) × Says (D.said desk.old) (take n bytes.now) (D.said desk.new)) }
+    ensures counted { D.line_faults desk.old ≤ D.line_faults desk.new }
+    ensures cause { OnErr result (Rose (D.line_faults desk.old) (D.line_faults desk.new)) }
+{
+    let mut said = 0;
+    while said < bytes.len() {
+        said += desk.say(&bytes[said..])?;
+    }
+    Ok(())
+}

@@ -1,0 +1,8 @@
+//! Lines of the script.
+
+mod field;
+mod fields;
+mod line;
+mod word;
+
+pub use line::{LineError, line};

@@ -1,0 +1,5 @@
+/// The first word of a line, which says what the line asks for.
+#[derive(Clone, Copy, Debug, PartialEq, Eq)]
+pub enum Word {
+    Visit,
+}
