@@ -1,6 +1,6 @@
 -- The next field of a line.
-use Rattle.std.proofs.Common.{◌≡◌, ◌≢◌, not, leb, ◌<◌, ◌≤◌, ◌+◌, ◌-◌, ℕ, Bool, true, false, cond, eqb, List, [], ◌∷◌, length, take, drop, Some, None, Option, refl, ap, sym, ◌∙◌, arith, length-drop, ⊎_elim}
-use Rattle.std.specs.List.{position, position_or_len, slice_split, after_first, before_first}
+use Rattle.std.proofs.Common.{◌≡◌, not, leb, ◌≤◌, ◌+◌, ◌-◌, ℕ, Bool, cond, eqb, List, [], ◌∷◌, length, take, drop, None, ap, sym, ◌∙◌, arith, length-drop, ⊎_elim}
+use Rattle.std.specs.List.{position, position_or_len, slice_split}
 use Rattle.std.proofs.lemmas.Bool.{cases_lt, cond-true, cond-false, le-leb, lt-leb, lt-ltb}
 use Rattle.std.proofs.lemmas.Bool.Decides.{nat_tests}
 use Rattle.std.proofs.lemmas.List.{drop-drop, length-take-le, take_all}

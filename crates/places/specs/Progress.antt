@@ -1,5 +1,5 @@
 -- How far a run has come.
-use Rattle.std.specs.Prelude.{◌≡◌, ℕ, List, ◌++◌, take, Option}
+use Rattle.std.specs.Prelude.{◌≡◌, ℕ, List, take, Option}
 use Rattle.pl_base.specs.Store.{opening}
 use Rattle.places.specs.declared.command.Command.{Command}
 use Rattle.places.specs.declared.script_run.ScriptRun.{ScriptRun}

@@ -2,7 +2,6 @@
 use Rattle.std.specs.Prelude.{ℕ, List, [], ◌∷◌, ◌++◌, map, codes, decimal}
 use Rattle.std.specs.Fmt.{signed_decimal}
 use Rattle.std.specs.List.{join_with_byte}
-use Rattle.pl_base.specs.declared.refusal.Refusal.{Refusal}
 use Rattle.pl_base.specs.Refusal.{refusal_number, refusal_values}
 use Rattle.places.specs.declared.reply.Reply.{Reply}
 use Rattle.places.specs.declared.reply.Reply.TheVariants.{Visit, Refused}

@@ -1,5 +1,5 @@
 -- One step of the machine: what a command answers and what it leaves of the store.
-use Rattle.std.specs.Prelude.{ℕ, ◌+◌, ◌==◌, ◌&&◌, ◌||◌, not, Bool, true, false, List, [], ◌∷◌, ◌++◌, map, bytes_eq, unwrap_or, is_none, Option, Some, None, Ok, Err, if◌then◌else◌}
+use Rattle.std.specs.Prelude.{ℕ, ◌+◌, ◌==◌, ◌&&◌, ◌||◌, Bool, true, false, List, [], ◌∷◌, ◌++◌, map, bytes_eq, unwrap_or, is_none, Option, Some, None, Ok, Err, if◌then◌else◌}
 use Rattle.std.specs.List.{find}
 use Rattle.pl_base.specs.declared.date.Micros.{Micros}
 use Rattle.pl_base.specs.declared.id.IdKind.TheVariants.{Page as PageKind, Visit as VisitKind}
@@ -11,7 +11,7 @@ use Rattle.pl_base.specs.declared.transition.Transition.TheVariants.{Link, Typed
 use Rattle.pl_base.specs.Address.{is_unrecorded_url}
 use Rattle.pl_base.specs.Date.{IsDate}
 use Rattle.pl_base.specs.Frecency.{frecency_of}
-use Rattle.pl_base.specs.Store.{Store, Page, Visit}
+use Rattle.pl_base.specs.Store.{Store, Page}
 use Rattle.places.specs.declared.command.Command.{Command}
 use Rattle.places.specs.declared.command.Command.TheVariants.{Visit as VisitCommand}
 use Rattle.places.specs.declared.reply.Reply.{Reply}

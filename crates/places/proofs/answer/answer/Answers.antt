@@ -1,4 +1,4 @@
-use Rattle.std.proofs.Common.{◌∙◌, sym}
+use Rattle.std.proofs.Common.{◌∙◌}
 use Rattle.places.proofs.SaidLemmas.{text_of_one}
 use Rattle.places.proofs.answer.answer.Goals as goal
 
