@@ -1,2 +1,3 @@
 mod AddressRows
+mod VisitsLaws
 mod WorkedRows

@@ -1,7 +1,7 @@
 -- The script: one command a line, its fields apart by one TAB.
 use Rattle.std.specs.Prelude.{ℕ, ◌+◌, ◌-◌, ◌^◌, ◌==◌, ◌&&◌, Bool, true, false, List, [], ◌∷◌, length, codes, bytes_eq, nat_lt, nat_le, Option, Some, None, Result, Ok, Err, if◌then◌else◌}
 use Rattle.std.specs.Char.{is_ascii_digit}
-use Rattle.std.specs.List.{filter_map, list_all, slice_split}
+use Rattle.std.specs.List.{filter_map, flat_map, list_all, slice_split}
 use Rattle.std.specs.Option.{option_and_then, option_map}
 use Rattle.std.specs.Str.{is_utf8}
 use Rattle.std.specs.Str.Lines.{lines}
@@ -51,6 +51,22 @@ if_utf8 (Some text) = if is_utf8 text then Some text else None
 -- the text of a field. Its escapes are ASCII, so the field is UTF-8 exactly where what it stands for is
 abbrev pub text_of : List ℕ → Option (List ℕ)
 text_of field = if_utf8 (unescaped false field)
+
+-- the byte that stands behind a backslash for a byte that is escaped
+abbrev pub escape_of : ℕ → Option ℕ
+escape_of b =
+    if b == 92 then Some 92 else
+    if b == 9 then Some 116 else
+    if b == 10 then Some 110 else
+    if b == 13 then Some 114 else None
+
+abbrev pub escaped_as : ℕ → Option ℕ → List ℕ
+escaped_as b None = b ∷ []
+escaped_as b (Some letter) = 92 ∷ letter ∷ []
+
+-- a text as replies write it: the four escapes, and nothing else escaped
+abbrev pub escaped : List ℕ → List ℕ
+escaped text = flat_map (λ b. escaped_as b (escape_of b)) text
 
 -- `0`, or digits of which the first is not `0`
 abbrev pub is_numeral : List ℕ → Bool

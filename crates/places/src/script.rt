@@ -5,4 +5,5 @@ mod fields;
 mod line;
 mod word;
 
+pub use field::escaped;
 pub use line::{LineError, line};

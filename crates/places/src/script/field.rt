@@ -1,5 +1,5 @@
 // What one field stands for.
-ghost use Rattle.std.specs.Prelude.{◌≡◌, false, IfOk, IfSome};
+ghost use Rattle.std.specs.Prelude.{◌≡◌, ◌++◌, false, Some, IfOk, IfSome, OnOk};
 ghost use Rattle.std.specs.Char.{is_ascii_digit};
 ghost use Rattle.std.specs.List.{list_all};
 ghost use Rattle.std.specs.Option.{option_map};
@@ -62,6 +62,41 @@ fn escaped_byte(byte: u8) -> Option<u8>
         b't' => Some(b'\t'),
         b'n' => Some(b'\n'),
         b'r' => Some(b'\r'),
+        _ => None,
+    }
+}
+
+/// A text as replies write it, which reads back as the text.
+pub fn escaped(alloc: Global, text: &str) -> Result<Vec<u8>, NoMemory>
+    ensures exact { IfOk result (λ bytes. bytes.items ≡ spec.escaped text.now) }
+    ensures reads_back { IfOk result (λ bytes. spec.text_of bytes.items ≡ Some text.now) }
+{
+    let mut bytes = Vec::new(alloc);
+    for &byte in text.as_bytes() {
+        push_escaped(&mut bytes, byte)?;
+    }
+    Ok(bytes)
+}
+
+fn push_escaped(bytes: &mut Vec<u8>, byte: u8) -> Result<(), NoMemory>
+    ensures { OnOk result (bytes.new.items
+        ≡ bytes.old.items ++ spec.escaped_as byte (spec.escape_of byte)) }
+{
+    match escape_of(byte) {
+        Some(letter) => bytes.extend_from_slice(&[b'\\', letter])?,
+        None => bytes.push(byte)?,
+    }
+    Ok(())
+}
+
+fn escape_of(byte: u8) -> Option<u8>
+    ensures { result ≡ spec.escape_of byte }
+{
+    match byte {
+        b'\\' => Some(b'\\'),
+        b'\t' => Some(b't'),
+        b'\n' => Some(b'n'),
+        b'\r' => Some(b'r'),
         _ => None,
     }
 }

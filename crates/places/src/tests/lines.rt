@@ -1,6 +1,7 @@
 // Lines and the columns at which they are refused, counted by hand. In the tables `https://a.example/`
 // has 18 bytes, so behind `visit` and a TAB its transition stands at column 26 and its date at 28.
 use super::{expect_said, tried};
+use crate::script::escaped;
 use std::alloc::{AllocError, Global};
 use std::test::Fail;
 
@@ -90,6 +91,21 @@ fn refuses_lines_at_their_columns(rt: HostRuntime) {
     for (script, said) in LINES {
         expect_said(&rt, tried(rt.alloc(), script, 4096), said);
     }
+}
+
+#[test]
+fn writes_four_escapes(rt: HostRuntime) -> Result<(), Fail> {
+    let cases: [(&str, &[u8]); 3] = [
+        ("", b""),
+        ("a\\b\tc\nd\re", b"a\\\\b\\tc\\nd\\re"),
+        // Nothing else is escaped.
+        ("\u{0}\u{c}\"'#%é", b"\x00\x0c\"'#%\xc3\xa9"),
+    ];
+    for (text, written) in cases {
+        let bytes = escaped(rt.alloc(), text)?;
+        assert_eq!(rt; bytes.as_slice(), written);
+    }
+    Ok(())
 }
 
 // A start, one byte so many times, and an end.
