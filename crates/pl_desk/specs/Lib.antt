@@ -1,3 +1,9 @@
 pub mod Counts
+pub mod Desk
 pub mod MemDesk
 pub mod MemSource
+pub mod Moments
+pub mod Overwritten
+pub mod Record
+pub mod Replay
+pub mod Stopped

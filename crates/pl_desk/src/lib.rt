@@ -6,6 +6,8 @@ mod failed;
 mod fails;
 mod mem_desk;
 mod mem_source;
+mod record;
+mod replay;
 mod source;
 
 pub use desk::Desk;

@@ -12,20 +12,19 @@ mod say;
 mod script;
 mod script_run;
 mod status;
-mod stdio;
 mod stop;
 mod store;
 #[cfg(test)]
 mod tests;
 mod try_script;
 
+use pl_file::{FileDesk, StreamSource};
 use run::run;
 use status::Status;
 use std::alloc::Global;
 use std::env::Env;
 use std::process::ExitCode;
 use std::{env, io};
-use stdio::{InputStream, OutputStream};
 
 fn main(rt: HostRuntime) -> ExitCode {
     let status = match words(&rt) {
@@ -55,9 +54,11 @@ fn run_words(rt: &HostRuntime, words: &[String]) -> Status {
     let Ok(texts) = texts else {
         return Status::NoMemory;
     };
-    let mut input = InputStream::new(rt.reader());
-    let mut desk = OutputStream::new(io::writer(rt));
-    run(alloc, &texts, &mut input, &mut desk)
+    // No command keeps its store in a file yet: `run` says to the desk, and calls nothing else of it.
+    let Ok(mut desk) = FileDesk::at(rt, "") else {
+        return Status::NoMemory;
+    };
+    run(alloc, &texts, &mut StreamSource::new(rt), &mut desk)
 }
 
 // The line on standard error of a status other than Done.

@@ -1,4 +1,8 @@
 // Any cut of the input, and any cut of what is said.
+ghost use Rattle.std.specs.Prelude.{◌≡◌, ◌≤◌, None};
+ghost use Rattle.std.proofs.lemmas.Option.{none-some};
+ghost use Rattle.pl_desk.specs.Counts.{Rose};
+
 use crate::run::run;
 use crate::status::Status;
 use pl_desk::{Desk, Failed, MemDesk, MemSource, Source};
@@ -41,25 +45,71 @@ impl Source for TwoPieces {
     }
 }
 
-// Says one byte at a time.
+// Says one byte at a time. It has no file.
 #[derive(Drop)]
 struct OneByte {
     said: Vec<u8>,
-    faults: u64,
+    device_faults: u64,
+    line_faults: u64,
+}
+
+impl OneByte {
+    fn fail_call(&mut self) -> Failed
+        ensures line { self.new.line_faults ≡ self.old.line_faults }
+        ensures counted { self.old.device_faults ≤ self.new.device_faults }
+        ensures cause { Rose self.old.device_faults self.new.device_faults }
+    {
+        self.device_faults = self.device_faults.saturating_add(1);
+        Failed
+    }
 }
 
 impl Desk for OneByte {
-    ghost use Rattle.std.specs.Prelude.{None};
+    ghost held = { λ _. None };
 
     ghost said = { λ _. None };
 
-    ghost line_faults = { λ d. d.faults };
+    ghost written = { λ _. 0 };
+
+    ghost device_faults = { λ d. d.device_faults };
+
+    ghost line_faults = { λ d. d.line_faults };
+
+    ghost may_leave = { λ _ _. Unit {0} };
+
+    ghost moment = { λ _. 0 };
+
+    ghost shown_since = { λ _ _ _ _. Unit {0} };
+
+    ghost told_together = { λ _. (λ told. told, λ told. told) };
+
+    ghost counts_now = { λ _ _ _ _ _ _ _. tt };
+
+    ghost shown_now = { λ _ _ _ _ _ _ _. tt };
+
+    ghost only_now = { λ _ line_now _ _ same _. absurd (none-some line_now same) };
+
+    fn len(&mut self) -> Result<u64, Failed> {
+        Err(self.fail_call())
+    }
+
+    fn read_at(&mut self, _at: u64, _out: &mut [u8]) -> Result<(), Failed> {
+        Err(self.fail_call())
+    }
+
+    fn write_at(&mut self, _at: u64, _bytes: &[u8]) -> Result<(), Failed> {
+        Err(self.fail_call())
+    }
+
+    fn sync(&mut self) -> Result<(), Failed> {
+        Err(self.fail_call())
+    }
 
     fn say(&mut self, bytes: &[u8]) -> Result<usize, Failed> {
         match self.said.push(bytes[0]) {
             Ok(()) => Ok(1),
             Err(_) => {
-                self.faults = self.faults.saturating_add(1);
+                self.line_faults = self.line_faults.saturating_add(1);
                 Err(Failed)
             }
         }
@@ -90,7 +140,8 @@ fn says_one_byte_at_a_time(rt: HostRuntime) -> Result<(), Fail> {
     let mut input = MemSource::over(alloc, SCRIPT, 64, &[])?;
     let mut desk = OneByte {
         said: Vec::new(alloc),
-        faults: 0,
+        device_faults: 0,
+        line_faults: 0,
     };
     let status = run(alloc, &["try"], &mut input, &mut desk);
     assert_eq!(rt; status, Status::Done);

@@ -1,0 +1,2 @@
+.mode tabs
+SELECT 'visit', visit, 'page', page, 'frecency', frecency FROM replies ORDER BY visit;

@@ -1,0 +1,5 @@
+mod Clock
+mod Desks
+mod Files
+mod Inside
+mod Stops

@@ -1,0 +1,18 @@
+-- How a run of a desk's calls goes on.
+use Rattle.std.specs.Prelude.{ℕ, List}
+use Rattle.std.proofs.Common.{inl, inr, ⊎_elim, arith}
+use Rattle.pl_desk.specs.Desk.{Elapses, ShowsOnly}
+
+module _ {D : Type 0} (moment : D → ℕ) (shown_since : D → ℕ → List ℕ → List ℕ → Type 0) where
+  -- before the first call
+  pub started : (old : D) (P : List ℕ → List ℕ → Type 0) → ((file line : List ℕ) → shown_since old (moment old) file line → P file line) → ShowsOnly moment shown_since old old P
+  started old P here = record { later = omega arith; each = here; before = λ t file line le shown. inl shown }
+
+  -- one call more, which shows what has P
+  pub goes_on : (old mid new : D) (P shows : List ℕ → List ℕ → Type 0) → ShowsOnly moment shown_since old mid P → Elapses (moment mid) (moment new) (shown_since mid) (shown_since new) shows
+      → ((file line : List ℕ) → shows file line → P file line) → ShowsOnly moment shown_since old new P
+  goes_on old mid new P shows so_far time here = record {
+    later = omega (arith, so_far.later, time.later);
+    each = λ file line shown. ⊎_elim (so_far.each file line) (here file line) (time.nothing_else (moment old) file line so_far.later shown);
+    before = λ t file line le shown. ⊎_elim (so_far.before t file line le) (λ now. inr (here file line now)) (time.nothing_else t file line (omega (arith, le, so_far.later)) shown);
+  }
