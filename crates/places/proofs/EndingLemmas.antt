@@ -7,6 +7,8 @@ use Rattle.std.proofs.Math.Seq.{take-add}
 use Rattle.std.proofs.lemmas.List.{drop-drop}
 use Rattle.std.proofs.lemmas.Bool.{eqb-true}
 use Rattle.pl_base.specs.Store.{opening}
+use Rattle.pl_engine.specs.Run.{replies}
+use Rattle.pl_script.specs.Script.{script}
 use Rattle.places.specs.declared.answer.AnswerError.{AnswerError}
 use Rattle.places.specs.declared.answer.AnswerError.TheVariants as answer
 use Rattle.places.specs.declared.script_run.ScriptRun.{ScriptRun}
@@ -17,9 +19,7 @@ use Rattle.places.specs.declared.stop.Stop.TheVariants as stop
 use Rattle.places.specs.Ending.{Becomes, SaysAll, SaysAtStop, SaysEnded, SaysFront}
 use Rattle.places.specs.Status.{EndsIn}
 use Rattle.places.specs.Progress.{IsAt, StoppedAt, ended_entries}
-use Rattle.places.specs.Run.{replies}
 use Rattle.places.specs.Said.{Says, texts}
-use Rattle.places.specs.Script.{script}
 use Rattle.places.proofs.ProgressLemmas.{stopped_here, stopped_script}
 
 -- the bytes read are a front of the input, and the run stands behind them

@@ -1,14 +1,5 @@
-pub mod EndingLemmas
-pub mod Escapes
-pub mod FieldLemmas
-pub mod LineLemmas
-pub mod Lists
-pub mod LongLines
-pub mod Numbers
-pub mod OpeningGood
-pub mod PlainStore
-pub mod PlainStoreFrecency
-pub mod PlainStoreVisit
-pub mod ProgressLemmas
-pub mod SaidLemmas
-pub mod StepGood
+mod EndingLemmas
+mod LineLemmas
+mod LongLines
+mod ProgressLemmas
+mod SaidLemmas

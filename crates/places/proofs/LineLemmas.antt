@@ -5,9 +5,10 @@ use Rattle.std.specs.Str.Lines.{lines_of_parts, strip_carriage_return}
 use Rattle.std.proofs.lemmas.Bool.{cond-true, cond-false, ne_eqb}
 use Rattle.std.proofs.lemmas.List.{map-append}
 use Rattle.std.proofs.lemmas.List.Elements.{filter_map-append}
-use Rattle.places.specs.declared.command.Command.{Command}
+use Rattle.pl_engine.specs.declared.command.Command.{Command}
+use Rattle.pl_engine.specs.Parsed.{Parsed}
+use Rattle.pl_script.specs.Script.{entry, script}
 use Rattle.places.specs.Lines.{all_but_last, last_part, ended_lines, open_line, entries_of, entries_in}
-use Rattle.places.specs.Script.{Parsed, entry, script}
 
 -- there is a part
 abbrev IsSome : List (List ℕ) → Type 0

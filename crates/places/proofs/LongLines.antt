@@ -4,8 +4,9 @@ use Rattle.std.specs.Str.Lines.{strip_carriage_return}
 use Rattle.std.proofs.lemmas.Bool.{cases_lt, cond-true, lt-ltb}
 use Rattle.std.proofs.lemmas.List.{get_or-take, length-take-le, take_all}
 use Rattle.pl_base.specs.declared.refusal.Refusal.TheVariants.{BadLine}
-use Rattle.places.specs.declared.command.Command.{Command}
-use Rattle.places.specs.Script.{Parsed, entry}
+use Rattle.pl_engine.specs.declared.command.Command.{Command}
+use Rattle.pl_engine.specs.Parsed.{Parsed}
+use Rattle.pl_script.specs.Script.{entry}
 
 too_long : ℕ → Option (Parsed Command)
 too_long first = cond (eqb first 35) None (Some (Err (BadLine 262_145)))

@@ -5,19 +5,20 @@ use Rattle.std.proofs.lemmas.Grind.{flat_map-append}
 use Rattle.std.proofs.lemmas.Bool.{cases_eq}
 use Rattle.std.proofs.lemmas.List.{length-take, take-append-drop, take-append-le, take_all}
 use Rattle.pl_base.specs.Store.{Store, opening}
+use Rattle.pl_engine.specs.declared.command.Command.{Command}
+use Rattle.pl_engine.specs.declared.reply.Reply.{Reply}
+use Rattle.pl_engine.specs.Plain.{store_of}
+use Rattle.pl_engine.specs.Run.{replies, after}
+use Rattle.pl_engine.specs.Parsed.{Parsed}
+use Rattle.pl_engine.specs.Step.{step}
+use Rattle.pl_script.specs.Reply.{reply_text}
+use Rattle.pl_script.specs.Script.{entry, script}
 use Rattle.places.specs.declared.answer.AnswerError.{AnswerError}
 use Rattle.places.specs.declared.answer.AnswerError.TheVariants.{SayFault, NoMemory}
-use Rattle.places.specs.declared.command.Command.{Command}
-use Rattle.places.specs.declared.reply.Reply.{Reply}
 use Rattle.places.specs.declared.script_run.ScriptRun.{ScriptRun}
 use Rattle.places.specs.Lines.{ended_lines, entries_of, entries_in, open_line}
-use Rattle.places.specs.Plain.{store_of}
 use Rattle.places.specs.Progress.{IsAt, StoppedAt, ended_entries}
-use Rattle.places.specs.Reply.{reply_text}
-use Rattle.places.specs.Run.{replies, after}
 use Rattle.places.specs.Said.{Says, SaysOfAnswer, SaysPart, SaysUntil, SaysWhole, texts}
-use Rattle.places.specs.Script.{Parsed, entry, script}
-use Rattle.places.specs.Step.{step}
 use Rattle.places.proofs.LineLemmas.{ended_lines-lf, ended_lines-on, entries_of-append, entries_of-one, open_line-lf, open_line-on, script-is}
 use Rattle.places.proofs.LongLines.{entry-kept, entry-kept_stripped}
 use Rattle.places.proofs.SaidLemmas.{says_more}

@@ -3,8 +3,8 @@ use Rattle.std.proofs.Common.{◌≡◌, append-nil, option_to_list, ◌≤◌, 
 use Rattle.std.specs.Option.{option_map}
 use Rattle.std.proofs.lemmas.List.{take_all}
 use Rattle.std.proofs.Math.Seq.{take-add}
-use Rattle.places.specs.declared.reply.Reply.{Reply}
-use Rattle.places.specs.Reply.{reply_text}
+use Rattle.pl_engine.specs.declared.reply.Reply.{Reply}
+use Rattle.pl_script.specs.Reply.{reply_text}
 use Rattle.places.specs.Said.{Says, texts}
 
 pub says_both : (before : Option (List ℕ)) (x y : List ℕ) → option_map (λ said. said ++ y) (option_map (λ said. said ++ x) before) ≡ option_map (λ said. said ++ (x ++ y)) before

@@ -1,14 +1,14 @@
 -- What a run leaves at each of its ends, where the source and the desk tell their content.
 use Rattle.std.specs.Prelude.{◌≡◌, ℕ, ◌<◌, List, [], ◌++◌, length, Option, Some}
 use Rattle.pl_base.specs.Store.{opening}
+use Rattle.pl_engine.specs.Run.{replies}
+use Rattle.pl_script.specs.Script.{script}
 use Rattle.places.specs.declared.answer.AnswerError.{AnswerError}
 use Rattle.places.specs.declared.answer.AnswerError.TheVariants as answer
 use Rattle.places.specs.declared.stop.Stop.{Stop}
 use Rattle.places.specs.declared.stop.Stop.TheVariants as stop
 use Rattle.places.specs.Progress.{ended_entries}
-use Rattle.places.specs.Run.{replies}
 use Rattle.places.specs.Said.{SaysUntil, texts}
-use Rattle.places.specs.Script.{script}
 
 abbrev pub Becomes : AnswerError → Stop → Type 0
 Becomes answer.SayFault e = e ≡ stop.SayFault

@@ -1,12 +1,5 @@
 pub mod Ending
-pub mod Fields
-pub mod LineError
 pub mod Lines
-pub mod Plain
 pub mod Progress
-pub mod Reply
-pub mod Run
 pub mod Said
-pub mod Script
 pub mod Status
-pub mod Step

@@ -1,14 +1,14 @@
 -- How far a run has come.
 use Rattle.std.specs.Prelude.{◌≡◌, ℕ, List, take, Option}
 use Rattle.pl_base.specs.Store.{opening}
-use Rattle.places.specs.declared.command.Command.{Command}
+use Rattle.pl_engine.specs.declared.command.Command.{Command}
+use Rattle.pl_engine.specs.Plain.{store_of}
+use Rattle.pl_engine.specs.Run.{replies, after}
+use Rattle.pl_engine.specs.Parsed.{Parsed}
 use Rattle.places.specs.declared.script_run.ScriptRun.{ScriptRun}
 use Rattle.places.specs.declared.answer.AnswerError.{AnswerError}
 use Rattle.places.specs.Lines.{ended_lines, entries_of, open_line}
-use Rattle.places.specs.Plain.{store_of}
-use Rattle.places.specs.Run.{replies, after}
 use Rattle.places.specs.Said.{Says, SaysUntil, texts}
-use Rattle.places.specs.Script.{Parsed}
 
 -- what the lines ask for that ended within the bytes
 abbrev pub ended_entries : List ℕ → List (Parsed Command)

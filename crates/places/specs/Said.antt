@@ -2,10 +2,10 @@
 use Rattle.std.specs.Prelude.{◌≡◌, ℕ, ◌<◌, List, ◌∷◌, ◌++◌, length, take, Option}
 use Rattle.std.specs.Option.{option_map}
 use Rattle.std.specs.List.{flat_map}
-use Rattle.places.specs.declared.reply.Reply.{Reply}
+use Rattle.pl_engine.specs.declared.reply.Reply.{Reply}
+use Rattle.pl_script.specs.Reply.{reply_text}
 use Rattle.places.specs.declared.answer.AnswerError.{AnswerError}
 use Rattle.places.specs.declared.answer.AnswerError.TheVariants.{SayFault, NoMemory}
-use Rattle.places.specs.Reply.{reply_text}
 
 -- the piece was said, and nothing else
 abbrev pub Says : Option (List ℕ) → List ℕ → Option (List ℕ) → Type 0

@@ -1,19 +1,16 @@
 // The answer to one line.
 ghost use Rattle.std.specs.Prelude.{◌≡◌, ◌≤◌, [], IfOk, IfErr, OnOk, option_to_list};
-ghost use Rattle.std.specs.String.{string_bytes};
 ghost use Rattle.pl_desk.specs.Counts.{Rose};
+ghost use Rattle.pl_engine.specs.Plain.{store_of};
+ghost use Rattle.pl_engine.specs.Run.{replies, after};
 ghost use Rattle.places.specs.Lines.{entries_in};
-ghost use Rattle.places.specs.Plain.{store_of};
-ghost use Rattle.places.specs.Reply as spec;
-ghost use Rattle.places.specs.Run.{replies, after};
 ghost use Rattle.places.specs.Said.{Says, SaysOfAnswer, texts};
 
-use crate::reply::Reply;
 use crate::say::say_all;
-use crate::script::{LineError, line};
-use crate::store::PlainStore;
 use pl_base::NoMemory;
 use pl_desk::Desk;
+use pl_engine::{PlainStore, Reply};
+use pl_script::{LineError, line, reply_text};
 use std::alloc::Global;
 use thiserror::Error;
 
@@ -56,16 +53,10 @@ pub fn answer<D: Desk>(
         return Ok(());
     };
     let text = reply_text(alloc, &reply)?;
-    match say_all(desk, text.as_bytes()) {
+    match say_all(desk, text.as_str().as_bytes()) {
         Ok(()) => Ok(()),
         Err(_) => Err(AnswerError::SayFault),
     }
-}
-
-fn reply_text(alloc: Global, reply: &Reply) -> Result<String, NoMemory>
-    ensures { IfOk result (λ text. string_bytes text ≡ spec.reply_text reply.now) }
-{
-    Ok(format!(in alloc; "{reply}")?)
 }
 
 fn reply_to(alloc: Global, store: &mut PlainStore, bytes: &[u8]) -> Result<Option<Reply>, NoMemory>

@@ -4,16 +4,12 @@
 #![tactic(auto)]
 
 mod answer;
-mod command;
 mod input;
-mod reply;
 mod run;
 mod say;
-mod script;
 mod script_run;
 mod status;
 mod stop;
-mod store;
 #[cfg(test)]
 mod tests;
 mod try_script;

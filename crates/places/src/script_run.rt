@@ -4,9 +4,9 @@ ghost use Rattle.std.specs.Str.Lines.{strip_carriage_return};
 ghost use Rattle.pl_desk.specs.Counts.{Rose};
 
 use crate::answer::{AnswerError, answer};
-use crate::store::PlainStore;
 use pl_base::NoMemory;
 use pl_desk::Desk;
+use pl_engine::PlainStore;
 use std::alloc::Global;
 
 /// As much of a line is kept as tells what it asks for: past the longest line two bytes more, of which the
@@ -22,11 +22,11 @@ pub struct ScriptRun {
 }
 
 impl ScriptRun {
-    ghost use Rattle.places.specs.Progress.{IsAt, StoppedAt, ended_entries};
     ghost use Rattle.pl_base.specs.Store.{opening};
-    ghost use Rattle.places.specs.Run.{replies};
+    ghost use Rattle.pl_engine.specs.Run.{replies};
+    ghost use Rattle.pl_script.specs.Script.{script};
+    ghost use Rattle.places.specs.Progress.{IsAt, StoppedAt, ended_entries};
     ghost use Rattle.places.specs.Said.{Says, texts};
-    ghost use Rattle.places.specs.Script.{script};
 
     pub fn new(alloc: Global) -> Self
         ensures { (begun : Option (List ℕ)) → IsAt [] begun result begun }

@@ -1,0 +1,6 @@
+mod Lists
+mod OpeningGood
+mod PlainStoreFrecency
+mod PlainStoreRows
+mod PlainStoreVisit
+mod StepGood

@@ -1,0 +1,4 @@
+pub mod Parsed
+pub mod Plain
+pub mod Run
+pub mod Step

@@ -1,0 +1,3 @@
+mod Escapes
+mod FieldLemmas
+mod Numbers

@@ -1,0 +1,4 @@
+pub mod Fields
+pub mod LineError
+pub mod Reply
+pub mod Script

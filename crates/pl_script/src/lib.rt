@@ -1,0 +1,15 @@
+//! The text of the script: the command of a line, the text of a reply, and in `specs/` the grammar of
+//! both.
+#![tactic(auto)]
+
+mod field;
+mod fields;
+mod lines;
+mod reply;
+#[cfg(test)]
+mod tests;
+mod word;
+
+pub use field::escaped;
+pub use lines::{LineError, line};
+pub use reply::reply_text;

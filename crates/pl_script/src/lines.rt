@@ -1,0 +1,85 @@
+// One line.
+ghost use Rattle.std.specs.Prelude.{◌≡◌, IfOk, IfSome};
+ghost use Rattle.pl_engine.specs.Step.{HasDates};
+ghost use Rattle.pl_script.specs.LineError.{Becomes, Reads, ReadsEntry};
+ghost use Rattle.pl_script.specs.Script as spec;
+ghost use Rattle.pl_script.specs.declared.lines.LineError.TheVariants.{Refused, NoMemory as OutOfMemory};
+
+use crate::fields::{Fields, LONGEST_LINE};
+use crate::word::Word;
+use pl_base::{NoMemory, Refusal};
+use pl_engine::Command;
+use pl_link::{Canon, CanonError};
+use std::alloc::Global;
+use thiserror::Error;
+
+/// The column at which a line is refused that is too long.
+const BEHIND_LONGEST_LINE: u32 = 262_145;
+
+/// Why a line gives no command.
+#[derive(Clone, Copy, Debug, PartialEq, Eq, Error)]
+pub enum LineError {
+    #[error("refused: {0}")]
+    Refused(Refusal),
+    #[error("out of memory")]
+    NoMemory,
+}
+
+impl From<NoMemory> for LineError {
+    ghost from_gives = { λ _ e. e ≡ OutOfMemory };
+
+    fn from(_: NoMemory) -> Self {
+        LineError::NoMemory
+    }
+}
+
+impl From<CanonError> for LineError {
+    ghost from_gives = { Becomes };
+
+    fn from(error: CanonError) -> Self {
+        match error {
+            CanonError::BadUrl => LineError::Refused(Refusal::BadUrl),
+            CanonError::NoMemory => LineError::NoMemory,
+        }
+    }
+}
+
+/// The command of a line without its LF, or none where the line is empty or a comment.
+pub fn line(alloc: Global, bytes: &[u8]) -> Result<Option<Command>, LineError>
+    ensures entry { ReadsEntry result (spec.entry bytes.now) }
+    ensures dates { IfOk result (λ command. IfSome command HasDates) }
+{
+    match bytes {
+        [] | [b'#', ..] => Ok(None),
+        _ => Ok(Some(command_line(alloc, bytes)?)),
+    }
+}
+
+fn command_line(alloc: Global, bytes: &[u8]) -> Result<Command, LineError>
+    ensures command { Reads (λ command. command) result (spec.command_line bytes.now) }
+    ensures dates { IfOk result HasDates }
+{
+    if bytes.len() > LONGEST_LINE {
+        return Err(LineError::Refused(Refusal::BadLine(BEHIND_LONGEST_LINE)));
+    }
+    let mut fields = Fields::new(bytes);
+    match fields.word()? {
+        Word::Visit => visit_line(alloc, fields),
+    }
+}
+
+fn visit_line(alloc: Global, mut fields: Fields<'_>) -> Result<Command, LineError>
+    ensures command { Reads (λ command. command) result (spec.visit_line fields.entry) }
+    ensures dates { IfOk result HasDates }
+{
+    let address = fields.text(alloc)?;
+    let transition = fields.transition()?;
+    let date = fields.date()?;
+    fields.end()?;
+    let url = Canon::read(alloc, address.as_str())?;
+    Ok(Command::Visit {
+        url,
+        transition,
+        date,
+    })
+}

@@ -1,9 +1,0 @@
-//! Lines of the script.
-
-mod field;
-mod fields;
-mod line;
-mod word;
-
-pub use field::escaped;
-pub use line::{LineError, line};
