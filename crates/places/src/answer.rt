@@ -48,6 +48,9 @@ pub fn answer<D: Desk>(
     ensures stopped { IfErr result (λ stop. SaysOfAnswer stop (replies (store_of store.old) (entries_in bytes.now)) (D.said desk.old) (D.said desk.new)) }
     ensures counted { D.line_faults desk.old ≤ D.line_faults desk.new }
     ensures cause { result ≡ Err AnswerError.SayFault → Rose (D.line_faults desk.old) (D.line_faults desk.new) }
+    ensures held { D.held desk.new ≡ D.held desk.old }
+    ensures written { D.written desk.new ≡ D.written desk.old }
+    ensures device { D.device_faults desk.new ≡ D.device_faults desk.old }
 {
     let Some(reply) = reply_to(alloc, store, bytes)? else {
         return Ok(());

@@ -40,6 +40,11 @@ pub fn run<S: Source, D: Desk>(alloc: Global, words: &[&str], input: &mut S, des
     ensures say_cause { result ≡ Status.SayFault → Rose (D.line_faults desk.old) (D.line_faults desk.new) }
     ensures says_counted { D.line_faults desk.old ≤ D.line_faults desk.new }
     ensures limit { (limit : ℕ) → result ≡ Status.TooLong limit → limit ≡ 2_147_483_648 }
+
+    // The desk's file is left alone: what a read of it gives, and the counts of bytes written and of failed calls.
+    ensures held { D.held desk.new ≡ D.held desk.old }
+    ensures written { D.written desk.new ≡ D.written desk.old }
+    ensures device { D.device_faults desk.new ≡ D.device_faults desk.old }
 {
     match words {
         ["try"] => match try_script(alloc, input, desk) {

@@ -11,6 +11,9 @@ pub fn say_all<D: Desk>(desk: &mut D, bytes: &[u8]) -> Result<(), Failed>
     ensures front { OnErr result ((n : ℕ) × (n < length bytes.now) × Says (D.said desk.old) (take n bytes.now) (D.said desk.new)) }
     ensures counted { D.line_faults desk.old ≤ D.line_faults desk.new }
     ensures cause { OnErr result (Rose (D.line_faults desk.old) (D.line_faults desk.new)) }
+    ensures held { D.held desk.new ≡ D.held desk.old }
+    ensures written { D.written desk.new ≡ D.written desk.old }
+    ensures device { D.device_faults desk.new ≡ D.device_faults desk.old }
 {
     let mut said = 0;
     while said < bytes.len() {

@@ -46,6 +46,9 @@ impl ScriptRun {
             → StoppedAt error (ended_entries (bytes ++ piece.now)) begun (D.said desk.new)) }
         ensures counted { D.line_faults desk.old ≤ D.line_faults desk.new }
         ensures cause { result ≡ Err AnswerError.SayFault → Rose (D.line_faults desk.old) (D.line_faults desk.new) }
+        ensures held { D.held desk.new ≡ D.held desk.old }
+        ensures written { D.written desk.new ≡ D.written desk.old }
+        ensures device { D.device_faults desk.new ≡ D.device_faults desk.old }
     {
         for &byte in piece {
             self.take(byte, desk)?;
@@ -60,6 +63,9 @@ impl ScriptRun {
             → StoppedAt error (ended_entries (bytes ++ byte ∷ [])) begun (D.said desk.new)) }
         ensures counted { D.line_faults desk.old ≤ D.line_faults desk.new }
         ensures cause { result ≡ Err AnswerError.SayFault → Rose (D.line_faults desk.old) (D.line_faults desk.new) }
+        ensures held { D.held desk.new ≡ D.held desk.old }
+        ensures written { D.written desk.new ≡ D.written desk.old }
+        ensures device { D.device_faults desk.new ≡ D.device_faults desk.old }
     {
         if byte == b'\n' {
             self.end_line(desk)
@@ -76,6 +82,9 @@ impl ScriptRun {
             → StoppedAt error (ended_entries (bytes ++ 10 ∷ [])) begun (D.said desk.new)) }
         ensures counted { D.line_faults desk.old ≤ D.line_faults desk.new }
         ensures cause { result ≡ Err AnswerError.SayFault → Rose (D.line_faults desk.old) (D.line_faults desk.new) }
+        ensures held { D.held desk.new ≡ D.held desk.old }
+        ensures written { D.written desk.new ≡ D.written desk.old }
+        ensures device { D.device_faults desk.new ≡ D.device_faults desk.old }
     {
         answer(
             self.alloc,
@@ -107,6 +116,9 @@ impl ScriptRun {
             → StoppedAt error (script bytes) begun (D.said desk.new)) }
         ensures counted { D.line_faults desk.old ≤ D.line_faults desk.new }
         ensures cause { result ≡ Err AnswerError.SayFault → Rose (D.line_faults desk.old) (D.line_faults desk.new) }
+        ensures held { D.held desk.new ≡ D.held desk.old }
+        ensures written { D.written desk.new ≡ D.written desk.old }
+        ensures device { D.device_faults desk.new ≡ D.device_faults desk.old }
     {
         answer(self.alloc, &mut self.store, &self.line, desk)
     }

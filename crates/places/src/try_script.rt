@@ -27,6 +27,9 @@ pub fn try_script<S: Source, D: Desk>(
     ensures read_cause { result ≡ Err Stop.ReadFault → Rose (S.faults input.old) (S.faults input.new) }
     ensures says_counted { D.line_faults desk.old ≤ D.line_faults desk.new }
     ensures say_cause { result ≡ Err Stop.SayFault → Rose (D.line_faults desk.old) (D.line_faults desk.new) }
+    ensures held { D.held desk.new ≡ D.held desk.old }
+    ensures written { D.written desk.new ≡ D.written desk.old }
+    ensures device { D.device_faults desk.new ≡ D.device_faults desk.old }
 {
     let mut run = ScriptRun::new(alloc);
     let mut read = 0;

@@ -1,4 +1,4 @@
-use Rattle.std.proofs.Common.{◌≤◌, ◌-◌, length, take}
+use Rattle.std.proofs.Common.{◌≡◌, ◌≤◌, ◌-◌, length, take}
 use Rattle.places.specs.Said.{Says}
 use Rattle.places.proofs.say.say_all.Given as goal
 
@@ -8,6 +8,9 @@ invariant-loop-said g l = let desk = g.D.Desk in record {
   within : l.said ≤ length l.bytes;
   front : Says (desk.said l.initial.desk) (take l.said l.bytes) (desk.said l.desk);
   counted : desk.line_faults l.initial.desk ≤ desk.line_faults l.desk;
+  held : desk.held l.desk ≡ desk.held l.initial.desk;
+  written : desk.written l.desk ≡ desk.written l.initial.desk;
+  device : desk.device_faults l.desk ≡ desk.device_faults l.initial.desk;
 }
 
 abbrev pub decreases-loop-said : goal.decreases-loop-said

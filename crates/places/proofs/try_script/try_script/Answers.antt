@@ -1,4 +1,4 @@
-use Rattle.std.proofs.Common.{◌∙◌, ap, sym, length, arith}
+use Rattle.std.proofs.Common.{◌∙◌, ap, sym, length, arith, refl}
 use Rattle.std.proofs.lemmas.Result.{err_from_is_err_and}
 use Rattle.places.proofs.EndingLemmas.{empty_piece, goes_on_behind, says_all, starts_behind, stopped_at_end, stopped_in_piece, stopped_reading, too_long}
 use Rattle.places.proofs.try_script.try_script.Goals as goal
@@ -9,6 +9,9 @@ loop-read-init g c = record {
   in_limit = omega arith;
   reads_counted = omega arith;
   says_counted = omega arith;
+  held = refl;
+  written = refl;
+  device = refl;
 }
 
 pub returns-in_err-piece-clause-stopped : goal.returns-in_err-piece-clause-stopped
@@ -43,6 +46,9 @@ loop-read-preserved g c = record {
   in_limit = omega (arith, c.in_ok-piece.ensures.within, c.deref.ensures.len, ap length c.deref.ensures.value);
   reads_counted = omega arith;
   says_counted = omega arith;
+  held = c.in_ok-take_all.ensures.held ∙ c.loop-read.invariant.held;
+  written = c.in_ok-take_all.ensures.written ∙ c.loop-read.invariant.written;
+  device = c.in_ok-take_all.ensures.device ∙ c.loop-read.invariant.device;
 }
 
 pub returns-clause-stopped : goal.returns-clause-stopped

@@ -1,4 +1,4 @@
-use Rattle.std.proofs.Common.{◌≤◌, ◌-◌}
+use Rattle.std.proofs.Common.{◌≡◌, ◌≤◌, ◌-◌}
 use Rattle.places.specs.Ending.{IfTold}
 use Rattle.places.proofs.EndingLemmas.{IsBehind}
 use Rattle.places.proofs.try_script.try_script.Given as goal
@@ -11,6 +11,9 @@ invariant-loop-read g l = let input = g.S.Source in let desk = g.D.Desk in recor
   in_limit : l.read ≤ 2_147_483_648;
   reads_counted : input.faults l.initial.input ≤ input.faults l.input;
   says_counted : desk.line_faults l.initial.desk ≤ desk.line_faults l.desk;
+  held : desk.held l.desk ≡ desk.held l.initial.desk;
+  written : desk.written l.desk ≡ desk.written l.initial.desk;
+  device : desk.device_faults l.desk ≡ desk.device_faults l.initial.desk;
 }
 
 abbrev pub decreases-loop-read : goal.decreases-loop-read
