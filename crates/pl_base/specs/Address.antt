@@ -85,3 +85,23 @@ is_unrecorded_record (Err e) = false
 -- the text is an address whose visits are not recorded
 abbrev pub is_unrecorded_url : List ℕ → Bool
 is_unrecorded_url text = is_unrecorded_record (record_of text)
+
+-- ---- origins
+
+-- the prefix and the host of an address
+abbrev pub origin_of_record : Parsed Parts → Option (List ℕ × List ℕ)
+origin_of_record (Ok url) = Some (prefix url, host_and_port url)
+origin_of_record (Err e) = None
+
+-- the origin of a URL; a text that is no URL has none
+abbrev pub origin_of_url : List ℕ → Option (List ℕ × List ℕ)
+origin_of_url text = origin_of_record (record_of text)
+
+abbrev are_same : Option (List ℕ × List ℕ) → Option (List ℕ × List ℕ) → Bool
+are_same (Some a) (Some b) = bytes_eq a.0 b.0 && bytes_eq a.1 b.1
+are_same None b = false
+are_same (Some a) None = false
+
+-- two URLs have the same origin: the same prefix and the same host
+abbrev pub same_origin : List ℕ → List ℕ → Bool
+same_origin a b = are_same (origin_of_url a) (origin_of_url b)

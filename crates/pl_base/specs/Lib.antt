@@ -2,10 +2,13 @@ pub mod Address
 pub mod Date
 pub mod Frecency
 pub mod Good
+pub mod Live
 pub mod Marks
 pub mod Redirects
 pub mod Refusal
+pub mod Rows
 pub mod Store
 pub mod Tables
+pub mod Touched
 pub mod Transition
 pub mod Visits

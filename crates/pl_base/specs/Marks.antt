@@ -1,10 +1,13 @@
 -- What is told of a page: filters over the visits and the items.
-use Rattle.std.specs.Prelude.{ℕ, ◌&&◌, ◌==◌, Bool, true, false, Option, Some, None}
-use Rattle.std.specs.List.{count_by, list_any}
+use Rattle.std.specs.Prelude.{ℕ, ◌&&◌, ◌||◌, ◌==◌, Bool, true, false, List, [], ◌∷◌, Option, Some, None}
+use Rattle.std.specs.List.{count_by, list_all, list_any}
 use Rattle.pl_base.specs.declared.id.PageId.{PageId}
 use Rattle.pl_base.specs.declared.transition.Transition.{Transition}
 use Rattle.pl_base.specs.declared.transition.Transition.TheVariants.{Link, Typed, Bookmark, Embed, RedirectPermanent, RedirectTemporary, Download, FramedLink, Reload}
-use Rattle.pl_base.specs.Store.{Store, Item}
+use Rattle.pl_base.specs.Address.{is_place_url}
+use Rattle.pl_base.specs.Redirects.{is_redirect_source}
+use Rattle.pl_base.specs.Store.{Store, Page, Visit, Item}
+use Rattle.pl_base.specs.Visits.{visits_of}
 
 -- visits that `visit_count` counts: all but embedded and framed ones, downloads and reloads
 abbrev pub is_counted : Transition → Bool
@@ -30,3 +33,24 @@ has_page page (Some other) = other.0 == page.0
 -- an item of the tree has the page
 abbrev pub is_referenced : Store → PageId → Bool
 is_referenced store page = list_any (λ (item : Item). has_page page item.page) store.items
+
+-- visits within a frame, which no one asked for by themselves
+abbrev pub is_framed : Transition → Bool
+is_framed Embed = true
+is_framed FramedLink = true
+is_framed Link = false
+is_framed Typed = false
+is_framed Bookmark = false
+is_framed RedirectPermanent = false
+is_framed RedirectTemporary = false
+is_framed Download = false
+is_framed Reload = false
+
+-- there are visits, and each is within a frame or led to a redirect
+abbrev hidden_by : Store → List Visit → Bool
+hidden_by store [] = false
+hidden_by store (v ∷ vs) = list_all (λ w. is_framed w.transition || is_redirect_source store w) (v ∷ vs)
+
+-- a page is hidden that is a query, and one with no visit but such
+abbrev pub is_hidden : Store → Page → Bool
+is_hidden store p = is_place_url p.url || hidden_by store (visits_of store p.id)

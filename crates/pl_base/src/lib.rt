@@ -4,15 +4,25 @@
 #![tactic(auto)]
 
 mod date;
+mod fault;
 mod id;
 mod memory;
 mod refusal;
+mod row;
+mod rows;
+mod steps;
+mod touched;
 mod transition;
 mod txt;
 
 pub use date::{Day, Micros};
-pub use id::{IdKind, Ids, ItemId, PageId, VisitId};
+pub use fault::DeviceFault;
+pub use id::{IdKind, Ids, ItemId, PageId, Slot, VisitId};
 pub use memory::NoMemory;
 pub use refusal::Refusal;
+pub use row::{Mark, VisitRow};
+pub use rows::Rows;
+pub use steps::Steps;
+pub use touched::{PAGE_SIZE, Touched};
 pub use transition::Transition;
 pub use txt::Txt;

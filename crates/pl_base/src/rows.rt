@@ -1,0 +1,140 @@
+ghost use Rattle.std.specs.Prelude.{◌≡◌, ◌≢◌, ◌↔◌, ◌+◌, ◌≤◌, ◌<◌, ℕ, List, Some, true, length, IfOk, IfSome, OnOk};
+ghost use Rattle.std.specs.List.{All};
+ghost use Rattle.std.specs.Option.{option_map};
+ghost use Rattle.pl_base.specs.Address.{is_store_url};
+ghost use Rattle.pl_base.specs.Date.{IsDate, IsDay};
+ghost use Rattle.pl_base.specs.Good.{IsGood};
+ghost use Rattle.pl_base.specs.Live.{live_slots};
+ghost use Rattle.pl_base.specs.Rows.{Kept, KeptPage, IsWellKept, IsOfVisits, IsRight, store_of, has_page, has_visit, mark_of, row_of, page_at, visit_at, page_behind, page_visits, first_id, older_visit, url_of, origin_of, IsOriginOf, WithPageIn, with_day, with_mark, with_visit, live_with_page};
+ghost use Rattle.pl_base.specs.Store.{Store};
+ghost use Rattle.pl_base.specs.Touched.{changed, page_at as place_of_page, IsWithin};
+
+use crate::{Day, Ids, Mark, NoMemory, PageId, Slot, Steps, Touched, Txt, VisitId, VisitRow};
+use std::sync::ledger::Ledger;
+
+/// The rows of a store, however they are kept, and the bytes that a file of it holds from page 1 on.
+///
+/// A call that answers `NoMemory` leaves the rows to be given up. `steps` counts the records that are
+/// read.
+pub trait Rows {
+    /// The rows, and what was computed of them last.
+    ghost kept: { Self → Kept };
+
+    /// The store's bytes from page 1 on.
+    ghost bytes: { Self → List ℕ };
+
+    /// What these bytes may have been at the last `touched`; before the first one, what the rows were
+    /// made over.
+    ghost base: { Self → List ℕ → Type 0 };
+
+    /// Which bytes from page 1 on stand for a store.
+    ghost form: { List ℕ → Store → Type 0 };
+
+    fn day<L: Ledger>(&self, steps: &mut Steps<L>) -> Day
+        ensures day { result ≡ (kept self.now).day }
+        ensures cost { steps.new ≤ steps.old + 4 };
+
+    fn set_day<L: Ledger>(&mut self, day: Day, steps: &mut Steps<L>)
+        requires { IsDay day }
+        ensures kept { kept self.new ≡ with_day day (kept self.old) }
+        ensures base { (bytes : List ℕ) → base self.old bytes → base self.new bytes }
+        ensures cost { steps.new ≤ steps.old + 4 };
+
+    /// The next ids.
+    fn ids<L: Ledger>(&self, steps: &mut Steps<L>) -> Ids
+        ensures ids { result ≡ (kept self.now).ids }
+        ensures cost { steps.new ≤ steps.old + 4 };
+
+    /// How many slots of 128 bytes the store takes.
+    fn live<L: Ledger>(&self, steps: &mut Steps<L>) -> u64
+        ensures live { result ≡ live_slots (store_of (kept self.now)) }
+        ensures cost { steps.new ≤ steps.old + 4 };
+
+    /// The next page by id, or the first one.
+    fn page_after<L: Ledger>(&self, page: Option<PageId>, steps: &mut Steps<L>) -> Option<PageId>
+        ensures next { result ≡ page_behind (kept self.now) page }
+        ensures cost { steps.new ≤ steps.old + 4 };
+
+    fn page_at<L: Ledger>(&self, page: PageId, steps: &mut Steps<L>) -> Option<Mark>
+        ensures mark { result ≡ option_map mark_of (page_at (kept self.now) page) }
+        ensures cost { steps.new ≤ steps.old + 4 };
+
+    fn url<L: Ledger>(&self, page: PageId, steps: &mut Steps<L>) -> Result<Txt, NoMemory>
+        requires { has_page (kept self.now) page ≡ true }
+        ensures url { IfOk result (λ url. Some url ≡ url_of (kept self.now) page) };
+
+    fn origin_of<L: Ledger>(&self, page: PageId, steps: &mut Steps<L>) -> Slot
+        requires { has_page (kept self.now) page ≡ true }
+        ensures origin { Some result ≡ origin_of (kept self.now) page }
+        ensures cost { steps.new ≤ steps.old + 4 };
+
+    /// A new page with the next id, in the given origin or in a new one. Its URL is a URL of the store
+    /// that no page has.
+    fn insert_page<L: Ledger>(
+        &mut self,
+        url: &str,
+        origin: Option<Slot>,
+        steps: &mut Steps<L>,
+    ) -> Result<PageId, NoMemory>
+        requires url { is_store_url url.now ≡ true }
+        requires absent { All (λ (p : KeptPage). p.page.url ≢ url.now) (kept self.old).pages }
+        requires origin { IsOriginOf (kept self.old) url.now origin }
+        requires id { (kept self.old).ids.page < 4_294_967_295 }
+        requires live { live_with_page url.now (kept self.old) ≤ 4_194_304 }
+        ensures page { IfOk result (λ page. page.0 ≡ (kept self.old).ids.page) }
+        ensures kept { OnOk result (WithPageIn url.now origin (kept self.old) (kept self.new)) }
+        ensures base { OnOk result ((bytes : List ℕ) → base self.old bytes → base self.new bytes) };
+
+    fn set_mark<L: Ledger>(&mut self, page: PageId, mark: Mark, steps: &mut Steps<L>)
+        requires { has_page (kept self.old) page ≡ true }
+        ensures kept { kept self.new ≡ with_mark page mark (kept self.old) }
+        ensures base { (bytes : List ℕ) → base self.old bytes → base self.new bytes }
+        ensures cost { steps.new ≤ steps.old + 4 };
+
+    fn visit_at<L: Ledger>(&self, visit: VisitId, steps: &mut Steps<L>) -> Option<VisitRow>
+        ensures row { result ≡ option_map row_of (visit_at (kept self.now) visit) }
+        ensures cost { steps.new ≤ steps.old + 4 };
+
+    /// The latest visit of a page.
+    fn latest<L: Ledger>(&self, page: PageId, steps: &mut Steps<L>) -> Option<VisitId>
+        requires { has_page (kept self.now) page ≡ true }
+        ensures latest { result ≡ first_id (page_visits (kept self.now) page) }
+        ensures cost { steps.new ≤ steps.old + 4 };
+
+    /// The visit of the same page that is next before it by date, and by id where dates are the same.
+    fn older<L: Ledger>(&self, visit: VisitId, steps: &mut Steps<L>) -> Option<VisitId>
+        requires { has_visit (kept self.now) visit ≡ true }
+        ensures older { result ≡ older_visit (kept self.now) visit }
+        ensures cost { steps.new ≤ steps.old + 4 };
+
+    /// A new visit with the next id.
+    fn insert_visit<L: Ledger>(
+        &mut self,
+        row: &VisitRow,
+        steps: &mut Steps<L>,
+    ) -> Result<VisitId, NoMemory>
+        requires page { has_page (kept self.old) row.now.page ≡ true }
+        requires date { IsDate row.now.date }
+        requires source { IfSome row.now.source (λ source. has_visit (kept self.old) source ≡ true) }
+        requires id { (kept self.old).ids.visit < 4_294_967_295 }
+        requires live { live_slots (store_of (kept self.old)) < 4_194_304 }
+        ensures visit { IfOk result (λ visit. visit.0 ≡ (kept self.old).ids.visit) }
+        ensures kept { OnOk result (kept self.new ≡ with_visit row.now (kept self.old)) }
+        ensures base { OnOk result ((bytes : List ℕ) → base self.old bytes → base self.new bytes) };
+
+    /// The pages of the bytes that changed since the last such call, or since the rows were made.
+    fn touched<L: Ledger>(&mut self, steps: &mut Steps<L>) -> Result<Touched, NoMemory>
+        ensures whole { IfOk result (λ change. (base_bytes : List ℕ) → base self.old base_bytes → changed change base_bytes ≡ bytes self.old) }
+        ensures before { IfOk result (λ change. (base_bytes : List ℕ) → base self.old base_bytes → length base_bytes ≡ place_of_page change.before) }
+        ensures after { IfOk result (λ change. length (bytes self.old) ≡ place_of_page change.after) }
+        ensures within { IfOk result IsWithin }
+        ensures kept { OnOk result (kept self.new ≡ kept self.old) }
+        ensures bytes { OnOk result (bytes self.new ≡ bytes self.old) }
+        ensures base { OnOk result ((base_bytes : List ℕ) → base self.new base_bytes ↔ (base_bytes ≡ bytes self.old)) };
+
+    /// What holds of all rows.
+    ghost well_kept: { (rows : Self) → IsWellKept (kept rows) };
+
+    /// The bytes stand for a good store whose marks are right, as far as this form has it yet.
+    ghost stands: { (rows : Self) → IsGood (store_of (kept rows)) → IsOfVisits (store_of (kept rows)) → IsRight (kept rows) → form (bytes rows) (store_of (kept rows)) };
+}
