@@ -1,0 +1,12 @@
+mod AnyMoment
+mod ArmedFiles
+mod Bytes
+mod ClosedFiles
+mod Entries
+mod JournalFiles
+mod Moments
+mod Pages
+mod Ranges
+mod SettledFiles
+mod StagedFiles
+mod Told

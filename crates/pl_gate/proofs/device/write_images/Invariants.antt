@@ -1,0 +1,24 @@
+use Rattle.std.proofs.Common.{◌≡◌, ◌≤◌, ◌+◌, ◌*◌, ◌-◌, length, take}
+use Rattle.std.specs.Option.{option_map}
+use Rattle.pl_desk.specs.Desk.{Follows}
+use Rattle.pl_base.specs.Touched.{page_size}
+use Rattle.pl_gate.specs.Device.{image_ranges, with_images, ShowsUnsaid, TornIn}
+use Rattle.pl_gate.proofs.device.write_images.Given as goal
+
+-- the first images are written
+abbrev pub invariant-loop-index : goal.invariant-loop-index
+invariant-loop-index g l =
+    let desk = g.D.Desk in let old = l.initial.desk in let pages = l.touched.pages in let ranges = image_ranges pages in
+    record {
+      within : l.index ≤ length pages;
+      held : desk.held l.desk ≡ option_map (with_images (take l.index pages)) (desk.held old);
+      leaves : Follows (TornIn (image_ranges (take l.index pages))) (desk.may_leave old) (desk.may_leave l.desk);
+      moments : ShowsUnsaid desk.moment desk.shown_since desk.may_leave desk.said old l.desk (TornIn ranges);
+      said : desk.said l.desk ≡ desk.said old;
+      written : desk.written l.desk ≡ desk.written old + page_size * l.index;
+      line : desk.line_faults l.desk ≡ desk.line_faults old;
+      counted : desk.device_faults old ≤ desk.device_faults l.desk;
+    }
+
+abbrev pub decreases-loop-index : goal.decreases-loop-index
+decreases-loop-index g l = length l.touched.pages - l.index

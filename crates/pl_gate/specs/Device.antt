@@ -1,0 +1,61 @@
+-- What the calls of a commit and of a recovery make of a file, and what a stop within them may leave.
+use Rattle.std.specs.Prelude.{◌≡◌, ℕ, ◌+◌, ◌*◌, max, List, [], ◌∷◌, ◌++◌, map, Option, IfSome}
+use Rattle.std.specs.Int.{w32, w64, to_le_bytes}
+use Rattle.pl_base.specs.Touched.{Change, PageImage, page_size}
+use Rattle.pl_desk.specs.Desk.{overwritten, ShowsOnly, Torn}
+use Rattle.pl_gate.specs.Gate.{entry_size}
+
+abbrev pub entry_bytes : PageImage → List ℕ
+entry_bytes p = to_le_bytes w64 p.page ++ p.image
+
+-- where the journal of a change begins: behind the store's pages, old and new
+abbrev pub start_of : Change → ℕ
+start_of change = page_size * max change.before change.after
+
+-- bytes 8 to 23 of the gate's page
+abbrev pub place_bytes : ℕ → ℕ → ℕ → List ℕ
+place_bytes start count after = to_le_bytes w64 start ++ to_le_bytes w32 count ++ to_le_bytes w32 after
+
+-- the file with entries of these pages from an offset on
+abbrev pub with_entries : ℕ → List PageImage → List ℕ → List ℕ
+with_entries at [] file = file
+with_entries at (p ∷ pages) file = with_entries (at + entry_size) pages (overwritten 0 at (entry_bytes p) file)
+
+-- the file with the images of these pages in their places
+abbrev pub with_images : List PageImage → List ℕ → List ℕ
+with_images [] file = file
+with_images (p ∷ pages) file = with_images pages (overwritten 0 (page_size * p.page) p.image file)
+
+-- the file with its gate set to this byte
+abbrev pub with_gate : ℕ → List ℕ → List ℕ
+with_gate byte file = overwritten 0 0 (byte ∷ []) file
+
+-- a range of a file: where it begins, and how many bytes it has
+abbrev pub Range : Type 0
+Range = ℕ × ℕ
+
+-- the ranges of entries from an offset on
+abbrev pub entry_ranges : ℕ → List PageImage → List Range
+entry_ranges at [] = []
+entry_ranges at (p ∷ pages) = (at, entry_size) ∷ entry_ranges (at + entry_size) pages
+
+abbrev pub image_ranges : List PageImage → List Range
+image_ranges pages = map (λ (p : PageImage). (page_size * p.page, page_size)) pages
+
+-- what writes of these ranges, one after another, may leave where a stop cuts them short
+abbrev pub TornIn : List Range → List ℕ → List ℕ → Type 0
+TornIn [] old new = new ≡ old
+TornIn (range ∷ ranges) old new = (mid : List ℕ) × Torn range.0 range.1 old mid × TornIn ranges mid new
+
+-- a file that is left by a step from one that might have been left before
+abbrev pub LeftBy : (List ℕ → List ℕ → Type 0) → (List ℕ → Type 0) → List ℕ → Type 0
+LeftBy step may_leave file = (before : List ℕ) × may_leave before × step before file
+
+-- the same, and what was said is as it was
+abbrev pub LeftUnsaid : (List ℕ → List ℕ → Type 0) → (List ℕ → Type 0) → List ℕ → List ℕ → List ℕ → Type 0
+LeftUnsaid step may_leave before file line = LeftBy step may_leave file × (line ≡ before)
+
+-- a stop at any moment from old to new shows a file that is left by the step, and the line as it was
+abbrev pub ShowsUnsaid : {D : Type 0} → (D → ℕ) → (D → ℕ → List ℕ → List ℕ → Type 0) → (D → List ℕ → Type 0) → (D → Option (List ℕ)) → D → D → (List ℕ → List ℕ → Type 0) → Type 0
+ShowsUnsaid moment shown_since may_leave said old new step =
+    IfSome (said old) (λ before. ShowsOnly moment shown_since old new (LeftUnsaid step (may_leave old) before))

@@ -1,0 +1,4 @@
+pub mod Device
+pub mod Gate
+pub mod Recovery
+pub mod States

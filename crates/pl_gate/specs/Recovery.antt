@@ -1,0 +1,30 @@
+-- What a recovery reads, and what it leaves.
+use Rattle.std.specs.Prelude.{◌≡◌, ℕ, ◌+◌, ◌*◌, false, List, if◌then◌else◌}
+use Rattle.pl_base.specs.Touched.{page_size}
+use Rattle.pl_gate.specs.declared.read.Place.{Place}
+use Rattle.pl_gate.specs.Gate.{has_gate, is_set, journal_len, journal_start, laid, pages_after}
+
+-- what the gate's page tells
+pub record IsPlaceOf (place : Place) (file : List ℕ) : Type 0 where
+  pub is_set : place.is_set ≡ is_set file
+  pub start : place.start ≡ journal_start file
+  pub count : place.count ≡ journal_len file
+  pub after : place.after ≡ pages_after file
+
+-- the later file stands for what this one stands for
+pub record StandsAs (file later : List ℕ) : Type 0 where
+  pub gate : has_gate later ≡ has_gate file
+  pub laid : laid later ≡ laid file
+
+-- the same, with its gate not set
+pub record IsSettledAs (file later : List ℕ) : Type 0 where
+  pub closed : is_set later ≡ false
+  pub stands : StandsAs file later
+
+-- the later file stands for what one stood for that might have been left
+abbrev pub LeftAs : (List ℕ → Type 0) → List ℕ → Type 0
+LeftAs may_leave later = (file : List ℕ) × may_leave file × StandsAs file later
+
+-- how many bytes its recovery writes
+abbrev pub written_by : List ℕ → ℕ
+written_by file = if is_set file then page_size * journal_len file + 1 else 0

@@ -1,0 +1,132 @@
+ghost use Rattle.std.specs.Prelude.{◌≡◌, ◌≤◌, ◌<◌, ◌+◌, ◌*◌, ℕ, List, [], Some, length, IfOk, OnOk, OnErr};
+ghost use Rattle.pl_base.specs.Touched.{IsWithin, changed, page_at, page_size};
+ghost use Rattle.pl_desk.specs.Counts.{Rose};
+ghost use Rattle.pl_gate.specs.Gate.{Holds, entry_size};
+ghost use Rattle.pl_gate.specs.States.{AtAnyMoment, HoldsEither, IsArmed, IsClosed, IsInstalled, IsStaged, Rests};
+
+use crate::device::{write_entries, write_gate, write_images, write_place};
+use crate::states::{Armed, Closed, Installed, Staged};
+use pl_base::{DeviceFault, PAGE_SIZE, Touched};
+use pl_desk::Desk;
+
+/// The gate of a desk's file. It holds the desk for itself until it goes.
+///
+/// A commit takes a change through the states `Closed`, `Staged`, `Armed`, `Installed` and `Closed` again. From
+/// a call that fails there is no state to go on from.
+#[derive(Drop)]
+pub struct Gate<'d, D> {
+    pub(crate) desk: &'d mut D,
+}
+
+impl<'d, D: Desk> Gate<'d, D> {
+    pub fn of(desk: &'d mut D) -> Self
+        ensures same_desk { result.desk.ghost_name ≡ desk.entry.ghost_name }
+        ensures desk { result.desk.now ≡ desk.old }
+    {
+        Gate { desk }
+    }
+
+    /// Takes a file whose gate is not set as it is, or an empty one. No call is made.
+    pub fn adopt(&self) -> Closed {
+        Closed { seal: () }
+    }
+
+    /// Writes the journal of the change behind the store's pages, old and new, and tells the gate's page of
+    /// it: one write for each entry, one for the page, and a sync.
+    pub fn stage<'t>(&mut self, _: Closed, touched: &'t Touched) -> Result<Staged<'t>, DeviceFault>
+        requires within { IsWithin touched.now }
+        requires some { 1 ≤ touched.now.before }
+
+        ensures change { IfOk result (λ staged. staged.touched.now ≡ touched.now) }
+        ensures staged { OnOk result ((pages : List ℕ) → Rests (D.held self.old.desk.now) (D.may_leave self.old.desk.now) (IsClosed pages) → length pages ≡ page_at touched.now.before
+            → Rests (D.held self.new.desk.now) (D.may_leave self.new.desk.now) (IsStaged touched.now pages)) }
+        ensures staged_empty { OnOk result (D.held self.old.desk.now ≡ Some [] → touched.now.before ≡ 1 → 1 < touched.now.after
+            → Rests (D.held self.new.desk.now) (D.may_leave self.new.desk.now) (IsStaged touched.now [])) }
+        ensures any_moment { (pages : List ℕ) → Rests (D.held self.old.desk.now) (D.may_leave self.old.desk.now) (IsClosed pages) → length pages ≡ page_at touched.now.before
+            → AtAnyMoment D.moment D.shown_since D.said self.old.desk.now self.new.desk.now (Holds pages) }
+
+        ensures written { OnOk result (D.written self.new.desk.now ≡ D.written self.old.desk.now + (entry_size * length touched.now.pages + 16)) }
+        ensures no_more { D.written self.new.desk.now ≤ D.written self.old.desk.now + (entry_size * length touched.now.pages + 16) }
+        ensures no_less { D.written self.old.desk.now ≤ D.written self.new.desk.now }
+        ensures said { D.said self.new.desk.now ≡ D.said self.old.desk.now }
+        ensures line { D.line_faults self.new.desk.now ≡ D.line_faults self.old.desk.now }
+        ensures counted { D.device_faults self.old.desk.now ≤ D.device_faults self.new.desk.now }
+        ensures cause { OnErr result (Rose (D.device_faults self.old.desk.now) (D.device_faults self.new.desk.now)) }
+        ensures same_desk { self.new.desk.ghost_name ≡ self.old.desk.ghost_name }
+    {
+        let after = touched.after();
+        let start = PAGE_SIZE as u64 * touched.before().max(after) as u64;
+        let count = touched.count() as u32;
+        write_entries(self.desk, start, touched)?;
+        write_place(self.desk, start, count, after)?;
+        self.desk.sync()?;
+        Ok(Staged { touched })
+    }
+
+    /// Sets the gate and syncs.
+    pub fn arm<'t>(&mut self, staged: Staged<'t>) -> Result<Armed<'t>, DeviceFault>
+        ensures change { IfOk result (λ armed. armed.touched.now ≡ staged.entry.touched.now) }
+        ensures armed { OnOk result ((pages : List ℕ) → Rests (D.held self.old.desk.now) (D.may_leave self.old.desk.now) (IsStaged staged.entry.touched.now pages)
+            → Rests (D.held self.new.desk.now) (D.may_leave self.new.desk.now) (IsArmed staged.entry.touched.now (changed staged.entry.touched.now pages))) }
+        ensures any_moment { (pages : List ℕ) → Rests (D.held self.old.desk.now) (D.may_leave self.old.desk.now) (IsStaged staged.entry.touched.now pages)
+            → AtAnyMoment D.moment D.shown_since D.said self.old.desk.now self.new.desk.now (HoldsEither staged.entry.touched.now pages) }
+
+        ensures written { OnOk result (D.written self.new.desk.now ≡ D.written self.old.desk.now + 1) }
+        ensures no_more { D.written self.new.desk.now ≤ D.written self.old.desk.now + 1 }
+        ensures no_less { D.written self.old.desk.now ≤ D.written self.new.desk.now }
+        ensures said { D.said self.new.desk.now ≡ D.said self.old.desk.now }
+        ensures line { D.line_faults self.new.desk.now ≡ D.line_faults self.old.desk.now }
+        ensures counted { D.device_faults self.old.desk.now ≤ D.device_faults self.new.desk.now }
+        ensures cause { OnErr result (Rose (D.device_faults self.old.desk.now) (D.device_faults self.new.desk.now)) }
+        ensures same_desk { self.new.desk.ghost_name ≡ self.old.desk.ghost_name }
+    {
+        write_gate(self.desk, 1)?;
+        Ok(Armed {
+            touched: staged.touched,
+        })
+    }
+
+    /// Writes each image in its page's place and syncs.
+    pub fn install<'t>(&mut self, armed: Armed<'t>) -> Result<Installed<'t>, DeviceFault>
+        ensures change { IfOk result (λ installed. installed.touched.now ≡ armed.entry.touched.now) }
+        ensures installed { OnOk result ((pages : List ℕ) → Rests (D.held self.old.desk.now) (D.may_leave self.old.desk.now) (IsArmed armed.entry.touched.now pages)
+            → Rests (D.held self.new.desk.now) (D.may_leave self.new.desk.now) (IsInstalled armed.entry.touched.now pages)) }
+        ensures any_moment { (pages : List ℕ) → Rests (D.held self.old.desk.now) (D.may_leave self.old.desk.now) (IsArmed armed.entry.touched.now pages)
+            → AtAnyMoment D.moment D.shown_since D.said self.old.desk.now self.new.desk.now (Holds pages) }
+
+        ensures written { OnOk result (D.written self.new.desk.now ≡ D.written self.old.desk.now + page_size * length armed.entry.touched.now.pages) }
+        ensures no_more { D.written self.new.desk.now ≤ D.written self.old.desk.now + page_size * length armed.entry.touched.now.pages }
+        ensures no_less { D.written self.old.desk.now ≤ D.written self.new.desk.now }
+        ensures said { D.said self.new.desk.now ≡ D.said self.old.desk.now }
+        ensures line { D.line_faults self.new.desk.now ≡ D.line_faults self.old.desk.now }
+        ensures counted { D.device_faults self.old.desk.now ≤ D.device_faults self.new.desk.now }
+        ensures cause { OnErr result (Rose (D.device_faults self.old.desk.now) (D.device_faults self.new.desk.now)) }
+        ensures same_desk { self.new.desk.ghost_name ≡ self.old.desk.ghost_name }
+    {
+        write_images(self.desk, armed.touched)?;
+        self.desk.sync()?;
+        Ok(Installed {
+            touched: armed.touched,
+        })
+    }
+
+    /// Clears the gate and syncs.
+    pub fn disarm(&mut self, installed: Installed<'_>) -> Result<Closed, DeviceFault>
+        ensures closed { OnOk result ((pages : List ℕ) → Rests (D.held self.old.desk.now) (D.may_leave self.old.desk.now) (IsInstalled installed.entry.touched.now pages)
+            → Rests (D.held self.new.desk.now) (D.may_leave self.new.desk.now) (IsClosed pages)) }
+        ensures any_moment { (pages : List ℕ) → Rests (D.held self.old.desk.now) (D.may_leave self.old.desk.now) (IsInstalled installed.entry.touched.now pages)
+            → AtAnyMoment D.moment D.shown_since D.said self.old.desk.now self.new.desk.now (Holds pages) }
+
+        ensures written { OnOk result (D.written self.new.desk.now ≡ D.written self.old.desk.now + 1) }
+        ensures no_more { D.written self.new.desk.now ≤ D.written self.old.desk.now + 1 }
+        ensures no_less { D.written self.old.desk.now ≤ D.written self.new.desk.now }
+        ensures said { D.said self.new.desk.now ≡ D.said self.old.desk.now }
+        ensures line { D.line_faults self.new.desk.now ≡ D.line_faults self.old.desk.now }
+        ensures counted { D.device_faults self.old.desk.now ≤ D.device_faults self.new.desk.now }
+        ensures cause { OnErr result (Rose (D.device_faults self.old.desk.now) (D.device_faults self.new.desk.now)) }
+        ensures same_desk { self.new.desk.ghost_name ≡ self.old.desk.ghost_name }
+    {
+        write_gate(self.desk, 0)?;
+        Ok(Closed { seal: () })
+    }
+}

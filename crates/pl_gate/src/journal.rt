@@ -1,0 +1,135 @@
+// The journal of a set gate: whether it keeps to its format, and its pages put into their places.
+ghost use Rattle.std.specs.Option.{option_map};
+ghost use Rattle.std.specs.Prelude.{◌≡◌, ◌≤◌, ◌<◌, ◌⊎◌, ◌↔◌, ◌+◌, ◌*◌, ℕ, List, [], Some, None, Err, true, false, length, slice_range, IfOk, IfSome, OnOk};
+ghost use Rattle.std.specs.Int.{w64, from_le_bytes};
+ghost use Rattle.pl_base.specs.Touched.{page_size};
+ghost use Rattle.pl_desk.specs.Counts.{Rose};
+ghost use Rattle.pl_desk.specs.Desk.{last_offset, overwritten, Follows, Torn};
+ghost use Rattle.pl_gate.specs.Device.{image_ranges, with_images, ShowsUnsaid, TornIn};
+ghost use Rattle.pl_gate.specs.Gate.{entry_at, entry_size, has_gate, is_journal, is_set, journal};
+ghost use Rattle.pl_gate.specs.Recovery.{IsPlaceOf};
+
+use crate::device::ENTRY_SIZE;
+use crate::error::GateError;
+use crate::read::{Place, read_u64};
+use pl_base::PAGE_SIZE;
+use pl_desk::Desk;
+
+/// Whether the journal keeps to its format, in a file of this length.
+pub fn check_journal<D: Desk>(desk: &mut D, place: &Place, len: u64) -> Result<(), GateError>
+    requires len { IfSome (D.held desk.old) (λ file. len ≡ length file) }
+    requires range { len ≤ last_offset }
+    requires place { IfSome (D.held desk.old) (IsPlaceOf place.now) }
+    ensures journal { OnOk result (IfSome (D.held desk.old) (λ file. is_journal file ≡ true)) }
+    ensures bad { result ≡ Err GateError.BadGate → IfSome (D.held desk.old) (λ file. is_journal file ≡ false) }
+    ensures bound { OnOk result (place.now.start + entry_size * place.now.count ≤ len) }
+    ensures held { D.held desk.new ≡ D.held desk.old }
+    ensures leaves { (file : List ℕ) → D.may_leave desk.new file → D.may_leave desk.old file }
+    ensures moments { ShowsUnsaid D.moment D.shown_since D.may_leave D.said desk.old desk.new (TornIn []) }
+    ensures said { D.said desk.new ≡ D.said desk.old }
+    ensures written { D.written desk.new ≡ D.written desk.old }
+    ensures line { D.line_faults desk.new ≡ D.line_faults desk.old }
+    ensures counted { D.device_faults desk.old ≤ D.device_faults desk.new }
+    ensures cause { result ≡ Err GateError.DeviceFault → Rose (D.device_faults desk.old) (D.device_faults desk.new) }
+{
+    if !lies_behind(place, len) {
+        return Err(GateError::BadGate);
+    }
+    let mut last = 0;
+    let mut index = 0;
+    while index < place.count {
+        let at = place.start + ENTRY_SIZE as u64 * index as u64;
+        last = read_page(desk, at, last, place.after)?;
+        index += 1;
+    }
+    Ok(())
+}
+
+// Whether the journal lies within a file of this length, behind the store's pages.
+fn lies_behind(place: &Place, len: u64) -> bool
+    ensures { (result ≡ true) ↔ ((place.now.start + entry_size * place.now.count ≤ len) × (page_size * place.now.after ≤ place.now.start)) }
+{
+    let Some(end) = place
+        .start
+        .checked_add(ENTRY_SIZE as u64 * place.count as u64)
+    else {
+        return false;
+    };
+    end <= len && PAGE_SIZE as u64 * place.after as u64 <= place.start
+}
+
+// The number of an entry's page, which is above the last one and a page of the store.
+fn read_page<D: Desk>(desk: &mut D, at: u64, last: u64, after: u32) -> Result<u64, GateError>
+    requires range { at + 8 ≤ last_offset }
+    requires within { IfSome (D.held desk.old) (λ file. at + 8 ≤ length file) }
+    ensures page { IfOk result (λ page. IfSome (D.held desk.old) (λ file. page ≡ (entry_at at file).page)) }
+    ensures above { IfOk result (λ page. last < page) }
+    ensures below { IfOk result (λ page. page < after) }
+    ensures bad { result ≡ Err GateError.BadGate → IfSome (D.held desk.old) (λ file. ((entry_at at file).page ≤ last) ⊎ (after ≤ (entry_at at file).page)) }
+    ensures held { D.held desk.new ≡ D.held desk.old }
+    ensures leaves { (file : List ℕ) → D.may_leave desk.new file → D.may_leave desk.old file }
+    ensures moments { ShowsUnsaid D.moment D.shown_since D.may_leave D.said desk.old desk.new (TornIn []) }
+    ensures said { D.said desk.new ≡ D.said desk.old }
+    ensures written { D.written desk.new ≡ D.written desk.old }
+    ensures line { D.line_faults desk.new ≡ D.line_faults desk.old }
+    ensures counted { D.device_faults desk.old ≤ D.device_faults desk.new }
+    ensures cause { result ≡ Err GateError.DeviceFault → Rose (D.device_faults desk.old) (D.device_faults desk.new) }
+{
+    let page = read_u64(desk, at)?;
+    if page <= last || page >= after as u64 {
+        return Err(GateError::BadGate);
+    }
+    Ok(page)
+}
+
+/// Puts the images of the journal's pages into their places.
+pub fn install_journal<D: Desk>(desk: &mut D, place: &Place) -> Result<(), GateError>
+    requires range { place.now.start + entry_size * place.now.count ≤ last_offset }
+    requires place { IfSome (D.held desk.old) (IsPlaceOf place.now) }
+    requires set { IfSome (D.held desk.old) (λ file. is_set file ≡ true) }
+    requires gate { IfSome (D.held desk.old) (λ file. has_gate file ≡ true) }
+    ensures held { OnOk result (D.held desk.new ≡ option_map (λ file. with_images (journal file) file) (D.held desk.old)) }
+    ensures leaves { (file : List ℕ) → D.held desk.old ≡ Some file → Follows (TornIn (image_ranges (journal file))) (D.may_leave desk.old) (D.may_leave desk.new) }
+    ensures moments { (file : List ℕ) → D.held desk.old ≡ Some file → ShowsUnsaid D.moment D.shown_since D.may_leave D.said desk.old desk.new (TornIn (image_ranges (journal file))) }
+    ensures said { D.said desk.new ≡ D.said desk.old }
+    ensures written { OnOk result (D.written desk.new ≡ D.written desk.old + page_size * place.now.count) }
+    ensures no_more { D.written desk.new ≤ D.written desk.old + page_size * place.now.count }
+    ensures no_less { D.written desk.old ≤ D.written desk.new }
+    ensures line { D.line_faults desk.new ≡ D.line_faults desk.old }
+    ensures counted { D.device_faults desk.old ≤ D.device_faults desk.new }
+    ensures cause { result ≡ Err GateError.DeviceFault → Rose (D.device_faults desk.old) (D.device_faults desk.new) }
+    ensures good { result ≡ Err GateError.BadGate → D.held desk.old ≡ None }
+{
+    let mut last = 0;
+    let mut index = 0;
+    while index < place.count {
+        let at = place.start + ENTRY_SIZE as u64 * index as u64;
+        last = install_entry(desk, at, last, place.after)?;
+        index += 1;
+    }
+    Ok(())
+}
+
+// Puts the image of an entry into its page's place, and says which page it is.
+fn install_entry<D: Desk>(desk: &mut D, at: u64, last: u64, after: u32) -> Result<u64, GateError>
+    requires range { at + entry_size ≤ last_offset }
+    requires within { IfSome (D.held desk.old) (λ file. at + entry_size ≤ length file) }
+    ensures page { IfOk result (λ page. IfSome (D.held desk.old) (λ file. page ≡ (entry_at at file).page)) }
+    ensures held { OnOk result (D.held desk.new ≡ option_map (λ file. overwritten 0 (page_size * (entry_at at file).page) (entry_at at file).image file) (D.held desk.old)) }
+    ensures bad { result ≡ Err GateError.BadGate → IfSome (D.held desk.old) (λ file. ((entry_at at file).page ≤ last) ⊎ (after ≤ (entry_at at file).page)) }
+    ensures leaves { (file : List ℕ) → D.held desk.old ≡ Some file → Follows (Torn (page_size * (entry_at at file).page) page_size) (D.may_leave desk.old) (D.may_leave desk.new) }
+    ensures moments { (file : List ℕ) → D.held desk.old ≡ Some file → ShowsUnsaid D.moment D.shown_since D.may_leave D.said desk.old desk.new (Torn (page_size * (entry_at at file).page) page_size) }
+    ensures said { D.said desk.new ≡ D.said desk.old }
+    ensures written { OnOk result (D.written desk.new ≡ D.written desk.old + page_size) }
+    ensures no_more { D.written desk.new ≤ D.written desk.old + page_size }
+    ensures no_less { D.written desk.old ≤ D.written desk.new }
+    ensures line { D.line_faults desk.new ≡ D.line_faults desk.old }
+    ensures counted { D.device_faults desk.old ≤ D.device_faults desk.new }
+    ensures cause { result ≡ Err GateError.DeviceFault → Rose (D.device_faults desk.old) (D.device_faults desk.new) }
+{
+    let page = read_page(desk, at, last, after)?;
+    let mut image = [0; PAGE_SIZE];
+    desk.read_at(at + 8, &mut image)?;
+    desk.write_at(PAGE_SIZE as u64 * page, &image)?;
+    Ok(page)
+}

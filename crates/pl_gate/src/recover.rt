@@ -1,0 +1,84 @@
+ghost use Rattle.std.specs.Prelude.{◌≡◌, ◌≤◌, ◌⊎◌, ◌+◌, ◌*◌, ℕ, List, Some, None, Err, true, false, IfSome, OnOk};
+ghost use Rattle.pl_base.specs.Touched.{page_size};
+ghost use Rattle.pl_desk.specs.Counts.{Rose};
+ghost use Rattle.pl_desk.specs.Desk.{last_offset, Only};
+ghost use Rattle.pl_gate.specs.Gate.{entry_size, has_gate, is_set};
+ghost use Rattle.pl_gate.specs.Recovery.{IsPlaceOf, IsSettledAs, LeftAs, StandsAs, written_by};
+ghost use Rattle.pl_gate.specs.States.{AtAnyMoment, Rests};
+
+use crate::device::write_gate;
+use crate::error::GateError;
+use crate::gate::Gate;
+use crate::journal::{check_journal, install_journal};
+use crate::read::{Place, read_place};
+use crate::states::Closed;
+use pl_base::PAGE_SIZE;
+use pl_desk::Desk;
+
+impl<'d, D: Desk> Gate<'d, D> {
+    /// Settles the gate of a file that a stop may have left: it syncs, and installs a journal whose gate is
+    /// set. `BadGate` comes just where the file has less than 1,024 bytes, and where the gate is set over a
+    /// journal that breaks its format.
+    pub fn recover(&mut self) -> Result<Closed, GateError>
+        // Where the desk tells its content, the file is at rest then, and stands for what it stood for.
+        ensures settled { OnOk result ((file : List ℕ) → D.held self.old.desk.now ≡ Some file
+            → Rests (D.held self.new.desk.now) (D.may_leave self.new.desk.now) (IsSettledAs file)) }
+        ensures good { OnOk result (IfSome (D.held self.old.desk.now) (λ file. has_gate file ≡ true)) }
+        ensures bad { result ≡ Err GateError.BadGate → IfSome (D.held self.old.desk.now) (λ file. has_gate file ≡ false) }
+        ensures untouched { result ≡ Err GateError.BadGate → D.held self.new.desk.now ≡ D.held self.old.desk.now }
+
+        // A stop at any moment shows a file that stands for what one stood for that might have been left before;
+        // and once the file was synced for what was read then.
+        ensures any_moment { (file : List ℕ) → D.held self.old.desk.now ≡ Some file
+            → AtAnyMoment D.moment D.shown_since D.said self.old.desk.now self.new.desk.now (LeftAs (D.may_leave self.old.desk.now)) }
+        ensures one_store { (file : List ℕ) → D.held self.old.desk.now ≡ Some file
+            → ((later : List ℕ) → D.may_leave self.new.desk.now later → D.may_leave self.old.desk.now later)
+            ⊎ ((later : List ℕ) → D.may_leave self.new.desk.now later → StandsAs file later) }
+
+        ensures written { OnOk result ((file : List ℕ) → D.held self.old.desk.now ≡ Some file → D.written self.new.desk.now ≡ D.written self.old.desk.now + written_by file) }
+        ensures no_more { (file : List ℕ) → D.held self.old.desk.now ≡ Some file → D.written self.new.desk.now ≤ D.written self.old.desk.now + written_by file }
+        ensures no_less { D.written self.old.desk.now ≤ D.written self.new.desk.now }
+        ensures said { D.said self.new.desk.now ≡ D.said self.old.desk.now }
+        ensures line { D.line_faults self.new.desk.now ≡ D.line_faults self.old.desk.now }
+        ensures counted { D.device_faults self.old.desk.now ≤ D.device_faults self.new.desk.now }
+        ensures cause { result ≡ Err GateError.DeviceFault → Rose (D.device_faults self.old.desk.now) (D.device_faults self.new.desk.now) }
+        ensures same_desk { self.new.desk.ghost_name ≡ self.old.desk.ghost_name }
+    {
+        self.desk.sync()?;
+        let len = self.desk.len()?;
+        if len < PAGE_SIZE as u64 {
+            return Err(GateError::BadGate);
+        }
+        let place = read_place(self.desk)?;
+        if place.is_set {
+            check_journal(self.desk, &place, len)?;
+            clear_gate(self.desk, &place)?;
+        }
+        Ok(Closed { seal: () })
+    }
+}
+
+// Installs the journal and clears the gate, on a file that is at rest.
+fn clear_gate<D: Desk>(desk: &mut D, place: &Place) -> Result<(), GateError>
+    requires range { place.now.start + entry_size * place.now.count ≤ last_offset }
+    requires place { IfSome (D.held desk.old) (IsPlaceOf place.now) }
+    requires set { IfSome (D.held desk.old) (λ file. is_set file ≡ true) }
+    requires gate { IfSome (D.held desk.old) (λ file. has_gate file ≡ true) }
+    requires only { IfSome (D.held desk.old) (λ file. Only file (D.may_leave desk.old)) }
+    ensures settled { OnOk result ((file : List ℕ) → D.held desk.old ≡ Some file → Rests (D.held desk.new) (D.may_leave desk.new) (IsSettledAs file)) }
+    ensures any_moment { (file : List ℕ) → D.held desk.old ≡ Some file → AtAnyMoment D.moment D.shown_since D.said desk.old desk.new (StandsAs file) }
+    ensures left { (file : List ℕ) → D.held desk.old ≡ Some file → (later : List ℕ) → D.may_leave desk.new later → StandsAs file later }
+    ensures good { result ≡ Err GateError.BadGate → D.held desk.old ≡ None }
+    ensures written { OnOk result (D.written desk.new ≡ D.written desk.old + (page_size * place.now.count + 1)) }
+    ensures no_more { D.written desk.new ≤ D.written desk.old + (page_size * place.now.count + 1) }
+    ensures no_less { D.written desk.old ≤ D.written desk.new }
+    ensures said { D.said desk.new ≡ D.said desk.old }
+    ensures line { D.line_faults desk.new ≡ D.line_faults desk.old }
+    ensures counted { D.device_faults desk.old ≤ D.device_faults desk.new }
+    ensures cause { result ≡ Err GateError.DeviceFault → Rose (D.device_faults desk.old) (D.device_faults desk.new) }
+{
+    install_journal(desk, place)?;
+    desk.sync()?;
+    write_gate(desk, 0)?;
+    Ok(())
+}
