@@ -1,3 +1,4 @@
 mod AddressRows
+pub mod OriginLaws
 mod VisitsLaws
 mod WorkedRows
