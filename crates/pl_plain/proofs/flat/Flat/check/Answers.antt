@@ -1,0 +1,57 @@
+use Rattle.std.proofs.Common.{◌∙◌, ap, arith, drop, subst, sym}
+use Rattle.std.proofs.lemmas.Bool.{true≢false}
+use Rattle.std.proofs.lemmas.Result.{err_from_is_err_and}
+use Rattle.pl_base.specs.Rows.{IsRight, Kept, store_of}
+use Rattle.pl_plain.specs.Form.{StandsFor}
+use Rattle.pl_plain.proofs.CheckFlat.{is-right, slots-by, stands-for}
+use Rattle.pl_plain.proofs.CheckHeld.{apart, good_read, live_read, not_read, only_store, right_read}
+use Rattle.pl_plain.proofs.flat.Flat.check.Goals as goal
+
+pub returns-clause-stands : goal.returns-clause-stands
+returns-clause-stands c =
+    subst (λ (kept : Kept). StandsFor (drop 1024 c.args.bytes.now) (store_of kept)) (sym c.into_flat.ensures.kept)
+    (stands-for (drop 1024 c.args.bytes.now) c.in_ok-rows.field-0.rows c.in_ok-named.named.pages.items c.in_ok-named.ensures.origins.0 c.in_ok-named.named.origins c.live-live.result
+    c.in_ok-rows.ensures.holds
+    (record {
+      stored = c.in_ok-rows.ensures.stored;
+      good = c.are_good.ensures.0 c.if-not-are_good.false;
+      pages = c.in_ok-named.ensures.pages;
+      named = c.in_ok-named.ensures.origins.1;
+      count = c.in_ok-named.ensures.origins.2;
+      slots = c.live-live.ensures;
+      few = c.if-live-gt-SLOT_LIMIT.false;
+    }))
+
+pub returns-clause-right : goal.returns-clause-right
+returns-clause-right c =
+    subst IsRight (sym c.into_flat.ensures.kept) (is-right c.in_ok-rows.field-0.rows c.in_ok-named.named.pages.items c.in_ok-named.named.origins c.in_ok-named.ensures.pages)
+
+pub returns-in_err-rows-clause-not_a_store : goal.returns-in_err-rows-clause-not_a_store
+returns-in_err-rows-clause-not_a_store c refused store held =
+    let p = err_from_is_err_and c.from_residual.result c.from_residual.ensures.1 in
+    let memory = not_read (drop 1024 c.args.bytes.now) store c.in_err-rows.field-0.0 held c.in_err-rows.ensures.whole in
+    apart c.from_residual.result p.0 c.in_err-rows.field-0.0 refused p.1 p.2 memory
+
+pub returns-then-not-are_good-clause-not_a_store : goal.returns-then-not-are_good-clause-not_a_store
+returns-then-not-are_good-clause-not_a_store c refused store held =
+    let good = good_read (drop 1024 c.args.bytes.now) store c.in_ok-rows.field-0.rows held c.in_ok-rows.ensures.whole in
+    true≢false (sym (c.are_good.ensures.1 good) ∙ c.if-not-are_good.true)
+
+pub returns-in_err-named-clause-not_a_store : goal.returns-in_err-named-clause-not_a_store
+returns-in_err-named-clause-not_a_store c refused store held =
+    let p = err_from_is_err_and c.from_residual-in_err-named.result c.from_residual-in_err-named.ensures.1 in
+    let memory = c.in_err-named.ensures.right (right_read (drop 1024 c.args.bytes.now) store c.in_ok-rows.field-0.rows held c.in_ok-rows.ensures.whole) in
+    apart c.from_residual-in_err-named.result p.0 c.in_err-named.field-0.0 refused p.1 p.2 memory
+
+pub returns-then-live-gt-SLOT_LIMIT-clause-not_a_store : goal.returns-then-live-gt-SLOT_LIMIT-clause-not_a_store
+returns-then-live-gt-SLOT_LIMIT-clause-not_a_store c refused store held =
+    let few = live_read (drop 1024 c.args.bytes.now) store c.in_ok-rows.field-0.rows held c.in_ok-rows.ensures.whole in
+    let slots =
+    slots-by c.in_ok-rows.field-0.rows c.in_ok-named.named.pages.items c.in_ok-named.ensures.origins.0 c.in_ok-named.named.origins c.live-live.result
+    c.in_ok-named.ensures.pages c.in_ok-named.ensures.origins.1 c.in_ok-named.ensures.origins.2 c.live-live.ensures in
+    omega (arith, few, slots, c.if-live-gt-SLOT_LIMIT.true)
+
+pub returns-clause-only : goal.returns-clause-only
+returns-clause-only c store held =
+    only_store (drop 1024 c.args.bytes.now) store c.in_ok-rows.field-0.rows c.in_ok-named.named.pages.items c.in_ok-named.named.origins held c.in_ok-rows.ensures.whole c.in_ok-named.ensures.pages
+    ∙ ap store_of (sym c.into_flat.ensures.kept)

@@ -1,0 +1,35 @@
+use Rattle.std.proofs.Common.{◌≡◌, ◌∙◌, ◌++◌, List, ap, arith, drop, length, map, subst, sym, take}
+use Rattle.std.proofs.lemmas.Bool.{true≢false}
+use Rattle.std.proofs.lemmas.List.{length-map}
+use Rattle.pl_base.specs.Rows.{KeptPage}
+use Rattle.pl_plain.specs.declared.flat.row.FlatPage.{FlatPage}
+use Rattle.pl_plain.specs.Flat.{kept_of}
+use Rattle.pl_plain.specs.FlatRows.{IsFlat, kept_from, marked_row, page_of}
+use Rattle.pl_plain.proofs.FlatChanges.{IsFlat-with_mark}
+use Rattle.pl_plain.proofs.Marks.{all_written, kept_marked}
+use Rattle.pl_plain.proofs.flat.rows.FlatRows.set_mark.Goals as goal
+
+pub invariant_of-self : goal.invariant_of-self
+invariant_of-self g c =
+    let f = c.args.self.now in
+    let marks : List FlatPage = map (marked_row c.args.page c.args.mark) f.pages.items in
+    let same : take f.pages.len (c.mark_page.new.pages ++ drop (length c.mark_page.new.pages) f.pages.items) ≡ marks =
+    all_written f.pages.len f.pages.items marks c.mark_page.new.pages (c.mark_page.ensures ∙ ap (map (marked_row c.args.page c.args.mark)) c.deref_mut.ensures.value)
+    (length-map f.pages.items (marked_row c.args.page c.args.mark)) (omega arith) in
+    record {
+      rows =
+          subst (λ (pages : List FlatPage). IsFlat (kept_from f.day f.ids pages f.origins f.visits.items) f.origins f.live) (sym same)
+          (subst (λ (pages : List KeptPage). IsFlat (record (kept_of f) { pages = pages }) f.origins f.live) (sym (kept_marked c.args.page c.args.mark f.pages.items))
+          (IsFlat-with_mark c.args.page c.args.mark (kept_of f) f.origins f.live f.rows));
+      some_page = f.some_page;
+      settled = λ settled. absurd (true≢false settled);
+    }
+
+pub returns-clause-kept : goal.returns-clause-kept
+returns-clause-kept g c =
+    let f = c.args.self.now in
+    let marks : List FlatPage = map (marked_row c.args.page c.args.mark) f.pages.items in
+    let same : take f.pages.len (c.mark_page.new.pages ++ drop (length c.mark_page.new.pages) f.pages.items) ≡ marks =
+    all_written f.pages.len f.pages.items marks c.mark_page.new.pages (c.mark_page.ensures ∙ ap (map (marked_row c.args.page c.args.mark)) c.deref_mut.ensures.value)
+    (length-map f.pages.items (marked_row c.args.page c.args.mark)) (omega arith) in
+    ap (λ (pages : List KeptPage). record (kept_of f) { pages = pages }) (ap (map page_of) same ∙ kept_marked c.args.page c.args.mark f.pages.items)

@@ -1,0 +1,11 @@
+use Rattle.std.proofs.Common.{◌∙◌, ◌==◌, ap, sym}
+use Rattle.std.specs.Result.{result_ok}
+use Rattle.pl_base.specs.Rows.{KeptPage, mark_of}
+use Rattle.pl_plain.specs.Flat.{kept_of}
+use Rattle.pl_plain.proofs.Lookups.{there-found}
+use Rattle.pl_plain.proofs.flat.tests.mark_first.Goals as goal
+
+pub set_mark-requires : goal.set_mark-requires
+set_mark-requires g c =
+    there-found (λ (p : KeptPage). p.page.id.0 == 1) mark_of (kept_of c.args.flat.now).pages c.in_ok-old.old
+    (ap result_ok (sym c.in_ok-old.was) ∙ sym c.ok_or.ensures.ok_part ∙ c.page_at.ensures.mark)

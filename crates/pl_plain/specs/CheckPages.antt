@@ -1,0 +1,40 @@
+-- The pages of a file's rows, with what the definitions give of them.
+use Rattle.std.specs.Prelude.{◌≡◌, ◌+◌, ◌≤◌, ℕ, List, length}
+use Rattle.std.specs.List.{AllZip, sum_by}
+use Rattle.pl_base.specs.Frecency.{frecency_of}
+use Rattle.pl_base.specs.Good.{IsGood}
+use Rattle.pl_base.specs.Live.{chunks}
+use Rattle.pl_base.specs.Marks.{is_hidden, visit_count}
+use Rattle.pl_base.specs.Rows.{Kept}
+use Rattle.pl_plain.specs.declared.flat.row.FlatPage.{FlatPage}
+use Rattle.pl_plain.specs.declared.form.stored.StoredPage.{StoredPage}
+use Rattle.pl_plain.specs.CheckOrigins.{AreNamed, Key}
+use Rattle.pl_plain.specs.FlatRows.{kept_from}
+use Rattle.pl_plain.specs.Stored.{AreStored, Stored, stored_page, stored_store}
+
+-- the frecency of the file is the one of the definition
+abbrev pub IsFrecencyRight : Stored → StoredPage → Type 0
+IsFrecencyRight rows p = p.frecency ≡ frecency_of (stored_store rows) (stored_page p)
+
+-- a page of the file, with what the definitions give of it
+pub record IsAssessed (rows : Stored) (p : StoredPage) (q : FlatPage) : Type 0 where
+  pub id : q.id ≡ p.id
+  pub url : q.url ≡ p.url
+  pub typed : q.typed ≡ p.typed
+  pub right : IsFrecencyRight rows p
+  pub frecency : q.frecency ≡ frecency_of (stored_store rows) (stored_page p)
+  pub count : q.count ≡ visit_count (stored_store rows) p.id
+  pub hidden : q.hidden ≡ is_hidden (stored_store rows) (stored_page p)
+
+-- what a file's rows give: a good store, and its pages with names of their origins
+pub record IsGiven (rows : Stored) (qs : List FlatPage) (keys : List Key) (origins live : ℕ) : Type 0 where
+  pub stored : AreStored rows
+  pub good : IsGood (stored_store rows)
+  pub pages : AllZip (IsAssessed rows) rows.pages qs
+  pub named : AreNamed qs keys
+  pub count : origins ≡ length keys
+  pub slots : live ≡ origins + length rows.pages + length rows.visits + 6 + sum_by (λ (p : StoredPage). chunks p.url) rows.pages
+  pub few : live ≤ 4_194_304
+
+abbrev pub kept_of_rows : Stored → List FlatPage → ℕ → Kept
+kept_of_rows rows qs origins = kept_from rows.day rows.ids qs origins rows.visits

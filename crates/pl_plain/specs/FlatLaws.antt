@@ -1,0 +1,129 @@
+-- What holds of a flat store: its rows are well kept, and its bytes stand for a good store with right marks.
+use Rattle.std.specs.Prelude.{◌≡◌, ◌+◌, ◌≤◌, ◌<◌, ◌-◌, ◌==◌, ℕ, ℤ, Contains, List, [], ◌∷◌, length, map, take, true}
+use Rattle.std.specs.List.{All, list_any, range_with_len}
+use Rattle.std.proofs.Common.{◌∙◌, ap, arith, get_or, refl, subst, suc, sym, zero}
+use Rattle.std.specs.List.Sorted.{IsStrictlyIncreasing}
+use Rattle.std.proofs.lemmas.Bool.{eqb-true}
+use Rattle.std.proofs.lemmas.List.{get_or-map, length-map, take_all}
+use Rattle.std.proofs.lemmas.List.Elements.{All-from_recursion, All-head, All-map, All-tail}
+use Rattle.std.proofs.lemmas.List.Folds.{Any-from_list_any}
+use Rattle.std.proofs.lemmas.List.FromFn.{get_or-range_with_len, length-range_with_len}
+use Rattle.std.proofs.lemmas.Str.{IsUtf8-nil}
+use Rattle.pl_base.specs.declared.date.Day.{Day}
+use Rattle.pl_base.specs.declared.id.Ids.{Ids}
+use Rattle.pl_base.specs.Frecency.{frecency_of}
+use Rattle.pl_base.specs.Good.{IsGood, IsTitle}
+use Rattle.pl_base.specs.Rows.{IsOfVisits, IsRight, IsWellKept, Kept, KeptOrigin, KeptPage, NamesOrigins, store_of}
+use Rattle.pl_base.specs.Store.{Page, Store}
+use Rattle.pl_plain.specs.declared.flat.row.FlatPage.{FlatPage}
+use Rattle.pl_plain.specs.declared.flat.row.FlatVisit.{FlatVisit}
+use Rattle.pl_plain.specs.FlatRows.{IsFlat, kept_from, origin_named, page_of}
+use Rattle.pl_plain.specs.Form.{FormRows, StandsFor, form_bytes, kept_rows, store_rows}
+
+-- ---- the rows are well kept
+
+abbrev named_to : ℕ → List KeptOrigin
+named_to origins = map origin_named (range_with_len 1 origins)
+
+named_at : (origins i : ℕ) (d : KeptOrigin) → i < origins → get_or (named_to origins) i d ≡ origin_named (1 + i)
+named_at origins i d within =
+    get_or-map origin_named (range_with_len 1 origins) i 0 d (rw length-range_with_len within)
+    ∙ ap origin_named (get_or-range_with_len 1 origins i 0 within)
+
+length-named_to : (origins : ℕ) → length (named_to origins) ≡ origins
+length-named_to origins = length-map (range_with_len 1 origins) origin_named ∙ length-range_with_len 1 origins
+
+number_at : (origins i d : ℕ) → i < origins → get_or (map (λ (a : KeptOrigin). a.origin.0) (named_to origins)) i d ≡ 1 + i
+number_at origins i d within =
+    let inside : i < length (named_to origins) = rw (length-named_to origins) within in
+    get_or-map (λ (a : KeptOrigin). a.origin.0) (named_to origins) i (origin_named 0) d inside
+    ∙ ap (λ (a : KeptOrigin). a.origin.0) (named_at origins i (origin_named 0) within)
+
+contains_number : (origins n : ℕ) → 0 < n → n ≤ origins → Contains (map (λ (a : KeptOrigin). a.origin.0) (named_to origins)) n
+contains_number origins n some few = (
+  n - 1,
+  rw (length-map (named_to origins) (λ (a : KeptOrigin). a.origin.0), length-named_to origins) (omega arith),
+  omega (arith, number_at origins (n - 1) n (omega arith)),
+)
+
+contains_page : (kept : Kept) (n : ℕ) → list_any (λ (p : KeptPage). p.origin.0 == n) kept.pages ≡ true → Contains (map (λ (p : KeptPage). p.origin.0) kept.pages) n
+contains_page kept n some =
+    let at = Any-from_list_any (λ (p : KeptPage). p.origin.0 == n) kept.pages some in (
+      at.0,
+      rw (length-map kept.pages (λ (p : KeptPage). p.origin.0)) at.2,
+      get_or-map (λ (p : KeptPage). p.origin.0) kept.pages at.0 at.1 n at.2 ∙ ap (λ (p : KeptPage). p.origin.0) at.3 ∙ eqb-true at.1.origin.0 n at.4,
+    )
+
+origins_named : (kept : Kept) (origins live : ℕ) → IsFlat kept origins live → kept.origins ≡ named_to origins → NamesOrigins kept
+origins_named kept origins live h names =
+    subst (λ (os : List KeptOrigin). NamesOrigins (record kept { origins = os })) (sym names)
+    (record {
+      distinct =
+          λ i j d before within same.
+          let last : j < origins = rw (length-named_to origins) at within in
+          let numbers : 1 + i ≡ 1 + j =
+          ap (λ (a : KeptOrigin). a.origin.0) (sym (named_at origins i d (omega arith))) ∙ ap (λ s. s.0) same ∙ ap (λ (a : KeptOrigin). a.origin.0) (named_at origins j d last) in
+          omega arith;
+      some = All-map (λ (a : KeptOrigin). 0 < a.origin.0) origin_named (range_with_len 1 origins) (λ k d within. omega (arith, get_or-range_with_len 1 origins k d (rw length-range_with_len at within)));
+      known = λ k d within. contains_number origins (get_or kept.pages k d).origin.0 (h.named k d within).0 (h.named k d within).1;
+      used =
+          All-map (λ (a : KeptOrigin). Contains (map (λ (p : KeptPage). p.origin.0) kept.pages) a.origin.0) origin_named (range_with_len 1 origins)
+          (λ k d within.
+          let inside : k < origins = rw length-range_with_len at within in
+          contains_page kept (get_or (range_with_len 1 origins) k d) (h.used (get_or (range_with_len 1 origins) k d) (omega (arith, get_or-range_with_len 1 origins k d inside)) (omega (arith, get_or-range_with_len 1 origins k d inside))));
+      same = h.same;
+    })
+
+roots_ascend : IsStrictlyIncreasing (1 ∷ 2 ∷ 3 ∷ 4 ∷ 5 ∷ 6 ∷ [])
+roots_ascend zero h = omega arith
+roots_ascend (suc zero) h = omega arith
+roots_ascend (suc (suc zero)) h = omega arith
+roots_ascend (suc (suc (suc zero))) h = omega arith
+roots_ascend (suc (suc (suc (suc zero)))) h = omega arith
+roots_ascend (suc (suc (suc (suc (suc k))))) h = absurd (omega arith)
+
+roots_given : (next : ℕ) → 7 ≤ next → All (λ id. (0 < id) × (id < next)) (1 ∷ 2 ∷ 3 ∷ 4 ∷ 5 ∷ 6 ∷ [])
+roots_given next first =
+    All-from_recursion (λ id. (0 < id) × (id < next)) (1 ∷ 2 ∷ 3 ∷ 4 ∷ 5 ∷ 6 ∷ [])
+    ((omega arith, omega arith), ((omega arith, omega arith), ((omega arith, omega arith), ((omega arith, omega arith), ((omega arith, omega arith), ((omega arith, omega arith), tt))))))
+
+pub well_kept : (day : Day) (ids : Ids) (pages : List FlatPage) (origins : ℕ) (visits : List FlatVisit) (live : ℕ) → IsFlat (kept_from day ids pages origins visits) origins live → IsWellKept (kept_from day ids pages origins visits)
+well_kept day ids pages origins visits live h =
+    let kept : Kept = kept_from day ids pages origins visits in
+    record {
+      day = h.day;
+      page_ids = h.page_ids;
+      visit_ids = h.visit_ids;
+      item_ids = record { ascending = roots_ascend; given = roots_given ids.item h.item_first; next_first = h.item_first; next_last = h.item_last };
+      urls = h.urls;
+      distinct_urls = h.distinct_urls;
+      titles = All-map (λ (p : KeptPage). IsTitle p.page.title) page_of pages (λ k d within. (IsUtf8-nil, omega arith));
+      visits = h.visits;
+      origins = origins_named kept origins live h refl;
+      live = omega (arith, h.filled, h.few);
+    }
+
+-- ---- the bytes stand for the store
+
+right_rows : (store : Store) (pages : List KeptPage) → All (λ (p : KeptPage). p.frecency ≡ frecency_of store p.page) pages → map {B = Page × ℤ} (λ (p : KeptPage). (p.page, p.frecency)) pages ≡ map {B = Page × ℤ} (λ (p : Page). (p, frecency_of store p)) (map (λ (p : KeptPage). p.page) pages)
+right_rows store [] right = refl
+right_rows store (p ∷ pages) right =
+    rw (All-head (λ (p : KeptPage). p.frecency ≡ frecency_of store p.page) p pages right, right_rows store pages (All-tail (λ (p : KeptPage). p.frecency ≡ frecency_of store p.page) p pages right))
+
+rows_are_right : (kept : Kept) → IsRight kept → kept_rows kept ≡ store_rows (store_of kept)
+rows_are_right kept right =
+    ap (λ (pages : List (Page × ℤ)). record { day = kept.day; ids = kept.ids; pages = pages; visits = kept.visits; items = kept.items })
+    (right_rows (store_of kept) kept.pages right.frecencies)
+
+whole : (bytes : List ℕ) → take (length bytes) bytes ≡ bytes
+whole bytes = take_all (length bytes) bytes (omega arith)
+
+pub stands : (kept : Kept) → IsGood (store_of kept) → IsOfVisits (store_of kept) → IsRight kept → StandsFor (form_bytes (kept_rows kept)) (store_of kept)
+stands kept good of_visits right =
+    record {
+      good = good;
+      of_visits = of_visits;
+      begins =
+          ap (λ (rows : FormRows). take (length (form_bytes (store_rows (store_of kept)))) (form_bytes rows)) (rows_are_right kept right)
+          ∙ whole (form_bytes (store_rows (store_of kept)));
+    }

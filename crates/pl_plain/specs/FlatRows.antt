@@ -1,0 +1,78 @@
+-- The parts of a flat store seen as what is kept of a store, and what holds of them.
+use Rattle.std.specs.Prelude.{◌≡◌, ◌≢◌, ◌↔◌, ◌≤◌, ◌<◌, ◌==◌, ℕ, ℤ, IsTrue, List, [], map, true, if◌then◌else◌}
+use Rattle.std.specs.List.{All, AllPairs, list_any, range_with_len}
+use Rattle.pl_base.specs.declared.date.Day.{Day}
+use Rattle.pl_base.specs.declared.id.Ids.{Ids}
+use Rattle.pl_base.specs.declared.id.PageId.{PageId}
+use Rattle.pl_base.specs.declared.row.Mark.{Mark}
+use Rattle.pl_base.specs.Address.{is_store_url, same_origin}
+use Rattle.pl_base.specs.Date.{IsDate, IsDay}
+use Rattle.pl_base.specs.Good.{AreIds}
+use Rattle.pl_base.specs.Live.{live_slots, origin_count}
+use Rattle.pl_base.specs.Rows.{Kept, KeptOrigin, KeptPage, has_page, store_of}
+use Rattle.pl_base.specs.Store.{Page, Visit, roots}
+use Rattle.pl_plain.specs.declared.flat.row.FlatPage.{FlatPage}
+use Rattle.pl_plain.specs.declared.flat.row.FlatVisit.{FlatVisit}
+use Rattle.pl_plain.specs.Form.{form_bytes, kept_rows}
+
+-- a page without a title
+abbrev pub page_of : FlatPage → KeptPage
+page_of p =
+    record {
+      page = record { id = p.id; url = p.url; title = []; typed = p.typed };
+      origin = p.origin;
+      frecency = p.frecency;
+      count = p.count;
+      hidden = p.hidden;
+    }
+
+-- a page and its frecency
+abbrev pub form_row : FlatPage → Page × ℤ
+form_row p = ((page_of p).page, p.frecency)
+
+-- the page has a mark
+abbrev pub marked_row : PageId → Mark → FlatPage → FlatPage
+marked_row id mark p =
+    if p.id.0 == id.0
+    then record p { typed = mark.typed; frecency = mark.frecency; count = mark.count; hidden = mark.hidden }
+    else p
+
+abbrev pub visit_of : FlatVisit → Visit
+visit_of v = record { id = v.id; page = v.page; date = v.date; transition = v.transition; source = v.source }
+
+-- an origin by its name, with no total yet
+abbrev pub origin_named : ℕ → KeptOrigin
+origin_named n = record { origin = record { 0 = n }; total = 0 }
+
+-- the rows, with so many origins, and the six roots as the only items
+abbrev pub kept_from : Day → Ids → List FlatPage → ℕ → List FlatVisit → Kept
+kept_from day ids pages origins visits =
+    record {
+      day = day;
+      ids = ids;
+      pages = map page_of pages;
+      origins = map origin_named (range_with_len 1 origins);
+      visits = map visit_of visits;
+      items = roots;
+    }
+
+-- the bytes that a file of these rows holds from page 1 on
+abbrev pub bytes_from : Day → Ids → List FlatPage → ℕ → List FlatVisit → List ℕ
+bytes_from day ids pages origins visits = form_bytes (kept_rows (kept_from day ids pages origins visits))
+
+-- the rows are well kept, where the names of the origins are 1 to `origins`, and they take so many slots
+pub record IsFlat (kept : Kept) (origins live : ℕ) : Type 0 where
+  pub day : IsDay kept.day
+  pub page_ids : AreIds 1 kept.ids.page (map (λ (p : KeptPage). p.page.id.0) kept.pages)
+  pub visit_ids : AreIds 1 kept.ids.visit (map (λ (v : Visit). v.id.0) kept.visits)
+  pub item_first : 7 ≤ kept.ids.item
+  pub item_last : kept.ids.item ≤ 4_294_967_295
+  pub urls : All (λ (p : KeptPage). IsTrue (is_store_url p.page.url)) kept.pages
+  pub distinct_urls : AllPairs (λ (p q : KeptPage). p.page.url ≢ q.page.url) kept.pages
+  pub visits : All (λ (v : Visit). IsDate v.date × IsTrue (has_page kept v.page)) kept.visits
+  pub named : All (λ (p : KeptPage). (0 < p.origin.0) × (p.origin.0 ≤ origins)) kept.pages
+  pub used : (n : ℕ) → 0 < n → n ≤ origins → list_any (λ (p : KeptPage). p.origin.0 == n) kept.pages ≡ true
+  pub same : All (λ (p : KeptPage). All (λ (q : KeptPage). (p.origin ≡ q.origin) ↔ IsTrue (same_origin p.page.url q.page.url)) kept.pages) kept.pages
+  pub counted : origins ≡ origin_count (map (λ (p : KeptPage). p.page.url) kept.pages)
+  pub filled : live ≡ live_slots (store_of kept)
+  pub few : live ≤ 4_194_304

@@ -1,0 +1,124 @@
+-- The form in which a file holds a store from page 1 on: a header page, and behind it the plain bytes, which
+-- fill pages. Numbers are written with their lowest byte first, and lists by ascending id.
+use Rattle.std.specs.Prelude.{◌≡◌, ℕ, ℤ, ◌+◌, ◌-◌, ◌*◌, ◌/◌, Bool, true, false, List, [], ◌∷◌, ◌++◌, codes, length, map, replicate, take, Option, Some, None}
+use Rattle.std.specs.Int.{w32, w64, to_le_bytes, cast_unsigned}
+use Rattle.std.specs.List.{flat_map}
+use Rattle.pl_base.specs.declared.date.Day.{Day}
+use Rattle.pl_base.specs.declared.id.Ids.{Ids}
+use Rattle.pl_base.specs.declared.id.ItemId.{ItemId}
+use Rattle.pl_base.specs.declared.id.PageId.{PageId}
+use Rattle.pl_base.specs.declared.id.VisitId.{VisitId}
+use Rattle.pl_base.specs.Frecency.{frecency_of}
+use Rattle.pl_base.specs.Good.{IsGood}
+use Rattle.pl_base.specs.Rows.{Kept, KeptPage, IsOfVisits}
+use Rattle.pl_base.specs.Store.{Store, Page, Visit, Item, ItemKind, bookmark, folder, separator}
+use Rattle.pl_base.specs.Touched.{page_size}
+use Rattle.pl_base.specs.Transition.{transition_number}
+
+-- numbers of 4 and of 8 bytes
+abbrev pub four : ℕ → List ℕ
+four n = to_le_bytes w32 n
+
+abbrev pub eight : ℕ → List ℕ
+eight n = to_le_bytes w64 n
+
+abbrev pub signed_eight : ℤ → List ℕ
+signed_eight z = eight (cast_unsigned w64 z)
+
+-- a text and its length before it
+abbrev pub text : List ℕ → List ℕ
+text bytes = four (length bytes) ++ bytes
+
+-- a list and its length before it
+abbrev pub listed : {A : Type 0} → (A → List ℕ) → List A → List ℕ
+listed form xs = four (length xs) ++ flat_map form xs
+
+abbrev pub mark : Bool → ℕ
+mark true = 1
+mark false = 0
+
+abbrev pub page_or_zero : Option PageId → ℕ
+page_or_zero None = 0
+page_or_zero (Some id) = id.0
+
+abbrev pub visit_or_zero : Option VisitId → ℕ
+visit_or_zero None = 0
+visit_or_zero (Some id) = id.0
+
+abbrev pub kind_number : ItemKind → ℕ
+kind_number bookmark = 1
+kind_number folder = 2
+kind_number separator = 3
+
+-- a page and its frecency
+abbrev pub page_bytes : Page × ℤ → List ℕ
+page_bytes row = four row.0.id.0 ++ (mark row.0.typed ∷ []) ++ signed_eight row.1 ++ text row.0.url ++ text row.0.title
+
+abbrev pub visit_bytes : Visit → List ℕ
+visit_bytes v =
+    four v.id.0 ++ four v.page.0 ++ four (visit_or_zero v.source) ++ eight v.date.0 ++ transition_number v.transition ∷ []
+
+abbrev pub item_bytes : Item → List ℕ
+item_bytes i =
+    four i.id.0 ++ four (page_or_zero i.page) ++ (kind_number i.kind ∷ []) ++ eight i.added.0 ++ eight i.modified.0
+    ++ text i.title ++ listed (λ (c : ItemId). four c.0) i.children
+
+-- a day, the next ids, pages with their frecencies, visits and items
+pub record FormRows : Type 0 where
+  pub day : Day
+  pub ids : Ids
+  pub pages : List (Page × ℤ)
+  pub visits : List Visit
+  pub items : List Item
+
+abbrev pub plain_bytes : FormRows → List ℕ
+plain_bytes rows =
+    four rows.day.0 ++ four rows.ids.page ++ four rows.ids.visit ++ four rows.ids.item
+    ++ listed page_bytes rows.pages ++ listed visit_bytes rows.visits ++ listed item_bytes rows.items
+
+-- how many pages so many plain bytes fill
+abbrev pub filled_pages : ℕ → ℕ
+filled_pages n = (n + (page_size - 1)) / page_size
+
+-- the header page of so many plain bytes: the form's name, the length of the store in pages, with the gate's
+-- page and this one, and that number
+abbrev pub header : ℕ → List ℕ
+header n = codes "PLFLAT01" ++ four (2 + filled_pages n) ++ eight n ++ replicate 1004 0
+
+-- plain bytes in whole pages, and their header before them
+abbrev pub in_pages : List ℕ → List ℕ
+in_pages plain =
+    header (length plain) ++ plain ++ replicate (page_size * filled_pages (length plain) - length plain) 0
+
+-- the bytes from page 1 on that hold these rows
+abbrev pub form_bytes : FormRows → List ℕ
+form_bytes rows = in_pages (plain_bytes rows)
+
+-- rows with what was computed of the pages last
+abbrev pub kept_rows : Kept → FormRows
+kept_rows kept =
+    record {
+      day = kept.day;
+      ids = kept.ids;
+      pages = map (λ (p : KeptPage). (p.page, p.frecency)) kept.pages;
+      visits = kept.visits;
+      items = kept.items;
+    }
+
+-- the rows of a store with the frecencies of its day
+abbrev pub store_rows : Store → FormRows
+store_rows store =
+    record {
+      day = store.day;
+      ids = store.ids;
+      pages = map (λ (p : Page). (p, frecency_of store p)) store.pages;
+      visits = store.visits;
+      items = store.items;
+    }
+
+-- The bytes from page 1 on stand for a good store, as far as this form has it yet. What lies behind the
+-- store's pages is free.
+pub record StandsFor (bytes : List ℕ) (store : Store) : Type 0 where
+  pub good : IsGood store
+  pub of_visits : IsOfVisits store
+  pub begins : take (length (form_bytes (store_rows store))) bytes ≡ form_bytes (store_rows store)

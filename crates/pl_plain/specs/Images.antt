@@ -1,0 +1,18 @@
+-- The pages that bytes from page 1 on fill.
+use Rattle.std.specs.Prelude.{◌+◌, ◌/◌, ℕ, List, drop, length, map, take}
+use Rattle.std.specs.List.{range_with_len}
+use Rattle.pl_base.specs.Touched.{Change, PageImage, page_at, page_size}
+
+-- the first pages of the bytes, from page 1 on
+abbrev pub images_of : ℕ → List ℕ → List PageImage
+images_of count bytes =
+    map (λ page. record { page = page; image = take page_size (drop (page_at page) bytes) }) (range_with_len 1 count)
+
+-- the change from so many pages to these bytes, in whole pages, each of which is touched
+abbrev pub whole_change : ℕ → List ℕ → Change
+whole_change before bytes =
+    record {
+      before = before;
+      after = 1 + length bytes / page_size;
+      pages = images_of (length bytes / page_size) bytes;
+    }

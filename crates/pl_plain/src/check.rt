@@ -1,0 +1,48 @@
+// What a file's bytes stand for.
+mod good;
+mod live;
+mod marks;
+mod origins;
+mod pages;
+mod read;
+#[cfg(test)]
+mod tests;
+
+ghost use Rattle.std.specs.Prelude.{◌≡◌, ◌↔◌, ℕ, List, drop, IfOk, IsErrOf};
+ghost use Rattle.pl_base.specs.Rows.{IsRight, store_of};
+ghost use Rattle.pl_base.specs.Store.{Store};
+ghost use Rattle.pl_plain.specs.Check.{IsHeld};
+ghost use Rattle.pl_plain.specs.Flat.{IsBase, bytes_of, kept_of};
+ghost use Rattle.pl_plain.specs.Form.{StandsFor};
+
+use crate::CheckError;
+use crate::check::read::{FileRows, read_rows};
+use crate::flat::Flat;
+use std::alloc::Global;
+
+/// A store takes at most so many slots of 128 bytes.
+const SLOT_LIMIT: u64 = 4_194_304;
+
+impl Flat {
+    /// The store that the bytes of a file stand for. Its page 0, the gate's, is not looked at, and what
+    /// lies behind the store's pages is free.
+    pub fn check(alloc: Global, bytes: &[u8]) -> Result<Flat, CheckError>
+        ensures stands { IfOk result (λ flat. StandsFor (drop 1024 bytes.now) (store_of (kept_of flat))) }
+        ensures right { IfOk result (λ flat. IsRight (kept_of flat)) }
+        // The bytes stand for one store at most.
+        ensures only { IfOk result (λ flat. (store : Store) → IsHeld (drop 1024 bytes.now) store → store ≡ store_of (kept_of flat)) }
+        ensures not_a_store { IsErrOf result CheckError.NotAStore → (store : Store) → IsHeld (drop 1024 bytes.now) store → ⊥ }
+        ensures base { IfOk result (λ flat. (base_bytes : List ℕ) → IsBase flat base_bytes ↔ (base_bytes ≡ bytes_of flat)) }
+    {
+        let FileRows { rows, pages } = read_rows(alloc, bytes)?;
+        if !rows.are_good() {
+            return Err(CheckError::NotAStore);
+        }
+        let named = rows.named_pages(alloc)?;
+        let live = rows.live(named.origins);
+        if live > SLOT_LIMIT {
+            return Err(CheckError::NotAStore);
+        }
+        Ok(rows.into_flat(alloc, named, live, pages))
+    }
+}

@@ -1,0 +1,98 @@
+// The pages of a file's rows, with what the definitions give of them.
+ghost use Rattle.std.specs.Prelude.{◌≡◌, ◌↔◌, ◌==◌, ◌+◌, ℕ, List, length, true, IfErr, IfOk};
+ghost use Rattle.std.specs.List.{All, AllZip, list_any};
+ghost use Rattle.pl_base.specs.Address.{is_place_url};
+ghost use Rattle.pl_base.specs.Good.{IsGood};
+ghost use Rattle.pl_plain.specs.CheckOrigins.{AreNamed, Key};
+ghost use Rattle.pl_plain.specs.CheckPages.{IsAssessed, IsFrecencyRight, IsGiven, kept_of_rows};
+ghost use Rattle.pl_plain.specs.Flat.{IsBase, bytes_of, kept_of};
+ghost use Rattle.pl_plain.specs.Form.{filled_pages};
+ghost use Rattle.pl_plain.specs.Stored.{AreStored, stored_bytes, stored_store};
+
+use crate::CheckError;
+use crate::check::origins::Origins;
+use crate::flat::Flat;
+use crate::flat::row::FlatPage;
+use crate::form::{StoredPage, StoredRows};
+use pl_base::{Slot, Txt};
+use pl_link::split;
+use std::alloc::Global;
+
+/// Pages with names of their origins, which are 1 to `origins`.
+#[derive(Debug, Drop)]
+pub struct NamedPages {
+    pub pages: Vec<FlatPage>,
+    pub origins: u32,
+}
+
+impl StoredRows {
+    /// The pages with what the definitions give of them. A frecency of the file that is another is
+    /// refused.
+    pub fn named_pages(&self, alloc: Global) -> Result<NamedPages, CheckError>
+        requires stored { AreStored self.now }
+        requires good { IsGood (stored_store self.now) }
+        ensures pages { IfOk result (λ named. AllZip (IsAssessed self.now) self.now.pages named.pages.items) }
+        ensures origins { IfOk result (λ named. (keys : List Key) × AreNamed named.pages.items keys × (named.origins ≡ length keys)) }
+        ensures right { All (IsFrecencyRight self.now) self.now.pages → IfErr result (λ e. e ≡ CheckError.NoMemory) }
+    {
+        let mut origins = Origins::new(alloc);
+        let mut pages = Vec::new(alloc);
+        for page in &self.pages {
+            let parts = split(alloc, &page.url)?;
+            let is_place = parts.is_place;
+            let origin = origins.name(parts)?;
+            pages.push(self.flat_page(alloc, page, is_place, origin)?)?;
+        }
+        Ok(NamedPages {
+            pages,
+            origins: origins.count(),
+        })
+    }
+
+    // The page in an origin.
+    fn flat_page(
+        &self,
+        alloc: Global,
+        page: &StoredPage,
+        is_place: bool,
+        origin: Slot,
+    ) -> Result<FlatPage, CheckError>
+        requires stored { AreStored self.now }
+        requires place { is_place ≡ is_place_url page.now.url }
+        requires visited { list_any (λ v. v.page.0 == page.now.id.0) self.now.visits ≡ true }
+        ensures page { IfOk result (IsAssessed self.now page.now) }
+        ensures origin { IfOk result (λ q. q.origin ≡ origin) }
+        ensures right { IsFrecencyRight self.now page.now → IfErr result (λ e. e ≡ CheckError.NoMemory) }
+    {
+        let mark = self.mark(alloc, page, is_place)?;
+        if mark.frecency != page.frecency {
+            return Err(CheckError::NotAStore);
+        }
+        Ok(FlatPage {
+            id: page.id,
+            url: Txt::copied(alloc, page.url.text())?,
+            typed: page.typed,
+            origin,
+            frecency: mark.frecency,
+            count: mark.count,
+            hidden: mark.hidden,
+        })
+    }
+
+    /// The flat store of these rows, in a file whose store has so many pages.
+    pub fn into_flat(self, alloc: Global, named: NamedPages, live: u64, before: u32) -> Flat
+        requires given { (keys : List Key) × IsGiven self named.pages.items keys named.origins live }
+        requires before { before ≡ 2 + filled_pages (length (stored_bytes self)) }
+        ensures kept { kept_of result ≡ kept_of_rows self named.pages.items named.origins }
+        ensures base { (bytes : List ℕ) → IsBase result bytes ↔ (bytes ≡ bytes_of result) }
+    {
+        let StoredRows {
+            day,
+            ids,
+            pages: _pages,
+            visits,
+        } = self;
+        let NamedPages { pages, origins } = named;
+        Flat::from_rows(alloc, day, ids, pages, visits, origins, live, before)
+    }
+}

@@ -1,0 +1,114 @@
+// A store over vectors. Its calls scan.
+mod insert;
+mod mark;
+pub(crate) mod row;
+mod rows;
+mod search;
+#[cfg(test)]
+mod tests;
+mod touched;
+mod write;
+
+ghost use Rattle.std.specs.Prelude.{◌≤◌, ◌≡◌, false, length};
+ghost use Rattle.std.proofs.Props.{props};
+ghost use Rattle.pl_base.specs.Touched.{page_at};
+ghost use Rattle.pl_plain.specs.FlatRows.{IsFlat, kept_from, bytes_from};
+
+use crate::flat::row::{FlatPage, FlatVisit};
+use pl_base::{Day, Ids, NoMemory};
+use std::alloc::Global;
+
+/// A store over vectors of its rows.
+///
+/// Each call takes a time that grows with their lengths, and `touched` gives the whole store.
+#[derive(Debug, Drop)]
+pub struct Flat {
+    alloc: Global,
+    day: Day,
+    ids: Ids,
+    // By ascending id.
+    pages: Vec<FlatPage>,
+    // By ascending id.
+    visits: Vec<FlatVisit>,
+    // The names of origins are 1 to this.
+    origins: u32,
+    // In slots of 128 bytes.
+    live: u64,
+    // The length in pages at the last `touched`.
+    before: u32,
+    // Whether the rows may differ from those of the last `touched`.
+    is_changed: bool,
+    ghost rows: { IsFlat (kept_from day ids pages.items origins visits.items) origins live } by { Prim.hlevel props },
+    ghost some_page: { 1 ≤ before },
+    ghost settled: { is_changed ≡ false → length (bytes_from day ids pages.items origins visits.items) ≡ page_at before },
+}
+
+impl Flat {
+    ghost use Rattle.std.specs.Prelude.{◌↔◌, ℕ, List, [], IfOk, IsOk};
+    ghost use Rattle.pl_base.specs.Rows.{opening_with};
+    ghost use Rattle.pl_plain.specs.Flat.{IsBase, bytes_of, kept_of};
+
+    /// The store before its first command, made over nothing. No memory is taken.
+    pub fn opening(alloc: Global) -> Result<Flat, NoMemory>
+        ensures kept { IfOk result (λ flat. kept_of flat ≡ opening_with Ids.OPENING) }
+        ensures base { IfOk result (λ flat. (bytes : List ℕ) → IsBase flat bytes ↔ (bytes ≡ [])) }
+        ensures succeeds { IsOk result }
+    {
+        Flat::with_ids(alloc, Ids::OPENING)
+    }
+
+    /// The opening store with these next ids, made over nothing. No memory is taken.
+    pub fn with_ids(alloc: Global, ids: Ids) -> Result<Flat, NoMemory>
+        requires page { 1 ≤ ids.page }
+        requires visit { 1 ≤ ids.visit }
+        requires item { 7 ≤ ids.item }
+        ensures kept { IfOk result (λ flat. kept_of flat ≡ opening_with ids) }
+        ensures base { IfOk result (λ flat. (bytes : List ℕ) → IsBase flat bytes ↔ (bytes ≡ [])) }
+        ensures succeeds { IsOk result }
+    {
+        Ok(Flat {
+            alloc,
+            day: Day(0),
+            ids,
+            pages: Vec::new(alloc),
+            visits: Vec::new(alloc),
+            origins: 0,
+            live: ROOT_SLOTS,
+            before: 1,
+            is_changed: true,
+        })
+    }
+
+    /// Rows of a file whose store has so many pages, with the names of their origins.
+    pub(crate) fn from_rows(
+        alloc: Global,
+        day: Day,
+        ids: Ids,
+        pages: Vec<FlatPage>,
+        visits: Vec<FlatVisit>,
+        origins: u32,
+        live: u64,
+        before: u32,
+    ) -> Flat
+        requires rows { IsFlat (kept_from day ids pages.items origins visits.items) origins live }
+        requires some_page { 1 ≤ before }
+        requires settled { length (bytes_from day ids pages.items origins visits.items) ≡ page_at before }
+        ensures kept { kept_of result ≡ kept_from day ids pages.items origins visits.items }
+        ensures base { (bytes : List ℕ) → IsBase result bytes ↔ (bytes ≡ bytes_of result) }
+    {
+        Flat {
+            alloc,
+            day,
+            ids,
+            pages,
+            visits,
+            origins,
+            live,
+            before,
+            is_changed: false,
+        }
+    }
+}
+
+// The six roots, which have no titles.
+const ROOT_SLOTS: u64 = 6;

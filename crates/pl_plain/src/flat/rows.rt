@@ -1,0 +1,130 @@
+use crate::Flat;
+use crate::flat::mark::mark_page;
+use crate::flat::row::FlatVisit;
+use crate::flat::search::{behind, find_page, find_visit, latest_visit};
+use crate::flat::touched::whole_change;
+use pl_base::{
+    Day, Ids, Mark, NoMemory, PageId, Rows, Slot, Steps, Touched, Txt, VisitId, VisitRow,
+};
+use std::sync::ledger::Ledger;
+
+// No steps are counted, since each call reads any number of rows.
+impl Rows for Flat {
+    ghost use Rattle.pl_plain.specs.Flat.{kept_of, bytes_of, IsBase};
+    ghost use Rattle.pl_plain.specs.FlatLaws as laws;
+    ghost use Rattle.pl_plain.specs.Form.{StandsFor};
+
+    ghost kept = { kept_of };
+
+    ghost bytes = { bytes_of };
+
+    ghost base = { IsBase };
+
+    ghost form = { StandsFor };
+
+    fn day<L: Ledger>(&self, steps: &mut Steps<L>) -> Day {
+        self.day
+    }
+
+    fn set_day<L: Ledger>(&mut self, day: Day, steps: &mut Steps<L>) {
+        self.day = day;
+        self.is_changed = true;
+    }
+
+    fn ids<L: Ledger>(&self, steps: &mut Steps<L>) -> Ids {
+        self.ids
+    }
+
+    fn live<L: Ledger>(&self, steps: &mut Steps<L>) -> u64 {
+        self.live
+    }
+
+    fn page_after<L: Ledger>(&self, page: Option<PageId>, steps: &mut Steps<L>) -> Option<PageId> {
+        match page {
+            Some(page) => behind(&self.pages, page.0),
+            None => behind(&self.pages, 0),
+        }
+    }
+
+    fn page_at<L: Ledger>(&self, page: PageId, steps: &mut Steps<L>) -> Option<Mark> {
+        let page = find_page(&self.pages, page)?;
+        Some(page.mark())
+    }
+
+    fn url<L: Ledger>(&self, page: PageId, steps: &mut Steps<L>) -> Result<Txt, NoMemory> {
+        let page = find_page(&self.pages, page).unwrap();
+        Txt::copied(self.alloc, page.url.as_str())
+    }
+
+    fn origin_of<L: Ledger>(&self, page: PageId, steps: &mut Steps<L>) -> Slot {
+        find_page(&self.pages, page).unwrap().origin
+    }
+
+    fn insert_page<L: Ledger>(
+        &mut self,
+        url: &str,
+        origin: Option<Slot>,
+        steps: &mut Steps<L>,
+    ) -> Result<PageId, NoMemory> {
+        let origins = self.origins;
+        match origin {
+            Some(origin) => self.add_page(url, origin, origins),
+            None => self.add_page(url, Slot(origins + 1), origins + 1),
+        }
+    }
+
+    fn set_mark<L: Ledger>(&mut self, page: PageId, mark: Mark, steps: &mut Steps<L>) {
+        mark_page(&mut self.pages, page, mark);
+        self.is_changed = true;
+    }
+
+    fn visit_at<L: Ledger>(&self, visit: VisitId, steps: &mut Steps<L>) -> Option<VisitRow> {
+        let visit = find_visit(&self.visits, visit)?;
+        Some(visit.row())
+    }
+
+    fn latest<L: Ledger>(&self, page: PageId, steps: &mut Steps<L>) -> Option<VisitId> {
+        let latest = latest_visit(&self.visits, page, None)?;
+        Some(latest.id)
+    }
+
+    fn older<L: Ledger>(&self, visit: VisitId, steps: &mut Steps<L>) -> Option<VisitId> {
+        let visit = find_visit(&self.visits, visit)?;
+        let older = latest_visit(&self.visits, visit.page, Some(*visit))?;
+        Some(older.id)
+    }
+
+    fn insert_visit<L: Ledger>(
+        &mut self,
+        row: &VisitRow,
+        steps: &mut Steps<L>,
+    ) -> Result<VisitId, NoMemory> {
+        let id = VisitId(self.ids.visit);
+        self.visits.push(FlatVisit {
+            id,
+            page: row.page,
+            date: row.date,
+            transition: row.transition,
+            source: row.source,
+        })?;
+        self.ids.visit += 1;
+        self.live += 1;
+        self.is_changed = true;
+        Ok(id)
+    }
+
+    fn touched<L: Ledger>(&mut self, steps: &mut Steps<L>) -> Result<Touched, NoMemory> {
+        if !self.is_changed {
+            return Ok(Touched::empty(self.alloc, self.before, self.before));
+        }
+        let plain = self.plain()?;
+        let change = whole_change(self.alloc, self.before, &plain)?;
+        self.before = change.after();
+        self.is_changed = false;
+        Ok(change)
+    }
+
+    ghost well_kept = { λ flat. laws.well_kept flat.day flat.ids flat.pages.items flat.origins flat.visits.items flat.live flat.rows };
+
+    ghost stands = { λ flat. laws.stands (kept_of flat) };
+}

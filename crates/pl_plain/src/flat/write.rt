@@ -1,0 +1,157 @@
+ghost use Rattle.std.specs.Prelude.{◌≡◌, ◌+◌, ◌≤◌, ◌<◌, ◌^◌, ◌∷◌, ◌++◌, [], codes, length, map, replicate, All, OnOk};
+ghost use Rattle.pl_base.specs.Store.{item_id, root_folder, roots};
+ghost use Rattle.pl_plain.specs.FlatRows.{form_row, visit_of};
+ghost use Rattle.pl_plain.specs.Form.{eight, filled_pages, four, header, item_bytes, listed, page_bytes, text, visit_bytes, visit_or_zero};
+ghost use Rattle.pl_plain.specs.Form as form;
+
+use crate::Flat;
+use crate::flat::row::{FlatPage, FlatVisit};
+use pl_base::{NoMemory, VisitId};
+
+pub fn put_four(out: &mut Vec<u8>, n: u32) -> Result<(), NoMemory>
+    ensures { OnOk result (out.new.items ≡ out.old.items ++ four n) }
+{
+    out.extend_from_slice(&n.to_le_bytes())?;
+    Ok(())
+}
+
+pub fn put_eight(out: &mut Vec<u8>, n: u64) -> Result<(), NoMemory>
+    ensures { OnOk result (out.new.items ≡ out.old.items ++ eight n) }
+{
+    out.extend_from_slice(&n.to_le_bytes())?;
+    Ok(())
+}
+
+fn put_text(out: &mut Vec<u8>, bytes: &str) -> Result<(), NoMemory>
+    requires { length bytes.now < 2 ^ 32 }
+    ensures { OnOk result (out.new.items ≡ out.old.items ++ text bytes.now) }
+{
+    put_four(out, bytes.len() as u32)?;
+    out.extend_from_slice(bytes.as_bytes())?;
+    Ok(())
+}
+
+fn put_page(out: &mut Vec<u8>, page: &FlatPage) -> Result<(), NoMemory>
+    requires { length page.now.url ≤ 65536 }
+    ensures { OnOk result (out.new.items ≡ out.old.items ++ page_bytes (form_row page.now)) }
+{
+    put_four(out, page.id.0)?;
+    out.push(mark(page.typed))?;
+    put_eight(out, page.frecency.cast_unsigned())?;
+    put_text(out, page.url.as_str())?;
+    put_text(out, "")?;
+    Ok(())
+}
+
+fn mark(is_so: bool) -> u8
+    ensures { result ≡ form.mark is_so }
+{
+    u8::from(is_so)
+}
+
+pub fn put_pages(out: &mut Vec<u8>, pages: &[FlatPage]) -> Result<(), NoMemory>
+    requires few { length pages.now < 2 ^ 32 }
+    requires urls { All (λ p. length p.url ≤ 65536) pages.now }
+    ensures { OnOk result (out.new.items
+        ≡ out.old.items ++ listed page_bytes (map form_row pages.now)) }
+{
+    put_four(out, pages.len() as u32)?;
+    for page in pages {
+        put_page(out, page)?;
+    }
+    Ok(())
+}
+
+fn put_visit(out: &mut Vec<u8>, visit: &FlatVisit) -> Result<(), NoMemory>
+    ensures { OnOk result (out.new.items ≡ out.old.items ++ visit_bytes (visit_of visit.now)) }
+{
+    put_four(out, visit.id.0)?;
+    put_four(out, visit.page.0)?;
+    put_four(out, source_number(visit.source))?;
+    put_eight(out, visit.date.0)?;
+    out.push(visit.transition.number())?;
+    Ok(())
+}
+
+// The number of a visit's source, or 0.
+fn source_number(source: Option<VisitId>) -> u32
+    ensures { result ≡ visit_or_zero source }
+{
+    source.map_or(0, |source| source.0)
+}
+
+pub fn put_visits(out: &mut Vec<u8>, visits: &[FlatVisit]) -> Result<(), NoMemory>
+    requires { length visits.now < 2 ^ 32 }
+    ensures { OnOk result (out.new.items
+        ≡ out.old.items ++ listed visit_bytes (map visit_of visits.now)) }
+{
+    put_four(out, visits.len() as u32)?;
+    for visit in visits {
+        put_visit(out, visit)?;
+    }
+    Ok(())
+}
+
+fn put_ids(out: &mut Vec<u8>, ids: &[u32]) -> Result<(), NoMemory>
+    requires { length ids.now < 2 ^ 32 }
+    ensures { OnOk result (out.new.items ≡ out.old.items ++ listed four ids.now) }
+{
+    put_four(out, ids.len() as u32)?;
+    for id in ids {
+        put_four(out, *id)?;
+    }
+    Ok(())
+}
+
+fn put_root(out: &mut Vec<u8>, id: u32, children: &[u32]) -> Result<(), NoMemory>
+    requires { length children.now < 2 ^ 32 }
+    ensures { OnOk result (out.new.items
+        ≡ out.old.items ++ item_bytes (root_folder id (map item_id children.now))) }
+{
+    put_four(out, id)?;
+    put_four(out, 0)?;
+    out.push(FOLDER)?;
+    put_eight(out, 0)?;
+    put_eight(out, 0)?;
+    put_text(out, "")?;
+    put_ids(out, children)?;
+    Ok(())
+}
+
+// The number of a folder's kind.
+const FOLDER: u8 = 2;
+
+/// The six roots, which are the only items.
+pub fn put_roots(out: &mut Vec<u8>) -> Result<(), NoMemory>
+    ensures { OnOk result (out.new.items ≡ out.old.items ++ listed item_bytes roots) }
+{
+    put_four(out, 6)?;
+    put_root(out, 1, &[2, 3, 4, 5, 6])?;
+    for id in 2..7 {
+        put_root(out, id, &[])?;
+    }
+    Ok(())
+}
+
+impl Flat {
+    ghost use Rattle.std.specs.Prelude.{IfOk};
+    ghost use Rattle.pl_plain.specs.Flat.{kept_of};
+    ghost use Rattle.pl_plain.specs.Form.{kept_rows, plain_bytes};
+
+    /// The plain bytes of the rows.
+    pub fn plain(&self) -> Result<Vec<u8>, NoMemory>
+        ensures plain { IfOk result (λ bytes. bytes.items
+            ≡ plain_bytes (kept_rows (kept_of self.now))) }
+        ensures few { IfOk result (λ bytes. length bytes.items < 2 ^ 40) }
+    {
+        let mut out = Vec::new(self.alloc);
+        put_four(&mut out, self.day.0)?;
+        put_four(&mut out, self.ids.page)?;
+        put_four(&mut out, self.ids.visit)?;
+        put_four(&mut out, self.ids.item)?;
+        put_pages(&mut out, &self.pages)?;
+        put_visits(&mut out, &self.visits)?;
+        put_roots(&mut out)?;
+        Ok(out)
+    }
+}
