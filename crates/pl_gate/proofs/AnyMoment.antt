@@ -89,3 +89,10 @@ module _ {D : Type 0} (moment : D → ℕ) (shown_since : D → ℕ → List ℕ
     each = λ file line shown. ⊎_elim (first.each file line) (λ has. (to file has.0, sym unsaid ∙ has.1)) (second.before (moment old) file line first.later shown);
     before = λ t file line le shown. ⊎_elim (first.before t file line le) (λ has. inr (to file has.0, sym unsaid ∙ has.1)) (second.before t file line (omega (arith, le, first.later)) shown);
   }
+
+  pub weaker : (old new : D) (Q R : List ℕ → Type 0) → AtAnyMoment moment shown_since said old new Q → ((file : List ℕ) → Q file → R file) → AtAnyMoment moment shown_since said old new R
+  weaker old new Q R shows to = record {
+    later = shows.later;
+    each = λ file line shown. let has = shows.each file line shown in (to file has.0, has.1);
+    before = λ t file line le shown. ⊎_elim (λ past. inl past) (λ has. inr (to file has.0, has.1)) (shows.before t file line le shown);
+  }

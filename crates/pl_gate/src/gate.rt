@@ -37,7 +37,7 @@ impl<'d, D: Desk> Gate<'d, D> {
         requires within { IsWithin touched.now }
         requires some { 1 ≤ touched.now.before }
 
-        ensures change { IfOk result (λ staged. staged.touched.now ≡ touched.now) }
+        ensures change { IfOk result (λ staged. staged ≡ touched.now) }
         ensures staged { OnOk result ((pages : List ℕ) → Rests (D.held self.old.desk.now) (D.may_leave self.old.desk.now) (IsClosed pages) → length pages ≡ page_at touched.now.before
             → Rests (D.held self.new.desk.now) (D.may_leave self.new.desk.now) (IsStaged touched.now pages)) }
         ensures staged_empty { OnOk result (D.held self.old.desk.now ≡ Some [] → touched.now.before ≡ 1 → 1 < touched.now.after
@@ -65,11 +65,11 @@ impl<'d, D: Desk> Gate<'d, D> {
 
     /// Sets the gate and syncs.
     pub fn arm<'t>(&mut self, staged: Staged<'t>) -> Result<Armed<'t>, DeviceFault>
-        ensures change { IfOk result (λ armed. armed.touched.now ≡ staged.entry.touched.now) }
-        ensures armed { OnOk result ((pages : List ℕ) → Rests (D.held self.old.desk.now) (D.may_leave self.old.desk.now) (IsStaged staged.entry.touched.now pages)
-            → Rests (D.held self.new.desk.now) (D.may_leave self.new.desk.now) (IsArmed staged.entry.touched.now (changed staged.entry.touched.now pages))) }
-        ensures any_moment { (pages : List ℕ) → Rests (D.held self.old.desk.now) (D.may_leave self.old.desk.now) (IsStaged staged.entry.touched.now pages)
-            → AtAnyMoment D.moment D.shown_since D.said self.old.desk.now self.new.desk.now (HoldsEither staged.entry.touched.now pages) }
+        ensures change { IfOk result (λ armed. armed ≡ staged.entry) }
+        ensures armed { OnOk result ((pages : List ℕ) → Rests (D.held self.old.desk.now) (D.may_leave self.old.desk.now) (IsStaged staged.entry pages)
+            → Rests (D.held self.new.desk.now) (D.may_leave self.new.desk.now) (IsArmed staged.entry (changed staged.entry pages))) }
+        ensures any_moment { (pages : List ℕ) → Rests (D.held self.old.desk.now) (D.may_leave self.old.desk.now) (IsStaged staged.entry pages)
+            → AtAnyMoment D.moment D.shown_since D.said self.old.desk.now self.new.desk.now (HoldsEither staged.entry pages) }
 
         ensures written { OnOk result (D.written self.new.desk.now ≡ D.written self.old.desk.now + 1) }
         ensures no_more { D.written self.new.desk.now ≤ D.written self.old.desk.now + 1 }
@@ -88,14 +88,14 @@ impl<'d, D: Desk> Gate<'d, D> {
 
     /// Writes each image in its page's place and syncs.
     pub fn install<'t>(&mut self, armed: Armed<'t>) -> Result<Installed<'t>, DeviceFault>
-        ensures change { IfOk result (λ installed. installed.touched.now ≡ armed.entry.touched.now) }
-        ensures installed { OnOk result ((pages : List ℕ) → Rests (D.held self.old.desk.now) (D.may_leave self.old.desk.now) (IsArmed armed.entry.touched.now pages)
-            → Rests (D.held self.new.desk.now) (D.may_leave self.new.desk.now) (IsInstalled armed.entry.touched.now pages)) }
-        ensures any_moment { (pages : List ℕ) → Rests (D.held self.old.desk.now) (D.may_leave self.old.desk.now) (IsArmed armed.entry.touched.now pages)
+        ensures change { IfOk result (λ installed. installed ≡ armed.entry) }
+        ensures installed { OnOk result ((pages : List ℕ) → Rests (D.held self.old.desk.now) (D.may_leave self.old.desk.now) (IsArmed armed.entry pages)
+            → Rests (D.held self.new.desk.now) (D.may_leave self.new.desk.now) (IsInstalled armed.entry pages)) }
+        ensures any_moment { (pages : List ℕ) → Rests (D.held self.old.desk.now) (D.may_leave self.old.desk.now) (IsArmed armed.entry pages)
             → AtAnyMoment D.moment D.shown_since D.said self.old.desk.now self.new.desk.now (Holds pages) }
 
-        ensures written { OnOk result (D.written self.new.desk.now ≡ D.written self.old.desk.now + page_size * length armed.entry.touched.now.pages) }
-        ensures no_more { D.written self.new.desk.now ≤ D.written self.old.desk.now + page_size * length armed.entry.touched.now.pages }
+        ensures written { OnOk result (D.written self.new.desk.now ≡ D.written self.old.desk.now + page_size * length armed.entry.pages) }
+        ensures no_more { D.written self.new.desk.now ≤ D.written self.old.desk.now + page_size * length armed.entry.pages }
         ensures no_less { D.written self.old.desk.now ≤ D.written self.new.desk.now }
         ensures said { D.said self.new.desk.now ≡ D.said self.old.desk.now }
         ensures line { D.line_faults self.new.desk.now ≡ D.line_faults self.old.desk.now }
@@ -112,9 +112,9 @@ impl<'d, D: Desk> Gate<'d, D> {
 
     /// Clears the gate and syncs.
     pub fn disarm(&mut self, installed: Installed<'_>) -> Result<Closed, DeviceFault>
-        ensures closed { OnOk result ((pages : List ℕ) → Rests (D.held self.old.desk.now) (D.may_leave self.old.desk.now) (IsInstalled installed.entry.touched.now pages)
+        ensures closed { OnOk result ((pages : List ℕ) → Rests (D.held self.old.desk.now) (D.may_leave self.old.desk.now) (IsInstalled installed.entry pages)
             → Rests (D.held self.new.desk.now) (D.may_leave self.new.desk.now) (IsClosed pages)) }
-        ensures any_moment { (pages : List ℕ) → Rests (D.held self.old.desk.now) (D.may_leave self.old.desk.now) (IsInstalled installed.entry.touched.now pages)
+        ensures any_moment { (pages : List ℕ) → Rests (D.held self.old.desk.now) (D.may_leave self.old.desk.now) (IsInstalled installed.entry pages)
             → AtAnyMoment D.moment D.shown_since D.said self.old.desk.now self.new.desk.now (Holds pages) }
 
         ensures written { OnOk result (D.written self.new.desk.now ≡ D.written self.old.desk.now + 1) }

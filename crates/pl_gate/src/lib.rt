@@ -5,6 +5,7 @@
 //! before or for the pages after, and `recover` installs a journal whose gate is set.
 #![tactic(auto)]
 
+mod commit;
 mod device;
 mod error;
 mod gate;
@@ -16,3 +17,6 @@ mod states;
 pub use error::GateError;
 pub use gate::Gate;
 pub use states::{Armed, Closed, Installed, Staged};
+
+#[cfg(test)]
+mod tests;

@@ -1,0 +1,28 @@
+use Rattle.std.proofs.Common.{◌≡◌, ◌≤◌, ◌<◌, ◌+◌, ℕ, List, [], ◌∷◌, ◌++◌, inl, inr, subst, sym, refl, ◌∙◌, arith}
+use Rattle.std.specs.List.{All, Contains}
+use Rattle.std.proofs.lemmas.Bool.{cases_lt}
+use Rattle.std.proofs.lemmas.List.Elements.{All-append, Contains-append_left, Contains-append_right}
+use Rattle.pl_base.specs.Touched.{page_numbers}
+use Rattle.pl_gate.proofs.tests.touch_added.Goals as goal
+
+-- one page more is still below a length
+below_more : (ns : List ℕ) (n after : ℕ) → All (λ k. k < after) ns → n < after → All (λ k. k < after) (ns ++ n ∷ [])
+below_more ns n after below lt = All-append (λ k. k < after) ns (n ∷ []) below (grind arith)
+
+-- and so is each page from the first added one to this one among them
+added_more : (ns : List ℕ) (before page : ℕ) → ((n : ℕ) → before ≤ n → n < page → Contains ns n) → (n : ℕ) → before ≤ n → n < page + 1 → Contains (ns ++ page ∷ []) n
+added_more ns before page added n le lt = elim (cases_lt n page) [
+  | inl below ↦ Contains-append_left ns (page ∷ []) n (added n le below)
+  | inr above ↦ subst (λ (k : ℕ). Contains (ns ++ page ∷ []) k) (omega (arith, lt, above)) (Contains-append_right ns (page ∷ []) page (0, omega arith, refl))
+]
+
+pub loop-page-preserved : goal.loop-page-preserved
+loop-page-preserved g c =
+    let is = c.loop-page.invariant in let did = c.touch.ensures in let numbers = page_numbers c.loop-page.touched.pages in
+    let more = c.in_ok-touch.ensures in
+    record {
+      below = λ all. rw more.number (below_more numbers c.loop-page.page c.args.touched.now.after (is.below all) (rw (sym is.after) more.below));
+      added = rw more.number (added_more numbers c.args.case.now.before c.loop-page.page is.added);
+      before = did.before ∙ is.before;
+      after = did.after ∙ is.after;
+    }
