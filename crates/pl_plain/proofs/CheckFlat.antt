@@ -3,6 +3,8 @@ use Rattle.std.proofs.Common.{◌≡◌, ◌≢◌, ◌↔◌, ◌∙◌, ◌==�
 use Rattle.std.specs.List.{AllPairs, AllZip, list_any, sum_by}
 use Rattle.std.proofs.Math.Seq.{take-append_seam}
 use Rattle.std.proofs.lemmas.Bool.{cases_lt}
+use Rattle.std.proofs.lemmas.Str.{is_utf8-from_IsUtf8}
+use Rattle.std.specs.Str.{IsUtf8, is_utf8}
 use Rattle.std.proofs.lemmas.List.{length-map}
 use Rattle.std.proofs.lemmas.List.Sums.{sum_by-cons}
 use Rattle.std.proofs.lemmas.List.Elements.{All-cons, All-head, All-map, All-nil, All-tail, All-weaker}
@@ -177,6 +179,10 @@ is-flat rows qs keys origins live h =
           All-map (λ (k : KeptPage). IsTrue (is_store_url k.page.url)) page_of qs
           (each_stored rows IsStoredPage (λ (q : FlatPage). IsTrue (is_store_url q.url)) rows.pages qs
           (λ p q one fits. ap is_store_url one.url ∙ store_url-is p.url fits.2) h.stored.pages.0 h.pages);
+      texts =
+          All-map (λ (k : KeptPage). IsTrue (is_utf8 k.page.url)) page_of qs
+          (each_stored rows IsStoredPage (λ (q : FlatPage). IsTrue (is_utf8 q.url)) rows.pages qs
+          (λ p q one fits. ap is_utf8 one.url ∙ is_utf8-from_IsUtf8 p.url fits.2.0) h.stored.pages.0 h.pages);
       distinct_urls =
           AllPairs-from_map (λ (p q : Page). p.url ≢ q.url) (λ (k : KeptPage). k.page) (map page_of qs)
           (subst (AllPairs (λ (p q : Page). p.url ≢ q.url)) (sym (pages_same rows rows.pages qs h.pages)) h.good.urls);
@@ -232,5 +238,7 @@ stands-for bytes rows qs keys origins live holds h =
     (record {
       good = h.good;
       of_visits = of_visits rows h.stored;
+      texts = All-map (λ (p : Page). IsUtf8 p.url) stored_page rows.pages (λ k d within. (h.stored.pages.0 k d within).2.0);
+      live = omega (arith, slots-by rows qs keys origins live h.pages h.named h.count h.slots, h.few);
       begins = begins_with bytes (form_bytes (store_rows (stored_store rows))) holds.rest (holds.begins ∙ ap (λ (xs : List ℕ). xs ++ holds.rest) (sym form));
     })

@@ -25,10 +25,9 @@ use Rattle.pl_plain.specs.declared.check_error.CheckError.TheVariants.{NoMemory,
 use Rattle.pl_plain.specs.declared.flat.row.FlatPage.{FlatPage}
 use Rattle.pl_plain.specs.declared.flat.row.FlatVisit.{FlatVisit}
 use Rattle.pl_plain.specs.declared.form.stored.StoredPage.{StoredPage}
-use Rattle.pl_plain.specs.Check.{IsHeld}
 use Rattle.pl_plain.specs.CheckPages.{IsAssessed, IsFrecencyRight, kept_of_rows}
 use Rattle.pl_plain.specs.FlatRows.{visit_of}
-use Rattle.pl_plain.specs.Form.{FormRows, filled_pages, form_bytes, in_pages, item_bytes, listed, page_bytes, plain_bytes, store_rows, text, visit_bytes}
+use Rattle.pl_plain.specs.Form.{FormRows, StandsFor, filled_pages, form_bytes, in_pages, item_bytes, listed, page_bytes, plain_bytes, store_rows, text, visit_bytes}
 use Rattle.pl_plain.specs.Stored.{AreStored, HoldsRows, IsShort, IsStoredPage, IsStoredVisit, Stored, form_rows, stored_bytes, stored_page, stored_store}
 use Rattle.pl_plain.proofs.CheckFlat.{store-same, store_rows-is}
 use Rattle.pl_plain.specs.CheckSample.{sampled_of}
@@ -205,16 +204,16 @@ short-back store h few =
     few_filled (length (stored_bytes (rows_of store)))
     (subst (λ (rows : FormRows). length (plain_bytes rows) < 2 ^ 40) (sym (form-back store h)) (plain_short store h.no_item few))
 
-pub holds-back : (bytes : List ℕ) (store : Store) → IsHeld bytes store → HoldsRows bytes (rows_of store)
+pub holds-back : (bytes : List ℕ) (store : Store) → StandsFor bytes store → HoldsRows bytes (rows_of store)
 holds-back bytes store h =
     let form : form_bytes (store_rows store) ≡ in_pages (stored_bytes (rows_of store)) =
-    ap (λ (s : Store). form_bytes (store_rows s)) (sym (store-back store h.stands.of_visits)) ∙ ap form_bytes (store_rows-is (rows_of store) (right-back store h.stands.of_visits)) in
+    ap (λ (s : Store). form_bytes (store_rows s)) (sym (store-back store h.of_visits)) ∙ ap form_bytes (store_rows-is (rows_of store) (right-back store h.of_visits)) in
     record {
-      short = short-back store h.stands.of_visits h.live;
+      short = short-back store h.of_visits h.live;
       rest = drop (length (form_bytes (store_rows store))) bytes;
       begins =
           sym (take-append-drop (length (form_bytes (store_rows store))) bytes)
-          ∙ ap (λ (xs : List ℕ). xs ++ drop (length (form_bytes (store_rows store))) bytes) (h.stands.begins ∙ form);
+          ∙ ap (λ (xs : List ℕ). xs ++ drop (length (form_bytes (store_rows store))) bytes) (h.begins ∙ form);
     }
 
 -- ---- what is refused
@@ -223,30 +222,30 @@ pub apart : {T : Type 0} (r : Result T CheckError) (x e : CheckError) → r ≡ 
 apart r x e refused failed same none = absurd (cc)
 
 -- the rows that were read are those of the store
-rows_read : (bytes : List ℕ) (store : Store) (got : Stored) → IsHeld bytes store → ((rows : Stored) → AreStored rows → HoldsRows bytes rows → got ≡ rows) → got ≡ rows_of store
+rows_read : (bytes : List ℕ) (store : Store) (got : Stored) → StandsFor bytes store → ((rows : Stored) → AreStored rows → HoldsRows bytes rows → got ≡ rows) → got ≡ rows_of store
 rows_read bytes store got h whole =
-    whole (rows_of store) (stored-back store h.stands.good h.stands.of_visits h.texts) (holds-back bytes store h)
+    whole (rows_of store) (stored-back store h.good h.of_visits h.texts) (holds-back bytes store h)
 
-pub not_read : (bytes : List ℕ) (store : Store) (e : CheckError) → IsHeld bytes store → ((rows : Stored) → AreStored rows → HoldsRows bytes rows → e ≡ NoMemory) → e ≡ NoMemory
+pub not_read : (bytes : List ℕ) (store : Store) (e : CheckError) → StandsFor bytes store → ((rows : Stored) → AreStored rows → HoldsRows bytes rows → e ≡ NoMemory) → e ≡ NoMemory
 not_read bytes store e h whole =
-    whole (rows_of store) (stored-back store h.stands.good h.stands.of_visits h.texts) (holds-back bytes store h)
+    whole (rows_of store) (stored-back store h.good h.of_visits h.texts) (holds-back bytes store h)
 
-pub good_read : (bytes : List ℕ) (store : Store) (got : Stored) → IsHeld bytes store → ((rows : Stored) → AreStored rows → HoldsRows bytes rows → got ≡ rows) → IsGood (stored_store got)
+pub good_read : (bytes : List ℕ) (store : Store) (got : Stored) → StandsFor bytes store → ((rows : Stored) → AreStored rows → HoldsRows bytes rows → got ≡ rows) → IsGood (stored_store got)
 good_read bytes store got h whole =
-    subst IsGood (sym (ap stored_store (rows_read bytes store got h whole) ∙ store-back store h.stands.of_visits)) h.stands.good
+    subst IsGood (sym (ap stored_store (rows_read bytes store got h whole) ∙ store-back store h.of_visits)) h.good
 
-pub right_read : (bytes : List ℕ) (store : Store) (got : Stored) → IsHeld bytes store → ((rows : Stored) → AreStored rows → HoldsRows bytes rows → got ≡ rows) → All (IsFrecencyRight got) got.pages
+pub right_read : (bytes : List ℕ) (store : Store) (got : Stored) → StandsFor bytes store → ((rows : Stored) → AreStored rows → HoldsRows bytes rows → got ≡ rows) → All (IsFrecencyRight got) got.pages
 right_read bytes store got h whole =
     let P : Stored → Type 0 = λ rows. All (IsFrecencyRight rows) rows.pages in
-    subst P (sym (rows_read bytes store got h whole)) (right-back store h.stands.of_visits)
+    subst P (sym (rows_read bytes store got h whole)) (right-back store h.of_visits)
 
-pub live_read : (bytes : List ℕ) (store : Store) (got : Stored) → IsHeld bytes store → ((rows : Stored) → AreStored rows → HoldsRows bytes rows → got ≡ rows) → live_slots (stored_store got) ≤ 4_194_304
+pub live_read : (bytes : List ℕ) (store : Store) (got : Stored) → StandsFor bytes store → ((rows : Stored) → AreStored rows → HoldsRows bytes rows → got ≡ rows) → live_slots (stored_store got) ≤ 4_194_304
 live_read bytes store got h whole =
     let P : Store → Type 0 = λ s. live_slots s ≤ 4_194_304 in
-    subst P (sym (ap stored_store (rows_read bytes store got h whole) ∙ store-back store h.stands.of_visits)) h.live
+    subst P (sym (ap stored_store (rows_read bytes store got h whole) ∙ store-back store h.of_visits)) h.live
 
 -- ---- the one store
 
-pub only_store : (bytes : List ℕ) (store : Store) (got : Stored) (qs : List FlatPage) (origins : ℕ) → IsHeld bytes store → ((rows : Stored) → AreStored rows → HoldsRows bytes rows → got ≡ rows) → AllZip (IsAssessed got) got.pages qs → store ≡ store_of (kept_of_rows got qs origins)
+pub only_store : (bytes : List ℕ) (store : Store) (got : Stored) (qs : List FlatPage) (origins : ℕ) → StandsFor bytes store → ((rows : Stored) → AreStored rows → HoldsRows bytes rows → got ≡ rows) → AllZip (IsAssessed got) got.pages qs → store ≡ store_of (kept_of_rows got qs origins)
 only_store bytes store got qs origins h whole zip =
-    sym (store-back store h.stands.of_visits) ∙ ap stored_store (sym (rows_read bytes store got h whole)) ∙ sym (store-same got qs origins zip)
+    sym (store-back store h.of_visits) ∙ ap stored_store (sym (rows_read bytes store got h whole)) ∙ sym (store-same got qs origins zip)

@@ -18,6 +18,7 @@ use Rattle.pl_base.specs.Live.{chunks, live_slots, new_origins, origin_count}
 use Rattle.pl_base.specs.Rows.{Kept, KeptOrigin, KeptPage, has_page, live_with_page, marked, store_of, with_day, with_mark, with_page, with_visit}
 use Rattle.pl_base.specs.Store.{Item, Page, Visit}
 use Rattle.pl_base.proofs.OriginLaws.{new_origins-append, same_origin-self, same_origin-sym, same_origin-trans}
+use Rattle.std.specs.Str.{is_utf8}
 use Rattle.pl_plain.specs.FlatRows.{IsFlat}
 use Rattle.pl_plain.specs.Place.{IsPlaceOf, urls_of}
 use Rattle.pl_plain.proofs.Lists.{AllPairs-map, AreIds_push, list_any-map, list_any_last, list_any_push, map-alike, map-map, sum_by-map}
@@ -35,6 +36,7 @@ IsFlat-with_day day kept origins live in_range h =
       item_first = h.item_first;
       item_last = h.item_last;
       urls = h.urls;
+      texts = h.texts;
       distinct_urls = h.distinct_urls;
       visits = h.visits;
       named = h.named;
@@ -81,6 +83,7 @@ IsFlat-with_mark id mark kept origins live h =
       item_first = h.item_first;
       item_last = h.item_last;
       urls = All-map (λ (p : KeptPage). IsTrue (is_store_url p.page.url)) f kept.pages h.urls;
+      texts = All-map (λ (p : KeptPage). IsTrue (is_utf8 p.page.url)) f kept.pages h.texts;
       distinct_urls = AllPairs-map (λ (p q : KeptPage). p.page.url ≢ q.page.url) f kept.pages h.distinct_urls;
       visits =
           All-weaker (λ (v : Visit). IsDate v.date × IsTrue (has_page kept v.page)) (λ (v : Visit). IsDate v.date × IsTrue (has_page after v.page))
@@ -129,8 +132,8 @@ slots_with_page url slot kept =
       sum_by_push (λ (p : KeptPage). chunks p.page.url + chunks p.page.title) kept.pages (new_page url slot kept),
     )
 
-pub IsFlat-with_page : (url : List ℕ) (slot : Slot) (kept : Kept) (named : List KeptOrigin) (origins after live : ℕ) → is_store_url url ≡ true → All (λ (p : KeptPage). p.page.url ≢ url) kept.pages → IsPlaceOf kept origins url slot after → kept.ids.page < 4_294_967_295 → live_with_page url kept ≤ 4_194_304 → IsFlat kept origins live → IsFlat (record (with_page url slot kept) { origins = named }) after (live + (after - origins + (1 + chunks url)))
-IsFlat-with_page url slot kept named origins after live own absent place room fits h =
+pub IsFlat-with_page : (url : List ℕ) (slot : Slot) (kept : Kept) (named : List KeptOrigin) (origins after live : ℕ) → is_store_url url ≡ true → is_utf8 url ≡ true → All (λ (p : KeptPage). p.page.url ≢ url) kept.pages → IsPlaceOf kept origins url slot after → kept.ids.page < 4_294_967_295 → live_with_page url kept ≤ 4_194_304 → IsFlat kept origins live → IsFlat (record (with_page url slot kept) { origins = named }) after (live + (after - origins + (1 + chunks url)))
+IsFlat-with_page url slot kept named origins after live own text absent place room fits h =
     let new : KeptPage = new_page url slot kept in
     let pages : List KeptPage = kept.pages ++ new ∷ [] in
     let whole : Kept = record (with_page url slot kept) { origins = named } in
@@ -145,6 +148,7 @@ IsFlat-with_page url slot kept named origins after live own absent place room fi
       item_first = h.item_first;
       item_last = h.item_last;
       urls = All-push (λ (p : KeptPage). IsTrue (is_store_url p.page.url)) kept.pages new h.urls own;
+      texts = All-push (λ (p : KeptPage). IsTrue (is_utf8 p.page.url)) kept.pages new h.texts text;
       distinct_urls = all_pairs_push (λ (p q : KeptPage). p.page.url ≢ q.page.url) kept.pages new h.distinct_urls absent;
       visits =
           All-weaker (λ (v : Visit). IsDate v.date × IsTrue (has_page kept v.page)) (λ (v : Visit). IsDate v.date × IsTrue (has_page whole v.page))
@@ -188,6 +192,7 @@ IsFlat-with_visit row kept origins live there in_range room fits h =
       item_first = h.item_first;
       item_last = h.item_last;
       urls = h.urls;
+      texts = h.texts;
       distinct_urls = h.distinct_urls;
       visits = All-push (λ (v : Visit). IsDate v.date × IsTrue (has_page kept v.page)) kept.visits new h.visits (in_range, there);
       named = h.named;

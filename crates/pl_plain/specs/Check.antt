@@ -1,15 +1,11 @@
 -- When the rows of a file are those of a good store, as tests.
-use Rattle.std.specs.Prelude.{◌&&◌, ◌||◌, ◌==◌, ◌≤◌, not, ℕ, Bool, true, List, [], ◌∷◌, bytes_eq, map, nat_le, nat_lt}
-use Rattle.std.specs.List.{All, list_all, list_any}
-use Rattle.std.specs.Str.{IsUtf8}
+use Rattle.std.specs.Prelude.{◌&&◌, ◌||◌, ◌==◌, not, ℕ, Bool, true, List, [], ◌∷◌, bytes_eq, map, nat_le, nat_lt}
+use Rattle.std.specs.List.{list_all, list_any}
 use Rattle.pl_base.specs.declared.transition.Transition.{Transition}
-use Rattle.pl_base.specs.Live.{live_slots}
-use Rattle.pl_base.specs.Store.{Page, Store}
 use Rattle.pl_base.specs.Touched.{ascends_above}
 use Rattle.pl_base.specs.Transition.{transition_number}
 use Rattle.pl_plain.specs.declared.flat.row.FlatVisit.{FlatVisit}
 use Rattle.pl_plain.specs.declared.form.stored.StoredPage.{StoredPage}
-use Rattle.pl_plain.specs.Form.{StandsFor}
 use Rattle.pl_plain.specs.Stored.{Stored}
 
 -- the ids ascend from above 0, and lie below the next one
@@ -53,9 +49,3 @@ are_good rows =
     && have_own_urls rows.pages
     && list_all (is_good_page rows.visits) rows.pages
     && list_all (is_good_visit rows.pages) rows.visits
-
--- The bytes stand for a store that a file can hold: it takes at most so many slots, and its URLs are texts.
-pub record IsHeld (bytes : List ℕ) (store : Store) : Type 0 where
-  pub stands : StandsFor bytes store
-  pub live : live_slots store ≤ 4_194_304
-  pub texts : All (λ (p : Page). IsUtf8 p.url) store.pages

@@ -8,7 +8,8 @@ use Rattle.std.proofs.lemmas.List.{get_or-map, length-map, take_all}
 use Rattle.std.proofs.lemmas.List.Elements.{All-from_recursion, All-head, All-map, All-tail}
 use Rattle.std.proofs.lemmas.List.Folds.{Any-from_list_any}
 use Rattle.std.proofs.lemmas.List.FromFn.{get_or-range_with_len, length-range_with_len}
-use Rattle.std.proofs.lemmas.Str.{IsUtf8-nil}
+use Rattle.std.proofs.lemmas.Str.{IsUtf8-from_is_utf8, IsUtf8-nil}
+use Rattle.std.specs.Str.{IsUtf8}
 use Rattle.pl_base.specs.declared.date.Day.{Day}
 use Rattle.pl_base.specs.declared.id.Ids.{Ids}
 use Rattle.pl_base.specs.Frecency.{frecency_of}
@@ -118,11 +119,13 @@ rows_are_right kept right =
 whole : (bytes : List ℕ) → take (length bytes) bytes ≡ bytes
 whole bytes = take_all (length bytes) bytes (omega arith)
 
-pub stands : (kept : Kept) → IsGood (store_of kept) → IsOfVisits (store_of kept) → IsRight kept → StandsFor (form_bytes (kept_rows kept)) (store_of kept)
-stands kept good of_visits right =
+pub stands : (kept : Kept) (origins live : ℕ) → IsFlat kept origins live → IsGood (store_of kept) → IsOfVisits (store_of kept) → IsRight kept → StandsFor (form_bytes (kept_rows kept)) (store_of kept)
+stands kept origins live h good of_visits right =
     record {
       good = good;
       of_visits = of_visits;
+      texts = All-map (λ (p : Page). IsUtf8 p.url) (λ (p : KeptPage). p.page) kept.pages (λ k d within. IsUtf8-from_is_utf8 (get_or kept.pages k d).page.url (h.texts k d within));
+      live = omega (arith, h.filled, h.few);
       begins =
           ap (λ (rows : FormRows). take (length (form_bytes (store_rows (store_of kept)))) (form_bytes rows)) (rows_are_right kept right)
           ∙ whole (form_bytes (store_rows (store_of kept)));

@@ -1,6 +1,7 @@
 -- The parts of a flat store seen as what is kept of a store, and what holds of them.
 use Rattle.std.specs.Prelude.{◌≡◌, ◌≢◌, ◌↔◌, ◌≤◌, ◌<◌, ◌==◌, ℕ, ℤ, IsTrue, List, [], map, true, if◌then◌else◌}
 use Rattle.std.specs.List.{All, AllPairs, list_any, range_with_len}
+use Rattle.std.specs.Str.{is_utf8}
 use Rattle.pl_base.specs.declared.date.Day.{Day}
 use Rattle.pl_base.specs.declared.id.Ids.{Ids}
 use Rattle.pl_base.specs.declared.id.PageId.{PageId}
@@ -68,6 +69,7 @@ pub record IsFlat (kept : Kept) (origins live : ℕ) : Type 0 where
   pub item_first : 7 ≤ kept.ids.item
   pub item_last : kept.ids.item ≤ 4_294_967_295
   pub urls : All (λ (p : KeptPage). IsTrue (is_store_url p.page.url)) kept.pages
+  pub texts : All (λ (p : KeptPage). IsTrue (is_utf8 p.page.url)) kept.pages
   pub distinct_urls : AllPairs (λ (p q : KeptPage). p.page.url ≢ q.page.url) kept.pages
   pub visits : All (λ (v : Visit). IsDate v.date × IsTrue (has_page kept v.page)) kept.visits
   pub named : All (λ (p : KeptPage). (0 < p.origin.0) × (p.origin.0 ≤ origins)) kept.pages

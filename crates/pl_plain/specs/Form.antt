@@ -1,8 +1,9 @@
 -- The form in which a file holds a store from page 1 on: a header page, and behind it the plain bytes, which
 -- fill pages. Numbers are written with their lowest byte first, and lists by ascending id.
-use Rattle.std.specs.Prelude.{◌≡◌, ℕ, ℤ, ◌+◌, ◌-◌, ◌*◌, ◌/◌, Bool, true, false, List, [], ◌∷◌, ◌++◌, codes, length, map, replicate, take, Option, Some, None}
+use Rattle.std.specs.Prelude.{◌≡◌, ◌≤◌, ℕ, ℤ, ◌+◌, ◌-◌, ◌*◌, ◌/◌, Bool, true, false, List, [], ◌∷◌, ◌++◌, codes, length, map, replicate, take, Option, Some, None}
 use Rattle.std.specs.Int.{w32, w64, to_le_bytes, cast_unsigned}
-use Rattle.std.specs.List.{flat_map}
+use Rattle.std.specs.List.{All, flat_map}
+use Rattle.std.specs.Str.{IsUtf8}
 use Rattle.pl_base.specs.declared.date.Day.{Day}
 use Rattle.pl_base.specs.declared.id.Ids.{Ids}
 use Rattle.pl_base.specs.declared.id.ItemId.{ItemId}
@@ -10,6 +11,7 @@ use Rattle.pl_base.specs.declared.id.PageId.{PageId}
 use Rattle.pl_base.specs.declared.id.VisitId.{VisitId}
 use Rattle.pl_base.specs.Frecency.{frecency_of}
 use Rattle.pl_base.specs.Good.{IsGood}
+use Rattle.pl_base.specs.Live.{live_slots}
 use Rattle.pl_base.specs.Rows.{Kept, KeptPage, IsOfVisits}
 use Rattle.pl_base.specs.Store.{Store, Page, Visit, Item, ItemKind, bookmark, folder, separator}
 use Rattle.pl_base.specs.Touched.{page_size}
@@ -116,9 +118,11 @@ store_rows store =
       items = store.items;
     }
 
--- The bytes from page 1 on stand for a good store, as far as this form has it yet. What lies behind the
--- store's pages is free.
+-- The bytes from page 1 on stand for a good store, as far as this form has it yet, of at most 4,194,304 slots
+-- and with URLs that are texts. What lies behind the store's pages is free.
 pub record StandsFor (bytes : List ℕ) (store : Store) : Type 0 where
   pub good : IsGood store
   pub of_visits : IsOfVisits store
+  pub texts : All (λ (p : Page). IsUtf8 p.url) store.pages
+  pub live : live_slots store ≤ 4_194_304
   pub begins : take (length (form_bytes (store_rows store))) bytes ≡ form_bytes (store_rows store)

@@ -11,7 +11,6 @@ mod tests;
 ghost use Rattle.std.specs.Prelude.{◌≡◌, ◌↔◌, ℕ, List, drop, IfOk, IsErrOf};
 ghost use Rattle.pl_base.specs.Rows.{IsRight, store_of};
 ghost use Rattle.pl_base.specs.Store.{Store};
-ghost use Rattle.pl_plain.specs.Check.{IsHeld};
 ghost use Rattle.pl_plain.specs.Flat.{IsBase, bytes_of, kept_of};
 ghost use Rattle.pl_plain.specs.Form.{StandsFor};
 
@@ -30,8 +29,8 @@ impl Flat {
         ensures stands { IfOk result (λ flat. StandsFor (drop 1024 bytes.now) (store_of (kept_of flat))) }
         ensures right { IfOk result (λ flat. IsRight (kept_of flat)) }
         // The bytes stand for one store at most.
-        ensures only { IfOk result (λ flat. (store : Store) → IsHeld (drop 1024 bytes.now) store → store ≡ store_of (kept_of flat)) }
-        ensures not_a_store { IsErrOf result CheckError.NotAStore → (store : Store) → IsHeld (drop 1024 bytes.now) store → ⊥ }
+        ensures only { IfOk result (λ flat. (store : Store) → StandsFor (drop 1024 bytes.now) store → store ≡ store_of (kept_of flat)) }
+        ensures not_a_store { IsErrOf result CheckError.NotAStore → (store : Store) → StandsFor (drop 1024 bytes.now) store → ⊥ }
         ensures base { IfOk result (λ flat. (base_bytes : List ℕ) → IsBase flat base_bytes ↔ (base_bytes ≡ bytes_of flat)) }
     {
         let FileRows { rows, pages } = read_rows(alloc, bytes)?;

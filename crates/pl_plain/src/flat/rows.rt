@@ -126,5 +126,5 @@ impl Rows for Flat {
 
     ghost well_kept = { λ flat. laws.well_kept flat.day flat.ids flat.pages.items flat.origins flat.visits.items flat.live flat.rows };
 
-    ghost stands = { λ flat. laws.stands (kept_of flat) };
+    ghost stands = { λ flat. laws.stands (kept_of flat) flat.origins flat.live flat.rows };
 }

@@ -2,6 +2,7 @@ use Rattle.std.proofs.Common.{◌≡◌, ◌+◌, ◌-◌, arith, map}
 use Rattle.std.specs.List.{range_with_len}
 use Rattle.std.proofs.lemmas.Bool.{true≢false}
 use Rattle.std.proofs.lemmas.List.{map_push}
+use Rattle.std.proofs.lemmas.Str.{is_utf8-from_IsUtf8}
 use Rattle.pl_base.specs.Live.{chunks}
 use Rattle.pl_plain.specs.Flat.{kept_of}
 use Rattle.pl_plain.specs.FlatRows.{origin_named, page_of}
@@ -16,7 +17,7 @@ invariant_of-self-2 c =
       rows =
           rw (c.in_ok-push.ensures.items, c.in_ok-copied.ensures, map_push page_of, slots)
           (IsFlat-with_page c.args.url.now c.args.origin (kept_of f) (map origin_named (range_with_len 1 c.args.origins)) f.origins c.args.origins f.live
-          c.requires.url c.requires.absent c.requires.place c.requires.id c.requires.live f.rows);
+          c.requires.url (is_utf8-from_IsUtf8 c.args.url.now c.utf8.url) c.requires.absent c.requires.place c.requires.id c.requires.live f.rows);
       some_page = f.some_page;
       settled = λ settled. absurd (true≢false settled);
     }
