@@ -3,11 +3,12 @@ use Rattle.std.specs.Prelude.{ℕ, List, [], ◌∷◌}
 use Rattle.pl_base.specs.declared.id.IdKind.{IdKind}
 use Rattle.pl_base.specs.declared.id.IdKind.TheVariants.{Page, Visit, Item}
 use Rattle.pl_base.specs.declared.refusal.Refusal.{Refusal}
-use Rattle.pl_base.specs.declared.refusal.Refusal.TheVariants.{BadUrl, NotRecorded, NoIds, BadLine}
+use Rattle.pl_base.specs.declared.refusal.Refusal.TheVariants.{BadUrl, NotRecorded, Full, NoIds, BadLine}
 
 abbrev pub refusal_number : Refusal → ℕ
 refusal_number BadUrl = 1
 refusal_number NotRecorded = 2
+refusal_number (Full slots) = 12
 refusal_number (NoIds kind) = 13
 refusal_number (BadLine column) = 14
 
@@ -20,5 +21,6 @@ kind_number Item = 3
 abbrev pub refusal_values : Refusal → List ℕ
 refusal_values BadUrl = []
 refusal_values NotRecorded = []
+refusal_values (Full slots) = slots ∷ []
 refusal_values (NoIds kind) = kind_number kind ∷ []
 refusal_values (BadLine column) = column ∷ []

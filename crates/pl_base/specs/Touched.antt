@@ -1,7 +1,7 @@
 -- Pages of a store's bytes, and a change of some of them. Page 0 is the gate's, and the store's own begin
 -- with page 1.
-use Rattle.std.specs.Prelude.{ℕ, ◌+◌, ◌-◌, ◌*◌, ◌≤◌, ◌<◌, ◌≡◌, ◌&&◌, Bool, true, Contains, List, [], ◌∷◌, ◌++◌, map, take, drop, length, nat_lt}
-use Rattle.std.specs.List.{All}
+use Rattle.std.specs.Prelude.{ℕ, ◌+◌, ◌-◌, ◌*◌, ◌≤◌, ◌<◌, ◌≡◌, ◌==◌, ◌&&◌, Bool, true, List, [], ◌∷◌, ◌++◌, map, take, drop, length, nat_lt}
+use Rattle.std.specs.List.{All, list_any}
 
 -- the bytes of a page
 abbrev pub page_size : ℕ
@@ -55,8 +55,11 @@ with_pages (p ∷ pages) bytes = with_pages pages (with_page p bytes)
 abbrev pub changed : Change → List ℕ → List ℕ
 changed change bytes = with_pages change.pages (take (page_at change.after) bytes)
 
+abbrev pub has_number : ℕ → List PageImage → Bool
+has_number n pages = list_any (λ m. m == n) (page_numbers pages)
+
 -- no touched page lies past the store's end, and each page that the change adds is touched
 pub record IsWithin (change : Change) : Type 0 where
   pub some_page : 1 ≤ change.after
   pub below : All (λ n. n < change.after) (page_numbers change.pages)
-  pub added : (n : ℕ) → change.before ≤ n → n < change.after → Contains (page_numbers change.pages) n
+  pub added : (n : ℕ) → change.before ≤ n → n < change.after → has_number n change.pages ≡ true

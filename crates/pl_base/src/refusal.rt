@@ -13,6 +13,9 @@ pub enum Refusal {
     /// Visits to this scheme are not recorded.
     #[error("visits to this scheme are not recorded")]
     NotRecorded,
+    /// The store would take so many slots of 128 bytes, which is more than it may.
+    #[error("the store would take {0} slots")]
+    Full(u64),
     /// The next id of this kind is the one that is never given.
     #[error("no id is left")]
     NoIds(IdKind),
@@ -29,6 +32,7 @@ impl Refusal {
         match self {
             Refusal::BadUrl => 1,
             Refusal::NotRecorded => 2,
+            Refusal::Full(_) => 12,
             Refusal::NoIds(_) => 13,
             Refusal::BadLine(_) => 14,
         }

@@ -128,8 +128,9 @@ pub trait Rows {
         ensures before { IfOk result (λ change. (base_bytes : List ℕ) → base self.old base_bytes → length base_bytes ≡ place_of_page change.before) }
         ensures after { IfOk result (λ change. length (bytes self.old) ≡ place_of_page change.after) }
         ensures within { IfOk result IsWithin }
-        ensures kept { OnOk result (kept self.new ≡ kept self.old) }
-        ensures bytes { OnOk result (bytes self.new ≡ bytes self.old) }
+        ensures some { IfOk result (λ change. 1 ≤ change.before) }
+        ensures kept { kept self.new ≡ kept self.old }
+        ensures bytes { bytes self.new ≡ bytes self.old }
         ensures base { OnOk result ((base_bytes : List ℕ) → base self.new base_bytes ↔ (base_bytes ≡ bytes self.old)) };
 
     /// What holds of all rows.

@@ -1,3 +1,4 @@
+pub mod AnyMoment
 pub mod Counts
 pub mod Desk
 pub mod MemDesk

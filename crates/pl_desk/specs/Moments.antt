@@ -16,3 +16,19 @@ module _ {D : Type 0} (moment : D → ℕ) (shown_since : D → ℕ → List ℕ
     each = λ file line shown. ⊎_elim (so_far.each file line) (here file line) (time.nothing_else (moment old) file line so_far.later shown);
     before = λ t file line le shown. ⊎_elim (so_far.before t file line le) (λ now. inr (here file line now)) (time.nothing_else t file line (omega (arith, le, so_far.later)) shown);
   }
+
+  -- further calls, of which as much is known
+  pub and_on : (old mid new : D) (P Q : List ℕ → List ℕ → Type 0) → ShowsOnly moment shown_since old mid P → ShowsOnly moment shown_since mid new Q
+      → ((file line : List ℕ) → Q file line → P file line) → ShowsOnly moment shown_since old new P
+  and_on old mid new P Q first second to = record {
+    later = omega (arith, first.later, second.later);
+    each = λ file line shown. ⊎_elim (first.each file line) (to file line) (second.before (moment old) file line first.later shown);
+    before = λ t file line le shown. ⊎_elim (first.before t file line le) (λ has. inr (to file line has)) (second.before t file line (omega (arith, le, first.later)) shown);
+  }
+
+  pub shows_less : (old new : D) (P Q : List ℕ → List ℕ → Type 0) → ShowsOnly moment shown_since old new P → ((file line : List ℕ) → P file line → Q file line) → ShowsOnly moment shown_since old new Q
+  shows_less old new P Q shows to = record {
+    later = shows.later;
+    each = λ file line shown. to file line (shows.each file line shown);
+    before = λ t file line le shown. ⊎_elim (λ past. inl past) (λ has. inr (to file line has)) (shows.before t file line le shown);
+  }

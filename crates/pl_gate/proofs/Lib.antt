@@ -1,8 +1,8 @@
-mod AnyMoment
 mod ArmedFiles
 mod Bytes
 mod ClosedFiles
 mod Entries
+mod FromRest
 mod JournalFiles
 mod Moments
 mod Pages

@@ -1,10 +1,11 @@
 -- Pages put into their places.
-use Rattle.std.proofs.Common.{◌≡◌, ◌≢◌, ℕ, zero, suc, ◌+◌, ◌-◌, ◌≤◌, ◌<◌, true, Contains, List, [], ◌∷◌, ◌++◌, length, take, drop, nat_lt, inl, inr, refl, sym, ◌∙◌, ap, subst, arith}
+use Rattle.std.proofs.Common.{◌≡◌, ◌≢◌, ℕ, zero, suc, ◌+◌, ◌-◌, ◌≤◌, ◌<◌, ◌==◌, true, Contains, List, [], ◌∷◌, ◌++◌, length, take, drop, get_or, nat_lt, inl, inr, refl, sym, ◌∙◌, ap, subst, arith}
 use Rattle.std.proofs.Common.{append_assoc, length-append}
-use Rattle.std.proofs.lemmas.Bool.{and_parts, cases_eq, cases_lt, cases_order, ltb-true}
+use Rattle.std.proofs.lemmas.Bool.{and_parts, cases_eq, cases_lt, cases_order, eqb-true, ltb-true}
 use Rattle.std.proofs.lemmas.List.{take-take, drop-drop, drop-take, take-append-le, drop-append-le, length-take, length-drop, take_all, drop_all}
+use Rattle.std.proofs.lemmas.List.Folds.{Any-from_list_any}
 use Rattle.std.proofs.Math.Seq.{take-append-add, drop-append-add}
-use Rattle.pl_base.specs.Touched.{PageImage, page_at, page_size, page_numbers, ascends_above, with_page, with_pages}
+use Rattle.pl_base.specs.Touched.{PageImage, page_at, page_size, page_numbers, ascends_above, has_number, with_page, with_pages}
 use Rattle.pl_gate.proofs.Bytes.{drop_further}
 
 -- the page ends within the bytes, and its image is whole
@@ -134,6 +135,12 @@ tail_contains p pages page other (suc k, lt, is) = (k, omega (arith, lt), is)
 
 pub none_contains : (page : ℕ) → Contains (page_numbers []) page → ⊥
 none_contains page (k, lt, is) = omega (arith, lt)
+
+-- a number that is found is one of the pages' numbers
+pub has_in : (n : ℕ) (pages : List PageImage) → has_number n pages ≡ true → Contains (page_numbers pages) n
+has_in n pages found =
+    let (k, m, lt, at, is) = Any-from_list_any (λ j. j == n) (page_numbers pages) found in
+    (k, lt, subst (λ j. get_or (page_numbers pages) k j ≡ j) (eqb-true m n is) at)
 
 -- a page that is torn doesn't matter where its image is among those that are put into their places
 pub torn_pages : (pages : List PageImage) (page : ℕ) (old new : List ℕ) → AllFit pages (length old) → 1 ≤ page → Contains (page_numbers pages) page → TornPage page old new → with_pages pages new ≡ with_pages pages old

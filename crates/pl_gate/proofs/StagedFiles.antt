@@ -17,7 +17,7 @@ use Rattle.pl_gate.proofs.Bytes.{drop_further, same_in_back}
 use Rattle.pl_gate.proofs.ClosedFiles.{begins, closed_as, closed_torn_place, gate_closed, has_long, laid_closed, long}
 use Rattle.pl_gate.proofs.Entries.{overwritten_range}
 use Rattle.pl_gate.proofs.JournalFiles.{AreWhole, HasJournal, all_fit, entries_behind, gate_set}
-use Rattle.pl_gate.proofs.Pages.{AllFit, grown, length-with_pages, with_pages_take}
+use Rattle.pl_gate.proofs.Pages.{AllFit, grown, has_in, length-with_pages, with_pages_take}
 
 pub with_gate_is : (byte : ℕ) (file : List ℕ) → with_gate byte file ≡ byte ∷ drop 1 file
 with_gate_is byte file = overwritten_within 0 0 (byte ∷ []) file (omega arith)
@@ -178,7 +178,7 @@ module _ (change : Change) (told : IsTold change) (pages file : List ℕ) (close
     | inr more ↦
         let le : length pages ≤ page_at change.after = omega (arith, len, more) in
         grown change.pages 0 change.before change.after pages kept len len_kept some more (take-take (length pages) (page_at change.after) bytes le ∙ begins_bytes)
-        told.ascending (subst (AllFit change.pages) (sym len_kept) fit_kept) told.within.added
+        told.ascending (subst (AllFit change.pages) (sym len_kept) fit_kept) (λ n above below. has_in n change.pages (told.within.added n above below))
         ∙ ap (with_pages change.pages) (sym (take_all (page_at change.after) pages le))
   ]
 

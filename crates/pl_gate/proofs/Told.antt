@@ -12,7 +12,7 @@ use Rattle.pl_gate.specs.States.{IsClosed, IsStaged}
 use Rattle.pl_gate.proofs.ClosedFiles.{closed_empty, closed_entries, room}
 use Rattle.pl_gate.proofs.Entries.{AreEntries, entries_reach, entries_written, torn_entries}
 use Rattle.pl_gate.proofs.JournalFiles.{AreWhole}
-use Rattle.pl_gate.proofs.Pages.{ascends_first, none_contains}
+use Rattle.pl_gate.proofs.Pages.{ascends_first, has_in, none_contains}
 use Rattle.pl_gate.proofs.StagedFiles.{IsTold, staged}
 
 -- there are no more ascending numbers than their bound
@@ -59,7 +59,7 @@ module _ (change : Change) (within : IsWithin change) (ascending : ascends_above
   reaches pages file closed len some =
       entries_reach change.pages (start_of change) file are_entries (λ (none : length change.pages ≡ 0).
       elim (cases_lt change.before change.after) [
-        | inl less ↦ absurd (lacks none (within.added change.before (omega arith) less))
+        | inl less ↦ absurd (lacks none (has_in change.before change.pages (within.added change.before (omega arith) less)))
         | inr more ↦ omega (arith, room pages file closed, len, more, some)
       ])
     where
@@ -90,7 +90,7 @@ staged_empty change within ascending images after one some = by change.pages ref
     are = are_entries change within ascending images before after
 
     by : (pages : List PageImage) → change.pages ≡ pages → IsStaged change [] (overwritten 0 8 (place_bytes start (length change.pages) change.after) (with_entries start change.pages []))
-    by [] is = absurd (none_contains 1 (subst (λ (l : List PageImage). Contains (page_numbers l) 1) is (within.added 1 (omega (arith, one)) some)))
+    by [] is = absurd (none_contains 1 (subst (λ (l : List PageImage). Contains (page_numbers l) 1) is (has_in 1 change.pages (within.added 1 (omega (arith, one)) some))))
     by (p ∷ pages) is =
         let first = overwritten 0 start (entry_bytes p) [] in
         let file = with_entries start change.pages [] in

@@ -1,7 +1,6 @@
 -- The states of a commit.
-use Rattle.std.specs.Prelude.{◌≡◌, ◌⊎◌, ℕ, true, false, List, drop, Option, Some}
+use Rattle.std.specs.Prelude.{◌≡◌, ◌⊎◌, ℕ, true, false, List, drop}
 use Rattle.pl_base.specs.Touched.{Change, changed}
-use Rattle.pl_desk.specs.Desk.{Only, ShowsOnly}
 use Rattle.pl_gate.specs.Device.{with_gate}
 use Rattle.pl_gate.specs.Gate.{Holds, is_set, journal, laid, pages_after}
 
@@ -30,15 +29,3 @@ pub record IsStaged (change : Change) (pages file : List ℕ) : Type 0 where
 pub record IsInstalled (change : Change) (pages file : List ℕ) : Type 0 where
   pub armed : IsArmed change pages file
   pub in_place : drop 1024 file ≡ laid file
-
--- A stop at any moment from old to new shows a file that has P, and the line as it was.
-abbrev pub AtAnyMoment : {D : Type 0} → (D → ℕ) → (D → ℕ → List ℕ → List ℕ → Type 0) → (D → Option (List ℕ)) → D → D → (List ℕ → Type 0) → Type 0
-AtAnyMoment moment shown_since said old new P =
-    ShowsOnly moment shown_since old new (λ file line. P file × (said old ≡ Some line))
-
--- a read gives a file that has P, and a stop leaves it and no other
-pub record Rests (held : Option (List ℕ)) (may_leave : List ℕ → Type 0) (P : List ℕ → Type 0) : Type 0 where
-  pub file : List ℕ
-  pub is_held : held ≡ Some file
-  pub only : Only file may_leave
-  pub has : P file

@@ -1,7 +1,8 @@
 ghost use Rattle.std.specs.Prelude.{◌≡◌, ◌≤◌, ◌<◌, ◌+◌, ◌*◌, ℕ, List, [], Some, length, OnOk, OnErr};
 ghost use Rattle.pl_base.specs.Touched.{IsWithin, changed, page_at};
 ghost use Rattle.pl_desk.specs.Counts.{Rose};
-ghost use Rattle.pl_gate.specs.States.{AtAnyMoment, HoldsEither, IsClosed, Rests};
+ghost use Rattle.pl_desk.specs.Desk.{AtAnyMoment, Rests};
+ghost use Rattle.pl_gate.specs.States.{HoldsEither, IsClosed};
 
 use crate::gate::Gate;
 use crate::states::Closed;

@@ -2,7 +2,8 @@ ghost use Rattle.std.specs.Prelude.{◌≡◌, ◌≤◌, ◌<◌, ◌+◌, ◌*
 ghost use Rattle.pl_base.specs.Touched.{IsWithin, changed, page_at, page_size};
 ghost use Rattle.pl_desk.specs.Counts.{Rose};
 ghost use Rattle.pl_gate.specs.Gate.{Holds, entry_size};
-ghost use Rattle.pl_gate.specs.States.{AtAnyMoment, HoldsEither, IsArmed, IsClosed, IsInstalled, IsStaged, Rests};
+ghost use Rattle.pl_desk.specs.Desk.{AtAnyMoment, Rests};
+ghost use Rattle.pl_gate.specs.States.{HoldsEither, IsArmed, IsClosed, IsInstalled, IsStaged};
 
 use crate::device::{write_entries, write_gate, write_images, write_place};
 use crate::states::{Armed, Closed, Installed, Staged};

@@ -1,10 +1,9 @@
 ghost use Rattle.std.specs.Prelude.{◌≡◌, ◌≤◌, ◌⊎◌, ◌+◌, ◌*◌, ℕ, List, Some, None, Err, true, false, IfSome, OnOk};
 ghost use Rattle.pl_base.specs.Touched.{page_size};
 ghost use Rattle.pl_desk.specs.Counts.{Rose};
-ghost use Rattle.pl_desk.specs.Desk.{last_offset, Only};
+ghost use Rattle.pl_desk.specs.Desk.{AtAnyMoment, last_offset, Only, Rests};
 ghost use Rattle.pl_gate.specs.Gate.{entry_size, has_gate, is_set};
 ghost use Rattle.pl_gate.specs.Recovery.{IsPlaceOf, IsSettledAs, LeftAs, StandsAs, written_by};
-ghost use Rattle.pl_gate.specs.States.{AtAnyMoment, Rests};
 
 use crate::device::write_gate;
 use crate::error::GateError;

@@ -1,6 +1,6 @@
 // Small stores in memory, changes of them, and what a recovery gives back.
-ghost use Rattle.std.specs.Prelude.{◌≡◌, ◌≤◌, ◌<◌, ℕ, ◌++◌, ◌∷◌, [], length, slice_index, true, All, Contains, IfOk, OnOk};
-ghost use Rattle.pl_base.specs.Touched.{ascends_above, page_numbers, IsWithin};
+ghost use Rattle.std.specs.Prelude.{◌≡◌, ◌≤◌, ◌<◌, ℕ, ◌++◌, ◌∷◌, [], length, slice_index, true, All, IfOk, OnOk};
+ghost use Rattle.pl_base.specs.Touched.{ascends_above, has_number, page_numbers, IsWithin};
 
 mod commits;
 mod faults;
@@ -158,7 +158,7 @@ fn touch(rt: &impl Abort, touched: &mut Touched, page: u8) -> Result<(), NoMemor
 // Adds each page that the change adds.
 fn touch_added(rt: &impl Abort, touched: &mut Touched, case: &Case) -> Result<(), NoMemory>
     ensures below { OnOk result (All (λ n. n < touched.old.after) (page_numbers touched.old.pages) → All (λ n. n < touched.old.after) (page_numbers touched.new.pages)) }
-    ensures added { OnOk result ((n : ℕ) → case.now.before ≤ n → n < case.now.after → Contains (page_numbers touched.new.pages) n) }
+    ensures added { OnOk result ((n : ℕ) → case.now.before ≤ n → n < case.now.after → has_number n touched.new.pages ≡ true) }
     ensures before { touched.new.before ≡ touched.old.before }
     ensures after { touched.new.after ≡ touched.old.after }
 {

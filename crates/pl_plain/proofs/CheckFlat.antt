@@ -23,8 +23,9 @@ use Rattle.pl_plain.specs.declared.flat.row.FlatPage.{FlatPage}
 use Rattle.pl_plain.specs.declared.form.stored.StoredPage.{StoredPage}
 use Rattle.pl_plain.specs.CheckOrigins.{AreNamed, IsNamed, Key}
 use Rattle.pl_plain.specs.CheckPages.{IsAssessed, IsFrecencyRight, IsGiven, kept_of_rows}
+use Rattle.pl_plain.specs.FlatLaws.{rows_are_right}
 use Rattle.pl_plain.specs.FlatRows.{IsFlat, bytes_from, page_of, visit_of}
-use Rattle.pl_plain.specs.Form.{StandsFor, filled_pages, form_bytes, in_pages, kept_rows, store_rows}
+use Rattle.pl_plain.specs.Form.{FormRows, StandsFor, filled_pages, form_bytes, in_pages, kept_rows, store_rows}
 use Rattle.pl_plain.specs.Stored.{AreStored, HoldsRows, IsStoredPage, Stored, form_rows, page_row, stored_bytes, stored_page, stored_store}
 use Rattle.pl_base.specs.Touched.{page_at}
 use Rattle.pl_plain.proofs.CheckGood.{AllPairs-from_map}
@@ -242,3 +243,8 @@ stands-for bytes rows qs keys origins live holds h =
       live = omega (arith, slots-by rows qs keys origins live h.pages h.named h.count h.slots, h.few);
       begins = begins_with bytes (form_bytes (store_rows (stored_store rows))) holds.rest (holds.begins ∙ ap (λ (xs : List ℕ). xs ++ holds.rest) (sym form));
     })
+
+-- what a file of these rows holds stands first
+pub begins-right : (bytes : List ℕ) (kept : Kept) → StandsFor bytes (store_of kept) → IsRight kept → take (length (form_bytes (kept_rows kept))) bytes ≡ form_bytes (kept_rows kept)
+begins-right bytes kept stands right =
+    subst (λ (rows : FormRows). take (length (form_bytes rows)) bytes ≡ form_bytes rows) (sym (rows_are_right kept right)) stands.begins

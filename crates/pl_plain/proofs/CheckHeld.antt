@@ -1,7 +1,7 @@
 -- The rows of a store that a file holds.
 use Rattle.std.proofs.Common.{◌≡◌, ◌∙◌, ◌==◌, ℕ, ℤ, ◌+◌, ◌-◌, ◌*◌, ◌<◌, ◌≤◌, ◌^◌, ◌++◌, All, Bool, true, false, List, [], ◌∷◌, Result, Err, drop, ◌&&◌, get_or, length, map, pos, negsuc, w64, zero, suc, sym, ap, refl, subst, arith, if◌then◌else◌}
 use Rattle.std.specs.Int.RustNames.{FitsSigned}
-use Rattle.std.specs.List.{AllZip, flat_map, sum_by}
+use Rattle.std.specs.List.{flat_map, sum_by}
 use Rattle.std.specs.Str.{IsUtf8}
 use Rattle.std.proofs.lemmas.Bool.{eqb-true}
 use Rattle.std.proofs.lemmas.List.{length-append, length-map, length-take, take-append-drop}
@@ -15,21 +15,20 @@ use Rattle.pl_base.specs.Frecency.{frecency_from, frecency_of, points, rounded_u
 use Rattle.pl_base.specs.Good.{AreIds, IsGood}
 use Rattle.pl_base.specs.Live.{chunks, live_slots, origin_count}
 use Rattle.pl_base.specs.Marks.{is_counted, is_referenced, visit_count}
-use Rattle.pl_base.specs.Rows.{IsOfVisits, store_of}
+use Rattle.pl_base.specs.Rows.{IsOfVisits}
 use Rattle.pl_base.specs.Store.{Item, Page, Store, Visit, roots}
 use Rattle.pl_base.specs.Visits.{latest_first, sample_of, visits_of}
 use Rattle.pl_score.specs.declared.sample.Sampled.{Sampled}
 use Rattle.pl_score.proofs.Points.{points_of-le}
 use Rattle.pl_plain.specs.declared.check_error.CheckError.{CheckError}
 use Rattle.pl_plain.specs.declared.check_error.CheckError.TheVariants.{NoMemory, NotAStore}
-use Rattle.pl_plain.specs.declared.flat.row.FlatPage.{FlatPage}
 use Rattle.pl_plain.specs.declared.flat.row.FlatVisit.{FlatVisit}
 use Rattle.pl_plain.specs.declared.form.stored.StoredPage.{StoredPage}
-use Rattle.pl_plain.specs.CheckPages.{IsAssessed, IsFrecencyRight, kept_of_rows}
+use Rattle.pl_plain.specs.CheckPages.{IsFrecencyRight}
 use Rattle.pl_plain.specs.FlatRows.{visit_of}
 use Rattle.pl_plain.specs.Form.{FormRows, StandsFor, filled_pages, form_bytes, in_pages, item_bytes, listed, page_bytes, plain_bytes, store_rows, text, visit_bytes}
 use Rattle.pl_plain.specs.Stored.{AreStored, HoldsRows, IsShort, IsStoredPage, IsStoredVisit, Stored, form_rows, stored_bytes, stored_page, stored_store}
-use Rattle.pl_plain.proofs.CheckFlat.{store-same, store_rows-is}
+use Rattle.pl_plain.proofs.CheckFlat.{store_rows-is}
 use Rattle.pl_plain.specs.CheckSample.{sampled_of}
 use Rattle.pl_plain.proofs.CheckMarks.{sampled-small}
 use Rattle.pl_plain.proofs.Lengths.{few_enough, length-listed, length-plain_bytes, length_roots, length_visits}
@@ -243,9 +242,3 @@ pub live_read : (bytes : List ℕ) (store : Store) (got : Stored) → StandsFor 
 live_read bytes store got h whole =
     let P : Store → Type 0 = λ s. live_slots s ≤ 4_194_304 in
     subst P (sym (ap stored_store (rows_read bytes store got h whole) ∙ store-back store h.of_visits)) h.live
-
--- ---- the one store
-
-pub only_store : (bytes : List ℕ) (store : Store) (got : Stored) (qs : List FlatPage) (origins : ℕ) → StandsFor bytes store → ((rows : Stored) → AreStored rows → HoldsRows bytes rows → got ≡ rows) → AllZip (IsAssessed got) got.pages qs → store ≡ store_of (kept_of_rows got qs origins)
-only_store bytes store got qs origins h whole zip =
-    sym (store-back store h.of_visits) ∙ ap stored_store (sym (rows_read bytes store got h whole)) ∙ sym (store-same got qs origins zip)

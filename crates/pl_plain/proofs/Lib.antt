@@ -16,6 +16,8 @@ pub mod Lists
 pub mod Lookups
 pub mod Marks
 pub mod OlderVisits
+pub mod OneStore
+pub mod OpeningGood
 pub mod Pages
 pub mod ReadingFile
 pub mod ReadingLists

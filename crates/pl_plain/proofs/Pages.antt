@@ -1,12 +1,13 @@
 -- All pages of some bytes, and what they make of others.
-use Rattle.std.proofs.Common.{◌≡◌, ◌+◌, ◌-◌, ◌*◌, ◌/◌, ◌<◌, ◌≤◌, ◌++◌, ◌∙◌, ℕ, All, Contains, true, List, [], ◌∷◌, ap, arith, drop, length, ltb, map, refl, subst, suc, sym, take, zero}
+use Rattle.std.proofs.Common.{◌≡◌, ◌+◌, ◌-◌, ◌*◌, ◌/◌, ◌<◌, ◌≤◌, ◌++◌, ◌∙◌, ◌==◌, ℕ, All, true, List, [], ◌∷◌, ap, arith, drop, get_or, length, ltb, map, refl, subst, suc, sym, take, zero}
 use Rattle.std.specs.List.{range_with_len}
-use Rattle.std.proofs.lemmas.Bool.{and_from, lt-ltb}
+use Rattle.std.proofs.lemmas.Bool.{and_from, eq-eqb, lt-ltb}
 use Rattle.std.proofs.Math.Seq.{take-add}
 use Rattle.std.proofs.lemmas.List.{append-nil, drop_all, length-take, length-take-le, take-append-le, take-take, take_all}
+use Rattle.std.proofs.lemmas.List.Folds.{list_any_at}
 use Rattle.std.proofs.lemmas.List.FromFn.{get_or-range_with_len, length-range_with_len, map-range_with_len_more}
 use Rattle.std.proofs.lemmas.Slice.{drop-append-drop}
-use Rattle.pl_base.specs.Touched.{Change, IsWithin, PageImage, ascends_above, changed, page_at, page_numbers, page_size, with_one_more, with_page, with_pages}
+use Rattle.pl_base.specs.Touched.{Change, IsWithin, PageImage, ascends_above, changed, has_number, page_at, page_numbers, page_size, with_one_more, with_page, with_pages}
 use Rattle.pl_plain.specs.Form.{filled_pages, in_pages}
 use Rattle.pl_plain.specs.Images.{images_of, whole_change}
 use Rattle.pl_plain.proofs.Lengths.{length-in_pages}
@@ -98,10 +99,11 @@ images_below count bytes =
     rw (numbers_of count bytes)
     (λ k d inside. let within : k < count = rw (length-range_with_len 1 count) at inside in omega (arith, get_or-range_with_len 1 count k d within))
 
-images_have : (count n : ℕ) (bytes : List ℕ) → 1 ≤ n → n < 1 + count → Contains (page_numbers (images_of count bytes)) n
+images_have : (count n : ℕ) (bytes : List ℕ) → 1 ≤ n → n < 1 + count → has_number n (images_of count bytes) ≡ true
 images_have count n bytes some below =
     rw (numbers_of count bytes)
-    (n - 1, rw (length-range_with_len 1 count) (omega arith), omega (arith, get_or-range_with_len 1 count (n - 1) n (omega arith)))
+    (list_any_at (λ m. m == n) (range_with_len 1 count) (n - 1) n (rw (length-range_with_len 1 count) (omega arith))
+    (eq-eqb (get_or (range_with_len 1 count) (n - 1) n) n (omega (arith, get_or-range_with_len 1 count (n - 1) n (omega arith)))))
 
 -- ---- the whole change
 

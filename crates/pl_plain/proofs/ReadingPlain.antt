@@ -8,15 +8,15 @@ use Rattle.pl_plain.specs.Stored.{IsShort}
 use Rattle.pl_plain.proofs.FormReads.{Reached, started, further, stopped}
 use Rattle.pl_plain.proofs.ReadingNumbers.{front_is, rest_is}
 
-abbrev name : Unit {0} → List ℕ
+abbrev pub name : Unit {0} → List ℕ
 name _ = codes "PLFLAT01"
 
 -- the rest of the header's page
-abbrev blank : Unit {0} → List ℕ
+abbrev pub blank : Unit {0} → List ℕ
 blank _ = replicate 1004 0
 
 -- the zeros that follow so many plain bytes
-abbrev padding : ℕ → List ℕ
+abbrev pub padding : ℕ → List ℕ
 padding n = replicate (1024 * filled_pages n - n) 0
 
 pub short-len : (n : ℕ) → 2 + filled_pages n < 2 ^ 32 → n < 2 ^ 64
@@ -28,19 +28,19 @@ filled-enough n = omega arith
 regroup : (a b c z x p : List ℕ) → (((a ++ b) ++ c) ++ z) ++ x ++ p ≡ a ++ (b ++ (c ++ (z ++ (x ++ p))))
 regroup a b c z x p = simp append_assoc
 
-abbrev behind_header : List ℕ → List ℕ
+abbrev pub behind_header : List ℕ → List ℕ
 behind_header x = x ++ padding (length x)
 
-abbrev behind_len : List ℕ → List ℕ
+abbrev pub behind_len : List ℕ → List ℕ
 behind_len x = blank tt ++ behind_header x
 
-abbrev behind_pages : List ℕ → List ℕ
+abbrev pub behind_pages : List ℕ → List ℕ
 behind_pages x = eight (length x) ++ behind_len x
 
-abbrev behind_name : List ℕ → List ℕ
+abbrev pub behind_name : List ℕ → List ℕ
 behind_name x = four (2 + filled_pages (length x)) ++ behind_pages x
 
-plain_pieces : (x : List ℕ) → IsShort x → in_pages x ≡ name tt ++ behind_name x
+pub plain_pieces : (x : List ℕ) → IsShort x → in_pages x ≡ name tt ++ behind_name x
 plain_pieces x short = regroup (name tt) (four (2 + filled_pages (length x))) (eight (length x)) (blank tt) x (padding (length x))
 
 at_start : (bytes : List ℕ) → Reached in_pages IsShort bytes [] bytes (λ _. Unit {0}) (λ x. name tt ++ behind_name x)

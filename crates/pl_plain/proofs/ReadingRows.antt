@@ -12,10 +12,10 @@ use Rattle.pl_plain.proofs.FormReads.{Reached, started, further, stopped, arrive
 regroup : (a b c d e : List ℕ) → (((a ++ b) ++ c) ++ d) ++ e ≡ a ++ (b ++ (c ++ (d ++ e)))
 regroup a b c d e = simp append_assoc
 
-abbrev nothing : Unit {0} → List ℕ
+abbrev pub nothing : Unit {0} → List ℕ
 nothing _ = 0 ∷ 0 ∷ 0 ∷ 0 ∷ []
 
-visit_pieces : (v : FlatVisit) → IsStoredVisit v → stored_visit_bytes v ≡ four v.id.0 ++ (four v.page.0 ++ (nothing tt ++ (eight v.date.0 ++ (transition_number v.transition ∷ []))))
+pub visit_pieces : (v : FlatVisit) → IsStoredVisit v → stored_visit_bytes v ≡ four v.id.0 ++ (four v.page.0 ++ (nothing tt ++ (eight v.date.0 ++ (transition_number v.transition ∷ []))))
 visit_pieces v one =
     ap (λ o. four v.id.0 ++ four v.page.0 ++ four (visit_or_zero o) ++ eight v.date.0 ++ (transition_number v.transition ∷ [])) one.2
     ∙ regroup (four v.id.0) (four v.page.0) (nothing tt) (eight v.date.0) (transition_number v.transition ∷ [])
@@ -29,7 +29,7 @@ visit_stopped bytes b c d id page e first second third =
     (started stored_visit_bytes IsStoredVisit bytes (λ v. four v.id.0 ++ (four v.page.0 ++ (nothing tt ++ (eight v.date.0 ++ (transition_number v.transition ∷ []))))) visit_pieces)
     first) second) third
 
-page_pieces : (p : StoredPage) → IsStoredPage p → stored_page_bytes p ≡ four p.id.0 ++ ((mark p.typed ∷ []) ++ (signed_eight p.frecency ++ (text p.url ++ nothing tt)))
+pub page_pieces : (p : StoredPage) → IsStoredPage p → stored_page_bytes p ≡ four p.id.0 ++ ((mark p.typed ∷ []) ++ (signed_eight p.frecency ++ (text p.url ++ nothing tt)))
 page_pieces p one = regroup (four p.id.0) (mark p.typed ∷ []) (signed_eight p.frecency) (text p.url) (nothing tt)
 
 -- the page as far as its title
@@ -48,7 +48,7 @@ page_stopped bytes b c d e f id typed frecency url error first second third four
     stopped nothing IsAny (λ _. tt) (λ p. []) f error (λ p one. tt)
     (page_reached bytes b c d e id typed frecency url first second third fourth) fifth
 
-same_parts : (i j : ℕ) (t u : Bool) (f g : ℤ) (m n : List ℕ) → i ≡ j → t ≡ u → f ≡ g → m ≡ n → ◌≡◌ {A = StoredPage} (record { id = record { 0 = i }; typed = t; frecency = f; url = m }) (record { id = record { 0 = j }; typed = u; frecency = g; url = n })
+pub same_parts : (i j : ℕ) (t u : Bool) (f g : ℤ) (m n : List ℕ) → i ≡ j → t ≡ u → f ≡ g → m ≡ n → ◌≡◌ {A = StoredPage} (record { id = record { 0 = i }; typed = t; frecency = f; url = m }) (record { id = record { 0 = j }; typed = u; frecency = g; url = n })
 same_parts i j t u f g m n a b c d = cc
 
 pub page_arrived : (bytes b c d e f : List ℕ) (id : ℕ) (typed : Bool) (frecency : ℤ) (url : List ℕ) → Reads four IsFour bytes (Ok id) b → Reads (λ (m : Bool). mark m ∷ []) IsAny b (Ok typed) c → Reads signed_eight IsSignedEight c (Ok frecency) d → Reads text IsUrl d (Ok url) e → Reads {A = Unit {0}} nothing IsAny e (Ok tt) f → Reads stored_page_bytes IsStoredPage bytes (Ok (record { id = record { 0 = id }; typed = typed; frecency = frecency; url = url })) f

@@ -15,7 +15,7 @@ use Rattle.pl_plain.proofs.FormReads.{Reached, started, further, stopped, arrive
 
 -- ---- the next ids
 
-ids_pieces : (ids : Ids) → AreIdsFour ids → ids_bytes ids ≡ four ids.page ++ (four ids.visit ++ four ids.item)
+pub ids_pieces : (ids : Ids) → AreIdsFour ids → ids_bytes ids ≡ four ids.page ++ (four ids.visit ++ four ids.item)
 ids_pieces ids one = append_assoc (four ids.page) (four ids.visit) (four ids.item)
 
 pub ids_stopped : (bytes b c d : List ℕ) (page visit : ℕ) (e : CheckError) → Reads four IsFour bytes (Ok page) b → Reads four IsFour b (Ok visit) c → Reads four IsFour c (Err e) d → Reads ids_bytes AreIdsFour bytes (Err e) d
@@ -35,25 +35,25 @@ flat_map-map f g (x ∷ xs) = ap (λ ys. f (g x) ++ ys) (flat_map-map f g xs)
 listed-map : {X Y : Type 0} (f : Y → List ℕ) (g : X → Y) (xs : List X) → listed f (map g xs) ≡ listed (λ x. f (g x)) xs
 listed-map f g xs = ap (λ n. four n ++ flat_map f (map g xs)) (length-map xs g) ∙ ap (λ ys. four (length xs) ++ ys) (flat_map-map f g xs)
 
-abbrev roots_bytes : Unit {0} → List ℕ
+abbrev pub roots_bytes : Unit {0} → List ℕ
 roots_bytes _ = listed item_bytes roots
 
-abbrev after_visits : Stored → List ℕ
+abbrev pub after_visits : Stored → List ℕ
 after_visits rows = roots_bytes tt
 
-abbrev after_pages : Stored → List ℕ
+abbrev pub after_pages : Stored → List ℕ
 after_pages rows = listed stored_visit_bytes rows.visits ++ after_visits rows
 
-abbrev after_ids : Stored → List ℕ
+abbrev pub after_ids : Stored → List ℕ
 after_ids rows = listed stored_page_bytes rows.pages ++ after_pages rows
 
-abbrev after_day : Stored → List ℕ
+abbrev pub after_day : Stored → List ℕ
 after_day rows = ids_bytes rows.ids ++ after_ids rows
 
 regroup : (a b c d p v r : List ℕ) → (((((a ++ b) ++ c) ++ d) ++ p) ++ v) ++ r ≡ a ++ (((b ++ c) ++ d) ++ (p ++ (v ++ r)))
 regroup a b c d p v r = simp append_assoc
 
-rows_pieces : (rows : Stored) → AreStored rows → stored_bytes rows ≡ four rows.day.0 ++ after_day rows
+pub rows_pieces : (rows : Stored) → AreStored rows → stored_bytes rows ≡ four rows.day.0 ++ after_day rows
 rows_pieces rows one =
     regroup (four rows.day.0) (four rows.ids.page) (four rows.ids.visit) (four rows.ids.item) (listed page_bytes (map page_row rows.pages)) (listed visit_bytes (map visit_of rows.visits)) (roots_bytes tt)
     ∙ ap (λ p. four rows.day.0 ++ (ids_bytes rows.ids ++ (p ++ (listed visit_bytes (map visit_of rows.visits) ++ roots_bytes tt)))) (listed-map page_bytes page_row rows.pages)
@@ -94,7 +94,7 @@ pub no_roots : (bytes b c d e f : List ℕ) (day : ℕ) (ids : Ids) (pages : Lis
 no_roots bytes b c d e f day ids pages visits error first second third fourth fifth =
     stopped roots_bytes IsAny (λ rows. tt) (λ rows. []) f error (λ rows one. tt) (visits_reached bytes b c d e day ids pages visits first second third fourth) fifth
 
-same_rows : (i j : ℕ) (k l : Ids) (p q : List StoredPage) (v w : List FlatVisit) → i ≡ j → k ≡ l → p ≡ q → v ≡ w → ◌≡◌ {A = Stored} (record { day = record { 0 = i }; ids = k; pages = p; visits = v }) (record { day = record { 0 = j }; ids = l; pages = q; visits = w })
+pub same_rows : (i j : ℕ) (k l : Ids) (p q : List StoredPage) (v w : List FlatVisit) → i ≡ j → k ≡ l → p ≡ q → v ≡ w → ◌≡◌ {A = Stored} (record { day = record { 0 = i }; ids = k; pages = p; visits = v }) (record { day = record { 0 = j }; ids = l; pages = q; visits = w })
 same_rows i j k l p q v w a b c d = cc
 
 regroup_front : (a b c d e : List ℕ) → (((a ++ b) ++ c) ++ d) ++ e ≡ a ++ (b ++ (c ++ (d ++ e)))

@@ -39,7 +39,7 @@ some_then false o u h = absurd (cc)
 pub canon-short : (t u : List ℕ) → canon t ≡ Some u → length t < 16_777_216
 canon-short t u h = ltb-true (length t) 16_777_216 (some_then (nat_lt (length t) 16_777_216) (if_store_url (serialized (record_of t))) u h)
 
-url-short : (x : List ℕ) → IsUrl x → length x < 2 ^ 32
+pub url-short : (x : List ℕ) → IsUrl x → length x < 2 ^ 32
 url-short x one = omega (arith, canon-short x x one.1)
 
 pub url_read : (bytes part rest url : List ℕ) → TextIs bytes part rest → url ≡ part → IsUtf8 part → canon part ≡ Some url → Reads text IsUrl bytes (Ok url) rest

@@ -111,7 +111,7 @@ right_rows store [] right = refl
 right_rows store (p ∷ pages) right =
     rw (All-head (λ (p : KeptPage). p.frecency ≡ frecency_of store p.page) p pages right, right_rows store pages (All-tail (λ (p : KeptPage). p.frecency ≡ frecency_of store p.page) p pages right))
 
-rows_are_right : (kept : Kept) → IsRight kept → kept_rows kept ≡ store_rows (store_of kept)
+pub rows_are_right : (kept : Kept) → IsRight kept → kept_rows kept ≡ store_rows (store_of kept)
 rows_are_right kept right =
     ap (λ (pages : List (Page × ℤ)). record { day = kept.day; ids = kept.ids; pages = pages; visits = kept.visits; items = kept.items })
     (right_rows (store_of kept) kept.pages right.frecencies)

@@ -8,7 +8,7 @@ mod read;
 #[cfg(test)]
 mod tests;
 
-ghost use Rattle.std.specs.Prelude.{◌≡◌, ◌↔◌, ℕ, List, drop, IfOk, IsErrOf};
+ghost use Rattle.std.specs.Prelude.{◌≡◌, ◌↔◌, ℕ, List, drop, length, take, IfOk, IsErrOf};
 ghost use Rattle.pl_base.specs.Rows.{IsRight, store_of};
 ghost use Rattle.pl_base.specs.Store.{Store};
 ghost use Rattle.pl_plain.specs.Flat.{IsBase, bytes_of, kept_of};
@@ -28,7 +28,10 @@ impl Flat {
     pub fn check(alloc: Global, bytes: &[u8]) -> Result<Flat, CheckError>
         ensures stands { IfOk result (λ flat. StandsFor (drop 1024 bytes.now) (store_of (kept_of flat))) }
         ensures right { IfOk result (λ flat. IsRight (kept_of flat)) }
+        // What is read is what a file of these rows holds.
+        ensures begins { IfOk result (λ flat. take (length (bytes_of flat)) (drop 1024 bytes.now) ≡ bytes_of flat) }
         // The bytes stand for one store at most.
+        ensures one { (a b : Store) → StandsFor (drop 1024 bytes.now) a → StandsFor (drop 1024 bytes.now) b → a ≡ b }
         ensures only { IfOk result (λ flat. (store : Store) → StandsFor (drop 1024 bytes.now) store → store ≡ store_of (kept_of flat)) }
         ensures not_a_store { IsErrOf result CheckError.NotAStore → (store : Store) → StandsFor (drop 1024 bytes.now) store → ⊥ }
         ensures base { IfOk result (λ flat. (base_bytes : List ℕ) → IsBase flat base_bytes ↔ (base_bytes ≡ bytes_of flat)) }

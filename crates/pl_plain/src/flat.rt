@@ -45,12 +45,14 @@ pub struct Flat {
 
 impl Flat {
     ghost use Rattle.std.specs.Prelude.{◌↔◌, ℕ, List, [], IfOk, IsOk};
-    ghost use Rattle.pl_base.specs.Rows.{opening_with};
+    ghost use Rattle.pl_base.specs.Good.{IsGood};
+    ghost use Rattle.pl_base.specs.Rows.{opening_with, store_of};
     ghost use Rattle.pl_plain.specs.Flat.{IsBase, bytes_of, kept_of};
 
     /// The store before its first command, made over nothing. No memory is taken.
     pub fn opening(alloc: Global) -> Result<Flat, NoMemory>
         ensures kept { IfOk result (λ flat. kept_of flat ≡ opening_with Ids.OPENING) }
+        ensures good { IfOk result (λ flat. IsGood (store_of (kept_of flat))) }
         ensures base { IfOk result (λ flat. (bytes : List ℕ) → IsBase flat bytes ↔ (bytes ≡ [])) }
         ensures succeeds { IsOk result }
     {
@@ -63,6 +65,7 @@ impl Flat {
         requires visit { 1 ≤ ids.visit }
         requires item { 7 ≤ ids.item }
         ensures kept { IfOk result (λ flat. kept_of flat ≡ opening_with ids) }
+        ensures good { IfOk result (λ flat. IsGood (store_of (kept_of flat))) }
         ensures base { IfOk result (λ flat. (bytes : List ℕ) → IsBase flat bytes ↔ (bytes ≡ [])) }
         ensures succeeds { IsOk result }
     {

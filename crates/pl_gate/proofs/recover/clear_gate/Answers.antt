@@ -1,12 +1,12 @@
 use Rattle.std.proofs.Common.{◌≡◌, ℕ, List, Some, refl, ◌∙◌, ap, subst}
 use Rattle.std.proofs.lemmas.Option.{MatchOption-at_some}
 use Rattle.std.specs.Option.{option_map}
-use Rattle.pl_desk.specs.Desk.{Torn}
+use Rattle.pl_desk.specs.Desk.{AtAnyMoment, Rests, Torn}
 use Rattle.pl_gate.specs.Device.{TornIn, image_ranges, with_gate, with_images}
 use Rattle.pl_gate.specs.Gate.{journal}
 use Rattle.pl_gate.specs.Recovery.{IsSettledAs, StandsAs}
-use Rattle.pl_gate.specs.States.{AtAnyMoment, Rests}
-use Rattle.pl_gate.proofs.AnyMoment.{and_call, and_then, from_rest, rests_at, some_said}
+use Rattle.pl_desk.specs.AnyMoment.{and_call, rests_at, some_said}
+use Rattle.pl_gate.proofs.FromRest.{and_then, from_rest}
 use Rattle.pl_gate.proofs.SettledFiles.{settled, torn_cleared, torn_stands}
 use Rattle.pl_gate.proofs.recover.clear_gate.Given.{Over}
 use Rattle.pl_gate.proofs.recover.clear_gate.Goals.{After-install_journal, After-sync, After-write_gate, In_ok-install_journal}

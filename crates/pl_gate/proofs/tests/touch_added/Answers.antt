@@ -1,7 +1,8 @@
-use Rattle.std.proofs.Common.{◌≡◌, ◌≤◌, ◌<◌, ◌+◌, ℕ, List, [], ◌∷◌, ◌++◌, inl, inr, subst, sym, refl, ◌∙◌, arith}
-use Rattle.std.specs.List.{All, Contains}
-use Rattle.std.proofs.lemmas.Bool.{cases_lt}
-use Rattle.std.proofs.lemmas.List.Elements.{All-append, Contains-append_left, Contains-append_right}
+use Rattle.std.proofs.Common.{◌≡◌, ◌≤◌, ◌<◌, ◌+◌, ◌==◌, true, ℕ, List, [], ◌∷◌, ◌++◌, inl, inr, sym, ◌∙◌, arith}
+use Rattle.std.specs.List.{All, list_any}
+use Rattle.std.proofs.lemmas.Bool.{cases_lt, eq-eqb, or_left, or_right}
+use Rattle.std.proofs.lemmas.List.Elements.{All-append}
+use Rattle.std.proofs.lemmas.List.Folds.{list_any-append}
 use Rattle.pl_base.specs.Touched.{page_numbers}
 use Rattle.pl_gate.proofs.tests.touch_added.Goals as goal
 
@@ -10,10 +11,10 @@ below_more : (ns : List ℕ) (n after : ℕ) → All (λ k. k < after) ns → n 
 below_more ns n after below lt = All-append (λ k. k < after) ns (n ∷ []) below (grind arith)
 
 -- and so is each page from the first added one to this one among them
-added_more : (ns : List ℕ) (before page : ℕ) → ((n : ℕ) → before ≤ n → n < page → Contains ns n) → (n : ℕ) → before ≤ n → n < page + 1 → Contains (ns ++ page ∷ []) n
-added_more ns before page added n le lt = elim (cases_lt n page) [
-  | inl below ↦ Contains-append_left ns (page ∷ []) n (added n le below)
-  | inr above ↦ subst (λ (k : ℕ). Contains (ns ++ page ∷ []) k) (omega (arith, lt, above)) (Contains-append_right ns (page ∷ []) page (0, omega arith, refl))
+added_more : (ns : List ℕ) (before page : ℕ) → ((n : ℕ) → before ≤ n → n < page → list_any (λ m. m == n) ns ≡ true) → (n : ℕ) → before ≤ n → n < page + 1 → list_any (λ m. m == n) (ns ++ page ∷ []) ≡ true
+added_more ns before page added n le lt = list_any-append (λ m. m == n) ns (page ∷ []) ∙ elim (cases_lt n page) [
+  | inl below ↦ or_left _ _ (added n le below)
+  | inr above ↦ or_right _ _ (or_left _ _ (eq-eqb page n (omega (arith, lt, above))))
 ]
 
 pub loop-page-preserved : goal.loop-page-preserved

@@ -1,7 +1,7 @@
 use Rattle.std.proofs.Common.{sym, subst}
 use Rattle.pl_desk.specs.Desk.{Torn}
 use Rattle.pl_gate.specs.States.{HoldsEither, IsStaged}
-use Rattle.pl_gate.proofs.AnyMoment.{from_rest}
+use Rattle.pl_gate.proofs.FromRest.{from_rest}
 use Rattle.pl_gate.proofs.StagedFiles.{torn_staged}
 use Rattle.pl_gate.proofs.gate.Gate.arm.Goals as goal
 

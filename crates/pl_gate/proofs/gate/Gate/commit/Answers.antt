@@ -2,8 +2,9 @@ use Rattle.std.proofs.Common.{◌≡◌, ℕ, List, [], length, inl, inr, sym, �
 use Rattle.std.proofs.lemmas.Result.{on_ok_weaker}
 use Rattle.pl_base.specs.Touched.{Change, changed, page_at}
 use Rattle.pl_gate.specs.Gate.{Holds}
-use Rattle.pl_gate.specs.States.{AtAnyMoment, HoldsEither, IsArmed, IsClosed, IsInstalled, IsStaged, Rests}
-use Rattle.pl_gate.proofs.AnyMoment.{and_more, weaker}
+use Rattle.pl_desk.specs.Desk.{AtAnyMoment, Rests}
+use Rattle.pl_gate.specs.States.{HoldsEither, IsArmed, IsClosed, IsInstalled, IsStaged}
+use Rattle.pl_desk.specs.AnyMoment.{and_more, weaker}
 use Rattle.pl_gate.proofs.gate.Gate.commit.Given.{Over}
 use Rattle.pl_gate.proofs.gate.Gate.commit.Goals.{After-arm, After-install, After-disarm}
 use Rattle.pl_gate.proofs.gate.Gate.commit.Goals as goal

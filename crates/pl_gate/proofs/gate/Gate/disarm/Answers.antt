@@ -4,7 +4,8 @@ use Rattle.pl_desk.specs.Desk.{Torn}
 use Rattle.pl_gate.specs.Device.{with_gate}
 use Rattle.pl_gate.specs.Gate.{Holds}
 use Rattle.pl_gate.specs.States.{IsClosed, IsInstalled}
-use Rattle.pl_gate.proofs.AnyMoment.{from_rest, rests_at}
+use Rattle.pl_desk.specs.AnyMoment.{rests_at}
+use Rattle.pl_gate.proofs.FromRest.{from_rest}
 use Rattle.pl_gate.proofs.StagedFiles.{cleared_gate, torn_installed}
 use Rattle.pl_gate.proofs.gate.Gate.disarm.Goals as goal
 

@@ -1,11 +1,12 @@
 use Rattle.std.proofs.Common.{◌≡◌, List, ℕ, sym, ◌∙◌, ap, subst}
 use Rattle.std.specs.Option.{option_map}
 use Rattle.pl_base.specs.Touched.{Change}
-use Rattle.pl_desk.specs.Desk.{Follows}
+use Rattle.pl_desk.specs.Desk.{AtAnyMoment, Follows, Rests}
 use Rattle.pl_gate.specs.Device.{ShowsUnsaid, TornIn, image_ranges, with_images}
 use Rattle.pl_gate.specs.Gate.{Holds}
-use Rattle.pl_gate.specs.States.{AtAnyMoment, IsArmed, IsInstalled, Rests}
-use Rattle.pl_gate.proofs.AnyMoment.{and_call, from_rest, rests_synced}
+use Rattle.pl_gate.specs.States.{IsArmed, IsInstalled}
+use Rattle.pl_desk.specs.AnyMoment.{and_call, rests_synced}
+use Rattle.pl_gate.proofs.FromRest.{from_rest}
 use Rattle.pl_gate.proofs.ArmedFiles.{armed_torn, installed}
 use Rattle.pl_gate.proofs.gate.Gate.install.Given.{Over}
 use Rattle.pl_gate.proofs.gate.Gate.install.Goals.{After-write_images, After-sync}

@@ -1,8 +1,9 @@
 use Rattle.std.proofs.Common.{◌≡◌, ℕ, List, [], Some, IsSome, inr, refl, sym, ◌∙◌, subst}
 use Rattle.pl_gate.specs.Device.{TornIn}
 use Rattle.pl_gate.specs.Recovery.{LeftAs, StandsAs}
-use Rattle.pl_gate.specs.States.{AtAnyMoment}
-use Rattle.pl_gate.proofs.AnyMoment.{and_call, and_more, and_then, begun, held_left, some_said}
+use Rattle.pl_desk.specs.Desk.{AtAnyMoment}
+use Rattle.pl_desk.specs.AnyMoment.{and_call, and_more, begun, held_left, some_said}
+use Rattle.pl_gate.proofs.FromRest.{and_then}
 use Rattle.pl_gate.proofs.gate.Gate.recover.Given.{Over}
 use Rattle.pl_gate.proofs.gate.Gate.recover.Goals.{After-len, After-read_place, After-check_journal, After-clear_gate}
 use Rattle.pl_gate.proofs.gate.Gate.recover.Goals as goal

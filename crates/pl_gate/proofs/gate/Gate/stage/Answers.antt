@@ -1,11 +1,12 @@
 use Rattle.std.proofs.Common.{◌≡◌, ◌<◌, ◌*◌, ◌^◌, List, ℕ, [], Some, length, sym, ◌∙◌, ap, subst, arith}
 use Rattle.std.specs.Option.{option_map}
 use Rattle.pl_base.specs.Touched.{page_at, page_size}
-use Rattle.pl_desk.specs.Desk.{Torn, overwritten}
+use Rattle.pl_desk.specs.Desk.{AtAnyMoment, overwritten, Rests, Torn}
 use Rattle.pl_gate.specs.Device.{TornIn, entry_ranges, place_bytes, start_of, with_entries}
 use Rattle.pl_gate.specs.Gate.{Holds}
-use Rattle.pl_gate.specs.States.{AtAnyMoment, IsClosed, IsStaged, Rests}
-use Rattle.pl_gate.proofs.AnyMoment.{and_call, and_then, from_rest, rests_synced, some_said}
+use Rattle.pl_gate.specs.States.{IsClosed, IsStaged}
+use Rattle.pl_desk.specs.AnyMoment.{and_call, rests_synced, some_said}
+use Rattle.pl_gate.proofs.FromRest.{and_then, from_rest}
 use Rattle.pl_gate.proofs.ClosedFiles.{closed_entries, closed_torn_place}
 use Rattle.pl_gate.proofs.Told.{count, staged_file, staged_empty}
 use Rattle.pl_gate.proofs.gate.Gate.stage.Given.{Over}

@@ -1,10 +1,12 @@
-use Rattle.std.proofs.Common.{◌∙◌, ap, arith, drop, subst, sym}
+use Rattle.std.proofs.Common.{◌∙◌, arith, drop, subst, sym}
 use Rattle.std.proofs.lemmas.Bool.{true≢false}
 use Rattle.std.proofs.lemmas.Result.{err_from_is_err_and}
 use Rattle.pl_base.specs.Rows.{IsRight, Kept, store_of}
+use Rattle.pl_plain.specs.Flat.{kept_of}
 use Rattle.pl_plain.specs.Form.{StandsFor}
-use Rattle.pl_plain.proofs.CheckFlat.{is-right, slots-by, stands-for}
-use Rattle.pl_plain.proofs.CheckHeld.{apart, good_read, live_read, not_read, only_store, right_read}
+use Rattle.pl_plain.proofs.CheckFlat.{begins-right, is-right, slots-by, stands-for}
+use Rattle.pl_plain.proofs.CheckHeld.{apart, good_read, live_read, not_read, right_read}
+use Rattle.pl_plain.proofs.OneStore.{one_store}
 use Rattle.pl_plain.proofs.flat.Flat.check.Goals as goal
 
 pub returns-clause-stands : goal.returns-clause-stands
@@ -25,6 +27,10 @@ returns-clause-stands c =
 pub returns-clause-right : goal.returns-clause-right
 returns-clause-right c =
     subst IsRight (sym c.into_flat.ensures.kept) (is-right c.in_ok-rows.field-0.rows c.in_ok-named.named.pages.items c.in_ok-named.named.origins c.in_ok-named.ensures.pages)
+
+pub returns-clause-begins : goal.returns-clause-begins
+returns-clause-begins c =
+    begins-right (drop 1024 c.args.bytes.now) (kept_of c.into_flat.result) (returns-clause-stands c) (returns-clause-right c)
 
 pub returns-in_err-rows-clause-not_a_store : goal.returns-in_err-rows-clause-not_a_store
 returns-in_err-rows-clause-not_a_store c refused store held =
@@ -53,5 +59,21 @@ returns-then-live-gt-SLOT_LIMIT-clause-not_a_store c refused store held =
 
 pub returns-clause-only : goal.returns-clause-only
 returns-clause-only c store held =
-    only_store (drop 1024 c.args.bytes.now) store c.in_ok-rows.field-0.rows c.in_ok-named.named.pages.items c.in_ok-named.named.origins held c.in_ok-rows.ensures.whole c.in_ok-named.ensures.pages
-    ∙ ap store_of (sym c.into_flat.ensures.kept)
+    one_store (drop 1024 c.args.bytes.now) store (store_of (kept_of c.into_flat.result)) held (returns-clause-stands c)
+
+-- ---- one store at most, at each exit
+
+pub returns-in_err-rows-clause-one : goal.returns-in_err-rows-clause-one
+returns-in_err-rows-clause-one c = one_store (drop 1024 c.args.bytes.now)
+
+pub returns-then-not-are_good-clause-one : goal.returns-then-not-are_good-clause-one
+returns-then-not-are_good-clause-one c = one_store (drop 1024 c.args.bytes.now)
+
+pub returns-in_err-named-clause-one : goal.returns-in_err-named-clause-one
+returns-in_err-named-clause-one c = one_store (drop 1024 c.args.bytes.now)
+
+pub returns-then-live-gt-SLOT_LIMIT-clause-one : goal.returns-then-live-gt-SLOT_LIMIT-clause-one
+returns-then-live-gt-SLOT_LIMIT-clause-one c = one_store (drop 1024 c.args.bytes.now)
+
+pub returns-clause-one : goal.returns-clause-one
+returns-clause-one c = one_store (drop 1024 c.args.bytes.now)

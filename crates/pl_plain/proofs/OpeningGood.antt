@@ -1,0 +1,28 @@
+-- The opening store is good, whatever ids come next.
+use Rattle.std.proofs.Common.{◌≤◌, ℕ, [], arith}
+use Rattle.std.proofs.lemmas.List.Elements.{All-nil}
+use Rattle.pl_base.specs.declared.id.Ids.{Ids}
+use Rattle.pl_base.specs.Good.{AreIds, IsGood}
+use Rattle.pl_base.specs.Rows.{opening_with, store_of}
+use Rattle.pl_plain.specs.Stored.{Stored}
+use Rattle.pl_plain.proofs.CheckRoots.{has_roots, root_ids, roots_are_good, roots_tags, roots_tree}
+
+no_ids : (next : ℕ) → 1 ≤ next → next ≤ 4_294_967_295 → AreIds 1 next []
+no_ids next first last = record { ascending = λ k h. absurd (omega arith); given = All-nil _; next_first = first; next_last = last }
+
+pub opening_is_good : (ids : Ids) → 1 ≤ ids.page → 1 ≤ ids.visit → 7 ≤ ids.item → ids.page ≤ 4_294_967_295 → ids.visit ≤ 4_294_967_295 → ids.item ≤ 4_294_967_295 → IsGood (store_of (opening_with ids))
+opening_is_good ids page visit item page_last visit_last item_last =
+    let rows : Stored = record { day = record { 0 = 0 }; ids = ids; pages = []; visits = [] } in
+    record {
+      day = omega arith;
+      page_ids = no_ids ids.page page page_last;
+      visit_ids = no_ids ids.visit visit visit_last;
+      item_ids = root_ids ids.item item item_last;
+      pages = All-nil _;
+      urls = λ i j d before within same. absurd (omega arith);
+      visits = All-nil _;
+      items = roots_are_good rows;
+      roots = has_roots rows;
+      tree = roots_tree;
+      tags = roots_tags rows;
+    }
