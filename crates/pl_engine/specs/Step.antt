@@ -1,16 +1,17 @@
 -- One step of the machine: what a command answers and what it leaves of the store.
-use Rattle.std.specs.Prelude.{ℕ, ◌+◌, ◌==◌, ◌&&◌, ◌||◌, Bool, true, false, List, [], ◌∷◌, ◌++◌, map, bytes_eq, unwrap_or, is_none, Option, Some, None, Ok, Err, if◌then◌else◌}
+use Rattle.std.specs.Prelude.{ℕ, ◌+◌, ◌==◌, ◌&&◌, ◌||◌, Bool, true, false, List, [], ◌∷◌, ◌++◌, map, nat_lt, bytes_eq, unwrap_or, is_none, Option, Some, None, Ok, Err, if◌then◌else◌}
 use Rattle.std.specs.List.{find}
 use Rattle.pl_base.specs.declared.date.Micros.{Micros}
 use Rattle.pl_base.specs.declared.id.IdKind.TheVariants.{Page as PageKind, Visit as VisitKind}
 use Rattle.pl_base.specs.declared.id.PageId.{PageId}
 use Rattle.pl_base.specs.declared.refusal.Refusal.{Refusal}
-use Rattle.pl_base.specs.declared.refusal.Refusal.TheVariants.{NotRecorded, NoIds}
+use Rattle.pl_base.specs.declared.refusal.Refusal.TheVariants.{NotRecorded, Full, NoIds}
 use Rattle.pl_base.specs.declared.transition.Transition.{Transition}
 use Rattle.pl_base.specs.declared.transition.Transition.TheVariants.{Link, Typed, Bookmark, Embed, RedirectPermanent, RedirectTemporary, Download, FramedLink, Reload}
 use Rattle.pl_base.specs.Address.{is_unrecorded_url}
 use Rattle.pl_base.specs.Date.{IsDate}
 use Rattle.pl_base.specs.Frecency.{frecency_of}
+use Rattle.pl_base.specs.Live.{live_slots}
 use Rattle.pl_base.specs.Store.{Store, Page}
 use Rattle.pl_engine.specs.declared.command.Command.{Command}
 use Rattle.pl_engine.specs.declared.command.Command.TheVariants.{Visit as VisitCommand}
@@ -68,12 +69,18 @@ abbrev pub after_visit : Store → List ℕ → Transition → Micros → Store
 after_visit store url transition date =
     with_visit (page_for store url).id transition date (with_page_for store url)
 
--- the first cause, in this order: the scheme, an id for a page, an id for the visit
-abbrev pub visit_refusal : Store → List ℕ → Option Refusal
-visit_refusal store url =
+-- a store of so many slots after so many before takes more than it may
+abbrev pub is_full : ℕ → ℕ → ℕ → Bool
+is_full limit before after = nat_lt limit after && nat_lt before after
+
+-- the first cause, in this order: the scheme, an id for a page, an id for the visit, the slots
+abbrev pub visit_refusal : ℕ → Store → List ℕ → Transition → Micros → Option Refusal
+visit_refusal limit store url transition date =
+    let slots = live_slots (after_visit store url transition date) in
     if is_unrecorded_url url then Some NotRecorded else
     if is_none (find_page url store.pages) && (store.ids.page == 4_294_967_295) then Some (NoIds PageKind) else
-    if store.ids.visit == 4_294_967_295 then Some (NoIds VisitKind) else None
+    if store.ids.visit == 4_294_967_295 then Some (NoIds VisitKind) else
+    if is_full limit (live_slots store) slots then Some (Full slots) else None
 
 -- the reply tells the visit, its page, and the page's frecency after it
 abbrev pub visit_reply : Store → List ℕ → Transition → Micros → Reply
@@ -92,12 +99,13 @@ abbrev pub unless_refused : Option Refusal → Store → Reply × Store → Repl
 unless_refused (Some refusal) store done = (Refused refusal, store)
 unless_refused None store done = done
 
-abbrev pub perform : Store → Command → Reply × Store
-perform store (VisitCommand url transition date) =
-    unless_refused (visit_refusal store url) store
+-- on a store that takes at most so many slots
+abbrev pub perform : ℕ → Store → Command → Reply × Store
+perform limit store (VisitCommand url transition date) =
+    unless_refused (visit_refusal limit store url transition date) store
     (visit_reply store url transition date, after_visit store url transition date)
 
 -- the reply to an entry of the script, and the store after it
-abbrev pub step : Store → Parsed Command → Reply × Store
-step store (Ok command) = perform store command
-step store (Err refusal) = (Refused refusal, store)
+abbrev pub step : ℕ → Store → Parsed Command → Reply × Store
+step limit store (Ok command) = perform limit store command
+step limit store (Err refusal) = (Refused refusal, store)

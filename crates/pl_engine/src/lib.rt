@@ -1,11 +1,11 @@
-//! What performs a command: the commands and their replies, the plain store, and in `specs/` the step
-//! and the run of the machine, and what the plain store is to them.
+//! What performs a command: the commands and their replies, the engine over the rows of a store, and in
+//! `specs/` the step and the run of the machine.
 #![tactic(auto)]
 
 mod command;
+mod engine;
 mod reply;
-mod store;
 
 pub use command::Command;
+pub use engine::Engine;
 pub use reply::Reply;
-pub use store::PlainStore;

@@ -1,0 +1,95 @@
+mod find;
+mod mark;
+mod visit;
+
+ghost use Rattle.std.specs.Prelude.{◌≡◌, ◌≤◌, ℕ, List, length, IfOk, OnOk};
+ghost use Rattle.std.proofs.Props.{props};
+ghost use Rattle.pl_base.specs.Good.{IsGood};
+ghost use Rattle.pl_base.specs.Rows.{IsOfVisits, IsRight, store_of};
+ghost use Rattle.pl_base.specs.Touched.{IsWithin, changed, page_at as place_of_page};
+ghost use Rattle.pl_engine.specs.Engine.{IsVisited};
+ghost use Rattle.pl_engine.specs.Step as spec;
+
+use crate::command::Command;
+use crate::engine::visit::visit;
+use crate::reply::Reply;
+use pl_base::{NoMemory, Refusal, Rows, Steps, Touched};
+use std::alloc::Global;
+use std::sync::ledger::Ledger;
+
+/// What performs commands on rows, however these are kept.
+///
+/// The rows hold a good store, and what they keep of each page beside its texts is right.
+#[derive(Drop)]
+pub struct Engine<R: Rows> {
+    alloc: Global,
+    rows: R,
+    // How many slots of 128 bytes the store may take.
+    limit: u32,
+    ghost of_visits: { IsOfVisits (store_of (R.kept rows)) } by { Prim.hlevel props },
+    ghost visited: { IsVisited (R.kept rows) } by { Prim.hlevel props },
+    ghost right: { IsRight (R.kept rows) } by { Prim.hlevel props },
+    ghost most: { limit ≤ 4_194_304 },
+}
+
+impl<R: Rows + Drop> Engine<R> {
+    /// Over rows whose store may take so many slots of 128 bytes.
+    pub fn over(alloc: Global, rows: R, limit: u32) -> Result<Engine<R>, NoMemory>
+        requires good { IsGood (store_of (R.kept rows)) }
+        requires of_visits { IsOfVisits (store_of (R.kept rows)) }
+        requires right { IsRight (R.kept rows) }
+        requires most { limit ≤ 4_194_304 }
+        ensures rows { IfOk result (λ engine. engine.rows ≡ rows) }
+        ensures stands { R.form (R.bytes rows) (store_of (R.kept rows)) }
+        ensures limit { IfOk result (λ engine. engine.limit ≡ limit) }
+    {
+        Ok(Engine { alloc, rows, limit })
+    }
+
+    /// One step of the machine. A refusal is a reply, and changes nothing. After `NoMemory` the engine is
+    /// gone.
+    pub fn apply<L: Ledger>(
+        self,
+        command: &Command,
+        steps: &mut Steps<L>,
+    ) -> Result<(Engine<R>, Reply), NoMemory>
+        requires dates { spec.HasDates command.now }
+        ensures step { IfOk result (λ done. (done.1, store_of (R.kept done.0.rows))
+            ≡ spec.perform self.limit (store_of (R.kept self.rows)) command.now) }
+        ensures refused { IfOk result (λ done. (refusal : Refusal) → done.1 ≡ Reply.Refused refusal → done.0.rows ≡ self.rows) }
+        ensures base { IfOk result (λ done. (bytes : List ℕ) → R.base self.rows bytes → R.base done.0.rows bytes) }
+        ensures stands { IfOk result (λ done. R.form (R.bytes done.0.rows) (store_of (R.kept done.0.rows))) }
+        ensures limit { IfOk result (λ done. done.0.limit ≡ self.limit) }
+    {
+        let Engine {
+            alloc,
+            mut rows,
+            limit,
+        } = self;
+        let reply = match command {
+            Command::Visit {
+                url,
+                transition,
+                date,
+            } => visit(alloc, &mut rows, limit, url, *transition, *date, steps)?,
+        };
+        Ok((Engine { alloc, rows, limit }, reply))
+    }
+
+    /// The pages of the store's bytes that changed since the last such call, or since the rows were made.
+    pub fn touched<L: Ledger>(&mut self, steps: &mut Steps<L>) -> Result<Touched, NoMemory>
+        ensures whole { IfOk result (λ change. (base : List ℕ) → R.base self.old.rows base
+            → changed change base ≡ R.bytes self.new.rows) }
+        ensures before { IfOk result (λ change. (base : List ℕ) → R.base self.old.rows base
+            → length base ≡ place_of_page change.before) }
+        ensures some { IfOk result (λ change. 1 ≤ change.before) }
+        ensures after { IfOk result (λ change. length (R.bytes self.new.rows) ≡ place_of_page change.after) }
+        ensures within { IfOk result IsWithin }
+        ensures base { OnOk result (R.base self.new.rows (R.bytes self.new.rows)) }
+        ensures kept { R.kept self.new.rows ≡ R.kept self.old.rows }
+        ensures bytes { R.bytes self.new.rows ≡ R.bytes self.old.rows }
+        ensures limit { self.new.limit ≡ self.old.limit }
+    {
+        self.rows.touched(steps)
+    }
+}
