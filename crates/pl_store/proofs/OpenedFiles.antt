@@ -1,0 +1,45 @@
+-- What a settled file stands for.
+use Rattle.std.proofs.Common.{◌≡◌, ℕ, true, List, Option, Some, None, IfSome, length, take, drop, refl, sym, ◌∙◌, subst}
+use Rattle.pl_base.specs.Store.{Store}
+use Rattle.pl_gate.specs.Gate.{has_gate, laid}
+use Rattle.pl_gate.specs.Recovery.{IsSettledAs, StandsAs}
+use Rattle.pl_gate.specs.States.{IsClosed}
+use Rattle.pl_plain.specs.Form.{StandsFor}
+use Rattle.pl_store.specs.Session.{Stands}
+
+-- what holds of each value that there may be
+pub if_some : {X : Type 0} (o : Option X) (P : X → Type 0) → ((x : X) → o ≡ Some x → P x) → IfSome o P
+if_some None P holds = tt
+if_some (Some x) P holds = holds x refl
+
+-- a file that stands for what another one stands for, stands for its store
+pub stands_later : (file later : List ℕ) → StandsAs file later → (store : Store) → Stands file store → Stands later store
+stands_later file later as_file store stands = record {
+  gate = as_file.gate ∙ stands.gate;
+  form = subst (λ (bytes : List ℕ). StandsFor bytes store) (sym as_file.laid) stands.form;
+}
+
+module _ (file later : List ℕ) (settled : IsSettledAs file later) where
+  lies : laid later ≡ drop 1024 later
+  lies = rw settled.closed refl
+
+  pub stands_settled : has_gate file ≡ true → (store : Store) → StandsFor (drop 1024 later) store → Stands file store
+  stands_settled gate store stands = record {
+    gate = gate;
+    form = subst (λ (bytes : List ℕ). StandsFor bytes store) (sym lies ∙ settled.stands.laid) stands;
+  }
+
+  pub settled_form : (store : Store) → Stands file store → StandsFor (drop 1024 later) store
+  settled_form store stands = subst (λ (bytes : List ℕ). StandsFor bytes store) (sym settled.stands.laid ∙ lies) stands.form
+
+  pub later_form : (store : Store) → Stands later store → StandsFor (drop 1024 later) store
+  later_form store stands = subst (λ (bytes : List ℕ). StandsFor bytes store) lies stands.form
+
+  pub closed : (bytes : List ℕ) → has_gate file ≡ true → take (length bytes) (drop 1024 later) ≡ bytes → IsClosed bytes later
+  closed bytes gate begins = record {
+    closed = settled.closed;
+    holds = record {
+      gate = settled.stands.gate ∙ gate;
+      begins = subst (λ (all : List ℕ). take (length bytes) all ≡ bytes) (sym lies) begins;
+    };
+  }

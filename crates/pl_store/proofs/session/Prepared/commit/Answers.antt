@@ -1,0 +1,55 @@
+use Rattle.std.proofs.Common.{◌≡◌, ℕ, List, Some, length, inl, sym, subst}
+use Rattle.pl_base.specs.Touched.{page_at}
+use Rattle.pl_desk.specs.AnyMoment.{begun, some_said, weaker}
+use Rattle.pl_desk.specs.Desk.{AtAnyMoment, Rests}
+use Rattle.pl_gate.specs.States.{HoldsEither, IsClosed}
+use Rattle.pl_store.specs.declared.pending.Pending.{Pending}
+use Rattle.pl_store.specs.declared.session.Prepared.{Prepared}
+use Rattle.pl_store.specs.declared.session.Session.{Session}
+use Rattle.pl_store.specs.Session.{IsPreparedFrom, IsSettled, StandsForEither, bytes_of, next_bytes, next_store, store_of}
+use Rattle.pl_store.specs.StandsLaws.{settled_stands, stands_by_either}
+use Rattle.pl_store.proofs.session.Prepared.commit.Given.{Over}
+use Rattle.pl_store.proofs.session.Prepared.commit.Goals as goal
+
+-- what a stop within the write of the change shows
+write_shown : (g : Over) (old new : g.row.D.Denot) (prepared : Prepared) (pending : Pending) → prepared.change ≡ Some pending
+    → ((pages : List ℕ) → Rests (g.D.Desk.held old) (g.D.Desk.may_leave old) (IsClosed pages) → length pages ≡ page_at pending.touched.before
+    → AtAnyMoment g.D.Desk.moment g.D.Desk.shown_since g.D.Desk.said old new (HoldsEither pending.touched pages))
+    → (before : Session) → IsPreparedFrom before prepared → IsSettled before (g.D.Desk.held old) (g.D.Desk.may_leave old)
+    → AtAnyMoment g.D.Desk.moment g.D.Desk.shown_since g.D.Desk.said old new (StandsForEither (store_of before) (next_store prepared))
+write_shown g old new prepared pending is shows before from settled =
+    let desk = g.D.Desk in let change = pending.touched in let leads = rw is at from.leads in
+    weaker desk.moment desk.shown_since desk.may_leave desk.said desk.held old new (HoldsEither change (bytes_of before)) (StandsForEither (store_of before) (next_store prepared))
+    (shows (bytes_of before) settled.rests leads.1)
+    (stands_by_either change (bytes_of before) (next_bytes prepared) (store_of before) (next_store prepared) leads.0 settled.stands from.stands)
+
+pub returns-in_default-clause-settled : goal.returns-in_default-clause-settled
+returns-in_default-clause-settled g c before from settled =
+    let desk = g.D.Desk in let same = rw c.in_default.is at from.leads in
+    record {
+      rests = subst (λ (bytes : List ℕ). Rests (desk.held c.args.desk.now) (desk.may_leave c.args.desk.now) (IsClosed bytes)) (sym same) settled.rests;
+      stands = from.stands;
+    }
+
+pub returns-in_default-clause-any_moment : goal.returns-in_default-clause-any_moment
+returns-in_default-clause-any_moment g c before from settled =
+    let desk = g.D.Desk in let old = c.args.desk.now in let some = g.met.D.Desk.told_together old in
+    begun desk.moment desk.shown_since desk.may_leave desk.said desk.held g.met.D.Desk.only_now old (StandsForEither (store_of before) (next_store c.args.self))
+    (some_said desk.moment desk.shown_since desk.may_leave desk.said desk.held old settled.rests.file some settled.rests.is_held)
+    (λ file left. inl (settled_stands before (desk.held old) (desk.may_leave old) settled file left))
+
+pub returns-in_err-write_change-clause-any_moment : goal.returns-in_err-write_change-clause-any_moment
+returns-in_err-write_change-clause-any_moment g c before from settled =
+    write_shown g c.args.desk.now c.write_change.new.desk c.args.self c.in-Some.pending c.in-Some.is c.write_change.ensures.any_moment before from settled
+
+pub returns-clause-settled : goal.returns-clause-settled
+returns-clause-settled g c before from settled =
+    let desk = g.D.Desk in let new = c.write_change.new.desk in let leads = rw c.in-Some.is at from.leads in
+    record {
+      rests = subst (λ (bytes : List ℕ). Rests (desk.held new) (desk.may_leave new) (IsClosed bytes)) leads.0 (c.in_ok-write_change.ensures.closed (bytes_of before) settled.rests leads.1);
+      stands = from.stands;
+    }
+
+pub returns-clause-any_moment : goal.returns-clause-any_moment
+returns-clause-any_moment g c before from settled =
+    write_shown g c.args.desk.now c.write_change.new.desk c.args.self c.in-Some.pending c.in-Some.is c.write_change.ensures.any_moment before from settled

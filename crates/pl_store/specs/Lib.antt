@@ -1,0 +1,5 @@
+pub mod Ending
+pub mod Errors
+pub mod Reading
+pub mod Session
+pub mod StandsLaws

@@ -1,0 +1,89 @@
+-- Which files stand for a store, and what a session and a prepared command are to a file.
+use Rattle.std.specs.Prelude.{◌≡◌, ◌⊎◌, ℕ, ◌+◌, ◌*◌, true, List, length, Option, None, Some}
+use Rattle.pl_base.specs.Rows as rows
+use Rattle.pl_base.specs.Store.{Store}
+use Rattle.pl_base.specs.Touched.{changed, page_at}
+use Rattle.pl_desk.specs.Desk.{Rests}
+use Rattle.pl_gate.specs.Gate.{has_gate, laid}
+use Rattle.pl_gate.specs.States.{IsClosed}
+use Rattle.pl_plain.specs.Flat.{kept_of}
+use Rattle.pl_plain.specs.Flat as flat
+use Rattle.pl_plain.specs.Form.{StandsFor}
+use Rattle.pl_store.specs.declared.memory.Memory.{Memory}
+use Rattle.pl_store.specs.declared.pending.Pending.{Pending}
+use Rattle.pl_store.specs.declared.session.Prepared.{Prepared}
+use Rattle.pl_store.specs.declared.session.Session.{Session}
+
+-- ---- files
+
+-- the file has a gate, and with the journal laid over its pages where the gate is set they stand for the store
+pub record Stands (file : List ℕ) (store : Store) : Type 0 where
+  pub gate : has_gate file ≡ true
+  pub form : StandsFor (laid file) store
+
+abbrev pub StandsForEither : Store → Store → List ℕ → Type 0
+StandsForEither before after file = Stands file before ⊎ Stands file after
+
+-- the file stands for each store that one stood for that might have been left
+abbrev pub LeftAs : (List ℕ → Type 0) → List ℕ → Type 0
+LeftAs may_leave file = (from : List ℕ) × may_leave from × ((store : Store) → Stands from store → Stands file store)
+
+-- ---- a store in memory
+
+abbrev pub memory_store : Memory → Store
+memory_store memory = rows.store_of (kept_of memory.engine.rows)
+
+abbrev pub memory_limit : Memory → ℕ
+memory_limit memory = memory.engine.limit
+
+-- ---- a session
+
+abbrev pub store_of : Session → Store
+store_of session = rows.store_of (kept_of session.engine.rows)
+
+-- the bytes of its store from page 1 on
+abbrev pub bytes_of : Session → List ℕ
+bytes_of session = flat.bytes_of session.engine.rows
+
+-- how many slots of 128 bytes its store may take
+abbrev pub limit_of : Session → ℕ
+limit_of session = session.engine.limit
+
+-- The desk's file holds the session's store: its gate is not set, it begins with the store's pages, and a stop
+-- leaves just what a read gives.
+pub record IsSettled (session : Session) (held : Option (List ℕ)) (may_leave : List ℕ → Type 0) : Type 0 where
+  pub rests : Rests held may_leave (IsClosed (bytes_of session))
+  pub stands : StandsFor (bytes_of session) (store_of session)
+
+-- ---- a prepared command
+
+abbrev pub next_store : Prepared → Store
+next_store prepared = rows.store_of (kept_of prepared.engine.rows)
+
+abbrev pub next_bytes : Prepared → List ℕ
+next_bytes prepared = flat.bytes_of prepared.engine.rows
+
+abbrev pub next_limit : Prepared → ℕ
+next_limit prepared = prepared.engine.limit
+
+-- there is no change to be written
+abbrev pub writes_nothing : Prepared → Type 0
+writes_nothing prepared = prepared.change ≡ None
+
+abbrev bytes_of_change : Option Pending → ℕ
+bytes_of_change None = 0
+bytes_of_change (Some pending) = 2056 * length pending.touched.pages + 18
+
+-- how many bytes a commit writes: each page twice, with its number and a few more
+abbrev pub bytes_to_write : Prepared → ℕ
+bytes_to_write prepared = bytes_of_change prepared.change
+
+-- the change makes of the bytes before it the ones after it
+abbrev LeadsTo : List ℕ → Option Pending → List ℕ → Type 0
+LeadsTo before None after = after ≡ before
+LeadsTo before (Some pending) after = (changed pending.touched before ≡ after) × (length before ≡ page_at pending.touched.before)
+
+-- the command was prepared in this session
+pub record IsPreparedFrom (session : Session) (prepared : Prepared) : Type 0 where
+  pub leads : LeadsTo (bytes_of session) prepared.change (next_bytes prepared)
+  pub stands : StandsFor (next_bytes prepared) (next_store prepared)

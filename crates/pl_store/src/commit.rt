@@ -1,0 +1,39 @@
+ghost use Rattle.std.specs.Prelude.{◌≡◌, ◌≤◌, ◌+◌, IfOk, IsOk, OnOk, OnErr};
+ghost use Rattle.pl_desk.specs.Counts.{Rose};
+ghost use Rattle.pl_desk.specs.Desk.{AtAnyMoment};
+ghost use Rattle.pl_store.specs.Session.{IsPreparedFrom, IsSettled, StandsForEither, bytes_to_write, limit_of, next_limit, next_store, store_of, writes_nothing};
+
+use crate::session::{Prepared, Session};
+use crate::write::write_change;
+use pl_base::DeviceFault;
+use pl_desk::Desk;
+
+impl Prepared {
+    /// Writes the change to the file, whole or not at all. No memory is taken, and no call is made where
+    /// there is no change. After an `Err` the session is gone, and the file stands for the store before or
+    /// for the one after.
+    pub fn commit<D: Desk>(self, desk: &mut D) -> Result<Session, DeviceFault>
+        ensures store { IfOk result (λ session. store_of session ≡ next_store self) }
+        ensures limit { IfOk result (λ session. limit_of session ≡ next_limit self) }
+        ensures settled { IfOk result (λ session. (before : Session) → IsPreparedFrom before self
+            → IsSettled before (D.held desk.old) (D.may_leave desk.old) → IsSettled session (D.held desk.new) (D.may_leave desk.new)) }
+        ensures any_moment { (before : Session) → IsPreparedFrom before self → IsSettled before (D.held desk.old) (D.may_leave desk.old)
+            → AtAnyMoment D.moment D.shown_since D.said desk.old desk.new (StandsForEither (store_of before) (next_store self)) }
+        ensures unasked { writes_nothing self → desk.new ≡ desk.old }
+        ensures unasked_ok { writes_nothing self → IsOk result }
+        ensures written { OnOk result (D.written desk.new ≡ D.written desk.old + bytes_to_write self) }
+        ensures no_more { D.written desk.new ≤ D.written desk.old + bytes_to_write self }
+        ensures no_less { D.written desk.old ≤ D.written desk.new }
+        ensures said { D.said desk.new ≡ D.said desk.old }
+        ensures line { D.line_faults desk.new ≡ D.line_faults desk.old }
+        ensures counted { D.device_faults desk.old ≤ D.device_faults desk.new }
+        ensures cause { OnErr result (Rose (D.device_faults desk.old) (D.device_faults desk.new)) }
+    {
+        let Prepared { engine, change } = self;
+        let Some(pending) = change else {
+            return Ok(Session { engine });
+        };
+        write_change(desk, &pending.touched)?;
+        Ok(Session { engine })
+    }
+}

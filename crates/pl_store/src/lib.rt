@@ -1,0 +1,22 @@
+//! A session over a store's file: a command is prepared in memory, and then its change is committed whole
+//! or not at all. `Memory` is the same without a file.
+#![tactic(auto)]
+
+mod commit;
+mod ended;
+mod memory;
+mod open;
+mod pending;
+mod read;
+mod session;
+mod start;
+mod uncounted;
+mod write;
+
+pub use ended::Ended;
+pub use memory::{Memory, SLOT_LIMIT};
+pub use open::{create, reopen};
+pub use session::{Prepared, Session};
+
+#[cfg(test)]
+mod tests;

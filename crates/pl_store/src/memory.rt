@@ -1,0 +1,42 @@
+ghost use Rattle.std.specs.Prelude.{◌≡◌, ◌≤◌, IfOk};
+ghost use Rattle.pl_base.specs.Store.{opening};
+ghost use Rattle.pl_engine.specs.Step.{HasDates, perform};
+ghost use Rattle.pl_store.specs.Session.{memory_limit, memory_store};
+
+use crate::uncounted;
+use pl_base::NoMemory;
+use pl_engine::{Command, Engine, Reply};
+use pl_plain::Flat;
+use std::alloc::Global;
+
+/// How many slots of 128 bytes the program's stores may take: 512 MiB.
+pub const SLOT_LIMIT: u32 = 4_194_304;
+
+/// A store in memory alone.
+#[derive(Drop)]
+pub struct Memory {
+    pub(crate) engine: Engine<Flat>,
+}
+
+impl Memory {
+    /// The store before its first command, which may take so many slots of 128 bytes.
+    pub fn opening(alloc: Global, limit: u32) -> Result<Memory, NoMemory>
+        requires { limit ≤ 4_194_304 }
+        ensures store { IfOk result (λ memory. memory_store memory ≡ opening) }
+        ensures limit { IfOk result (λ memory. memory_limit memory ≡ limit) }
+    {
+        let engine = Engine::over(alloc, Flat::opening(alloc)?, limit)?;
+        Ok(Memory { engine })
+    }
+
+    /// One step of the machine. After `NoMemory` the store is gone.
+    pub fn step(self, command: &Command) -> Result<(Memory, Reply), NoMemory>
+        requires dates { HasDates command.now }
+        ensures step { IfOk result (λ done. (done.1, memory_store done.0)
+            ≡ perform (memory_limit self) (memory_store self) command.now) }
+        ensures limit { IfOk result (λ done. memory_limit done.0 ≡ memory_limit self) }
+    {
+        let (engine, reply) = uncounted::apply(self.engine, command)?;
+        Ok((Memory { engine }, reply))
+    }
+}

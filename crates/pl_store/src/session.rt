@@ -1,0 +1,56 @@
+ghost use Rattle.std.proofs.Props.{props};
+ghost use Rattle.pl_plain.specs.Flat.{IsBase, bytes_of};
+
+use crate::pending::Pending;
+use crate::uncounted;
+use pl_base::{NoMemory, Refusal};
+use pl_engine::{Command, Engine, Reply};
+use pl_plain::Flat;
+
+/// An open store, between two commands. The file holds it, and is not read again.
+#[derive(Drop)]
+pub struct Session {
+    pub(crate) engine: Engine<Flat>,
+    // The next change is told against the bytes that the rows stand for now.
+    ghost base: { IsBase engine.rows (bytes_of engine.rows) } by { Prim.hlevel props },
+}
+
+/// A command that was performed in memory, and is not in the file yet.
+#[derive(Drop)]
+pub struct Prepared {
+    pub(crate) engine: Engine<Flat>,
+    // None where the command changed nothing.
+    pub(crate) change: Option<Pending>,
+    ghost base: { IsBase engine.rows (bytes_of engine.rows) } by { Prim.hlevel props },
+}
+
+impl Session {
+    ghost use Rattle.std.specs.Prelude.{◌≡◌, IfOk};
+    ghost use Rattle.pl_engine.specs.Step.{HasDates, perform};
+    ghost use Rattle.pl_store.specs.Session.{IsPreparedFrom, limit_of, next_limit, next_store, store_of, writes_nothing};
+
+    /// Performs a command in memory: no call of the file is made. A refusal is a reply, and leaves nothing
+    /// to commit. After `NoMemory` the session is gone, and the file is as it was.
+    pub fn prepare(self, command: &Command) -> Result<(Prepared, Reply), NoMemory>
+        requires dates { HasDates command.now }
+        ensures step { IfOk result (λ done. (done.1, next_store done.0)
+            ≡ perform (limit_of self) (store_of self) command.now) }
+        ensures limit { IfOk result (λ done. next_limit done.0 ≡ limit_of self) }
+        ensures from { IfOk result (λ done. IsPreparedFrom self done.0) }
+        ensures refused { IfOk result (λ done. (refusal : Refusal) → done.1 ≡ Reply.Refused refusal → writes_nothing done.0) }
+    {
+        let (mut engine, reply) = uncounted::apply(self.engine, command)?;
+        if let Reply::Refused(_) = reply {
+            return Ok((
+                Prepared {
+                    engine,
+                    change: None,
+                },
+                reply,
+            ));
+        }
+        let touched = uncounted::touched(&mut engine)?;
+        let change = Some(Pending { touched });
+        Ok((Prepared { engine, change }, reply))
+    }
+}

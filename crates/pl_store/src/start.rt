@@ -1,0 +1,28 @@
+ghost use Rattle.std.specs.Prelude.{◌≡◌, ◌≤◌, ◌<◌, [], IfOk};
+ghost use Rattle.pl_base.specs.Store.{opening};
+ghost use Rattle.pl_base.specs.Touched.{IsWithin, changed};
+ghost use Rattle.pl_plain.specs.Form.{StandsFor};
+ghost use Rattle.pl_store.specs.Session.{bytes_of, limit_of, store_of};
+
+use crate::session::Session;
+use crate::uncounted;
+use pl_base::{NoMemory, Touched};
+use pl_engine::Engine;
+use pl_plain::Flat;
+use std::alloc::Global;
+
+/// A session of the store before its first command, and the change that writes it into an empty file.
+pub(crate) fn start(alloc: Global, limit: u32) -> Result<(Session, Touched), NoMemory>
+    requires { limit ≤ 4_194_304 }
+    ensures store { IfOk result (λ done. store_of done.0 ≡ opening) }
+    ensures limit { IfOk result (λ done. limit_of done.0 ≡ limit) }
+    ensures stands { IfOk result (λ done. StandsFor (bytes_of done.0) (store_of done.0)) }
+    ensures whole { IfOk result (λ done. changed done.1 [] ≡ bytes_of done.0) }
+    ensures within { IfOk result (λ done. IsWithin done.1) }
+    ensures before { IfOk result (λ done. done.1.before ≡ 1) }
+    ensures after { IfOk result (λ done. 1 < done.1.after) }
+{
+    let mut engine = Engine::over(alloc, Flat::opening(alloc)?, limit)?;
+    let touched = uncounted::touched(&mut engine)?;
+    Ok((Session { engine }, touched))
+}

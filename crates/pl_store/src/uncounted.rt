@@ -1,0 +1,78 @@
+// The engine's calls where nothing is counted.
+ghost use Rattle.std.specs.Prelude.{◌≡◌, ◌≤◌, ◌<◌, ℕ, List, length, IfOk, OnOk};
+ghost use Rattle.pl_base.specs.Rows.{store_of};
+ghost use Rattle.pl_base.specs.Touched.{IsWithin, changed, page_at};
+ghost use Rattle.pl_engine.specs.Step.{HasDates, perform};
+ghost use Rattle.pl_plain.specs.Flat.{IsBase, bytes_of, kept_of};
+ghost use Rattle.pl_plain.specs.Form.{StandsFor};
+
+use pl_base::{NoMemory, Refusal, Steps, Touched};
+use pl_engine::{Command, Engine, Reply};
+use pl_plain::Flat;
+use std::marker::Brand;
+use std::sync::ledger::{Blank, Ledger};
+
+/// One step of the machine.
+pub(crate) fn apply(
+    engine: Engine<Flat>,
+    command: &Command,
+) -> Result<(Engine<Flat>, Reply), NoMemory>
+    requires dates { HasDates command.now }
+    ensures step { IfOk result (λ done. (done.1, store_of (kept_of done.0.rows)) ≡ perform engine.limit (store_of (kept_of engine.rows)) command.now) }
+    ensures refused { IfOk result (λ done. (refusal : Refusal) → done.1 ≡ Reply.Refused refusal → done.0.rows ≡ engine.rows) }
+    ensures base { IfOk result (λ done. (bytes : List ℕ) → IsBase engine.rows bytes → IsBase done.0.rows bytes) }
+    ensures stands { IfOk result (λ done. StandsFor (bytes_of done.0.rows) (store_of (kept_of done.0.rows))) }
+    ensures limit { IfOk result (λ done. done.0.limit ≡ engine.limit) }
+{
+    apply_with::<Brand>(Blank::new(1), engine, command)
+}
+
+fn apply_with<L: Ledger>(
+    blank: Blank,
+    engine: Engine<Flat>,
+    command: &Command,
+) -> Result<(Engine<Flat>, Reply), NoMemory>
+    requires name { blank.name ≡ L.name }
+    requires parts { blank.parts ≡ L.parts }
+    requires some { 0 < blank.parts }
+    requires dates { HasDates command.now }
+    ensures step { IfOk result (λ done. (done.1, store_of (kept_of done.0.rows)) ≡ perform engine.limit (store_of (kept_of engine.rows)) command.now) }
+    ensures refused { IfOk result (λ done. (refusal : Refusal) → done.1 ≡ Reply.Refused refusal → done.0.rows ≡ engine.rows) }
+    ensures base { IfOk result (λ done. (bytes : List ℕ) → IsBase engine.rows bytes → IsBase done.0.rows bytes) }
+    ensures stands { IfOk result (λ done. StandsFor (bytes_of done.0.rows) (store_of (kept_of done.0.rows))) }
+    ensures limit { IfOk result (λ done. done.0.limit ≡ engine.limit) }
+{
+    engine.apply(command, &mut Steps::<L>::none(blank))
+}
+
+/// The pages of the store's bytes that changed since the last such call, or since the rows were made.
+pub(crate) fn touched(engine: &mut Engine<Flat>) -> Result<Touched, NoMemory>
+    ensures whole { IfOk result (λ change. (base : List ℕ) → IsBase engine.old.rows base → changed change base ≡ bytes_of engine.new.rows) }
+    ensures before { IfOk result (λ change. (base : List ℕ) → IsBase engine.old.rows base → length base ≡ page_at change.before) }
+    ensures some { IfOk result (λ change. 1 ≤ change.before) }
+    ensures after { IfOk result (λ change. length (bytes_of engine.new.rows) ≡ page_at change.after) }
+    ensures within { IfOk result IsWithin }
+    ensures base { OnOk result (IsBase engine.new.rows (bytes_of engine.new.rows)) }
+    ensures kept { kept_of engine.new.rows ≡ kept_of engine.old.rows }
+    ensures bytes { bytes_of engine.new.rows ≡ bytes_of engine.old.rows }
+    ensures limit { engine.new.limit ≡ engine.old.limit }
+{
+    touched_with::<Brand>(Blank::new(1), engine)
+}
+
+fn touched_with<L: Ledger>(blank: Blank, engine: &mut Engine<Flat>) -> Result<Touched, NoMemory>
+    requires name { blank.name ≡ L.name }
+    requires parts { blank.parts ≡ L.parts }
+    requires some { 0 < blank.parts }
+    ensures whole { IfOk result (λ change. (base : List ℕ) → IsBase engine.old.rows base → changed change base ≡ bytes_of engine.new.rows) }
+    ensures before { IfOk result (λ change. (base : List ℕ) → IsBase engine.old.rows base → length base ≡ page_at change.before) }
+    ensures some { IfOk result (λ change. 1 ≤ change.before) }
+    ensures after { IfOk result (λ change. length (bytes_of engine.new.rows) ≡ page_at change.after) }
+    ensures within { IfOk result IsWithin }
+    ensures base { OnOk result (IsBase engine.new.rows (bytes_of engine.new.rows)) }
+    ensures kept { kept_of engine.new.rows ≡ kept_of engine.old.rows }
+    ensures bytes { bytes_of engine.new.rows ≡ bytes_of engine.old.rows }
+    ensures limit { engine.new.limit ≡ engine.old.limit }
+{
+    engine.touched(&mut Steps::<L>::none(blank))
+}
