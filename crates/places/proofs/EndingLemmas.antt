@@ -1,38 +1,42 @@
 -- The ends of a run, from how far it has come.
-use Rattle.std.proofs.Common.{◌≡◌, ◌⊎◌, eqb, true, ◌<◌, ◌≤◌, ◌+◌, ℕ, List, [], ◌++◌, length, take, drop, Some, None, Option, refl, ap, sym, subst, ◌∙◌, append-nil, arith, inl, inr, length-append, length-drop}
+use Rattle.std.proofs.Common.{◌≡◌, ◌⊎◌, Bool, eqb, true, ◌<◌, ◌≤◌, ◌+◌, ℕ, List, [], ◌++◌, length, take, drop, Some, None, Option, refl, ap, sym, subst, ◌∙◌, append-nil, arith, inl, inr, length-append, length-drop, Result, Err}
 use Rattle.std.specs.Prelude.{IfSome}
 use Rattle.std.specs.Option.{option_map}
 use Rattle.std.proofs.lemmas.List.{drop_at, length-take-le, take-append-drop, take_all, take_at}
 use Rattle.std.proofs.Math.Seq.{take-add}
 use Rattle.std.proofs.lemmas.List.{drop-drop}
 use Rattle.std.proofs.lemmas.Bool.{eqb-true}
-use Rattle.pl_base.specs.Store.{opening}
+use Rattle.pl_base.specs.Store.{Store}
+use Rattle.pl_desk.specs.Desk.{ShowsOnly}
+use Rattle.pl_desk.specs.Moments.{and_on, shows_less}
 use Rattle.pl_engine.specs.Run.{replies}
 use Rattle.pl_script.specs.Script.{script}
-use Rattle.places.specs.declared.answer.AnswerError.{AnswerError}
-use Rattle.places.specs.declared.answer.AnswerError.TheVariants as answer
+use Rattle.places.specs.declared.answer_error.AnswerError.{AnswerError}
+use Rattle.places.specs.declared.answer_error.AnswerError.TheVariants as answer
 use Rattle.places.specs.declared.script_run.ScriptRun.{ScriptRun}
 use Rattle.places.specs.declared.status.Status.{Status}
-use Rattle.places.specs.declared.status.Status.TheVariants as status
 use Rattle.places.specs.declared.stop.Stop.{Stop}
 use Rattle.places.specs.declared.stop.Stop.TheVariants as stop
-use Rattle.places.specs.Ending.{Becomes, SaysAll, SaysAtStop, SaysEnded, SaysFront}
+use Rattle.places.specs.Ending.{Becomes, EndsScript, SaysAll, SaysAtStop, SaysEnded, SaysFront}
+use Rattle.places.specs.Keeper.{IsKept, is_file, slot_limit}
 use Rattle.places.specs.Status.{EndsIn}
 use Rattle.places.specs.Progress.{IsAt, StoppedAt, ended_entries}
 use Rattle.places.specs.Said.{Says, texts}
+use Rattle.places.specs.Stops.{LeavesAnswered, ShowsAnswered}
 use Rattle.places.proofs.ProgressLemmas.{stopped_here, stopped_script}
+use Rattle.places.proofs.StopLemmas.{leaves_here, leaves_script, shows_here, shows_script}
 
 -- the bytes read are a front of the input, and the run stands behind them
-pub record IsBehind (read : ℕ) (bytes before : List ℕ) (left : Option (List ℕ)) (run : ScriptRun) (said : Option (List ℕ)) : Type 0 where
+pub record IsBehind (start : Store) (read : ℕ) (bytes before : List ℕ) (left : Option (List ℕ)) (run : ScriptRun) (said : Option (List ℕ)) : Type 0 where
   pub rest_left : left ≡ Some (drop read bytes)
   pub in_input : read ≤ length bytes
-  pub at : IsAt (take read bytes) (Some before) run said
+  pub at : IsAt start (take read bytes) (Some before) run said
 
-pub starts_behind : (bytes before : List ℕ) (left said : Option (List ℕ)) (run : ScriptRun) → ((begun : Option (List ℕ)) → IsAt [] begun run begun) → left ≡ Some bytes → said ≡ Some before → IsBehind 0 bytes before left run said
-starts_behind bytes before left said run opens all begun = record {
+pub starts_behind : (start : Store) (bytes before : List ℕ) (left said : Option (List ℕ)) (run : ScriptRun) → ((begun : Option (List ℕ)) → IsAt start [] begun run begun) → left ≡ Some bytes → said ≡ Some before → IsBehind start 0 bytes before left run said
+starts_behind start bytes before left said run opens all begun = record {
   rest_left = all;
   in_input = omega arith;
-  at = subst (λ s. IsAt [] (Some before) run s) (sym begun) (opens (Some before));
+  at = subst (λ s. IsAt start [] (Some before) run s) (sym begun) (opens (Some before));
 }
 
 -- what a piece is of the input
@@ -54,8 +58,8 @@ piece_of read bytes piece (Some rest) within taken =
       front = take-add read (length piece) bytes ∙ ap (λ tail. take read bytes ++ take (length piece) tail) rest_is ∙ ap (λ tail. take read bytes ++ tail) (take_at piece rest (length piece) refl);
     }
 
-pub goes_on_behind : (read : ℕ) (bytes before piece : List ℕ) (left left' said said' : Option (List ℕ)) (run run' : ScriptRun) → IsBehind read bytes before left run said → left ≡ option_map (λ rest. piece ++ rest) left' → ((b : List ℕ) (begun : Option (List ℕ)) → IsAt b begun run said → IsAt (b ++ piece) begun run' said') → IsBehind (read + length piece) bytes before left' run' said'
-goes_on_behind read bytes before piece left left' said said' run run' behind taken answered =
+pub goes_on_behind : (start : Store) (read : ℕ) (bytes before piece : List ℕ) (left left' said said' : Option (List ℕ)) (run run' : ScriptRun) → IsBehind start read bytes before left run said → left ≡ option_map (λ rest. piece ++ rest) left' → ((b : List ℕ) (begun : Option (List ℕ)) → IsAt start b begun run said → IsAt start (b ++ piece) begun run' said') → IsBehind start (read + length piece) bytes before left' run' said'
+goes_on_behind start read bytes before piece left left' said said' run run' behind taken answered =
     let is = piece_of read bytes piece left' behind.in_input (sym behind.rest_left ∙ taken) in
     record {
       rest_left = is.rest_left;
@@ -71,13 +75,13 @@ all_read read bytes within none =
     (take_all read bytes (omega arith), whole)
 
 -- an empty piece comes at the end of the input alone
-at_end : (read : ℕ) (bytes before piece : List ℕ) (left said : Option (List ℕ)) (run : ScriptRun) → IsBehind read bytes before left run said → IfSome left (λ rest. rest ≡ []) → (take read bytes ≡ bytes) × (length bytes ≡ read)
-at_end read bytes before piece left said run behind ended =
+at_end : (start : Store) (read : ℕ) (bytes before piece : List ℕ) (left said : Option (List ℕ)) (run : ScriptRun) → IsBehind start read bytes before left run said → IfSome left (λ rest. rest ≡ []) → (take read bytes ≡ bytes) × (length bytes ≡ read)
+at_end start read bytes before piece left said run behind ended =
     all_read read bytes behind.in_input (subst (λ l. IfSome l (λ rest. rest ≡ [])) behind.rest_left ended)
 
-pub says_all : (read : ℕ) (bytes before piece : List ℕ) (left left' said said' : Option (List ℕ)) (run : ScriptRun) → IsBehind read bytes before left run said → read < 2_147_483_648 → length piece ≡ 0 → left ≡ option_map (λ rest. piece ++ rest) left' → IfSome left (λ rest. rest ≡ []) → ((b : List ℕ) (begun : Option (List ℕ)) → IsAt b begun run said → Says begun (texts (replies opening (script b))) said') → SaysAll bytes before left' said'
-says_all read bytes before piece left left' said said' run behind short empty taken ended answered =
-    let whole = at_end read bytes before piece left said run behind ended in
+pub says_all : (start : Store) (read : ℕ) (bytes before piece : List ℕ) (left left' said said' : Option (List ℕ)) (run : ScriptRun) → IsBehind start read bytes before left run said → read < 2_147_483_648 → length piece ≡ 0 → left ≡ option_map (λ rest. piece ++ rest) left' → IfSome left (λ rest. rest ≡ []) → ((b : List ℕ) (begun : Option (List ℕ)) → IsAt start b begun run said → Says begun (texts (replies slot_limit start (script b))) said') → SaysAll start bytes before left' said'
+says_all start read bytes before piece left left' said said' run behind short empty taken ended answered =
+    let whole = at_end start read bytes before piece left said run behind ended in
     let is = piece_of read bytes piece left' behind.in_input (sym behind.rest_left ∙ taken) in
     let none : drop read bytes ≡ [] = subst (λ l. IfSome l (λ rest. rest ≡ [])) behind.rest_left ended in
     record {
@@ -86,36 +90,38 @@ says_all read bytes before piece left left' said said' run behind short empty ta
       in_limit = omega (arith, whole.1);
     }
 
-says_front : (error : AnswerError) (bytes before : List ℕ) (said : Option (List ℕ)) → StoppedAt error (script bytes) (Some before) said → SaysFront error bytes before said
-says_front error bytes before said stopped =
+says_front : (start : Store) (error : AnswerError) (bytes before : List ℕ) (said : Option (List ℕ)) → StoppedAt error start (script bytes) (Some before) said → SaysFront error start bytes before said
+says_front start error bytes before said stopped =
     record { piece = stopped.piece; front_said = stopped.text; until = stopped.until }
 
-becomes_stop : (error : AnswerError) (e : Stop) (bytes before : List ℕ) (left said : Option (List ℕ)) → Becomes error e → SaysFront error bytes before said → SaysAtStop e bytes before left said
-becomes_stop answer.SayFault e bytes before left said is front =
-    subst (λ s. SaysAtStop s bytes before left said) (sym is) front
-becomes_stop answer.NoMemory e bytes before left said is front =
-    subst (λ s. SaysAtStop s bytes before left said) (sym is) front
+becomes_stop : (start : Store) (error : AnswerError) (e : Stop) (bytes before : List ℕ) (left said : Option (List ℕ)) → Becomes error e → SaysFront error start bytes before said → SaysAtStop e start bytes before left said
+becomes_stop start answer.SayFault e bytes before left said is front =
+    subst (λ s. SaysAtStop s start bytes before left said) (sym is) front
+becomes_stop start answer.DeviceFault e bytes before left said is front =
+    subst (λ s. SaysAtStop s start bytes before left said) (sym is) front
+becomes_stop start answer.NoMemory e bytes before left said is front =
+    subst (λ s. SaysAtStop s start bytes before left said) (sym is) front
 
 -- a front of the bytes, and the rest
 halves : (read : ℕ) (bytes : List ℕ) → take read bytes ++ drop read bytes ≡ bytes
 halves read bytes = take-append-drop read bytes
 
-pub stopped_at_end : (error : AnswerError) (e : Stop) (read : ℕ) (bytes before piece : List ℕ) (left left' said said' : Option (List ℕ)) (run : ScriptRun) → IsBehind read bytes before left run said → Becomes error e → IfSome left (λ rest. rest ≡ []) → ((b : List ℕ) (begun : Option (List ℕ)) → IsAt b begun run said → StoppedAt error (script b) begun said') → SaysAtStop e bytes before left' said'
-stopped_at_end error e read bytes before piece left left' said said' run behind is ended stopped =
-    let whole = at_end read bytes before piece left said run behind ended in
-    becomes_stop error e bytes before left' said' is
-    (says_front error bytes before said' (rw whole.0 at (stopped (take read bytes) (Some before) behind.at)))
+pub stopped_at_end : (start : Store) (error : AnswerError) (e : Stop) (read : ℕ) (bytes before piece : List ℕ) (left left' said said' : Option (List ℕ)) (run : ScriptRun) → IsBehind start read bytes before left run said → Becomes error e → IfSome left (λ rest. rest ≡ []) → ((b : List ℕ) (begun : Option (List ℕ)) → IsAt start b begun run said → StoppedAt error start (script b) begun said') → SaysAtStop e start bytes before left' said'
+stopped_at_end start error e read bytes before piece left left' said said' run behind is ended stopped =
+    let whole = at_end start read bytes before piece left said run behind ended in
+    becomes_stop start error e bytes before left' said' is
+    (says_front start error bytes before said' (rw whole.0 at (stopped (take read bytes) (Some before) behind.at)))
 
-pub stopped_in_piece : (error : AnswerError) (e : Stop) (read : ℕ) (bytes before piece : List ℕ) (left left' said said' : Option (List ℕ)) (run : ScriptRun) → IsBehind read bytes before left run said → Becomes error e → left ≡ option_map (λ rest. piece ++ rest) left' → ((b : List ℕ) (begun : Option (List ℕ)) → IsAt b begun run said → StoppedAt error (ended_entries (b ++ piece)) begun said') → SaysAtStop e bytes before left' said'
-stopped_in_piece error e read bytes before piece left left' said said' run behind is taken stopped =
+pub stopped_in_piece : (start : Store) (error : AnswerError) (e : Stop) (read : ℕ) (bytes before piece : List ℕ) (left left' said said' : Option (List ℕ)) (run : ScriptRun) → IsBehind start read bytes before left run said → Becomes error e → left ≡ option_map (λ rest. piece ++ rest) left' → ((b : List ℕ) (begun : Option (List ℕ)) → IsAt start b begun run said → StoppedAt error start (ended_entries (b ++ piece)) begun said') → SaysAtStop e start bytes before left' said'
+stopped_in_piece start error e read bytes before piece left left' said said' run behind is taken stopped =
     let part = piece_of read bytes piece left' behind.in_input (sym behind.rest_left ∙ taken) in
     let order : (take read bytes ++ piece) ++ drop (read + length piece) bytes ≡ bytes = ap (λ front. front ++ drop (read + length piece) bytes) (sym part.front) ∙ halves (read + length piece) bytes in
-    becomes_stop error e bytes before left' said' is
-    (says_front error bytes before said'
-    (rw order at (stopped_script error (take read bytes ++ piece) (drop (read + length piece) bytes) (Some before) said' (stopped (take read bytes) (Some before) behind.at))))
+    becomes_stop start error e bytes before left' said' is
+    (says_front start error bytes before said'
+    (rw order at (stopped_script start error (take read bytes ++ piece) (drop (read + length piece) bytes) (Some before) said' (stopped (take read bytes) (Some before) behind.at))))
 
-ended_so_far : (read : ℕ) (bytes before : List ℕ) (left left' said : Option (List ℕ)) (run : ScriptRun) → IsBehind read bytes before left run said → left' ≡ left → SaysEnded bytes before left' said
-ended_so_far read bytes before left left' said run behind kept = record {
+ended_so_far : (start : Store) (read : ℕ) (bytes before : List ℕ) (left left' said : Option (List ℕ)) (run : ScriptRun) → IsBehind start read bytes before left run said → left' ≡ left → SaysEnded start bytes before left' said
+ended_so_far start read bytes before left left' said run behind kept = record {
   read = take read bytes;
   rest = drop read bytes;
   order = sym (halves read bytes);
@@ -123,52 +129,107 @@ ended_so_far read bytes before left left' said run behind kept = record {
   ended_said = behind.at.text;
 }
 
-memory_so_far : (read : ℕ) (bytes before : List ℕ) (left said : Option (List ℕ)) (run : ScriptRun) → IsBehind read bytes before left run said → SaysFront answer.NoMemory bytes before said
-memory_so_far read bytes before left said run behind =
-    let here = stopped_here (take read bytes) [] (Some before) said run behind.at in
-    let before_rest : StoppedAt answer.NoMemory (ended_entries (take read bytes)) (Some before) said = rw append-nil at here in
-    says_front answer.NoMemory bytes before said
-    (rw (halves read bytes) at (stopped_script answer.NoMemory (take read bytes) (drop read bytes) (Some before) said before_rest))
+memory_so_far : (start : Store) (read : ℕ) (bytes before : List ℕ) (left said : Option (List ℕ)) (run : ScriptRun) → IsBehind start read bytes before left run said → SaysFront answer.NoMemory start bytes before said
+memory_so_far start read bytes before left said run behind =
+    let here = stopped_here start (take read bytes) [] (Some before) said run behind.at in
+    let before_rest : StoppedAt answer.NoMemory start (ended_entries (take read bytes)) (Some before) said = rw append-nil at here in
+    says_front start answer.NoMemory bytes before said
+    (rw (halves read bytes) at (stopped_script start answer.NoMemory (take read bytes) (drop read bytes) (Some before) said before_rest))
 
-pub stopped_reading : (e : Stop) (read : ℕ) (bytes before : List ℕ) (left left' said : Option (List ℕ)) (run : ScriptRun) → IsBehind read bytes before left run said → (e ≡ stop.ReadFault) ⊎ (e ≡ stop.NoMemory) → left' ≡ left → SaysAtStop e bytes before left' said
-stopped_reading e read bytes before left left' said run behind (inl fault) kept =
-    subst (λ s. SaysAtStop s bytes before left' said) (sym fault) (ended_so_far read bytes before left left' said run behind kept)
-stopped_reading e read bytes before left left' said run behind (inr memory) kept =
-    subst (λ s. SaysAtStop s bytes before left' said) (sym memory) (memory_so_far read bytes before left said run behind)
+pub stopped_reading : (start : Store) (e : Stop) (read : ℕ) (bytes before : List ℕ) (left left' said : Option (List ℕ)) (run : ScriptRun) → IsBehind start read bytes before left run said → (e ≡ stop.ReadFault) ⊎ (e ≡ stop.NoMemory) → left' ≡ left → SaysAtStop e start bytes before left' said
+stopped_reading start e read bytes before left left' said run behind (inl fault) kept =
+    subst (λ s. SaysAtStop s start bytes before left' said) (sym fault) (ended_so_far start read bytes before left left' said run behind kept)
+stopped_reading start e read bytes before left left' said run behind (inr memory) kept =
+    subst (λ s. SaysAtStop s start bytes before left' said) (sym memory) (memory_so_far start read bytes before left said run behind)
 
-pub too_long : (read : ℕ) (bytes before : List ℕ) (left said : Option (List ℕ)) (run : ScriptRun) → IsBehind read bytes before left run said → read ≡ 2_147_483_648 → SaysAtStop stop.TooLong bytes before left said
+pub too_long : (start : Store) (read : ℕ) (bytes before : List ℕ) (left said : Option (List ℕ)) (run : ScriptRun) → IsBehind start read bytes before left run said → read ≡ 2_147_483_648 → SaysAtStop stop.TooLong start bytes before left said
 unfolding ended_so_far
-too_long read bytes before left said run behind limit =
-    (ended_so_far read bytes before left left said run behind refl, length-take-le read bytes behind.in_input ∙ limit)
+too_long start read bytes before left said run behind limit =
+    (ended_so_far start read bytes before left left said run behind refl, length-take-le read bytes behind.in_input ∙ limit)
 
 -- the length of a piece as a vector tells it
 pub empty_piece : {len : ℕ} (items : List ℕ) → len ≡ length items → eqb len 0 ≡ true → length items ≡ 0
 empty_piece {len} items is empty = sym is ∙ eqb-true len 0 empty
 
+-- ---- what a stop shows
+
+module _ (kind : Bool) (first : List ℕ → Type 0) (start : Store) where
+  -- while a piece is taken, and when the input has ended
+  pub shows_in_piece : (read : ℕ) (bytes before piece : List ℕ) (left left' said : Option (List ℕ)) (run : ScriptRun) → IsBehind start read bytes before left run said → left ≡ option_map (λ rest. piece ++ rest) left' → (file line : List ℕ)
+      → ShowsAnswered kind first slot_limit start (ended_entries (take read bytes ++ piece)) before file line → ShowsAnswered kind first slot_limit start (script bytes) before file line
+  shows_in_piece read bytes before piece left left' said run behind taken file line shows =
+      let part = piece_of read bytes piece left' behind.in_input (sym behind.rest_left ∙ taken) in
+      let order : (take read bytes ++ piece) ++ drop (read + length piece) bytes ≡ bytes = ap (λ front. front ++ drop (read + length piece) bytes) (sym part.front) ∙ halves (read + length piece) bytes in
+      rw order at (shows_script kind first start (take read bytes ++ piece) (drop (read + length piece) bytes) before file line shows)
+
+  pub shows_at_end : (read : ℕ) (bytes before piece : List ℕ) (left said : Option (List ℕ)) (run : ScriptRun) → IsBehind start read bytes before left run said → IfSome left (λ rest. rest ≡ []) → (file line : List ℕ)
+      → ShowsAnswered kind first slot_limit start (script (take read bytes)) before file line → ShowsAnswered kind first slot_limit start (script bytes) before file line
+  shows_at_end read bytes before piece left said run behind ended file line shows =
+      rw (at_end start read bytes before piece left said run behind ended).0 at shows
+
+-- ---- what a run leaves that ends with nothing of a line done
+
+module _ (kind : Bool) (first : List ℕ → Type 0) (start : Store) (read : ℕ) (bytes before : List ℕ) (left : Option (List ℕ)) (run : ScriptRun) where
+  pub leaves_behind : (said held : Option (List ℕ)) (may_leave : List ℕ → Type 0) → IsBehind start read bytes before left run said → is_file run.keeper ≡ kind → IsKept run.keeper first held may_leave
+      → LeavesAnswered kind first slot_limit start (script bytes) before said may_leave
+  leaves_behind said held may_leave behind is kept =
+      let here = leaves_here first start (take read bytes) before run said held may_leave behind.at kept in
+      rw (halves read bytes) at (leaves_script kind first start before said may_leave (take read bytes) (drop read bytes) (rw is at here))
+
+  pub leaves_piece : (piece : List ℕ) (left' said now : Option (List ℕ)) (may_leave : List ℕ → Type 0) → IsBehind start read bytes before left run said → is_file run.keeper ≡ kind → left ≡ option_map (λ rest. piece ++ rest) left'
+      → LeavesAnswered (is_file run.keeper) first slot_limit start (ended_entries (take read bytes ++ piece)) before now may_leave → LeavesAnswered kind first slot_limit start (script bytes) before now may_leave
+  leaves_piece piece left' said now may_leave behind is taken leaves =
+      let part = piece_of read bytes piece left' behind.in_input (sym behind.rest_left ∙ taken) in
+      let order : (take read bytes ++ piece) ++ drop (read + length piece) bytes ≡ bytes = ap (λ front. front ++ drop (read + length piece) bytes) (sym part.front) ∙ halves (read + length piece) bytes in
+      rw order at (leaves_script kind first start before now may_leave (take read bytes ++ piece) (drop (read + length piece) bytes) (rw is at leaves))
+
+pub memory_becomes : {X : Type 0} (error : AnswerError) (e : Stop) (result : Result X Stop) → result ≡ Err e → Becomes error e → result ≡ Err stop.NoMemory → error ≡ answer.NoMemory
+memory_becomes answer.SayFault e result ended becomes is = absurd (cc)
+memory_becomes answer.DeviceFault e result ended becomes is = absurd (cc)
+memory_becomes answer.NoMemory e result ended becomes is = refl
+
+module _ {D : Type 0} (moment : D → ℕ) (shown_since : D → ℕ → List ℕ → List ℕ → Type 0) (may_leave : D → List ℕ → Type 0) (said held : D → Option (List ℕ)) where
+  -- before anything happens on the desk
+  pub shows_begun : ((desk : D) (line_now file line : List ℕ) → said desk ≡ Some line_now → shown_since desk (moment desk) file line → may_leave desk file × (line ≡ line_now))
+      → (first : List ℕ → Type 0) (start : Store) (read : ℕ) (bytes before : List ℕ) (left : Option (List ℕ)) (run : ScriptRun) (desk : D) → IsBehind start read bytes before left run (said desk) → IsKept run.keeper first (held desk) (may_leave desk)
+      → ShowsOnly moment shown_since desk desk (ShowsAnswered (is_file run.keeper) first slot_limit start (script bytes) before)
+  shows_begun only_now first start read bytes before left run desk behind kept =
+      shows_less moment shown_since desk desk
+      (ShowsAnswered (is_file run.keeper) first slot_limit start (ended_entries (take read bytes)) before)
+      (ShowsAnswered (is_file run.keeper) first slot_limit start (script bytes) before)
+      (shows_here moment shown_since may_leave said held only_now first start (take read bytes) before run desk behind.at kept)
+      (λ file line shows. rw (halves read bytes) at (shows_script (is_file run.keeper) first start (take read bytes) (drop read bytes) before file line shows))
+
+  -- a piece more was taken, or the last line answered
+  pub shows_piece : (first : List ℕ → Type 0) (start : Store) (read : ℕ) (bytes before piece : List ℕ) (left left' : Option (List ℕ)) (kind : Bool) (run : ScriptRun) (old mid new : D) → IsBehind start read bytes before left run (said mid)
+      → is_file run.keeper ≡ kind → left ≡ option_map (λ rest. piece ++ rest) left'
+      → ShowsOnly moment shown_since old mid (ShowsAnswered kind first slot_limit start (script bytes) before)
+      → ShowsOnly moment shown_since mid new (ShowsAnswered (is_file run.keeper) first slot_limit start (ended_entries (take read bytes ++ piece)) before)
+      → ShowsOnly moment shown_since old new (ShowsAnswered kind first slot_limit start (script bytes) before)
+  shows_piece first start read bytes before piece left left' kind run old mid new behind is taken so_far more =
+      and_on moment shown_since old mid new
+      (ShowsAnswered kind first slot_limit start (script bytes) before)
+      (ShowsAnswered (is_file run.keeper) first slot_limit start (ended_entries (take read bytes ++ piece)) before)
+      so_far more
+      (λ file line shows. shows_in_piece kind first start read bytes before piece left left' (said mid) run behind taken file line (rw is at shows))
+
+  pub shows_last : (first : List ℕ → Type 0) (start : Store) (read : ℕ) (bytes before piece : List ℕ) (left : Option (List ℕ)) (kind : Bool) (run : ScriptRun) (old mid new : D) → IsBehind start read bytes before left run (said mid)
+      → is_file run.keeper ≡ kind → IfSome left (λ rest. rest ≡ [])
+      → ShowsOnly moment shown_since old mid (ShowsAnswered kind first slot_limit start (script bytes) before)
+      → ShowsOnly moment shown_since mid new (ShowsAnswered (is_file run.keeper) first slot_limit start (script (take read bytes)) before)
+      → ShowsOnly moment shown_since old new (ShowsAnswered kind first slot_limit start (script bytes) before)
+  shows_last first start read bytes before piece left kind run old mid new behind is ended so_far more =
+      and_on moment shown_since old mid new
+      (ShowsAnswered kind first slot_limit start (script bytes) before)
+      (ShowsAnswered (is_file run.keeper) first slot_limit start (script (take read bytes)) before)
+      so_far more
+      (λ file line shows. shows_at_end kind first start read bytes before piece left (said mid) run behind ended file line (rw is at shows))
+
 -- ---- by the status
 
-pub at_read_fault : (e : Stop) (s : Status) (bytes before : List ℕ) (left said : Option (List ℕ)) → EndsIn e s → s ≡ status.ReadFault → SaysAtStop e bytes before left said → SaysEnded bytes before left said
-at_read_fault stop.ReadFault s bytes before left said ends is at = at
-at_read_fault stop.SayFault s bytes before left said ends is at = absurd (cc)
-at_read_fault stop.NoMemory s bytes before left said ends is at = absurd (cc)
-at_read_fault stop.TooLong s bytes before left said ends is at = absurd (cc)
-
-pub at_say_fault : (e : Stop) (s : Status) (bytes before : List ℕ) (left said : Option (List ℕ)) → EndsIn e s → s ≡ status.SayFault → SaysAtStop e bytes before left said → SaysFront answer.SayFault bytes before said
-at_say_fault stop.ReadFault s bytes before left said ends is at = absurd (cc)
-at_say_fault stop.SayFault s bytes before left said ends is at = at
-at_say_fault stop.NoMemory s bytes before left said ends is at = absurd (cc)
-at_say_fault stop.TooLong s bytes before left said ends is at = absurd (cc)
-
-pub at_no_memory : (e : Stop) (s : Status) (bytes before : List ℕ) (left said : Option (List ℕ)) → EndsIn e s → s ≡ status.NoMemory → SaysAtStop e bytes before left said → SaysFront answer.NoMemory bytes before said
-at_no_memory stop.ReadFault s bytes before left said ends is at = absurd (cc)
-at_no_memory stop.SayFault s bytes before left said ends is at = absurd (cc)
-at_no_memory stop.NoMemory s bytes before left said ends is at = at
-at_no_memory stop.TooLong s bytes before left said ends is at = absurd (cc)
-
-pub at_too_long : (e : Stop) (s : Status) (limit : ℕ) (bytes before : List ℕ) (left said : Option (List ℕ)) → EndsIn e s → s ≡ status.TooLong limit → SaysAtStop e bytes before left said → (ended : SaysEnded bytes before left said) × (length ended.read ≡ limit)
-at_too_long stop.ReadFault s limit bytes before left said ends is at = absurd (cc)
-at_too_long stop.SayFault s limit bytes before left said ends is at = absurd (cc)
-at_too_long stop.NoMemory s limit bytes before left said ends is at = absurd (cc)
-at_too_long stop.TooLong s limit bytes before left said ends is at =
-    let same : 2_147_483_648 ≡ limit = cc in
-    (at.0, at.1 ∙ same)
+pub ends_script : (start : Store) (e : Stop) (s : Status) (bytes before : List ℕ) (left said : Option (List ℕ)) → EndsIn e s → SaysAtStop e start bytes before left said → EndsScript s start bytes before left said
+ends_script start stop.ReadFault s bytes before left said ends at = subst (λ (t : Status). EndsScript t start bytes before left said) (sym ends) at
+ends_script start stop.SayFault s bytes before left said ends at = subst (λ (t : Status). EndsScript t start bytes before left said) (sym ends) at
+ends_script start stop.DeviceFault s bytes before left said ends at = subst (λ (t : Status). EndsScript t start bytes before left said) (sym ends) at
+ends_script start stop.NoMemory s bytes before left said ends at = subst (λ (t : Status). EndsScript t start bytes before left said) (sym ends) at
+ends_script start stop.TooLong s bytes before left said ends at = subst (λ (t : Status). EndsScript t start bytes before left said) (sym ends) at

@@ -1,5 +1,11 @@
+mod AnswerLemmas
+mod CommitLemmas
 mod EndingLemmas
+mod KeeperLemmas
 mod LineLemmas
 mod LongLines
+mod OpeningLemmas
 mod ProgressLemmas
 mod SaidLemmas
+mod SayingLemmas
+mod StopLemmas

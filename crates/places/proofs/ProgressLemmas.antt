@@ -2,20 +2,21 @@
 use Rattle.std.proofs.Common.{◌≡◌, ◌≢◌, ⊎_elim, ◌<◌, ◌≤◌, ◌+◌, ℕ, List, [], ◌∷◌, ◌++◌, length, take, drop, Some, None, Option, option_to_list, refl, ap, sym, ◌∙◌, append_assoc, append-nil, arith, length-append, get_or, add-one, drop-cons}
 use Rattle.std.specs.Str.Lines.{strip_carriage_return}
 use Rattle.std.proofs.lemmas.Grind.{flat_map-append}
+use Rattle.std.proofs.Math.Seq.{take-add}
 use Rattle.std.proofs.lemmas.Bool.{cases_eq}
 use Rattle.std.proofs.lemmas.List.{length-take, take-append-drop, take-append-le, take_all}
-use Rattle.pl_base.specs.Store.{Store, opening}
+use Rattle.pl_base.specs.Store.{Store}
 use Rattle.pl_engine.specs.declared.command.Command.{Command}
 use Rattle.pl_engine.specs.declared.reply.Reply.{Reply}
-use Rattle.pl_engine.specs.Plain.{store_of}
 use Rattle.pl_engine.specs.Run.{replies, after}
 use Rattle.pl_engine.specs.Parsed.{Parsed}
 use Rattle.pl_engine.specs.Step.{step}
 use Rattle.pl_script.specs.Reply.{reply_text}
 use Rattle.pl_script.specs.Script.{entry, script}
-use Rattle.places.specs.declared.answer.AnswerError.{AnswerError}
-use Rattle.places.specs.declared.answer.AnswerError.TheVariants.{SayFault, NoMemory}
+use Rattle.places.specs.declared.answer_error.AnswerError.{AnswerError}
+use Rattle.places.specs.declared.answer_error.AnswerError.TheVariants.{SayFault, DeviceFault, NoMemory}
 use Rattle.places.specs.declared.script_run.ScriptRun.{ScriptRun}
+use Rattle.places.specs.Keeper.{limit_of, slot_limit, store_of}
 use Rattle.places.specs.Lines.{ended_lines, entries_of, entries_in, open_line}
 use Rattle.places.specs.Progress.{IsAt, StoppedAt, ended_entries}
 use Rattle.places.specs.Said.{Says, SaysOfAnswer, SaysPart, SaysUntil, SaysWhole, texts}
@@ -25,55 +26,17 @@ use Rattle.places.proofs.SaidLemmas.{says_more}
 
 -- ---- runs, one after another
 
-replies-append : (store : Store) (xs ys : List (Parsed Command)) → replies store (xs ++ ys) ≡ replies store xs ++ replies (after store xs) ys
+pub replies-append : (store : Store) (xs ys : List (Parsed Command)) → replies slot_limit store (xs ++ ys) ≡ replies slot_limit store xs ++ replies slot_limit (after slot_limit store xs) ys
 replies-append store [] ys = refl
-replies-append store (x ∷ xs) ys = ap (λ rest. (step store x).0 ∷ rest) (replies-append (step store x).1 xs ys)
+replies-append store (x ∷ xs) ys = ap (λ rest. (step slot_limit store x).0 ∷ rest) (replies-append (step slot_limit store x).1 xs ys)
 
-after-append : (store : Store) (xs ys : List (Parsed Command)) → after store (xs ++ ys) ≡ after (after store xs) ys
+pub after-append : (store : Store) (xs ys : List (Parsed Command)) → after slot_limit store (xs ++ ys) ≡ after slot_limit (after slot_limit store xs) ys
 after-append store [] ys = refl
-after-append store (x ∷ xs) ys = after-append (step store x).1 xs ys
+after-append store (x ∷ xs) ys = after-append (step slot_limit store x).1 xs ys
 
-texts-append : (store : Store) (xs ys : List (Parsed Command)) → texts (replies store (xs ++ ys)) ≡ texts (replies store xs) ++ texts (replies (after store xs) ys)
+texts-append : (store : Store) (xs ys : List (Parsed Command)) → texts (replies slot_limit store (xs ++ ys)) ≡ texts (replies slot_limit store xs) ++ texts (replies slot_limit (after slot_limit store xs) ys)
 texts-append store xs ys =
-    ap texts (replies-append store xs ys) ∙ flat_map-append reply_text (replies store xs) (replies (after store xs) ys)
-
--- ---- answers behind what was answered
-
-says_further : (xs ys : List (Parsed Command)) (store : Store) (begun said now : Option (List ℕ)) → store ≡ after opening xs → Says begun (texts (replies opening xs)) said → Says said (texts (replies store ys)) now → Says begun (texts (replies opening (xs ++ ys))) now
-says_further xs ys store begun said now at before more =
-    rw (texts-append opening xs ys, ← at) (says_more _ _ _ _ _ before more)
-
-part_of_answer : (xs : List (Parsed Command)) (found : Option (Parsed Command)) (begun said now : Option (List ℕ)) → Says begun (texts (replies opening xs)) said → SaysOfAnswer SayFault (replies (after opening xs) (option_to_list found)) said now → StoppedAt SayFault (xs ++ option_to_list found) begun now
-part_of_answer xs None begun said now before (n, below, more) = absurd (omega arith)
-part_of_answer xs (Some e) begun said now before (n, below, more) =
-    let reply = (step (after opening xs) e).0 in
-    let one : texts (reply ∷ []) ≡ reply_text reply = append-nil (reply_text reply) in
-    record {
-      piece = texts (replies opening xs) ++ take n (reply_text reply);
-      text = says_more _ _ _ _ _ before (rw one at more);
-      until = record {
-        answered = replies opening xs;
-        next = reply;
-        more = [];
-        part = n;
-        order = replies-append opening xs (e ∷ []);
-        proper = rw one at below;
-        text = refl;
-      };
-    }
-
-stopped_answer : (error : AnswerError) (xs : List (Parsed Command)) (found : Option (Parsed Command)) (begun said now : Option (List ℕ)) → Says begun (texts (replies opening xs)) said → SaysOfAnswer error (replies (after opening xs) (option_to_list found)) said now → StoppedAt error (xs ++ option_to_list found) begun now
-stopped_answer SayFault xs found begun said now before part = part_of_answer xs found begun said now before part
-stopped_answer NoMemory xs found begun said now before same = record {
-  piece = texts (replies opening xs);
-  text = same ∙ before;
-  until = record {
-    answered = replies opening xs;
-    more = replies (after opening xs) (option_to_list found);
-    order = replies-append opening xs (option_to_list found);
-    text = refl;
-  };
-}
+    ap texts (replies-append store xs ys) ∙ flat_map-append reply_text (replies slot_limit store xs) (replies slot_limit (after slot_limit store xs) ys)
 
 -- what was said at a stop is so of more entries too
 stopped_part : (rs more : List Reply) (piece : List ℕ) → SaysPart rs piece → SaysPart (rs ++ more) piece
@@ -97,20 +60,12 @@ stopped_whole rs more piece whole = record {
 
 until_further : (error : AnswerError) (rs more : List Reply) (piece : List ℕ) → SaysUntil error rs piece → SaysUntil error (rs ++ more) piece
 until_further SayFault rs more piece until = stopped_part rs more piece until
+until_further DeviceFault rs more piece until = stopped_whole rs more piece until
 until_further NoMemory rs more piece until = stopped_whole rs more piece until
-
-pub stopped_further : (error : AnswerError) (xs ys : List (Parsed Command)) (begun said : Option (List ℕ)) → StoppedAt error xs begun said → StoppedAt error (xs ++ ys) begun said
-stopped_further error xs ys begun said stopped = record {
-  piece = stopped.piece;
-  text = stopped.text;
-  until =
-      rw (replies-append opening xs ys)
-      (until_further error (replies opening xs) (replies (after opening xs) ys) stopped.piece stopped.until);
-}
 
 -- ---- lines
 
-ended_lf : (bytes : List ℕ) → ended_entries (bytes ++ 10 ∷ []) ≡ ended_entries bytes ++ entries_in (strip_carriage_return (open_line bytes))
+pub ended_lf : (bytes : List ℕ) → ended_entries (bytes ++ 10 ∷ []) ≡ ended_entries bytes ++ entries_in (strip_carriage_return (open_line bytes))
 ended_lf bytes =
     ap entries_of (ended_lines-lf bytes)
     ∙ entries_of-append (ended_lines bytes) (strip_carriage_return (open_line bytes) ∷ [])
@@ -119,30 +74,12 @@ ended_lf bytes =
 ended_on : (bytes : List ℕ) (b : ℕ) → b ≢ 10 → ended_entries (bytes ++ b ∷ []) ≡ ended_entries bytes
 ended_on bytes b on = ap entries_of (ended_lines-on bytes b on)
 
-kept_stripped : (bytes kept line : List ℕ) → kept ≡ take 262_146 (open_line bytes) → line ≡ strip_carriage_return kept → entries_in line ≡ entries_in (strip_carriage_return (open_line bytes))
+pub kept_stripped : (bytes kept line : List ℕ) → kept ≡ take 262_146 (open_line bytes) → line ≡ strip_carriage_return kept → entries_in line ≡ entries_in (strip_carriage_return (open_line bytes))
 kept_stripped bytes kept line is stripped =
     ap entries_in stripped ∙ ap (λ l. entries_in (strip_carriage_return l)) is ∙ ap option_to_list (entry-kept_stripped (open_line bytes))
 
-kept_open : (bytes kept : List ℕ) → kept ≡ take 262_146 (open_line bytes) → entries_in kept ≡ entries_in (open_line bytes)
+pub kept_open : (bytes kept : List ℕ) → kept ≡ take 262_146 (open_line bytes) → entries_in kept ≡ entries_in (open_line bytes)
 kept_open bytes kept is = ap entries_in is ∙ ap option_to_list (entry-kept (open_line bytes))
-
--- ---- the steps of a run
-
-pub line_ended : (bytes line : List ℕ) (begun said now : Option (List ℕ)) (old new : ScriptRun) → IsAt bytes begun old said → line ≡ strip_carriage_return old.line.items → store_of new.store ≡ after (store_of old.store) (entries_in line) → new.line.items ≡ [] → Says said (texts (replies (store_of old.store) (entries_in line))) now → IsAt (bytes ++ 10 ∷ []) begun new now
-line_ended bytes line begun said now old new at is store empty says =
-    let same = kept_stripped bytes old.line.items line at.line is in
-    let more = entries_in (strip_carriage_return (open_line bytes)) in
-    record {
-      store = rw (ended_lf bytes, after-append opening (ended_entries bytes) more, ← at.store, ← same) store;
-      line = rw (open_line-lf bytes) empty;
-      text = rw (ended_lf bytes) (says_further (ended_entries bytes) more (store_of old.store) begun said now at.store at.text (rw same at says));
-    }
-
-pub line_stopped : (error : AnswerError) (bytes line : List ℕ) (begun said now : Option (List ℕ)) (old : ScriptRun) → IsAt bytes begun old said → line ≡ strip_carriage_return old.line.items → SaysOfAnswer error (replies (store_of old.store) (entries_in line)) said now → StoppedAt error (ended_entries (bytes ++ 10 ∷ [])) begun now
-line_stopped error bytes line begun said now old at is says =
-    rw (ended_lf bytes)
-    (stopped_answer error (ended_entries bytes) (entry (strip_carriage_return (open_line bytes))) begun said now at.text
-    (rw (at.store, kept_stripped bytes old.line.items line at.line is) at says))
 
 -- of a line of fewer bytes than may be kept all are kept, and of a longer one no more
 keeps_all : (n : ℕ) (line kept : List ℕ) (b : ℕ) → kept ≡ take n line → length kept < n → kept ++ b ∷ [] ≡ take n (line ++ b ∷ [])
@@ -158,36 +95,6 @@ keeps_front n line kept b is long =
     let all = length-take n line in
     let kept_len = ap length is in
     is ∙ sym (take-append-le n line (b ∷ []) (omega arith))
-
-pub line_kept : (bytes : List ℕ) (b : ℕ) (begun said : Option (List ℕ)) (old new : ScriptRun) → IsAt bytes begun old said → b ≢ 10 → new.store ≡ old.store → length old.line.items < 262_146 → new.line.items ≡ old.line.items ++ b ∷ [] → IsAt (bytes ++ b ∷ []) begun new said
-line_kept bytes b begun said old new at on store short pushed =
-    record {
-      store = rw (ended_on bytes b on, store) at.store;
-      line =
-          pushed ∙ keeps_all 262_146 (open_line bytes) old.line.items b at.line short
-          ∙ ap (take 262_146) (sym (open_line-on bytes b on));
-      text = rw (ended_on bytes b on) at.text;
-    }
-
-pub line_passed : (bytes : List ℕ) (b : ℕ) (begun said : Option (List ℕ)) (run : ScriptRun) → IsAt bytes begun run said → b ≢ 10 → 262_146 ≤ length run.line.items → IsAt (bytes ++ b ∷ []) begun run said
-line_passed bytes b begun said run at on long = record {
-  store = rw (ended_on bytes b on) at.store;
-  line =
-      keeps_front 262_146 (open_line bytes) run.line.items b at.line long
-      ∙ ap (take 262_146) (sym (open_line-on bytes b on));
-  text = rw (ended_on bytes b on) at.text;
-}
-
-pub finished : (bytes line : List ℕ) (begun said now : Option (List ℕ)) (run : ScriptRun) → IsAt bytes begun run said → line ≡ run.line.items → Says said (texts (replies (store_of run.store) (entries_in line))) now → Says begun (texts (replies opening (script bytes))) now
-finished bytes line begun said now run at is says =
-    let same = ap entries_in is ∙ kept_open bytes run.line.items at.line in
-    rw (script-is bytes) (says_further (ended_entries bytes) (entries_in (open_line bytes)) (store_of run.store) begun said now at.store at.text (rw same at says))
-
-pub finish_stopped : (error : AnswerError) (bytes line : List ℕ) (begun said now : Option (List ℕ)) (run : ScriptRun) → IsAt bytes begun run said → line ≡ run.line.items → SaysOfAnswer error (replies (store_of run.store) (entries_in line)) said now → StoppedAt error (script bytes) begun now
-finish_stopped error bytes line begun said now run at is says =
-    rw (script-is bytes)
-    (stopped_answer error (ended_entries bytes) (entry (open_line bytes)) begun said now at.text
-    (rw (at.store, ap entries_in is ∙ kept_open bytes run.line.items at.line) at says))
 
 -- ---- more of the input
 
@@ -205,38 +112,158 @@ ended_further bytes (b ∷ piece) =
     let rest = ended_further (bytes ++ b ∷ []) piece in
     (one.0 ++ rest.0, ap ended_entries (sym (append_assoc bytes (b ∷ []) piece)) ∙ rest.1 ∙ ap (λ xs. xs ++ rest.0) one.1 ∙ append_assoc (ended_entries bytes) one.0 rest.0)
 
-pub stopped_later : (error : AnswerError) (bytes piece : List ℕ) (begun said : Option (List ℕ)) → StoppedAt error (ended_entries bytes) begun said → StoppedAt error (ended_entries (bytes ++ piece)) begun said
-stopped_later error bytes piece begun said stopped =
-    let further = ended_further bytes piece in
-    rw further.1 (stopped_further error (ended_entries bytes) further.0 begun said stopped)
-
--- a run that stops before anything more is said
-pub stopped_here : (bytes piece : List ℕ) (begun said : Option (List ℕ)) (run : ScriptRun) → IsAt bytes begun run said → StoppedAt NoMemory (ended_entries (bytes ++ piece)) begun said
-stopped_here bytes piece begun said run at = stopped_later NoMemory bytes piece begun said (record {
-  piece = texts (replies opening (ended_entries bytes));
-  text = at.text;
-  until = record {
-    answered = replies opening (ended_entries bytes);
-    more = [];
-    order = sym (append-nil (replies opening (ended_entries bytes)));
-    text = refl;
-  };
-})
-
--- what was said at a stop is so of the script whose front was read
-pub stopped_script : (error : AnswerError) (bytes rest : List ℕ) (begun said : Option (List ℕ)) → StoppedAt error (ended_entries bytes) begun said → StoppedAt error (script (bytes ++ rest)) begun said
-stopped_script error bytes rest begun said stopped =
-    rw (script-is (bytes ++ rest))
-    (stopped_further error (ended_entries (bytes ++ rest)) (entries_in (open_line (bytes ++ rest))) begun said (stopped_later error bytes rest begun said stopped))
-
-around : (bytes piece : List ℕ) (i : ℕ) → i < length piece → ((bytes ++ take i piece) ++ get_or piece i 0 ∷ []) ++ drop (i + 1) piece ≡ bytes ++ piece
+pub around : (bytes piece : List ℕ) (i : ℕ) → i < length piece → ((bytes ++ take i piece) ++ get_or piece i 0 ∷ []) ++ drop (i + 1) piece ≡ bytes ++ piece
 around bytes piece i within =
     append_assoc (bytes ++ take i piece) (get_or piece i 0 ∷ []) (drop (i + 1) piece)
     ∙ append_assoc bytes (take i piece) (get_or piece i 0 ∷ drop (i + 1) piece)
     ∙ ap (λ rest. bytes ++ (take i piece ++ rest)) (sym (rw (add-one, drop-cons piece i 0)))
     ∙ ap (λ all. bytes ++ all) (take-append-drop i piece)
 
-pub stopped_within : (error : AnswerError) (bytes piece : List ℕ) (i : ℕ) (begun said : Option (List ℕ)) → i < length piece → StoppedAt error (ended_entries ((bytes ++ take i piece) ++ get_or piece i 0 ∷ [])) begun said → StoppedAt error (ended_entries (bytes ++ piece)) begun said
-stopped_within error bytes piece i begun said within stopped =
-    rw (← around bytes piece i within)
-    (stopped_later error ((bytes ++ take i piece) ++ get_or piece i 0 ∷ []) (drop (i + 1) piece) begun said stopped)
+pub taken_further : (bytes piece : List ℕ) (i : ℕ) → i < length piece → (bytes ++ take i piece) ++ get_or piece i 0 ∷ [] ≡ bytes ++ take (i + 1) piece
+taken_further bytes piece i within =
+    append_assoc bytes (take i piece) (get_or piece i 0 ∷ [])
+    ∙ ap (λ rest. bytes ++ (take i piece ++ rest)) (ap (take 1) (sym (drop-cons piece i 0 within)))
+    ∙ ap (λ all. bytes ++ all) (sym (take-add i 1 piece))
+
+module _ (start : Store) where
+  -- ---- answers behind what was answered
+
+  says_further : (xs ys : List (Parsed Command)) (store : Store) (begun said now : Option (List ℕ)) → store ≡ after slot_limit start xs → Says begun (texts (replies slot_limit start xs)) said → Says said (texts (replies slot_limit store ys)) now → Says begun (texts (replies slot_limit start (xs ++ ys))) now
+  says_further xs ys store begun said now at before more =
+      rw (texts-append start xs ys, ← at) (says_more _ _ _ _ _ before more)
+
+  part_of_answer : (xs : List (Parsed Command)) (found : Option (Parsed Command)) (begun said now : Option (List ℕ)) → Says begun (texts (replies slot_limit start xs)) said → SaysOfAnswer SayFault (replies slot_limit (after slot_limit start xs) (option_to_list found)) said now → StoppedAt SayFault start (xs ++ option_to_list found) begun now
+  part_of_answer xs None begun said now before (n, below, more) = absurd (omega arith)
+  part_of_answer xs (Some e) begun said now before (n, below, more) =
+      let reply = (step slot_limit (after slot_limit start xs) e).0 in
+      let one : texts (reply ∷ []) ≡ reply_text reply = append-nil (reply_text reply) in
+      record {
+        piece = texts (replies slot_limit start xs) ++ take n (reply_text reply);
+        text = says_more _ _ _ _ _ before (rw one at more);
+        until = record {
+          answered = replies slot_limit start xs;
+          next = reply;
+          more = [];
+          part = n;
+          order = replies-append start xs (e ∷ []);
+          proper = rw one at below;
+          text = refl;
+        };
+      }
+
+  unsaid_answer : (xs : List (Parsed Command)) (found : Option (Parsed Command)) (begun said now : Option (List ℕ)) → Says begun (texts (replies slot_limit start xs)) said → now ≡ said
+      → (piece : List ℕ) × Says begun piece now × SaysWhole (replies slot_limit start (xs ++ option_to_list found)) piece
+  unsaid_answer xs found begun said now before same = (
+    texts (replies slot_limit start xs),
+    same ∙ before,
+    record {
+      answered = replies slot_limit start xs;
+      more = replies slot_limit (after slot_limit start xs) (option_to_list found);
+      order = replies-append start xs (option_to_list found);
+      text = refl;
+    },
+  )
+
+  stopped_answer : (error : AnswerError) (xs : List (Parsed Command)) (found : Option (Parsed Command)) (begun said now : Option (List ℕ)) → Says begun (texts (replies slot_limit start xs)) said → SaysOfAnswer error (replies slot_limit (after slot_limit start xs) (option_to_list found)) said now → StoppedAt error start (xs ++ option_to_list found) begun now
+  stopped_answer SayFault xs found begun said now before part = part_of_answer xs found begun said now before part
+  stopped_answer DeviceFault xs found begun said now before same =
+      let at = unsaid_answer xs found begun said now before same in record { piece = at.0; text = at.1; until = at.2 }
+  stopped_answer NoMemory xs found begun said now before same =
+      let at = unsaid_answer xs found begun said now before same in record { piece = at.0; text = at.1; until = at.2 }
+
+  pub stopped_further : (error : AnswerError) (xs ys : List (Parsed Command)) (begun said : Option (List ℕ)) → StoppedAt error start xs begun said → StoppedAt error start (xs ++ ys) begun said
+  stopped_further error xs ys begun said stopped = record {
+    piece = stopped.piece;
+    text = stopped.text;
+    until =
+        rw (replies-append start xs ys)
+        (until_further error (replies slot_limit start xs) (replies slot_limit (after slot_limit start xs) ys) stopped.piece stopped.until);
+  }
+
+  -- ---- the steps of a run
+
+  pub line_ended : (bytes line : List ℕ) (begun said now : Option (List ℕ)) (old new : ScriptRun) → IsAt start bytes begun old said → line ≡ strip_carriage_return old.line.items
+      → limit_of new.keeper ≡ limit_of old.keeper → store_of new.keeper ≡ after (limit_of old.keeper) (store_of old.keeper) (entries_in line) → new.line.items ≡ []
+      → Says said (texts (replies (limit_of old.keeper) (store_of old.keeper) (entries_in line))) now → IsAt start (bytes ++ 10 ∷ []) begun new now
+  line_ended bytes line begun said now old new at is limit store empty says =
+      let same = kept_stripped bytes old.line.items line at.line is in
+      let more = entries_in (strip_carriage_return (open_line bytes)) in
+      let store_now : store_of new.keeper ≡ after slot_limit (store_of old.keeper) (entries_in line) = store ∙ ap (λ (most : ℕ). after most (store_of old.keeper) (entries_in line)) at.limit in
+      record {
+        limit = limit ∙ at.limit;
+        store = rw (ended_lf bytes, after-append start (ended_entries bytes) more, ← at.store, ← same) store_now;
+        line = rw (open_line-lf bytes) empty;
+        text = rw (ended_lf bytes) (says_further (ended_entries bytes) more (store_of old.keeper) begun said now at.store at.text (rw (at.limit, same) at says));
+      }
+
+  pub line_stopped : (error : AnswerError) (bytes line : List ℕ) (begun said now : Option (List ℕ)) (old : ScriptRun) → IsAt start bytes begun old said → line ≡ strip_carriage_return old.line.items
+      → SaysOfAnswer error (replies (limit_of old.keeper) (store_of old.keeper) (entries_in line)) said now → StoppedAt error start (ended_entries (bytes ++ 10 ∷ [])) begun now
+  line_stopped error bytes line begun said now old at is says =
+      rw (ended_lf bytes)
+      (stopped_answer error (ended_entries bytes) (entry (strip_carriage_return (open_line bytes))) begun said now at.text
+      (rw (at.limit, at.store, kept_stripped bytes old.line.items line at.line is) at says))
+
+  pub line_kept : (bytes : List ℕ) (b : ℕ) (begun said : Option (List ℕ)) (old new : ScriptRun) → IsAt start bytes begun old said → b ≢ 10 → new.keeper ≡ old.keeper → length old.line.items < 262_146 → new.line.items ≡ old.line.items ++ b ∷ [] → IsAt start (bytes ++ b ∷ []) begun new said
+  line_kept bytes b begun said old new at on keeper short pushed =
+      record {
+        limit = rw keeper at.limit;
+        store = rw (ended_on bytes b on, keeper) at.store;
+        line =
+            pushed ∙ keeps_all 262_146 (open_line bytes) old.line.items b at.line short
+            ∙ ap (take 262_146) (sym (open_line-on bytes b on));
+        text = rw (ended_on bytes b on) at.text;
+      }
+
+  pub line_passed : (bytes : List ℕ) (b : ℕ) (begun said : Option (List ℕ)) (run : ScriptRun) → IsAt start bytes begun run said → b ≢ 10 → 262_146 ≤ length run.line.items → IsAt start (bytes ++ b ∷ []) begun run said
+  line_passed bytes b begun said run at on long = record {
+    limit = at.limit;
+    store = rw (ended_on bytes b on) at.store;
+    line =
+        keeps_front 262_146 (open_line bytes) run.line.items b at.line long
+        ∙ ap (take 262_146) (sym (open_line-on bytes b on));
+    text = rw (ended_on bytes b on) at.text;
+  }
+
+  pub finished : (bytes line : List ℕ) (begun said now : Option (List ℕ)) (run : ScriptRun) → IsAt start bytes begun run said → line ≡ run.line.items
+      → Says said (texts (replies (limit_of run.keeper) (store_of run.keeper) (entries_in line))) now → Says begun (texts (replies slot_limit start (script bytes))) now
+  finished bytes line begun said now run at is says =
+      let same = ap entries_in is ∙ kept_open bytes run.line.items at.line in
+      rw (script-is bytes) (says_further (ended_entries bytes) (entries_in (open_line bytes)) (store_of run.keeper) begun said now at.store at.text (rw (at.limit, same) at says))
+
+  pub finish_stopped : (error : AnswerError) (bytes line : List ℕ) (begun said now : Option (List ℕ)) (run : ScriptRun) → IsAt start bytes begun run said → line ≡ run.line.items
+      → SaysOfAnswer error (replies (limit_of run.keeper) (store_of run.keeper) (entries_in line)) said now → StoppedAt error start (script bytes) begun now
+  finish_stopped error bytes line begun said now run at is says =
+      rw (script-is bytes)
+      (stopped_answer error (ended_entries bytes) (entry (open_line bytes)) begun said now at.text
+      (rw (at.limit, at.store, ap entries_in is ∙ kept_open bytes run.line.items at.line) at says))
+
+  -- ---- more of the input
+
+  pub stopped_later : (error : AnswerError) (bytes piece : List ℕ) (begun said : Option (List ℕ)) → StoppedAt error start (ended_entries bytes) begun said → StoppedAt error start (ended_entries (bytes ++ piece)) begun said
+  stopped_later error bytes piece begun said stopped =
+      let further = ended_further bytes piece in
+      rw further.1 (stopped_further error (ended_entries bytes) further.0 begun said stopped)
+
+  -- a run that stops before anything more is said
+  pub stopped_here : (bytes piece : List ℕ) (begun said : Option (List ℕ)) (run : ScriptRun) → IsAt start bytes begun run said → StoppedAt NoMemory start (ended_entries (bytes ++ piece)) begun said
+  stopped_here bytes piece begun said run at = stopped_later NoMemory bytes piece begun said (record {
+    piece = texts (replies slot_limit start (ended_entries bytes));
+    text = at.text;
+    until = record {
+      answered = replies slot_limit start (ended_entries bytes);
+      more = [];
+      order = sym (append-nil (replies slot_limit start (ended_entries bytes)));
+      text = refl;
+    };
+  })
+
+  -- what was said at a stop is so of the script whose front was read
+  pub stopped_script : (error : AnswerError) (bytes rest : List ℕ) (begun said : Option (List ℕ)) → StoppedAt error start (ended_entries bytes) begun said → StoppedAt error start (script (bytes ++ rest)) begun said
+  stopped_script error bytes rest begun said stopped =
+      rw (script-is (bytes ++ rest))
+      (stopped_further error (ended_entries (bytes ++ rest)) (entries_in (open_line (bytes ++ rest))) begun said (stopped_later error bytes rest begun said stopped))
+
+  pub stopped_within : (error : AnswerError) (bytes piece : List ℕ) (i : ℕ) (begun said : Option (List ℕ)) → i < length piece → StoppedAt error start (ended_entries ((bytes ++ take i piece) ++ get_or piece i 0 ∷ [])) begun said → StoppedAt error start (ended_entries (bytes ++ piece)) begun said
+  stopped_within error bytes piece i begun said within stopped =
+      rw (← around bytes piece i within)
+      (stopped_later error ((bytes ++ take i piece) ++ get_or piece i 0 ∷ []) (drop (i + 1) piece) begun said stopped)

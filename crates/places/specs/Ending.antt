@@ -1,18 +1,44 @@
 -- What a run leaves at each of its ends, where the source and the desk tell their content.
-use Rattle.std.specs.Prelude.{◌≡◌, ℕ, ◌<◌, List, [], ◌++◌, length, Option, Some}
-use Rattle.pl_base.specs.Store.{opening}
+use Rattle.std.specs.Prelude.{◌≡◌, ◌⊎◌, ℕ, ◌<◌, List, [], ◌∷◌, ◌++◌, codes, length, Option, Some}
+use Rattle.pl_base.specs.Store.{Store, opening}
+use Rattle.pl_desk.specs.Desk.{Rests}
 use Rattle.pl_engine.specs.Run.{replies}
 use Rattle.pl_script.specs.Script.{script}
-use Rattle.places.specs.declared.answer.AnswerError.{AnswerError}
-use Rattle.places.specs.declared.answer.AnswerError.TheVariants as answer
+use Rattle.pl_store.specs.Session.{Stands}
+use Rattle.places.specs.declared.answer_error.AnswerError.{AnswerError}
+use Rattle.places.specs.declared.answer_error.AnswerError.TheVariants as answer
+use Rattle.places.specs.declared.status.Status.{Status}
+use Rattle.places.specs.declared.status.Status.TheVariants as status
 use Rattle.places.specs.declared.stop.Stop.{Stop}
 use Rattle.places.specs.declared.stop.Stop.TheVariants as stop
+use Rattle.places.specs.Keeper.{slot_limit}
 use Rattle.places.specs.Progress.{ended_entries}
 use Rattle.places.specs.Said.{SaysUntil, texts}
 
 abbrev pub Becomes : AnswerError → Stop → Type 0
 Becomes answer.SayFault e = e ≡ stop.SayFault
+Becomes answer.DeviceFault e = e ≡ stop.DeviceFault
 Becomes answer.NoMemory e = e ≡ stop.NoMemory
+
+-- ---- words
+
+-- `try`; `new` and `run` with the name of a file
+abbrev pub IsTry : List (List ℕ) → Type 0
+IsTry words = words ≡ codes "try" ∷ []
+
+abbrev pub IsNew : List (List ℕ) → Type 0
+IsNew words = (path : List ℕ) × (words ≡ codes "new" ∷ path ∷ [])
+
+abbrev pub IsRun : List (List ℕ) → Type 0
+IsRun words = (path : List ℕ) × (words ≡ codes "run" ∷ path ∷ [])
+
+-- a script is run from this store on: `try` from the store before its first command, `run` from the store
+-- that the file stands for
+abbrev pub BeginsWith : List (List ℕ) → Option (List ℕ) → Store → Type 0
+BeginsWith words held start =
+    (IsTry words × (start ≡ opening)) ⊎ (IsRun words × ((file : List ℕ) × (held ≡ Some file) × Stands file start))
+
+-- ---- what was said
 
 -- P of what the source holds and of what was said before, where both are told
 abbrev pub IfTold : Option (List ℕ) → Option (List ℕ) → (List ℕ → List ℕ → Type 0) → Type 0
@@ -20,29 +46,52 @@ IfTold left said P =
     (bytes before : List ℕ) → left ≡ Some bytes → said ≡ Some before → P bytes before
 
 -- the input was read to its end, and the texts of all replies were said
-pub record SaysAll (bytes before : List ℕ) (left said : Option (List ℕ)) : Type 0 where
+pub record SaysAll (start : Store) (bytes before : List ℕ) (left said : Option (List ℕ)) : Type 0 where
   pub nothing_left : left ≡ Some []
-  pub all_said : said ≡ Some (before ++ texts (replies opening (script bytes)))
+  pub all_said : said ≡ Some (before ++ texts (replies slot_limit start (script bytes)))
   pub in_limit : length bytes < 2_147_483_648
 
 -- a front of the input was read, and the texts of the replies to the lines that ended within it were said
-pub record SaysEnded (bytes before : List ℕ) (left said : Option (List ℕ)) : Type 0 where
+pub record SaysEnded (start : Store) (bytes before : List ℕ) (left said : Option (List ℕ)) : Type 0 where
   pub read : List ℕ
   pub rest : List ℕ
   pub order : bytes ≡ read ++ rest
   pub rest_left : left ≡ Some rest
-  pub ended_said : said ≡ Some (before ++ texts (replies opening (ended_entries read)))
+  pub ended_said : said ≡ Some (before ++ texts (replies slot_limit start (ended_entries read)))
 
 -- the run stopped at one of the replies
-pub record SaysFront (error : AnswerError) (bytes before : List ℕ) (said : Option (List ℕ)) : Type 0 where
+pub record SaysFront (error : AnswerError) (start : Store) (bytes before : List ℕ) (said : Option (List ℕ)) : Type 0 where
   pub piece : List ℕ
   pub front_said : said ≡ Some (before ++ piece)
-  pub until : SaysUntil error (replies opening (script bytes)) piece
+  pub until : SaysUntil error (replies slot_limit start (script bytes)) piece
 
 -- what was said at a stop
-abbrev pub SaysAtStop : Stop → List ℕ → List ℕ → Option (List ℕ) → Option (List ℕ) → Type 0
-SaysAtStop stop.ReadFault bytes before left said = SaysEnded bytes before left said
-SaysAtStop stop.TooLong bytes before left said =
-    (ended : SaysEnded bytes before left said) × (length ended.read ≡ 2_147_483_648)
-SaysAtStop stop.SayFault bytes before left said = SaysFront answer.SayFault bytes before said
-SaysAtStop stop.NoMemory bytes before left said = SaysFront answer.NoMemory bytes before said
+abbrev pub SaysAtStop : Stop → Store → List ℕ → List ℕ → Option (List ℕ) → Option (List ℕ) → Type 0
+SaysAtStop stop.ReadFault start bytes before left said = SaysEnded start bytes before left said
+SaysAtStop stop.TooLong start bytes before left said =
+    (ended : SaysEnded start bytes before left said) × (length ended.read ≡ 2_147_483_648)
+SaysAtStop stop.SayFault start bytes before left said = SaysFront answer.SayFault start bytes before said
+SaysAtStop stop.DeviceFault start bytes before left said = SaysFront answer.DeviceFault start bytes before said
+SaysAtStop stop.NoMemory start bytes before left said = SaysFront answer.NoMemory start bytes before said
+
+-- what a script's run leaves said at each status; on a store there are no others
+abbrev pub EndsScript : Status → Store → List ℕ → List ℕ → Option (List ℕ) → Option (List ℕ) → Type 0
+EndsScript status.Done start bytes before left said = SaysAll start bytes before left said
+EndsScript status.ReadFault start bytes before left said = SaysEnded start bytes before left said
+EndsScript (status.TooLong limit) start bytes before left said =
+    (ended : SaysEnded start bytes before left said) × (length ended.read ≡ limit)
+EndsScript status.SayFault start bytes before left said = SaysFront answer.SayFault start bytes before said
+EndsScript status.DeviceFault start bytes before left said = SaysFront answer.DeviceFault start bytes before said
+EndsScript status.NoMemory start bytes before left said = SaysFront answer.NoMemory start bytes before said
+EndsScript status.Usage start bytes before left said = ⊥
+EndsScript status.NotAStore start bytes before left said = ⊥
+EndsScript (status.NotEmpty len) start bytes before left said = ⊥
+
+-- ---- a new store
+
+abbrev pub made_text : List ℕ
+made_text = codes "new\n"
+
+-- the file stands for the store before its first command, and a stop leaves just what a read gives
+abbrev pub IsMade : Option (List ℕ) → (List ℕ → Type 0) → Type 0
+IsMade held may_leave = Rests held may_leave (λ file. Stands file opening)

@@ -1,5 +1,7 @@
 pub mod Ending
+pub mod Keeper
 pub mod Lines
 pub mod Progress
 pub mod Said
 pub mod Status
+pub mod Stops

@@ -1,12 +1,12 @@
 -- How far a run has come.
 use Rattle.std.specs.Prelude.{◌≡◌, ℕ, List, take, Option}
-use Rattle.pl_base.specs.Store.{opening}
+use Rattle.pl_base.specs.Store.{Store}
 use Rattle.pl_engine.specs.declared.command.Command.{Command}
-use Rattle.pl_engine.specs.Plain.{store_of}
 use Rattle.pl_engine.specs.Run.{replies, after}
 use Rattle.pl_engine.specs.Parsed.{Parsed}
 use Rattle.places.specs.declared.script_run.ScriptRun.{ScriptRun}
-use Rattle.places.specs.declared.answer.AnswerError.{AnswerError}
+use Rattle.places.specs.declared.answer_error.AnswerError.{AnswerError}
+use Rattle.places.specs.Keeper.{limit_of, slot_limit, store_of}
 use Rattle.places.specs.Lines.{ended_lines, entries_of, open_line}
 use Rattle.places.specs.Said.{Says, SaysUntil, texts}
 
@@ -16,13 +16,14 @@ ended_entries bytes = entries_of (ended_lines bytes)
 
 -- after these bytes of the input: the lines that ended were answered, and of the line that has not as much
 -- is kept as tells its entry
-pub record IsAt (bytes : List ℕ) (begun : Option (List ℕ)) (run : ScriptRun) (said : Option (List ℕ)) : Type 0 where
-  pub store : store_of run.store ≡ after opening (ended_entries bytes)
+pub record IsAt (start : Store) (bytes : List ℕ) (begun : Option (List ℕ)) (run : ScriptRun) (said : Option (List ℕ)) : Type 0 where
+  pub limit : limit_of run.keeper ≡ slot_limit
+  pub store : store_of run.keeper ≡ after slot_limit start (ended_entries bytes)
   pub line : run.line.items ≡ take 262_146 (open_line bytes)
-  pub text : Says begun (texts (replies opening (ended_entries bytes))) said
+  pub text : Says begun (texts (replies slot_limit start (ended_entries bytes))) said
 
 -- a run that stopped at one of these entries
-pub record StoppedAt (error : AnswerError) (entries : List (Parsed Command)) (begun said : Option (List ℕ)) : Type 0 where
+pub record StoppedAt (error : AnswerError) (start : Store) (entries : List (Parsed Command)) (begun said : Option (List ℕ)) : Type 0 where
   pub piece : List ℕ
   pub text : Says begun piece said
-  pub until : SaysUntil error (replies opening entries) piece
+  pub until : SaysUntil error (replies slot_limit start entries) piece

@@ -4,8 +4,8 @@ use Rattle.std.specs.Option.{option_map}
 use Rattle.std.specs.List.{flat_map}
 use Rattle.pl_engine.specs.declared.reply.Reply.{Reply}
 use Rattle.pl_script.specs.Reply.{reply_text}
-use Rattle.places.specs.declared.answer.AnswerError.{AnswerError}
-use Rattle.places.specs.declared.answer.AnswerError.TheVariants.{SayFault, NoMemory}
+use Rattle.places.specs.declared.answer_error.AnswerError.{AnswerError}
+use Rattle.places.specs.declared.answer_error.AnswerError.TheVariants.{SayFault, DeviceFault, NoMemory}
 
 -- the piece was said, and nothing else
 abbrev pub Says : Option (List ℕ) → List ℕ → Option (List ℕ) → Type 0
@@ -35,9 +35,11 @@ pub record SaysPart (replies : List Reply) (said : List ℕ) : Type 0 where
 -- what was said of the replies when one of them could not be answered
 abbrev pub SaysUntil : AnswerError → List Reply → List ℕ → Type 0
 SaysUntil SayFault replies said = SaysPart replies said
+SaysUntil DeviceFault replies said = SaysWhole replies said
 SaysUntil NoMemory replies said = SaysWhole replies said
 
 -- the same of one answer, which has one reply or none
 abbrev pub SaysOfAnswer : AnswerError → List Reply → Option (List ℕ) → Option (List ℕ) → Type 0
 SaysOfAnswer SayFault replies before now = (n : ℕ) × (n < length (texts replies)) × Says before (take n (texts replies)) now
+SaysOfAnswer DeviceFault replies before now = now ≡ before
 SaysOfAnswer NoMemory replies before now = now ≡ before

@@ -1,7 +1,9 @@
 -- Exit statuses.
-use Rattle.std.specs.Prelude.{◌≡◌, ℕ, Option, Some, None}
+use Rattle.std.specs.Prelude.{◌≡◌, ⊤, ℕ, Option, Some, None, Result, Ok, Err}
+use Rattle.pl_store.specs.declared.ended.Ended.{Ended}
+use Rattle.pl_store.specs.declared.ended.Ended.TheVariants as ended
 use Rattle.places.specs.declared.status.Status.{Status}
-use Rattle.places.specs.declared.status.Status.TheVariants.{Done, Usage, ReadFault, SayFault, NoMemory, TooLong}
+use Rattle.places.specs.declared.status.Status.TheVariants.{Done, Usage, ReadFault, SayFault, DeviceFault, NoMemory, NotAStore, NotEmpty, TooLong}
 use Rattle.places.specs.declared.stop.Stop.{Stop}
 use Rattle.places.specs.declared.stop.Stop.TheVariants as stop
 
@@ -10,7 +12,10 @@ status_number Done = 0
 status_number Usage = 2
 status_number ReadFault = 3
 status_number SayFault = 4
+status_number DeviceFault = 5
 status_number NoMemory = 6
+status_number NotAStore = 7
+status_number (NotEmpty len) = 8
 status_number (TooLong read) = 10
 
 -- the number that a status tells besides
@@ -19,12 +24,28 @@ status_value Done = None
 status_value Usage = None
 status_value ReadFault = None
 status_value SayFault = None
+status_value DeviceFault = None
 status_value NoMemory = None
+status_value NotAStore = None
+status_value (NotEmpty len) = Some len
 status_value (TooLong read) = Some read
 
 -- the status of a run that stopped
 abbrev pub EndsIn : Stop → Status → Type 0
 EndsIn stop.ReadFault status = status ≡ ReadFault
 EndsIn stop.SayFault status = status ≡ SayFault
+EndsIn stop.DeviceFault status = status ≡ DeviceFault
 EndsIn stop.NoMemory status = status ≡ NoMemory
 EndsIn stop.TooLong status = status ≡ TooLong 2_147_483_648
+
+-- the status of a run
+abbrev pub EndsAs : Result ⊤ Stop → Status → Type 0
+EndsAs (Ok done) status = status ≡ Done
+EndsAs (Err stop) status = EndsIn stop status
+
+-- the status of a run whose file gave no session
+abbrev pub without_session : Ended → Status
+without_session ended.DeviceFault = DeviceFault
+without_session ended.NoMemory = NoMemory
+without_session ended.NotAStore = NotAStore
+without_session (ended.NotEmpty len) = NotEmpty len

@@ -1,75 +1,113 @@
 // The answer to one line.
-ghost use Rattle.std.specs.Prelude.{◌≡◌, ◌≤◌, [], IfOk, IfErr, OnOk, option_to_list};
+ghost use Rattle.std.specs.Prelude.{◌≡◌, ◌≤◌, ℕ, List, [], ◌∷◌, Some, Ok, Err, false, IfOk, IfErr, OnOk, OnErr};
 ghost use Rattle.pl_desk.specs.Counts.{Rose};
-ghost use Rattle.pl_engine.specs.Plain.{store_of};
+ghost use Rattle.pl_desk.specs.Desk.{ShowsOnly};
 ghost use Rattle.pl_engine.specs.Run.{replies, after};
+ghost use Rattle.pl_engine.specs.Step.{HasDates};
+ghost use Rattle.pl_script.specs.Reply.{reply_text as text_of_reply};
+ghost use Rattle.places.specs.Keeper.{IsKept, is_file, limit_of, store_of};
 ghost use Rattle.places.specs.Lines.{entries_in};
 ghost use Rattle.places.specs.Said.{Says, SaysOfAnswer, texts};
+ghost use Rattle.places.specs.Stops.{ShowsAnswer, ShowsFront};
 
+use crate::answer_error::AnswerError;
+use crate::keeper::Keeper;
 use crate::say::say_all;
-use pl_base::NoMemory;
+use pl_base::Refusal;
 use pl_desk::Desk;
-use pl_engine::{PlainStore, Reply};
+use pl_engine::{Command, Reply};
 use pl_script::{LineError, line, reply_text};
 use std::alloc::Global;
-use thiserror::Error;
 
-/// Why a line has no answer.
-#[derive(Clone, Copy, Debug, PartialEq, Eq, Error)]
-pub enum AnswerError {
-    /// The line failed while the reply was said.
-    #[error("the reply was not said")]
-    SayFault,
-    /// There was no memory for the command or its reply: nothing of it was said.
-    #[error("out of memory")]
-    NoMemory,
-}
-
-impl From<NoMemory> for AnswerError {
-    ghost use Rattle.std.specs.Prelude.{◌≡◌};
-    ghost use Rattle.places.specs.declared.answer.AnswerError.TheVariants as error;
-
-    ghost from_gives = { λ _ e. e ≡ error.NoMemory };
-
-    fn from(_: NoMemory) -> Self {
-        AnswerError::NoMemory
+/// Answers a line without its LF: the store makes its step, the file takes it, and the reply is said.
+pub fn answer<D: Desk>(
+    alloc: Global,
+    keeper: Keeper,
+    bytes: &[u8],
+    desk: &mut D,
+) -> Result<Keeper, AnswerError>
+    ensures store { IfOk result (λ next. store_of next ≡ after (limit_of keeper) (store_of keeper) (entries_in bytes.now)) }
+    ensures limit { IfOk result (λ next. limit_of next ≡ limit_of keeper) }
+    ensures kind { IfOk result (λ next. is_file next ≡ is_file keeper) }
+    ensures kept { IfOk result (λ next. (first : D) → IsKept keeper (D.may_leave first) (D.held desk.old) (D.may_leave desk.old)
+        → IsKept next (D.may_leave first) (D.held desk.new) (D.may_leave desk.new)) }
+    ensures said { OnOk result (Says (D.said desk.old) (texts (replies (limit_of keeper) (store_of keeper) (entries_in bytes.now))) (D.said desk.new)) }
+    ensures stopped { IfErr result (λ error. SaysOfAnswer error (replies (limit_of keeper) (store_of keeper) (entries_in bytes.now)) (D.said desk.old) (D.said desk.new)) }
+    ensures shows { (first : D) (before : List ℕ) → D.said desk.old ≡ Some before
+        → IsKept keeper (D.may_leave first) (D.held desk.old) (D.may_leave desk.old)
+        → ShowsOnly D.moment D.shown_since desk.old desk.new
+        (ShowsAnswer (is_file keeper) (D.may_leave first) (limit_of keeper) (store_of keeper) (entries_in bytes.now) before) }
+    ensures alone { is_file keeper ≡ false → (D.held desk.new ≡ D.held desk.old) × (D.written desk.new ≡ D.written desk.old) × (D.device_faults desk.new ≡ D.device_faults desk.old) }
+    ensures no_memory { result ≡ Err AnswerError.NoMemory → desk.new ≡ desk.old }
+    ensures says_counted { D.line_faults desk.old ≤ D.line_faults desk.new }
+    ensures say_cause { result ≡ Err AnswerError.SayFault → Rose (D.line_faults desk.old) (D.line_faults desk.new) }
+    ensures device_counted { D.device_faults desk.old ≤ D.device_faults desk.new }
+    ensures device_cause { result ≡ Err AnswerError.DeviceFault → Rose (D.device_faults desk.old) (D.device_faults desk.new) }
+{
+    match line(alloc, bytes) {
+        Ok(None) => Ok(keeper),
+        Ok(Some(command)) => perform(alloc, keeper, &command, desk),
+        Err(LineError::Refused(refusal)) => {
+            refuse(alloc, refusal, desk)?;
+            Ok(keeper)
+        }
+        Err(LineError::NoMemory) => Err(AnswerError::NoMemory),
     }
 }
 
-/// Answers a line without its LF: the store makes its step, and the reply is said.
-pub fn answer<D: Desk>(
+// Performs a command: the reply's text is made before the file takes the step, and said after it.
+fn perform<D: Desk>(
     alloc: Global,
-    store: &mut PlainStore,
-    bytes: &[u8],
+    keeper: Keeper,
+    command: &Command,
     desk: &mut D,
-) -> Result<(), AnswerError>
-    ensures store { OnOk result (store_of store.new ≡ after (store_of store.old) (entries_in bytes.now)) }
-    ensures said { OnOk result (Says (D.said desk.old) (texts (replies (store_of store.old) (entries_in bytes.now))) (D.said desk.new)) }
-    ensures stopped { IfErr result (λ stop. SaysOfAnswer stop (replies (store_of store.old) (entries_in bytes.now)) (D.said desk.old) (D.said desk.new)) }
-    ensures counted { D.line_faults desk.old ≤ D.line_faults desk.new }
-    ensures cause { result ≡ Err AnswerError.SayFault → Rose (D.line_faults desk.old) (D.line_faults desk.new) }
-    ensures held { D.held desk.new ≡ D.held desk.old }
-    ensures written { D.written desk.new ≡ D.written desk.old }
-    ensures device { D.device_faults desk.new ≡ D.device_faults desk.old }
+) -> Result<Keeper, AnswerError>
+    requires dates { HasDates command.now }
+    ensures store { IfOk result (λ next. store_of next ≡ after (limit_of keeper) (store_of keeper) (Ok command.now ∷ [])) }
+    ensures limit { IfOk result (λ next. limit_of next ≡ limit_of keeper) }
+    ensures kind { IfOk result (λ next. is_file next ≡ is_file keeper) }
+    ensures kept { IfOk result (λ next. (first : D) → IsKept keeper (D.may_leave first) (D.held desk.old) (D.may_leave desk.old)
+        → IsKept next (D.may_leave first) (D.held desk.new) (D.may_leave desk.new)) }
+    ensures said { OnOk result (Says (D.said desk.old) (texts (replies (limit_of keeper) (store_of keeper) (Ok command.now ∷ []))) (D.said desk.new)) }
+    ensures stopped { IfErr result (λ error. SaysOfAnswer error (replies (limit_of keeper) (store_of keeper) (Ok command.now ∷ [])) (D.said desk.old) (D.said desk.new)) }
+    ensures shows { (first : D) (before : List ℕ) → D.said desk.old ≡ Some before
+        → IsKept keeper (D.may_leave first) (D.held desk.old) (D.may_leave desk.old)
+        → ShowsOnly D.moment D.shown_since desk.old desk.new
+        (ShowsAnswer (is_file keeper) (D.may_leave first) (limit_of keeper) (store_of keeper) (Ok command.now ∷ []) before) }
+    ensures alone { is_file keeper ≡ false → (D.held desk.new ≡ D.held desk.old) × (D.written desk.new ≡ D.written desk.old) × (D.device_faults desk.new ≡ D.device_faults desk.old) }
+    ensures no_memory { result ≡ Err AnswerError.NoMemory → desk.new ≡ desk.old }
+    ensures says_counted { D.line_faults desk.old ≤ D.line_faults desk.new }
+    ensures say_cause { result ≡ Err AnswerError.SayFault → Rose (D.line_faults desk.old) (D.line_faults desk.new) }
+    ensures device_counted { D.device_faults desk.old ≤ D.device_faults desk.new }
+    ensures device_cause { result ≡ Err AnswerError.DeviceFault → Rose (D.device_faults desk.old) (D.device_faults desk.new) }
 {
-    let Some(reply) = reply_to(alloc, store, bytes)? else {
-        return Ok(());
-    };
+    let (ready, reply) = keeper.prepare(command)?;
     let text = reply_text(alloc, &reply)?;
+    let next = ready.commit(desk)?;
     match say_all(desk, text.as_str().as_bytes()) {
-        Ok(()) => Ok(()),
+        Ok(()) => Ok(next),
         Err(_) => Err(AnswerError::SayFault),
     }
 }
 
-fn reply_to(alloc: Global, store: &mut PlainStore, bytes: &[u8]) -> Result<Option<Reply>, NoMemory>
-    ensures reply { IfOk result (λ reply. option_to_list reply ≡ replies (store_of store.old) (entries_in bytes.now)) }
-    ensures store { OnOk result (store_of store.new ≡ after (store_of store.old) (entries_in bytes.now)) }
+// Answers a line that asks for nothing that can be done.
+fn refuse<D: Desk>(alloc: Global, refusal: Refusal, desk: &mut D) -> Result<(), AnswerError>
+    ensures said { OnOk result (Says (D.said desk.old) (text_of_reply (Reply.Refused refusal)) (D.said desk.new)) }
+    ensures stopped { IfErr result (λ error. SaysOfAnswer error (Reply.Refused refusal ∷ []) (D.said desk.old) (D.said desk.new)) }
+    ensures shows { (before : List ℕ) → D.said desk.old ≡ Some before
+        → ShowsOnly D.moment D.shown_since desk.old desk.new (ShowsFront (D.may_leave desk.old) before (text_of_reply (Reply.Refused refusal))) }
+    ensures leaves { (file : List ℕ) → D.may_leave desk.new file → D.may_leave desk.old file }
+    ensures no_fault { result ≡ Err AnswerError.DeviceFault → ⊥ }
+    ensures no_memory { result ≡ Err AnswerError.NoMemory → desk.new ≡ desk.old }
+    ensures held { D.held desk.new ≡ D.held desk.old }
+    ensures written { D.written desk.new ≡ D.written desk.old }
+    ensures device { D.device_faults desk.new ≡ D.device_faults desk.old }
+    ensures counted { D.line_faults desk.old ≤ D.line_faults desk.new }
+    ensures cause { result ≡ Err AnswerError.SayFault → Rose (D.line_faults desk.old) (D.line_faults desk.new) }
 {
-    match line(alloc, bytes) {
-        Ok(None) => Ok(None),
-        Ok(Some(command)) => Ok(Some(store.perform(command)?)),
-        Err(LineError::Refused(refusal)) => Ok(Some(Reply::Refused(refusal))),
-        Err(LineError::NoMemory) => Err(NoMemory),
+    let text = reply_text(alloc, &Reply::Refused(refusal))?;
+    match say_all(desk, text.as_str().as_bytes()) {
+        Ok(()) => Ok(()),
+        Err(_) => Err(AnswerError::SayFault),
     }
 }

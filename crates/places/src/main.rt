@@ -1,18 +1,23 @@
 //! `places`: the store behind a browser's history window and address bar.
 //!
-//! `places try` answers the commands of its input, one a line, on a store that is empty at first.
+//! `places new STORE` makes a store's file, and `places run STORE` answers the commands of its input, one a
+//! line, on the store that the file holds. `places try` does so on a store in memory.
 #![tactic(auto)]
 
 mod answer;
+mod answer_error;
 mod input;
+mod keeper;
+mod make_store;
 mod run;
+mod run_script;
 mod say;
+mod script;
 mod script_run;
 mod status;
 mod stop;
 #[cfg(test)]
 mod tests;
-mod try_script;
 
 use pl_file::{FileDesk, StreamSource};
 use run::run;
@@ -50,8 +55,8 @@ fn run_words(rt: &HostRuntime, words: &[String]) -> Status {
     let Ok(texts) = texts else {
         return Status::NoMemory;
     };
-    // No command keeps its store in a file yet: `run` says to the desk, and calls nothing else of it.
-    let Ok(mut desk) = FileDesk::at(rt, "") else {
+    let path = texts.get(1).copied().unwrap_or("");
+    let Ok(mut desk) = FileDesk::at(rt, path) else {
         return Status::NoMemory;
     };
     run(alloc, &texts, &mut StreamSource::new(rt), &mut desk)

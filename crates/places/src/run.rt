@@ -1,37 +1,67 @@
-ghost use Rattle.std.specs.Prelude.{◌≡◌, ◌≢◌, ◌↔◌, ◌≤◌, ℕ, [], ◌∷◌, map, length, codes};
+ghost use Rattle.std.specs.Prelude.{◌≡◌, ◌⊎◌, ◌↔◌, ◌≤◌, ◌<◌, ℕ, List, [], Some, true, false, length, map, take, IfSome};
+ghost use Rattle.pl_base.specs.Store.{Store, opening};
 ghost use Rattle.pl_desk.specs.Counts.{Rose};
-ghost use Rattle.places.specs.declared.answer.AnswerError.TheVariants as AnswerError;
-ghost use Rattle.places.specs.Ending.{IfTold, SaysAll, SaysEnded, SaysFront};
+ghost use Rattle.pl_desk.specs.Desk.{ShowsOnly};
+ghost use Rattle.pl_script.specs.Script.{script};
+ghost use Rattle.pl_store.specs.Ending.{StandsForNone};
+ghost use Rattle.pl_store.specs.Session.{Stands};
+ghost use Rattle.places.specs.Ending.{BeginsWith, EndsScript, IfTold, IsMade, IsNew, IsRun, IsTry, made_text};
+ghost use Rattle.places.specs.Keeper.{slot_limit};
+ghost use Rattle.places.specs.Said.{Says};
+ghost use Rattle.places.specs.Stops.{LeavesAnswered, ShowsAnswered};
 
+use crate::make_store::make_store;
+use crate::script::{run_stored, try_script};
 use crate::status::Status;
-use crate::try_script::try_script;
 use pl_desk::{Desk, Source};
 use std::alloc::Global;
 
-/// Runs what the words ask for. `try` runs the script of the input on the opening store, and says the
-/// reply to each line as it comes; it calls nothing of the desk but `say`. `NoMemory` may come at any
-/// place: then nothing of its command was said.
+/// Runs what the words ask for. `new` writes the store before its first command into the desk's file, and
+/// says `new`. `run` runs the script of the input on the store that the file holds, and `try` on a store in
+/// memory, of which the desk's file knows nothing; both say the reply to each line as it comes, and the file
+/// of `run` holds a command before a byte of its reply is said. `NoMemory` may come at any place: then
+/// nothing of its command was said or is in the file.
 pub fn run<S: Source, D: Desk>(alloc: Global, words: &[&str], input: &mut S, desk: &mut D) -> Status
-    // Where the source and the desk tell their content: at Done everything was read, and what was said is
-    // the text of the replies of the plain machine to the script.
-    ensures done { result ≡ Status.Done → IfTold (S.left input.old) (D.said desk.old)
-        (λ bytes before. SaysAll bytes before (S.left input.new) (D.said desk.new)) }
+    // Where the source and the desk tell their content: at Done everything was read, and what was said is the
+    // text of the replies of the plain machine to the script. A read that fails, and the limit of a script, leave
+    // the lines answered that ended within what was read. A line that fails leaves the texts of the first replies
+    // said, and a front of the next; a file that fails and want of memory leave whole texts.
+    ensures replies { (start : Store) → BeginsWith (map (λ word. word.now) words.now) (D.held desk.old) start
+        → IfTold (S.left input.old) (D.said desk.old) (λ bytes before. EndsScript result start bytes before (S.left input.new) (D.said desk.new)) }
 
-    // A read that fails, and the limit of a script, leave the lines answered that ended within what was read.
-    ensures read_fault { result ≡ Status.ReadFault → IfTold (S.left input.old) (D.said desk.old)
-        (λ bytes before. SaysEnded bytes before (S.left input.new) (D.said desk.new)) }
-    ensures too_long { (limit : ℕ) → result ≡ Status.TooLong limit → IfTold (S.left input.old) (D.said desk.old)
-        (λ bytes before. (ended : SaysEnded bytes before (S.left input.new) (D.said desk.new)) × (length ended.read ≡ limit)) }
+    // A stop at any moment, within each call of the desk and within a recovery of the file too, shows the texts
+    // of the first replies and a front of the next. The file stands then for the store after as many commands,
+    // or after one more, and after that one where a byte of its reply was said.
+    ensures stops { IsRun (map (λ word. word.now) words.now) → (start : Store) → ((file : List ℕ) → D.may_leave desk.old file → Stands file start)
+        → IfTold (S.left input.old) (D.said desk.old) (λ bytes before.
+        ShowsOnly D.moment D.shown_since desk.old desk.new (ShowsAnswered true (D.may_leave desk.old) slot_limit start (script bytes) before)) }
+    // Want of memory leaves nothing of its command in the file.
+    ensures no_memory { result ≡ Status.NoMemory → IsRun (map (λ word. word.now) words.now) → (start : Store) → ((file : List ℕ) → D.may_leave desk.old file → Stands file start)
+        → IfTold (S.left input.old) (D.said desk.old) (λ bytes before.
+        LeavesAnswered true (D.may_leave desk.old) slot_limit start (script bytes) before (D.said desk.new) (D.may_leave desk.new)) }
+    // Of `try` it is one that a stop might have left before.
+    ensures stops_in_memory { IsTry (map (λ word. word.now) words.now) → IfTold (S.left input.old) (D.said desk.old) (λ bytes before.
+        ShowsOnly D.moment D.shown_since desk.old desk.new (ShowsAnswered false (D.may_leave desk.old) slot_limit opening (script bytes) before)) }
 
-    // A line that fails leaves the texts of the first replies said, and a front of the next; want of memory
-    // leaves whole texts.
-    ensures say_fault { result ≡ Status.SayFault → IfTold (S.left input.old) (D.said desk.old)
-        (λ bytes before. SaysFront AnswerError.SayFault bytes before (D.said desk.new)) }
-    ensures no_memory { result ≡ Status.NoMemory → IfTold (S.left input.old) (D.said desk.old)
-        (λ bytes before. SaysFront AnswerError.NoMemory bytes before (D.said desk.new)) }
+    // `new` says its word once the file holds the new store and a stop leaves nothing else; it reads no input.
+    ensures made { result ≡ Status.Done → IsNew (map (λ word. word.now) words.now) → Says (D.said desk.old) made_text (D.said desk.new) }
+    ensures made_in_part { result ≡ Status.SayFault → IsNew (map (λ word. word.now) words.now) → (n : ℕ) × (n < length made_text) × Says (D.said desk.old) (take n made_text) (D.said desk.new) }
+    ensures at_rest { (result ≡ Status.Done) ⊎ (result ≡ Status.SayFault) → IsNew (map (λ word. word.now) words.now)
+        → (file : List ℕ) → D.held desk.old ≡ Some file → (file ≡ []) × IsMade (D.held desk.new) (D.may_leave desk.new) }
+    ensures unsaid { (result ≡ Status.DeviceFault) ⊎ (result ≡ Status.NoMemory) → IsNew (map (λ word. word.now) words.now) → D.said desk.new ≡ D.said desk.old }
+    ensures unread { IsNew (map (λ word. word.now) words.now) → input.new ≡ input.old }
+    ensures not_empty { (n : ℕ) → result ≡ Status.NotEmpty n → IsNew (map (λ word. word.now) words.now) × (0 < n) × IfSome (D.held desk.old) (λ file. n ≡ length file) }
+    ensures not_written { (n : ℕ) → result ≡ Status.NotEmpty n → (D.held desk.new ≡ D.held desk.old) × (D.written desk.new ≡ D.written desk.old) × (D.said desk.new ≡ D.said desk.old) }
 
-    // Other words than `try` alone are refused, and then nothing is called.
-    ensures usage { (result ≡ Status.Usage) ↔ (map (λ word. word.now) words.now ≢ codes "try" ∷ []) }
+    // A file that stands for no store is refused by `run`, which then reads no input and says nothing, and
+    // stands for none afterwards.
+    ensures not_a_store { result ≡ Status.NotAStore → IsRun (map (λ word. word.now) words.now) × IfSome (D.held desk.old) StandsForNone × IfSome (D.held desk.new) StandsForNone }
+    ensures not_run { result ≡ Status.NotAStore → (input.new ≡ input.old) × (D.said desk.new ≡ D.said desk.old) }
+    ensures no_store { IsRun (map (λ word. word.now) words.now) → (file : List ℕ) → D.held desk.old ≡ Some file → StandsForNone file
+        → (result ≡ Status.NotAStore) ⊎ (result ≡ Status.DeviceFault) ⊎ (result ≡ Status.NoMemory) }
+
+    // Other words are refused, and then nothing is called.
+    ensures usage { (result ≡ Status.Usage) ↔ ((IsTry (map (λ word. word.now) words.now) ⊎ IsNew (map (λ word. word.now) words.now) ⊎ IsRun (map (λ word. word.now) words.now)) → ⊥) }
     ensures untouched { result ≡ Status.Usage → (input.new ≡ input.old) × (desk.new ≡ desk.old) }
 
     // Each other status has its cause outside the program.
@@ -39,18 +69,20 @@ pub fn run<S: Source, D: Desk>(alloc: Global, words: &[&str], input: &mut S, des
     ensures reads_counted { S.faults input.old ≤ S.faults input.new }
     ensures say_cause { result ≡ Status.SayFault → Rose (D.line_faults desk.old) (D.line_faults desk.new) }
     ensures says_counted { D.line_faults desk.old ≤ D.line_faults desk.new }
+    ensures device_cause { result ≡ Status.DeviceFault → Rose (D.device_faults desk.old) (D.device_faults desk.new) }
+    ensures device_counted { D.device_faults desk.old ≤ D.device_faults desk.new }
     ensures limit { (limit : ℕ) → result ≡ Status.TooLong limit → limit ≡ 2_147_483_648 }
 
-    // The desk's file is left alone: what a read of it gives, and the counts of bytes written and of failed calls.
-    ensures held { D.held desk.new ≡ D.held desk.old }
-    ensures written { D.written desk.new ≡ D.written desk.old }
-    ensures device { D.device_faults desk.new ≡ D.device_faults desk.old }
+    // `try` leaves the desk's file alone: what a read of it gives, and the counts of bytes written and of failed
+    // calls.
+    ensures held { IsTry (map (λ word. word.now) words.now) → D.held desk.new ≡ D.held desk.old }
+    ensures written { IsTry (map (λ word. word.now) words.now) → D.written desk.new ≡ D.written desk.old }
+    ensures device { IsTry (map (λ word. word.now) words.now) → D.device_faults desk.new ≡ D.device_faults desk.old }
 {
     match words {
-        ["try"] => match try_script(alloc, input, desk) {
-            Ok(()) => Status::Done,
-            Err(stop) => Status::from(stop),
-        },
+        ["try"] => try_script(alloc, input, desk),
+        ["new", _] => make_store(alloc, desk),
+        ["run", _] => run_stored(alloc, input, desk),
         _ => Status::Usage,
     }
 }

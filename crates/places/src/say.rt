@@ -1,7 +1,9 @@
 // Saying a whole text.
-ghost use Rattle.std.specs.Prelude.{◌≡◌, ℕ, ◌<◌, ◌≤◌, length, take, OnOk, OnErr};
+ghost use Rattle.std.specs.Prelude.{◌≡◌, ℕ, List, Some, ◌<◌, ◌≤◌, length, take, OnOk, OnErr};
 ghost use Rattle.pl_desk.specs.Counts.{Rose};
+ghost use Rattle.pl_desk.specs.Desk.{ShowsOnly};
 ghost use Rattle.places.specs.Said.{Says};
+ghost use Rattle.places.specs.Stops.{ShowsFront};
 
 use pl_desk::{Desk, Failed};
 
@@ -9,6 +11,9 @@ use pl_desk::{Desk, Failed};
 pub fn say_all<D: Desk>(desk: &mut D, bytes: &[u8]) -> Result<(), Failed>
     ensures whole { OnOk result (Says (D.said desk.old) bytes.now (D.said desk.new)) }
     ensures front { OnErr result ((n : ℕ) × (n < length bytes.now) × Says (D.said desk.old) (take n bytes.now) (D.said desk.new)) }
+    ensures shows { (before : List ℕ) → D.said desk.old ≡ Some before
+        → ShowsOnly D.moment D.shown_since desk.old desk.new (ShowsFront (D.may_leave desk.old) before bytes.now) }
+    ensures leaves { (file : List ℕ) → D.may_leave desk.new file → D.may_leave desk.old file }
     ensures counted { D.line_faults desk.old ≤ D.line_faults desk.new }
     ensures cause { OnErr result (Rose (D.line_faults desk.old) (D.line_faults desk.new)) }
     ensures held { D.held desk.new ≡ D.held desk.old }

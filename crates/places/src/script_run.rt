@@ -1,12 +1,13 @@
 // A run of a script whose bytes come one after another.
-ghost use Rattle.std.specs.Prelude.{◌≡◌, ◌≢◌, ◌≤◌, ℕ, List, Option, [], ◌∷◌, ◌++◌, IfErr, OnOk, OnErr};
+ghost use Rattle.std.specs.Prelude.{◌≡◌, ◌≢◌, ◌≤◌, ℕ, List, Option, [], ◌∷◌, ◌++◌, Some, Err, false, IfErr, IfOk, OnOk};
 ghost use Rattle.std.specs.Str.Lines.{strip_carriage_return};
 ghost use Rattle.pl_desk.specs.Counts.{Rose};
 
-use crate::answer::{AnswerError, answer};
+use crate::answer::answer;
+use crate::answer_error::AnswerError;
+use crate::keeper::Keeper;
 use pl_base::NoMemory;
 use pl_desk::Desk;
-use pl_engine::PlainStore;
 use std::alloc::Global;
 
 /// As much of a line is kept as tells what it asks for: past the longest line two bytes more, of which the
@@ -17,55 +18,78 @@ const KEPT: usize = 262_146;
 #[derive(Drop)]
 pub struct ScriptRun {
     alloc: Global,
-    store: PlainStore,
+    keeper: Keeper,
     line: Vec<u8>,
 }
 
 impl ScriptRun {
-    ghost use Rattle.pl_base.specs.Store.{opening};
+    ghost use Rattle.pl_base.specs.Store.{Store};
+    ghost use Rattle.pl_desk.specs.Desk.{ShowsOnly};
     ghost use Rattle.pl_engine.specs.Run.{replies};
     ghost use Rattle.pl_script.specs.Script.{script};
+    ghost use Rattle.places.specs.Keeper.{IsKept, is_file, limit_of, slot_limit, store_of};
     ghost use Rattle.places.specs.Progress.{IsAt, StoppedAt, ended_entries};
     ghost use Rattle.places.specs.Said.{Says, texts};
+    ghost use Rattle.places.specs.Stops.{LeavesAnswered, ShowsAnswered};
 
-    pub fn new(alloc: Global) -> Self
-        ensures { (begun : Option (List ℕ)) → IsAt [] begun result begun }
+    pub fn new(alloc: Global, keeper: Keeper) -> Self
+        ensures at { limit_of keeper ≡ slot_limit → (begun : Option (List ℕ)) → IsAt (store_of keeper) [] begun result begun }
+        ensures keeper { result.keeper ≡ keeper }
     {
         ScriptRun {
             alloc,
-            store: PlainStore::opening(alloc),
+            keeper,
             line: Vec::new(alloc),
         }
     }
 
     /// Takes the next bytes of the input, and answers each line that ends within them.
-    pub fn take_all<D: Desk>(&mut self, piece: &[u8], desk: &mut D) -> Result<(), AnswerError>
-        ensures ok { OnOk result ((bytes : List ℕ) (begun : Option (List ℕ)) → IsAt bytes begun self.old (D.said desk.old)
-            → IsAt (bytes ++ piece.now) begun self.new (D.said desk.new)) }
-        ensures stopped { IfErr result (λ error. (bytes : List ℕ) (begun : Option (List ℕ)) → IsAt bytes begun self.old (D.said desk.old)
-            → StoppedAt error (ended_entries (bytes ++ piece.now)) begun (D.said desk.new)) }
-        ensures counted { D.line_faults desk.old ≤ D.line_faults desk.new }
-        ensures cause { result ≡ Err AnswerError.SayFault → Rose (D.line_faults desk.old) (D.line_faults desk.new) }
-        ensures held { D.held desk.new ≡ D.held desk.old }
-        ensures written { D.written desk.new ≡ D.written desk.old }
-        ensures device { D.device_faults desk.new ≡ D.device_faults desk.old }
+    pub fn take_all<D: Desk>(self, piece: &[u8], desk: &mut D) -> Result<ScriptRun, AnswerError>
+        ensures ok { IfOk result (λ run. (start : Store) (bytes : List ℕ) (begun : Option (List ℕ)) → IsAt start bytes begun self (D.said desk.old)
+            → IsAt start (bytes ++ piece.now) begun run (D.said desk.new)) }
+        ensures kind { IfOk result (λ run. is_file run.keeper ≡ is_file self.keeper) }
+        ensures kept { IfOk result (λ run. (first : D) → IsKept self.keeper (D.may_leave first) (D.held desk.old) (D.may_leave desk.old)
+            → IsKept run.keeper (D.may_leave first) (D.held desk.new) (D.may_leave desk.new)) }
+        ensures stopped { IfErr result (λ error. (start : Store) (bytes : List ℕ) (begun : Option (List ℕ)) → IsAt start bytes begun self (D.said desk.old)
+            → StoppedAt error start (ended_entries (bytes ++ piece.now)) begun (D.said desk.new)) }
+        ensures shows { (start : Store) (bytes begun : List ℕ) (first : D) → IsAt start bytes (Some begun) self (D.said desk.old)
+            → IsKept self.keeper (D.may_leave first) (D.held desk.old) (D.may_leave desk.old)
+            → ShowsOnly D.moment D.shown_since desk.old desk.new
+            (ShowsAnswered (is_file self.keeper) (D.may_leave first) slot_limit start (ended_entries (bytes ++ piece.now)) begun) }
+        ensures alone { is_file self.keeper ≡ false → (D.held desk.new ≡ D.held desk.old) × (D.written desk.new ≡ D.written desk.old) × (D.device_faults desk.new ≡ D.device_faults desk.old) }
+        ensures no_memory { result ≡ Err AnswerError.NoMemory → (start : Store) (bytes begun : List ℕ) (first : D) → IsAt start bytes (Some begun) self (D.said desk.old)
+            → IsKept self.keeper (D.may_leave first) (D.held desk.old) (D.may_leave desk.old)
+            → LeavesAnswered (is_file self.keeper) (D.may_leave first) slot_limit start (ended_entries (bytes ++ piece.now)) begun (D.said desk.new) (D.may_leave desk.new) }
+        ensures says_counted { D.line_faults desk.old ≤ D.line_faults desk.new }
+        ensures say_cause { result ≡ Err AnswerError.SayFault → Rose (D.line_faults desk.old) (D.line_faults desk.new) }
+        ensures device_counted { D.device_faults desk.old ≤ D.device_faults desk.new }
+        ensures device_cause { result ≡ Err AnswerError.DeviceFault → Rose (D.device_faults desk.old) (D.device_faults desk.new) }
     {
+        let mut run = self;
         for &byte in piece {
-            self.take(byte, desk)?;
+            run = run.take(byte, desk)?;
         }
-        Ok(())
+        Ok(run)
     }
 
-    fn take<D: Desk>(&mut self, byte: u8, desk: &mut D) -> Result<(), AnswerError>
-        ensures ok { OnOk result ((bytes : List ℕ) (begun : Option (List ℕ)) → IsAt bytes begun self.old (D.said desk.old)
-            → IsAt (bytes ++ byte ∷ []) begun self.new (D.said desk.new)) }
-        ensures stopped { IfErr result (λ error. (bytes : List ℕ) (begun : Option (List ℕ)) → IsAt bytes begun self.old (D.said desk.old)
-            → StoppedAt error (ended_entries (bytes ++ byte ∷ [])) begun (D.said desk.new)) }
-        ensures counted { D.line_faults desk.old ≤ D.line_faults desk.new }
-        ensures cause { result ≡ Err AnswerError.SayFault → Rose (D.line_faults desk.old) (D.line_faults desk.new) }
-        ensures held { D.held desk.new ≡ D.held desk.old }
-        ensures written { D.written desk.new ≡ D.written desk.old }
-        ensures device { D.device_faults desk.new ≡ D.device_faults desk.old }
+    fn take<D: Desk>(self, byte: u8, desk: &mut D) -> Result<ScriptRun, AnswerError>
+        ensures ok { IfOk result (λ run. (start : Store) (bytes : List ℕ) (begun : Option (List ℕ)) → IsAt start bytes begun self (D.said desk.old)
+            → IsAt start (bytes ++ byte ∷ []) begun run (D.said desk.new)) }
+        ensures kind { IfOk result (λ run. is_file run.keeper ≡ is_file self.keeper) }
+        ensures kept { IfOk result (λ run. (first : D) → IsKept self.keeper (D.may_leave first) (D.held desk.old) (D.may_leave desk.old)
+            → IsKept run.keeper (D.may_leave first) (D.held desk.new) (D.may_leave desk.new)) }
+        ensures stopped { IfErr result (λ error. (start : Store) (bytes : List ℕ) (begun : Option (List ℕ)) → IsAt start bytes begun self (D.said desk.old)
+            → StoppedAt error start (ended_entries (bytes ++ byte ∷ [])) begun (D.said desk.new)) }
+        ensures shows { (start : Store) (bytes begun : List ℕ) (first : D) → IsAt start bytes (Some begun) self (D.said desk.old)
+            → IsKept self.keeper (D.may_leave first) (D.held desk.old) (D.may_leave desk.old)
+            → ShowsOnly D.moment D.shown_since desk.old desk.new
+            (ShowsAnswered (is_file self.keeper) (D.may_leave first) slot_limit start (ended_entries (bytes ++ byte ∷ [])) begun) }
+        ensures alone { is_file self.keeper ≡ false → (D.held desk.new ≡ D.held desk.old) × (D.written desk.new ≡ D.written desk.old) × (D.device_faults desk.new ≡ D.device_faults desk.old) }
+        ensures no_memory { result ≡ Err AnswerError.NoMemory → desk.new ≡ desk.old }
+        ensures says_counted { D.line_faults desk.old ≤ D.line_faults desk.new }
+        ensures say_cause { result ≡ Err AnswerError.SayFault → Rose (D.line_faults desk.old) (D.line_faults desk.new) }
+        ensures device_counted { D.device_faults desk.old ≤ D.device_faults desk.new }
+        ensures device_cause { result ≡ Err AnswerError.DeviceFault → Rose (D.device_faults desk.old) (D.device_faults desk.new) }
     {
         if byte == b'\n' {
             self.end_line(desk)
@@ -75,52 +99,70 @@ impl ScriptRun {
     }
 
     // The line has ended with LF.
-    fn end_line<D: Desk>(&mut self, desk: &mut D) -> Result<(), AnswerError>
-        ensures ok { OnOk result ((bytes : List ℕ) (begun : Option (List ℕ)) → IsAt bytes begun self.old (D.said desk.old)
-            → IsAt (bytes ++ 10 ∷ []) begun self.new (D.said desk.new)) }
-        ensures stopped { IfErr result (λ error. (bytes : List ℕ) (begun : Option (List ℕ)) → IsAt bytes begun self.old (D.said desk.old)
-            → StoppedAt error (ended_entries (bytes ++ 10 ∷ [])) begun (D.said desk.new)) }
-        ensures counted { D.line_faults desk.old ≤ D.line_faults desk.new }
-        ensures cause { result ≡ Err AnswerError.SayFault → Rose (D.line_faults desk.old) (D.line_faults desk.new) }
-        ensures held { D.held desk.new ≡ D.held desk.old }
-        ensures written { D.written desk.new ≡ D.written desk.old }
-        ensures device { D.device_faults desk.new ≡ D.device_faults desk.old }
+    fn end_line<D: Desk>(self, desk: &mut D) -> Result<ScriptRun, AnswerError>
+        ensures ok { IfOk result (λ run. (start : Store) (bytes : List ℕ) (begun : Option (List ℕ)) → IsAt start bytes begun self (D.said desk.old)
+            → IsAt start (bytes ++ 10 ∷ []) begun run (D.said desk.new)) }
+        ensures kind { IfOk result (λ run. is_file run.keeper ≡ is_file self.keeper) }
+        ensures kept { IfOk result (λ run. (first : D) → IsKept self.keeper (D.may_leave first) (D.held desk.old) (D.may_leave desk.old)
+            → IsKept run.keeper (D.may_leave first) (D.held desk.new) (D.may_leave desk.new)) }
+        ensures stopped { IfErr result (λ error. (start : Store) (bytes : List ℕ) (begun : Option (List ℕ)) → IsAt start bytes begun self (D.said desk.old)
+            → StoppedAt error start (ended_entries (bytes ++ 10 ∷ [])) begun (D.said desk.new)) }
+        ensures shows { (start : Store) (bytes begun : List ℕ) (first : D) → IsAt start bytes (Some begun) self (D.said desk.old)
+            → IsKept self.keeper (D.may_leave first) (D.held desk.old) (D.may_leave desk.old)
+            → ShowsOnly D.moment D.shown_since desk.old desk.new
+            (ShowsAnswered (is_file self.keeper) (D.may_leave first) slot_limit start (ended_entries (bytes ++ 10 ∷ [])) begun) }
+        ensures alone { is_file self.keeper ≡ false → (D.held desk.new ≡ D.held desk.old) × (D.written desk.new ≡ D.written desk.old) × (D.device_faults desk.new ≡ D.device_faults desk.old) }
+        ensures no_memory { result ≡ Err AnswerError.NoMemory → desk.new ≡ desk.old }
+        ensures says_counted { D.line_faults desk.old ≤ D.line_faults desk.new }
+        ensures say_cause { result ≡ Err AnswerError.SayFault → Rose (D.line_faults desk.old) (D.line_faults desk.new) }
+        ensures device_counted { D.device_faults desk.old ≤ D.device_faults desk.new }
+        ensures device_cause { result ≡ Err AnswerError.DeviceFault → Rose (D.device_faults desk.old) (D.device_faults desk.new) }
     {
-        answer(
-            self.alloc,
-            &mut self.store,
-            without_carriage_return(&self.line),
-            desk,
-        )?;
-        self.line.clear();
-        Ok(())
+        let ScriptRun {
+            alloc,
+            keeper,
+            mut line,
+        } = self;
+        let keeper = answer(alloc, keeper, without_carriage_return(&line), desk)?;
+        line.clear();
+        Ok(ScriptRun {
+            alloc,
+            keeper,
+            line,
+        })
     }
 
     // The line goes on with this byte.
-    fn keep(&mut self, byte: u8) -> Result<(), NoMemory>
+    fn keep(mut self, byte: u8) -> Result<ScriptRun, NoMemory>
         requires { byte ≢ 10 }
-        ensures ok { OnOk result ((bytes : List ℕ) (begun said : Option (List ℕ)) → IsAt bytes begun self.old said → IsAt (bytes ++ byte ∷ []) begun self.new said) }
-        ensures err { OnErr result ((bytes : List ℕ) (begun said : Option (List ℕ)) → IsAt bytes begun self.old said → IsAt bytes begun self.new said) }
+        ensures ok { IfOk result (λ run. (start : Store) (bytes : List ℕ) (begun said : Option (List ℕ)) → IsAt start bytes begun self said → IsAt start (bytes ++ byte ∷ []) begun run said) }
+        ensures keeper { IfOk result (λ run. run.keeper ≡ self.keeper) }
     {
-        if self.line.len() < KEPT {
-            self.line.push(byte)?;
+        if self.line.len() >= KEPT {
+            return Ok(self);
         }
-        Ok(())
+        self.line.push(byte)?;
+        Ok(self)
     }
 
     /// The input has ended: the line that has not ended with LF ends too.
-    pub fn finish<D: Desk>(mut self, desk: &mut D) -> Result<(), AnswerError>
-        ensures ok { OnOk result ((bytes : List ℕ) (begun : Option (List ℕ)) → IsAt bytes begun self (D.said desk.old)
-            → Says begun (texts (replies opening (script bytes))) (D.said desk.new)) }
-        ensures stopped { IfErr result (λ error. (bytes : List ℕ) (begun : Option (List ℕ)) → IsAt bytes begun self (D.said desk.old)
-            → StoppedAt error (script bytes) begun (D.said desk.new)) }
-        ensures counted { D.line_faults desk.old ≤ D.line_faults desk.new }
-        ensures cause { result ≡ Err AnswerError.SayFault → Rose (D.line_faults desk.old) (D.line_faults desk.new) }
-        ensures held { D.held desk.new ≡ D.held desk.old }
-        ensures written { D.written desk.new ≡ D.written desk.old }
-        ensures device { D.device_faults desk.new ≡ D.device_faults desk.old }
+    pub fn finish<D: Desk>(self, desk: &mut D) -> Result<Keeper, AnswerError>
+        ensures ok { OnOk result ((start : Store) (bytes : List ℕ) (begun : Option (List ℕ)) → IsAt start bytes begun self (D.said desk.old)
+            → Says begun (texts (replies slot_limit start (script bytes))) (D.said desk.new)) }
+        ensures stopped { IfErr result (λ error. (start : Store) (bytes : List ℕ) (begun : Option (List ℕ)) → IsAt start bytes begun self (D.said desk.old)
+            → StoppedAt error start (script bytes) begun (D.said desk.new)) }
+        ensures shows { (start : Store) (bytes begun : List ℕ) (first : D) → IsAt start bytes (Some begun) self (D.said desk.old)
+            → IsKept self.keeper (D.may_leave first) (D.held desk.old) (D.may_leave desk.old)
+            → ShowsOnly D.moment D.shown_since desk.old desk.new
+            (ShowsAnswered (is_file self.keeper) (D.may_leave first) slot_limit start (script bytes) begun) }
+        ensures alone { is_file self.keeper ≡ false → (D.held desk.new ≡ D.held desk.old) × (D.written desk.new ≡ D.written desk.old) × (D.device_faults desk.new ≡ D.device_faults desk.old) }
+        ensures no_memory { result ≡ Err AnswerError.NoMemory → desk.new ≡ desk.old }
+        ensures says_counted { D.line_faults desk.old ≤ D.line_faults desk.new }
+        ensures say_cause { result ≡ Err AnswerError.SayFault → Rose (D.line_faults desk.old) (D.line_faults desk.new) }
+        ensures device_counted { D.device_faults desk.old ≤ D.device_faults desk.new }
+        ensures device_cause { result ≡ Err AnswerError.DeviceFault → Rose (D.device_faults desk.old) (D.device_faults desk.new) }
     {
-        answer(self.alloc, &mut self.store, &self.line, desk)
+        answer(self.alloc, self.keeper, &self.line, desk)
     }
 }
 

@@ -1,8 +1,9 @@
 ghost use Rattle.std.specs.Prelude.{◌≡◌};
 ghost use Rattle.places.specs.Status.{status_number, status_value};
 
+use crate::run_script::SCRIPT_LIMIT;
 use crate::stop::Stop;
-use crate::try_script::SCRIPT_LIMIT;
+use pl_store::Ended;
 
 /// How a run ended.
 #[derive(Clone, Copy, Debug, PartialEq, Eq)]
@@ -15,7 +16,13 @@ pub enum Status {
     ReadFault,
     /// Saying failed.
     SayFault,
+    /// A call of the store's file failed.
+    DeviceFault,
     NoMemory,
+    /// The bytes of the file stand for no store.
+    NotAStore,
+    /// A new store is not written over a file that has so many bytes.
+    NotEmpty(u64),
     /// The bytes read reached this limit.
     TooLong(u64),
 }
@@ -30,7 +37,10 @@ impl Status {
             Status::Usage => 2,
             Status::ReadFault => 3,
             Status::SayFault => 4,
+            Status::DeviceFault => 5,
             Status::NoMemory => 6,
+            Status::NotAStore => 7,
+            Status::NotEmpty(_) => 8,
             Status::TooLong(_) => 10,
         }
     }
@@ -40,12 +50,14 @@ impl Status {
         ensures { result ≡ status_value self.now }
     {
         match self {
-            Status::TooLong(read) => Some(*read),
+            Status::NotEmpty(value) | Status::TooLong(value) => Some(*value),
             Status::Done
             | Status::Usage
             | Status::ReadFault
             | Status::SayFault
-            | Status::NoMemory => None,
+            | Status::DeviceFault
+            | Status::NoMemory
+            | Status::NotAStore => None,
         }
     }
 }
@@ -59,8 +71,25 @@ impl From<Stop> for Status {
         match stop {
             Stop::ReadFault => Status::ReadFault,
             Stop::SayFault => Status::SayFault,
+            Stop::DeviceFault => Status::DeviceFault,
             Stop::NoMemory => Status::NoMemory,
             Stop::TooLong => Status::TooLong(SCRIPT_LIMIT as u64),
+        }
+    }
+}
+
+impl From<Ended> for Status {
+    ghost use Rattle.std.specs.Prelude.{◌≡◌};
+    ghost use Rattle.places.specs.Status.{without_session};
+
+    ghost from_gives = { λ ended status. status ≡ without_session ended };
+
+    fn from(ended: Ended) -> Self {
+        match ended {
+            Ended::DeviceFault => Status::DeviceFault,
+            Ended::NoMemory => Status::NoMemory,
+            Ended::NotAStore => Status::NotAStore,
+            Ended::NotEmpty(len) => Status::NotEmpty(len),
         }
     }
 }

@@ -1,4 +1,4 @@
-use crate::answer::AnswerError;
+use crate::answer_error::AnswerError;
 use std::alloc::AllocError;
 
 /// What ends a run before its script is done.
@@ -8,6 +8,8 @@ pub enum Stop {
     ReadFault,
     /// Saying a reply failed.
     SayFault,
+    /// The store's file failed.
+    DeviceFault,
     NoMemory,
     /// The bytes read reached the limit of a script.
     TooLong,
@@ -32,6 +34,7 @@ impl From<AnswerError> for Stop {
     fn from(error: AnswerError) -> Self {
         match error {
             AnswerError::SayFault => Stop::SayFault,
+            AnswerError::DeviceFault => Stop::DeviceFault,
             AnswerError::NoMemory => Stop::NoMemory,
         }
     }

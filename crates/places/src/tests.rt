@@ -6,6 +6,7 @@ mod cuts;
 mod faults;
 mod lines;
 mod rows;
+mod stored;
 
 use crate::run::run;
 use crate::status::Status;

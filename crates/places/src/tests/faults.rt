@@ -56,12 +56,15 @@ fn stops_at_a_say_that_fails(rt: HostRuntime) -> Result<(), Fail> {
 
 #[test]
 fn tells_the_number_of_a_status(rt: HostRuntime) {
-    let cases = [
+    let cases: [(Status, u8, Option<u64>); 9] = [
         (Status::Done, 0, None),
         (Status::Usage, 2, None),
         (Status::ReadFault, 3, None),
         (Status::SayFault, 4, None),
+        (Status::DeviceFault, 5, None),
         (Status::NoMemory, 6, None),
+        (Status::NotAStore, 7, None),
+        (Status::NotEmpty(1), 8, Some(1)),
         (Status::TooLong(2_147_483_648), 10, Some(2_147_483_648)),
     ];
     for (status, number, value) in cases {

@@ -73,7 +73,15 @@ fn says_the_rows_in_any_pieces(rt: HostRuntime) {
 #[test]
 fn refuses_other_words(rt: HostRuntime) -> Result<(), Fail> {
     let alloc = rt.alloc();
-    let forms: [&[&str]; 5] = [&[], &["run"], &["try", "store"], &["Try"], &["new", "s"]];
+    let forms: [&[&str]; 7] = [
+        &[],
+        &["run"],
+        &["new"],
+        &["try", "s"],
+        &["run", "s", "s"],
+        &["Try"],
+        &["old", "s"],
+    ];
     for words in forms {
         let mut input = MemSource::over(alloc, b"visit", 1, &[])?;
         let mut desk = MemDesk::holding(alloc, &[], &[])?;

@@ -1,5 +1,7 @@
-use Rattle.std.proofs.Common.{◌≡◌, ◌≤◌, ◌-◌, length, take}
+use Rattle.std.proofs.Common.{◌≡◌, ◌≤◌, ◌-◌, ℕ, List, Some, length, take}
+use Rattle.pl_desk.specs.Desk.{ShowsOnly}
 use Rattle.places.specs.Said.{Says}
+use Rattle.places.specs.Stops.{ShowsFront}
 use Rattle.places.proofs.say.say_all.Given as goal
 
 -- the bytes said so far are a front
@@ -7,6 +9,8 @@ abbrev pub invariant-loop-said : goal.invariant-loop-said
 invariant-loop-said g l = let desk = g.D.Desk in record {
   within : l.said ≤ length l.bytes;
   front : Says (desk.said l.initial.desk) (take l.said l.bytes) (desk.said l.desk);
+  shows : (before : List ℕ) → desk.said l.initial.desk ≡ Some before → ShowsOnly desk.moment desk.shown_since l.initial.desk l.desk (ShowsFront (desk.may_leave l.initial.desk) before l.bytes);
+  leaves : (file : List ℕ) → desk.may_leave l.desk file → desk.may_leave l.initial.desk file;
   counted : desk.line_faults l.initial.desk ≤ desk.line_faults l.desk;
   held : desk.held l.desk ≡ desk.held l.initial.desk;
   written : desk.written l.desk ≡ desk.written l.initial.desk;

@@ -1,17 +1,38 @@
-use Rattle.std.proofs.Common.{◌∙◌, ap}
+use Rattle.std.proofs.Common.{◌∙◌, ◌++◌, ◌∷◌, [], ap}
 use Rattle.std.proofs.lemmas.Result.{err_from_is_err_and}
 use Rattle.std.specs.Str.Lines.{strip_carriage_return}
+use Rattle.pl_desk.specs.Moments.{shows_less}
+use Rattle.pl_engine.specs.Run.{replies}
+use Rattle.places.specs.Keeper.{is_file, slot_limit}
+use Rattle.places.specs.Progress.{ended_entries}
+use Rattle.places.specs.Said.{texts}
+use Rattle.places.specs.Stops.{ShowsAnswered}
 use Rattle.places.proofs.ProgressLemmas.{line_ended, line_stopped}
+use Rattle.places.proofs.StopLemmas.{line_shows}
 use Rattle.places.proofs.script_run.ScriptRun.end_line.Goals as goal
 
 pub returns-clause-ok : goal.returns-clause-ok
-returns-clause-ok g c = λ bytes begun at.
-    line_ended bytes c.without_carriage_return.result.now begun _ _ c.args.self.now _ at
+returns-clause-ok g c = λ start bytes begun at.
+    line_ended start bytes c.without_carriage_return.result.now begun _ _ c.args.self _ at
     (c.without_carriage_return.ensures ∙ ap strip_carriage_return c.deref.ensures.value)
-    c.in_ok-answer.ensures.store c.clear.ensures.items c.in_ok-answer.ensures.said
+    c.in_ok-keeper.ensures.limit c.in_ok-keeper.ensures.store c.clear.ensures.items c.in_ok-keeper.ensures.said
 
-pub returns-in_err-answer-clause-stopped : goal.returns-in_err-answer-clause-stopped
-returns-in_err-answer-clause-stopped g c =
+pub returns-in_err-keeper-clause-stopped : goal.returns-in_err-keeper-clause-stopped
+returns-in_err-keeper-clause-stopped g c =
     let p = err_from_is_err_and c.from_residual.result c.from_residual.ensures.1 in
-    rw (p.1, p.2) (λ bytes begun at. line_stopped _ bytes c.without_carriage_return.result.now begun _ _ c.args.self.now at
-    (c.without_carriage_return.ensures ∙ ap strip_carriage_return c.deref.ensures.value) c.in_err-answer.ensures.stopped)
+    rw (p.1, p.2) (λ start bytes begun at. line_stopped start _ bytes c.without_carriage_return.result.now begun _ _ c.args.self at
+    (c.without_carriage_return.ensures ∙ ap strip_carriage_return c.deref.ensures.value) c.in_err-keeper.ensures.stopped)
+
+pub returns-clause-shows : goal.returns-clause-shows
+returns-clause-shows g c = λ start bytes begun first at kept. let desk = g.D.Desk in
+    shows_less desk.moment desk.shown_since c.args.desk.now c.answer.new.desk _ (ShowsAnswered (is_file c.args.self.keeper) (desk.may_leave first) slot_limit start (ended_entries (bytes ++ 10 ∷ [])) begun)
+    (c.answer.ensures.shows first (begun ++ texts (replies slot_limit start (ended_entries bytes))) at.text kept)
+    (line_shows (is_file c.args.self.keeper) (desk.may_leave first) start bytes c.without_carriage_return.result.now begun _ c.args.self at
+    (c.without_carriage_return.ensures ∙ ap strip_carriage_return c.deref.ensures.value))
+
+pub returns-in_err-keeper-clause-shows : goal.returns-in_err-keeper-clause-shows
+returns-in_err-keeper-clause-shows g c = λ start bytes begun first at kept. let desk = g.D.Desk in
+    shows_less desk.moment desk.shown_since c.args.desk.now c.answer.new.desk _ (ShowsAnswered (is_file c.args.self.keeper) (desk.may_leave first) slot_limit start (ended_entries (bytes ++ 10 ∷ [])) begun)
+    (c.answer.ensures.shows first (begun ++ texts (replies slot_limit start (ended_entries bytes))) at.text kept)
+    (line_shows (is_file c.args.self.keeper) (desk.may_leave first) start bytes c.without_carriage_return.result.now begun _ c.args.self at
+    (c.without_carriage_return.ensures ∙ ap strip_carriage_return c.deref.ensures.value))

@@ -1,9 +1,64 @@
+use Rattle.std.proofs.Common.{◌≡◌, ◌∙◌, ◌++◌, ℕ, List, Err, Some, ap, append-nil, arith, refl, subst, sym, take}
 use Rattle.std.proofs.lemmas.Result.{err_from_is_err_and}
-use Rattle.places.proofs.ProgressLemmas.{stopped_within}
+use Rattle.pl_desk.specs.Moments.{shows_less}
+use Rattle.places.specs.Keeper.{is_file, slot_limit}
+use Rattle.places.specs.Progress.{IsAt, ended_entries}
+use Rattle.places.specs.Stops.{LeavesAnswered, ShowsAnswered}
+use Rattle.places.proofs.ProgressLemmas.{stopped_within, taken_further}
+use Rattle.places.proofs.StopLemmas.{leaves_here, leaves_taken, shows_here, shows_later, shows_taken}
 use Rattle.places.proofs.script_run.ScriptRun.take_all.Goals as goal
 
-pub returns-in_err-take-clause-stopped : goal.returns-in_err-take-clause-stopped
-returns-in_err-take-clause-stopped g c =
+pub returns-in_err-run-clause-stopped : goal.returns-in_err-run-clause-stopped
+returns-in_err-run-clause-stopped g c =
     let p = err_from_is_err_and c.from_residual.result c.from_residual.ensures.1 in
-    rw (p.1, p.2) (λ bytes begun at. stopped_within _ bytes c.args.piece.now c.loop-byte.byte-index begun _ c.loop-byte-test.true
-    (c.in_err-take.ensures.stopped _ begun (c.loop-byte.invariant.at bytes begun at)))
+    rw (p.1, p.2) (λ start bytes begun at. stopped_within start _ bytes c.args.piece.now c.loop-byte.byte-index begun _ c.loop-byte-test.true
+    (c.in_err-run.ensures.stopped start _ begun (c.loop-byte.invariant.at start bytes begun at)))
+
+pub returns-in_err-run-clause-shows : goal.returns-in_err-run-clause-shows
+returns-in_err-run-clause-shows g c = λ start bytes begun first at kept.
+    let desk = g.D.Desk in let is = c.loop-byte.invariant in let i = c.loop-byte.byte-index in let piece = c.args.piece.now in
+    shows_taken desk.moment desk.shown_since desk.may_leave desk.said desk.held (desk.may_leave first) start bytes piece i begun (is_file c.args.self.keeper) c.loop-byte.run
+    c.args.desk.now c.loop-byte.desk c.take.new.desk c.loop-byte-test.true is.kind (is.shows start bytes begun first at kept)
+    (c.take.ensures.shows start (bytes ++ take i piece) begun first (is.at start bytes (Some begun) at) (is.kept first kept))
+
+pub returns-in_err-run-clause-no_memory : goal.returns-in_err-run-clause-no_memory
+returns-in_err-run-clause-no_memory g c = λ is start bytes begun first at kept.
+    let p = err_from_is_err_and c.from_residual.result c.from_residual.ensures.1 in
+    let desk = g.D.Desk in let before = c.loop-byte.invariant in let i = c.loop-byte.byte-index in let piece = c.args.piece.now in
+    let same : c.take.new.desk ≡ c.loop-byte.desk = c.take.ensures.no_memory (c.in_err-run.was ∙ ap Err (sym p.2) ∙ sym p.1 ∙ is) in
+    let left = leaves_here (desk.may_leave first) start (bytes ++ take i piece) begun c.loop-byte.run (desk.said c.loop-byte.desk) (desk.held c.loop-byte.desk) (desk.may_leave c.loop-byte.desk)
+    (before.at start bytes (Some begun) at) (before.kept first kept) in
+    subst (λ (d : g.row.D.Denot). LeavesAnswered (is_file c.args.self.keeper) (desk.may_leave first) slot_limit start (ended_entries (bytes ++ piece)) begun (desk.said d) (desk.may_leave d)) (sym same)
+    (leaves_taken (is_file c.args.self.keeper) (desk.may_leave first) start begun (desk.said c.loop-byte.desk) (desk.may_leave c.loop-byte.desk) bytes piece i (rw before.kind at left))
+
+pub loop-byte-init : goal.loop-byte-init
+loop-byte-init g c = let desk = g.D.Desk in record {
+  at = λ start bytes begun at. rw append-nil at;
+  kind = refl;
+  kept = λ first kept. kept;
+  shows = λ start bytes begun first at kept.
+      shows_less desk.moment desk.shown_since c.args.desk.now c.args.desk.now
+      (ShowsAnswered (is_file c.args.self.keeper) (desk.may_leave first) slot_limit start (ended_entries bytes) begun)
+      (ShowsAnswered (is_file c.args.self.keeper) (desk.may_leave first) slot_limit start (ended_entries (bytes ++ c.args.piece.now)) begun)
+      (shows_here desk.moment desk.shown_since desk.may_leave desk.said desk.held g.met.D.Desk.only_now (desk.may_leave first) start bytes begun c.args.self c.args.desk.now at kept)
+      (shows_later (is_file c.args.self.keeper) (desk.may_leave first) start bytes c.args.piece.now begun);
+  alone = λ memory. (refl, refl, refl);
+  says_counted = omega arith;
+  device_counted = omega arith;
+}
+
+pub loop-byte-preserved : goal.loop-byte-preserved
+loop-byte-preserved g c = let is = c.loop-byte.invariant in let did = c.in_ok-run.ensures in record {
+  at = λ start bytes begun at. subst (λ (l : List ℕ). IsAt start l begun c.in_ok-run.run' (g.D.Desk.said c.take.new.desk))
+      (taken_further bytes c.args.piece.now c.loop-byte.byte-index c.loop-byte-test.true) (did.ok start (bytes ++ take c.loop-byte.byte-index c.args.piece.now) begun (is.at start bytes begun at));
+  kind = did.kind ∙ is.kind;
+  kept = λ first kept. did.kept first (is.kept first kept);
+  shows = λ start bytes begun first at kept.
+      let desk = g.D.Desk in let i = c.loop-byte.byte-index in let piece = c.args.piece.now in
+      shows_taken desk.moment desk.shown_since desk.may_leave desk.said desk.held (desk.may_leave first) start bytes piece i begun (is_file c.args.self.keeper) c.loop-byte.run
+      c.args.desk.now c.loop-byte.desk c.take.new.desk c.loop-byte-test.true is.kind (is.shows start bytes begun first at kept)
+      (c.take.ensures.shows start (bytes ++ take i piece) begun first (is.at start bytes (Some begun) at) (is.kept first kept));
+  alone = λ memory. let now = did.alone (is.kind ∙ memory) in let before = is.alone memory in (now.0 ∙ before.0, now.1 ∙ before.1, now.2 ∙ before.2);
+  says_counted = omega (arith, did.says_counted, is.says_counted);
+  device_counted = omega (arith, did.device_counted, is.device_counted);
+}

@@ -1,14 +1,23 @@
-use Rattle.std.proofs.Common.{◌≡◌, ◌≤◌, ◌++◌, List, Option, ℕ, take}
-use Rattle.places.specs.Progress.{IsAt}
+use Rattle.std.proofs.Common.{◌≡◌, ◌≤◌, ◌++◌, List, Option, ℕ, Some, false, take}
+use Rattle.pl_base.specs.Store.{Store}
+use Rattle.pl_desk.specs.Desk.{ShowsOnly}
+use Rattle.places.specs.Keeper.{IsKept, is_file, slot_limit}
+use Rattle.places.specs.Progress.{IsAt, ended_entries}
+use Rattle.places.specs.Stops.{ShowsAnswered}
 use Rattle.places.proofs.script_run.ScriptRun.take_all.Given as goal
 
--- the run stands behind the bytes taken so far
+-- the run stands behind the bytes taken so far, and a stop since the start shows some of the whole piece's answers
 abbrev pub invariant-loop-byte : goal.invariant-loop-byte
 invariant-loop-byte g l = let desk = g.D.Desk in record {
-  at : (bytes : List ℕ) (begun : Option (List ℕ)) → IsAt bytes begun l.initial.self (desk.said l.initial.desk)
-      → IsAt (bytes ++ take l.byte-index l.piece) begun l.self (desk.said l.desk);
-  counted : desk.line_faults l.initial.desk ≤ desk.line_faults l.desk;
-  held : desk.held l.desk ≡ desk.held l.initial.desk;
-  written : desk.written l.desk ≡ desk.written l.initial.desk;
-  device : desk.device_faults l.desk ≡ desk.device_faults l.initial.desk;
+  at : (start : Store) (bytes : List ℕ) (begun : Option (List ℕ)) → IsAt start bytes begun l.initial.run (desk.said l.initial.desk)
+      → IsAt start (bytes ++ take l.byte-index l.piece) begun l.run (desk.said l.desk);
+  kind : is_file l.run.keeper ≡ is_file l.initial.run.keeper;
+  kept : (first : g.row.D.Denot) → IsKept l.initial.run.keeper (desk.may_leave first) (desk.held l.initial.desk) (desk.may_leave l.initial.desk)
+      → IsKept l.run.keeper (desk.may_leave first) (desk.held l.desk) (desk.may_leave l.desk);
+  shows : (start : Store) (bytes begun : List ℕ) (first : g.row.D.Denot) → IsAt start bytes (Some begun) l.initial.run (desk.said l.initial.desk)
+      → IsKept l.initial.run.keeper (desk.may_leave first) (desk.held l.initial.desk) (desk.may_leave l.initial.desk)
+      → ShowsOnly desk.moment desk.shown_since l.initial.desk l.desk (ShowsAnswered (is_file l.initial.run.keeper) (desk.may_leave first) slot_limit start (ended_entries (bytes ++ l.piece)) begun);
+  alone : is_file l.initial.run.keeper ≡ false → (desk.held l.desk ≡ desk.held l.initial.desk) × (desk.written l.desk ≡ desk.written l.initial.desk) × (desk.device_faults l.desk ≡ desk.device_faults l.initial.desk);
+  says_counted : desk.line_faults l.initial.desk ≤ desk.line_faults l.desk;
+  device_counted : desk.device_faults l.initial.desk ≤ desk.device_faults l.desk;
 }

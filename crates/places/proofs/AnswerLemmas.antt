@@ -1,0 +1,93 @@
+-- What a stop shows while one line is answered.
+use Rattle.std.proofs.Common.{◌≡◌, ℕ, Bool, List, [], ◌∷◌, ◌++◌, take, Option, Some, Ok, Err, inl, inr, ⊎_elim, refl, sym, ap, ◌∙◌, subst, append-nil}
+use Rattle.std.proofs.lemmas.Option.{same_Some}
+use Rattle.pl_base.specs.declared.refusal.Refusal.{Refusal}
+use Rattle.pl_base.specs.Store.{Store}
+use Rattle.pl_desk.specs.Desk.{AtAnyMoment, ShowsOnly}
+use Rattle.pl_desk.specs.Moments.{started, and_on, shows_less}
+use Rattle.pl_engine.specs.declared.command.Command.{Command}
+use Rattle.pl_engine.specs.declared.reply.Reply.{Reply}
+use Rattle.pl_engine.specs.declared.reply.Reply.TheVariants.{Refused}
+use Rattle.pl_engine.specs.Parsed.{Parsed}
+use Rattle.pl_engine.specs.Run.{replies, after}
+use Rattle.pl_engine.specs.Step.{perform}
+use Rattle.pl_script.specs.Reply.{reply_text}
+use Rattle.places.specs.declared.keeper.Keeper.{Keeper}
+use Rattle.places.specs.Keeper.{IsKept, Leaves, LeavesEither, is_file, store_of}
+use Rattle.places.specs.Said.{texts}
+use Rattle.places.specs.Stops.{ShowsAnswer, ShowsFront}
+use Rattle.places.proofs.KeeperLemmas.{kept_leaves}
+
+-- the text of a command's reply
+pub text_of_command : (limit : ℕ) (store : Store) (command : Command) (done : Reply × Store) (text : List ℕ) → done ≡ perform limit store command → text ≡ reply_text done.0
+    → texts (replies limit store (Ok command ∷ [])) ≡ text
+text_of_command limit store command done text step written =
+    append-nil (reply_text (perform limit store command).0) ∙ ap (λ (d : Reply × Store). reply_text d.0) (sym step) ∙ sym written
+
+leaves_as : (first : List ℕ → Type 0) (file : List ℕ) (kind kind_now : Bool) (store store_now : Store) → kind ≡ kind_now → store ≡ store_now → Leaves kind first store file → Leaves kind_now first store_now file
+leaves_as first file kind kind_now store store_now same_kind same_store leaves =
+    subst (λ (k : Bool). Leaves k first store_now file) same_kind (subst (λ (s : Store). Leaves kind first s file) same_store leaves)
+
+module _ {D : Type 0} (moment : D → ℕ) (shown_since : D → ℕ → List ℕ → List ℕ → Type 0) (may_leave : D → List ℕ → Type 0) (said held : D → Option (List ℕ)) where
+  abbrev pub OnlyNow : Type 0
+  OnlyNow = (desk : D) (line_now file line : List ℕ) → said desk ≡ Some line_now → shown_since desk (moment desk) file line → may_leave desk file × (line ≡ line_now)
+
+  -- before the first call
+  pub unanswered : OnlyNow → (old first : D) (keeper : Keeper) (limit : ℕ) (entries : List (Parsed Command)) (before : List ℕ) → said old ≡ Some before
+      → IsKept keeper (may_leave first) (held old) (may_leave old) → ShowsOnly moment shown_since old old (ShowsAnswer (is_file keeper) (may_leave first) limit (store_of keeper) entries before)
+  unanswered only_now old first keeper limit entries before is kept =
+      started moment shown_since old (ShowsAnswer (is_file keeper) (may_leave first) limit (store_of keeper) entries before)
+      (λ file line shown. let now = only_now old before file line is shown in record {
+        part = 0;
+        said = now.1 ∙ sym (append-nil before);
+        leaves = inr (refl, kept_leaves keeper (may_leave first) (held old) (may_leave old) kept file now.0);
+      })
+
+  -- while the file takes the step, nothing is said
+  pub committing : (old new first : D) (keeper : Keeper) (limit : ℕ) (entries : List (Parsed Command)) (before : List ℕ) (next : Store) → said old ≡ Some before → next ≡ after limit (store_of keeper) entries
+      → AtAnyMoment moment shown_since said old new (LeavesEither (is_file keeper) (may_leave first) (store_of keeper) next)
+      → ShowsOnly moment shown_since old new (ShowsAnswer (is_file keeper) (may_leave first) limit (store_of keeper) entries before)
+  committing old new first keeper limit entries before next is stepped shows =
+      shows_less moment shown_since old new (λ file line. LeavesEither (is_file keeper) (may_leave first) (store_of keeper) next file × (said old ≡ Some line))
+      (ShowsAnswer (is_file keeper) (may_leave first) limit (store_of keeper) entries before) shows
+      (λ file line has. record {
+        part = 0;
+        said = same_Some line before (sym has.1 ∙ is) ∙ sym (append-nil before);
+        leaves = ⊎_elim (λ as_before. inr (refl, as_before)) (λ left. inl (leaves_as (may_leave first) file _ _ next _ refl stepped left)) has.0;
+      })
+
+  -- the reply is said, beside a keeper of the store after the step
+  pub answering : (old mid new first : D) (keeper next : Keeper) (limit : ℕ) (entries : List (Parsed Command)) (before text : List ℕ)
+      → is_file next ≡ is_file keeper → store_of next ≡ after limit (store_of keeper) entries → texts (replies limit (store_of keeper) entries) ≡ text
+      → IsKept next (may_leave first) (held mid) (may_leave mid)
+      → ShowsOnly moment shown_since old mid (ShowsAnswer (is_file keeper) (may_leave first) limit (store_of keeper) entries before)
+      → ShowsOnly moment shown_since mid new (ShowsFront (may_leave mid) before text)
+      → ShowsOnly moment shown_since old new (ShowsAnswer (is_file keeper) (may_leave first) limit (store_of keeper) entries before)
+  answering old mid new first keeper next limit entries before text same_kind stepped texts_are kept so_far saying =
+      and_on moment shown_since old mid new (ShowsAnswer (is_file keeper) (may_leave first) limit (store_of keeper) entries before) (ShowsFront (may_leave mid) before text) so_far saying
+      (λ file line shows. record {
+        part = shows.1.0;
+        said = shows.1.1 ∙ ap (λ (t : List ℕ). before ++ take shows.1.0 t) (sym texts_are);
+        leaves = inl (leaves_as (may_leave first) file _ _ _ _ same_kind stepped (kept_leaves next (may_leave first) (held mid) (may_leave mid) kept file shows.0));
+      })
+
+  -- a command is performed, its step is taken by the file, and its reply is said
+  pub performing : (old mid new first : D) (keeper next : Keeper) (limit : ℕ) (command : Command) (done : Reply × Store) (before text : List ℕ) → said old ≡ Some before → said mid ≡ said old
+      → done ≡ perform limit (store_of keeper) command → text ≡ reply_text done.0
+      → is_file next ≡ is_file keeper → store_of next ≡ done.1 → IsKept next (may_leave first) (held mid) (may_leave mid)
+      → AtAnyMoment moment shown_since said old mid (LeavesEither (is_file keeper) (may_leave first) (store_of keeper) done.1)
+      → ((line : List ℕ) → said mid ≡ Some line → ShowsOnly moment shown_since mid new (ShowsFront (may_leave mid) line text))
+      → ShowsOnly moment shown_since old new (ShowsAnswer (is_file keeper) (may_leave first) limit (store_of keeper) (Ok command ∷ []) before)
+  performing old mid new first keeper next limit command done before text is unsaid step written same_kind stepped kept shows saying =
+      answering old mid new first keeper next limit (Ok command ∷ []) before text same_kind (stepped ∙ ap (λ (d : Reply × Store). d.1) step)
+      (text_of_command limit (store_of keeper) command done text step written) kept
+      (committing old mid first keeper limit (Ok command ∷ []) before done.1 is (ap (λ (d : Reply × Store). d.1) step) shows) (saying before (unsaid ∙ is))
+
+  -- a refusal is said, and the store stays
+  pub refusing : OnlyNow → (old new first : D) (keeper : Keeper) (limit : ℕ) (entries : List (Parsed Command)) (refusal : Refusal) (before : List ℕ) → said old ≡ Some before → entries ≡ Err refusal ∷ []
+      → IsKept keeper (may_leave first) (held old) (may_leave old) → ShowsOnly moment shown_since old new (ShowsFront (may_leave old) before (reply_text (Refused refusal)))
+      → ShowsOnly moment shown_since old new (ShowsAnswer (is_file keeper) (may_leave first) limit (store_of keeper) entries before)
+  refusing only_now old new first keeper limit entries refusal before is one kept saying =
+      answering old old new first keeper keeper limit entries before (reply_text (Refused refusal)) refl (sym (ap (after limit (store_of keeper)) one))
+      (ap (λ (es : List (Parsed Command)). texts (replies limit (store_of keeper) es)) one ∙ append-nil (reply_text (Refused refusal))) kept
+      (unanswered only_now old first keeper limit entries before is kept) saying

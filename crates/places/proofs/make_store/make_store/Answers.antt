@@ -1,0 +1,34 @@
+use Rattle.std.proofs.Common.{◌≡◌, ℕ, Err, refl, sym, ap, ◌∙◌, rules}
+use Rattle.std.proofs.lemmas.Option.{MatchOption-at_some}
+use Rattle.pl_base.specs.Store.{opening}
+use Rattle.pl_store.specs.declared.ended.Ended.{Ended}
+use Rattle.pl_store.specs.declared.ended.Ended.TheVariants as ended
+use Rattle.places.specs.declared.keeper.Keeper.TheVariants.{File}
+use Rattle.places.specs.declared.status.Status.TheVariants as status
+use Rattle.places.specs.Status.{without_session}
+use Rattle.places.proofs.KeeperLemmas.{still_stands}
+use Rattle.places.proofs.make_store.make_store.Goals as goal
+
+-- the length that the status tells is the one that was found
+len_found : (e : Ended) (n : ℕ) → without_session e ≡ status.NotEmpty n → e ≡ ended.NotEmpty n
+len_found ended.DeviceFault n is = search rules
+len_found ended.NoMemory n is = search rules
+len_found ended.NotAStore n is = search rules
+len_found (ended.NotEmpty len) n is = search rules
+
+pub returns-in-Err-clause-not_empty : goal.returns-in-Err-clause-not_empty
+returns-in-Err-clause-not_empty g c n is = c.create.ensures.not_empty n (c.in-Err.is ∙ ap Err (len_found c.in-Err.ended n (sym c.from.ensures ∙ is)))
+
+pub returns-in-Ok-clause-made : goal.returns-in-Ok-clause-made
+returns-in-Ok-clause-made g c done file is = let desk = g.D.Desk in (
+  MatchOption-at_some _ _ file is c.in_default.ensures.was_empty,
+  still_stands (File c.in_default.field-0) opening (desk.may_leave c.args.desk.now) (desk.held c.create.new.desk) (desk.held c.say_all.new.desk) (desk.may_leave c.create.new.desk) (desk.may_leave c.say_all.new.desk)
+      refl c.in_default.ensures.store c.say_all.ensures.held c.say_all.ensures.leaves (c.in_default.ensures.settled file is),
+)
+
+pub returns-in-Err-say_all-clause-made : goal.returns-in-Err-say_all-clause-made
+returns-in-Err-say_all-clause-made g c done file is = let desk = g.D.Desk in (
+  MatchOption-at_some _ _ file is c.in_default.ensures.was_empty,
+  still_stands (File c.in_default.field-0) opening (desk.may_leave c.args.desk.now) (desk.held c.create.new.desk) (desk.held c.say_all.new.desk) (desk.may_leave c.create.new.desk) (desk.may_leave c.say_all.new.desk)
+      refl c.in_default.ensures.store c.say_all.ensures.held c.say_all.ensures.leaves (c.in_default.ensures.settled file is),
+)

@@ -1,0 +1,74 @@
+// What keeps the store of a run: memory alone, or a file too.
+ghost use Rattle.std.specs.Prelude.{◌≡◌, ◌≤◌, List, ℕ, Some, true, false, IfOk, OnOk, OnErr};
+ghost use Rattle.pl_desk.specs.Counts.{Rose};
+ghost use Rattle.pl_desk.specs.Desk.{AtAnyMoment};
+ghost use Rattle.pl_engine.specs.Step.{HasDates, perform};
+ghost use Rattle.places.specs.Keeper.{IsKept, IsReadyFrom, LeavesEither, is_file, limit_of, ready_limit, ready_store, store_of};
+
+use pl_base::{DeviceFault, NoMemory};
+use pl_desk::Desk;
+use pl_engine::{Command, Reply};
+use pl_store::{Memory, Prepared, Session};
+
+/// A store, between two commands.
+#[derive(Drop)]
+pub enum Keeper {
+    Memory(Memory),
+    File(Session),
+}
+
+/// A store after a command that the file does not hold yet.
+#[derive(Drop)]
+pub enum Ready {
+    Memory(Memory),
+    File(Prepared),
+}
+
+impl Keeper {
+    /// Performs a command in memory. After `NoMemory` the store is gone, and the file is as it was.
+    pub fn prepare(self, command: &Command) -> Result<(Ready, Reply), NoMemory>
+        requires dates { HasDates command.now }
+        ensures step { IfOk result (λ done. (done.1, ready_store done.0)
+            ≡ perform (limit_of self) (store_of self) command.now) }
+        ensures limit { IfOk result (λ done. ready_limit done.0 ≡ limit_of self) }
+        ensures from { IfOk result (λ done. IsReadyFrom self done.0) }
+    {
+        match self {
+            Keeper::Memory(memory) => {
+                let (next, reply) = memory.step(command)?;
+                Ok((Ready::Memory(next), reply))
+            }
+            Keeper::File(session) => {
+                let (prepared, reply) = session.prepare(command)?;
+                Ok((Ready::File(prepared), reply))
+            }
+        }
+    }
+}
+
+impl Ready {
+    /// Writes the change to the file, if there is one. No memory is taken.
+    pub fn commit<D: Desk>(self, desk: &mut D) -> Result<Keeper, DeviceFault>
+        ensures store { IfOk result (λ keeper. store_of keeper ≡ ready_store self) }
+        ensures limit { IfOk result (λ keeper. limit_of keeper ≡ ready_limit self) }
+        ensures kept { IfOk result (λ keeper. (before : Keeper) (first : D) → IsReadyFrom before self
+            → IsKept before (D.may_leave first) (D.held desk.old) (D.may_leave desk.old)
+            → IsKept keeper (D.may_leave first) (D.held desk.new) (D.may_leave desk.new)) }
+        ensures kind { IfOk result (λ keeper. (before : Keeper) → IsReadyFrom before self → is_file keeper ≡ is_file before) }
+        ensures any_moment { (before : Keeper) (first : D) (line : List ℕ) → IsReadyFrom before self
+            → IsKept before (D.may_leave first) (D.held desk.old) (D.may_leave desk.old) → D.said desk.old ≡ Some line
+            → AtAnyMoment D.moment D.shown_since D.said desk.old desk.new
+            (LeavesEither (is_file before) (D.may_leave first) (store_of before) (ready_store self)) }
+        ensures alone { (before : Keeper) → IsReadyFrom before self → is_file before ≡ false → desk.new ≡ desk.old }
+        ensures no_less { D.written desk.old ≤ D.written desk.new }
+        ensures said { D.said desk.new ≡ D.said desk.old }
+        ensures line { D.line_faults desk.new ≡ D.line_faults desk.old }
+        ensures counted { D.device_faults desk.old ≤ D.device_faults desk.new }
+        ensures cause { OnErr result (Rose (D.device_faults desk.old) (D.device_faults desk.new)) }
+    {
+        match self {
+            Ready::Memory(memory) => Ok(Keeper::Memory(memory)),
+            Ready::File(prepared) => Ok(Keeper::File(prepared.commit(desk)?)),
+        }
+    }
+}

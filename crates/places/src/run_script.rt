@@ -1,0 +1,60 @@
+// The script of the input on a store.
+ghost use Rattle.std.specs.Prelude.{◌≡◌, ◌≤◌, false, Err, IfErr, OnOk};
+ghost use Rattle.pl_desk.specs.Counts.{Rose};
+ghost use Rattle.pl_desk.specs.Desk.{ShowsOnly};
+ghost use Rattle.pl_script.specs.Script.{script};
+ghost use Rattle.places.specs.Ending.{IfTold, SaysAll, SaysAtStop};
+ghost use Rattle.places.specs.Keeper.{IsKept, is_file, limit_of, slot_limit, store_of};
+ghost use Rattle.places.specs.Stops.{LeavesAnswered, ShowsAnswered};
+
+use crate::input::next_piece;
+use crate::keeper::Keeper;
+use crate::script_run::ScriptRun;
+use crate::stop::Stop;
+use pl_desk::{Desk, Source};
+use std::alloc::Global;
+
+/// Reading stops where this many bytes were read.
+pub const SCRIPT_LIMIT: usize = 2_147_483_648;
+
+/// The bytes that are asked for at a time.
+const PIECE: usize = 65_536;
+
+/// Answers the lines of the input as they come.
+pub fn run_script<S: Source, D: Desk>(
+    alloc: Global,
+    keeper: Keeper,
+    input: &mut S,
+    desk: &mut D,
+) -> Result<(), Stop>
+    requires limit { limit_of keeper ≡ slot_limit }
+    ensures done { OnOk result (IfTold (S.left input.old) (D.said desk.old) (λ bytes before. SaysAll (store_of keeper) bytes before (S.left input.new) (D.said desk.new))) }
+    ensures stopped { IfErr result (λ stop. IfTold (S.left input.old) (D.said desk.old) (λ bytes before. SaysAtStop stop (store_of keeper) bytes before (S.left input.new) (D.said desk.new))) }
+    ensures shows { IfTold (S.left input.old) (D.said desk.old) (λ bytes before. (first : D)
+        → IsKept keeper (D.may_leave first) (D.held desk.old) (D.may_leave desk.old)
+        → ShowsOnly D.moment D.shown_since desk.old desk.new
+        (ShowsAnswered (is_file keeper) (D.may_leave first) slot_limit (store_of keeper) (script bytes) before)) }
+    ensures no_memory { result ≡ Err Stop.NoMemory → IfTold (S.left input.old) (D.said desk.old) (λ bytes before. (first : D)
+        → IsKept keeper (D.may_leave first) (D.held desk.old) (D.may_leave desk.old)
+        → LeavesAnswered (is_file keeper) (D.may_leave first) slot_limit (store_of keeper) (script bytes) before (D.said desk.new) (D.may_leave desk.new)) }
+    ensures reads_counted { S.faults input.old ≤ S.faults input.new }
+    ensures read_cause { result ≡ Err Stop.ReadFault → Rose (S.faults input.old) (S.faults input.new) }
+    ensures says_counted { D.line_faults desk.old ≤ D.line_faults desk.new }
+    ensures say_cause { result ≡ Err Stop.SayFault → Rose (D.line_faults desk.old) (D.line_faults desk.new) }
+    ensures device_counted { D.device_faults desk.old ≤ D.device_faults desk.new }
+    ensures device_cause { result ≡ Err Stop.DeviceFault → Rose (D.device_faults desk.old) (D.device_faults desk.new) }
+    ensures alone { is_file keeper ≡ false → (D.held desk.new ≡ D.held desk.old) × (D.written desk.new ≡ D.written desk.old) × (D.device_faults desk.new ≡ D.device_faults desk.old) }
+{
+    let mut run = ScriptRun::new(alloc, keeper);
+    let mut read = 0;
+    while read < SCRIPT_LIMIT {
+        let piece = next_piece(alloc, input, PIECE.min(SCRIPT_LIMIT - read))?;
+        if piece.is_empty() {
+            run.finish(desk)?;
+            return Ok(());
+        }
+        run = run.take_all(&piece, desk)?;
+        read += piece.len();
+    }
+    Err(Stop::TooLong)
+}
