@@ -5,7 +5,7 @@ use crate::status::Status;
 use pl_desk::{MemDesk, MemSource};
 use std::test::Fail;
 
-const ROWS: [(&[u8], &[u8]); 12] = [
+const ROWS: [(&[u8], &[u8]); 14] = [
     (b"", b""),
     (
         b"visit\thttps://www.mozilla.org/\t1\t0\n",
@@ -53,6 +53,16 @@ const ROWS: [(&[u8], &[u8]); 12] = [
     (
         b"visit\thttps://a.example/\t1\t253402300799999999\n",
         b"visit\t1\tpage\t1\tfrecency\t100\n",
+    ),
+    // Ten visits of 100 each are the latest, of 11 and then 12 that count.
+    (
+        b"visit\thttps://a.example/\t2\t0\nvisit\thttps://a.example/\t1\t1\nvisit\thttps://a.example/\t1\t2\nvisit\thttps://a.example/\t1\t3\nvisit\thttps://a.example/\t1\t4\nvisit\thttps://a.example/\t1\t5\nvisit\thttps://a.example/\t1\t6\nvisit\thttps://a.example/\t1\t7\nvisit\thttps://a.example/\t1\t8\nvisit\thttps://a.example/\t1\t9\nvisit\thttps://a.example/\t1\t10\nvisit\thttps://a.example/\t2\t0\n",
+        b"visit\t1\tpage\t1\tfrecency\t2000\nvisit\t2\tpage\t1\tfrecency\t2100\nvisit\t3\tpage\t1\tfrecency\t2200\nvisit\t4\tpage\t1\tfrecency\t2300\nvisit\t5\tpage\t1\tfrecency\t2400\nvisit\t6\tpage\t1\tfrecency\t2500\nvisit\t7\tpage\t1\tfrecency\t2600\nvisit\t8\tpage\t1\tfrecency\t2700\nvisit\t9\tpage\t1\tfrecency\t2800\nvisit\t10\tpage\t1\tfrecency\t2900\nvisit\t11\tpage\t1\tfrecency\t1100\nvisit\t12\tpage\t1\tfrecency\t1200\n",
+    ),
+    // 100 over 3, 4, .., 10 is rounded up, and then the latest ten add nothing.
+    (
+        b"visit\thttps://a.example/\t1\t0\nvisit\thttps://a.example/\t9\t1\nvisit\thttps://a.example/\t9\t2\nvisit\thttps://a.example/\t9\t3\nvisit\thttps://a.example/\t9\t4\nvisit\thttps://a.example/\t9\t5\nvisit\thttps://a.example/\t9\t6\nvisit\thttps://a.example/\t9\t7\nvisit\thttps://a.example/\t9\t8\nvisit\thttps://a.example/\t9\t9\nvisit\thttps://a.example/\t9\t10\n",
+        b"visit\t1\tpage\t1\tfrecency\t100\nvisit\t2\tpage\t1\tfrecency\t50\nvisit\t3\tpage\t1\tfrecency\t34\nvisit\t4\tpage\t1\tfrecency\t25\nvisit\t5\tpage\t1\tfrecency\t20\nvisit\t6\tpage\t1\tfrecency\t17\nvisit\t7\tpage\t1\tfrecency\t15\nvisit\t8\tpage\t1\tfrecency\t13\nvisit\t9\tpage\t1\tfrecency\t12\nvisit\t10\tpage\t1\tfrecency\t10\nvisit\t11\tpage\t1\tfrecency\t-1\n",
     ),
     // Embedded visits alone add nothing.
     (
