@@ -1,4 +1,5 @@
 ghost use Rattle.std.specs.Prelude.{◌≡◌};
+ghost use Rattle.pl_base.specs.Marks as marks;
 ghost use Rattle.pl_base.specs.Transition.{transition_number, transition_at};
 
 /// How a visit came about, by the numbers of `nsINavHistoryService`.
@@ -38,5 +39,22 @@ impl Transition {
         ensures { result ≡ transition_number self }
     {
         self as u8
+    }
+
+    /// Whether its visits count towards the `visit_count` of their page.
+    pub fn is_counted(self) -> bool
+        ensures { result ≡ marks.is_counted self }
+    {
+        !matches!(
+            self,
+            Transition::Embed | Transition::Download | Transition::FramedLink | Transition::Reload
+        )
+    }
+
+    /// Whether its visits are within a frame.
+    pub fn is_framed(self) -> bool
+        ensures { result ≡ marks.is_framed self }
+    {
+        matches!(self, Transition::Embed | Transition::FramedLink)
     }
 }

@@ -33,32 +33,16 @@ pub fn mark_before<R: Rows, L: Ledger>(rows: &R, target: Target, steps: &mut Ste
     }
 }
 
-// Whether visits of this transition count towards the `visit_count` of their page.
-fn is_counted(transition: Transition) -> bool
-    ensures { result ≡ marks.is_counted transition }
-{
-    !matches!(
-        transition,
-        Transition::Embed | Transition::Download | Transition::FramedLink | Transition::Reload
-    )
-}
-
-fn is_framed(transition: Transition) -> bool
-    ensures { result ≡ marks.is_framed transition }
-{
-    matches!(transition, Transition::Embed | Transition::FramedLink)
-}
-
 /// The mark after a visit of this transition, but for the frecency.
 pub fn visited_mark(mark: Mark, transition: Transition, is_place: bool) -> Mark
     requires { mark.count < 4_294_967_295 }
     ensures { result ≡ target.visited_mark transition is_place mark }
 {
-    let counted = u32::from(is_counted(transition));
+    let counted = u32::from(transition.is_counted());
     Mark {
         count: mark.count + counted,
         typed: mark.typed || transition == Transition::Typed,
-        hidden: is_place || (is_framed(transition) && mark.hidden),
+        hidden: is_place || (transition.is_framed() && mark.hidden),
         ..mark
     }
 }

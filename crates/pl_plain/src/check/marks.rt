@@ -69,7 +69,7 @@ impl StoredRows {
         let counted = self
             .visits
             .iter()
-            .filter(|visit| visit.page == page && is_counted(visit.transition));
+            .filter(|visit| visit.page == page && visit.transition.is_counted());
         counted.count() as u32
     }
 
@@ -80,7 +80,7 @@ impl StoredRows {
         self.visits
             .iter()
             .filter(|visit| visit.page == page)
-            .all(|visit| is_framed(visit.transition))
+            .all(|visit| visit.transition.is_framed())
     }
 }
 
@@ -109,20 +109,4 @@ fn sampled(visit: &FlatVisit) -> Sampled
         date: visit.date,
         bonus: bonus(visit.transition, None, false, false),
     }
-}
-
-// Whether visits of this transition count towards the `visit_count` of their page.
-fn is_counted(transition: Transition) -> bool
-    ensures { result ≡ marks.is_counted transition }
-{
-    !matches!(
-        transition,
-        Transition::Embed | Transition::Download | Transition::FramedLink | Transition::Reload
-    )
-}
-
-fn is_framed(transition: Transition) -> bool
-    ensures { result ≡ marks.is_framed transition }
-{
-    matches!(transition, Transition::Embed | Transition::FramedLink)
 }
