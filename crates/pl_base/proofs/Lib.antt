@@ -1,4 +1,5 @@
 mod AddressRows
+mod ConstantRows
 pub mod OriginLaws
 mod VisitsLaws
 mod WorkedRows
