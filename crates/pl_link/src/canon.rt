@@ -1,4 +1,4 @@
-ghost use Rattle.std.specs.Prelude.{◌≡◌, ◌≤◌, length, None, Some, Ok, IfOk, IsErr, IsErrOf, IsOkAnd};
+ghost use Rattle.std.specs.Prelude.{◌≡◌, ◌<◌, ◌≤◌, length, None, Some, Ok, IfOk, IsErr, IsErrOf, IsOkAnd};
 ghost use Rattle.pl_base.specs.Address.{canon, is_recorded, record_of};
 ghost use Rattle.url.specs.Parts.{serialize};
 
@@ -49,6 +49,9 @@ impl Canon {
     pub fn read(alloc: Global, text: &str) -> Result<Canon, CanonError>
         ensures url { IfOk result (λ c. canon text.now ≡ Some c) }
         ensures bad_url { IsErrOf result CanonError.BadUrl → canon text.now ≡ None }
+
+        // A text that is too long is refused before any memory is wanted.
+        ensures no_memory { IsErrOf result CanonError.NoMemory → length text.now < 16_777_216 }
     {
         if text.len() >= TEXT_LIMIT {
             return Err(CanonError::BadUrl);
