@@ -46,6 +46,7 @@ pub trait Desk {
         ensures written { written self.new ≡ written self.old }
         ensures line { line_faults self.new ≡ line_faults self.old }
         ensures counted { device_faults self.old ≤ device_faults self.new }
+        ensures no_fault { OnOk result (device_faults self.new ≡ device_faults self.old) }
         ensures cause { OnErr result (Rose (device_faults self.old) (device_faults self.new)) }
 
         ensures leaves { (file : List ℕ) → may_leave self.new file → may_leave self.old file }
@@ -65,6 +66,7 @@ pub trait Desk {
         ensures written { written self.new ≡ written self.old }
         ensures line { line_faults self.new ≡ line_faults self.old }
         ensures counted { device_faults self.old ≤ device_faults self.new }
+        ensures no_fault { OnOk result (device_faults self.new ≡ device_faults self.old) }
         ensures cause { OnErr result (Rose (device_faults self.old) (device_faults self.new)) }
 
         ensures leaves { (file : List ℕ) → may_leave self.new file → may_leave self.old file }
@@ -87,6 +89,7 @@ pub trait Desk {
         ensures said { said self.new ≡ said self.old }
         ensures line { line_faults self.new ≡ line_faults self.old }
         ensures counted { device_faults self.old ≤ device_faults self.new }
+        ensures no_fault { OnOk result (device_faults self.new ≡ device_faults self.old) }
         ensures cause { OnErr result (Rose (device_faults self.old) (device_faults self.new)) }
 
         ensures leaves { Follows (Torn at (length bytes.now)) (may_leave self.old) (may_leave self.new) }
@@ -102,6 +105,7 @@ pub trait Desk {
         ensures written { written self.new ≡ written self.old }
         ensures line { line_faults self.new ≡ line_faults self.old }
         ensures counted { device_faults self.old ≤ device_faults self.new }
+        ensures no_fault { OnOk result (device_faults self.new ≡ device_faults self.old) }
         ensures cause { OnErr result (Rose (device_faults self.old) (device_faults self.new)) }
 
         ensures leaves { (file : List ℕ) → may_leave self.new file → may_leave self.old file }
@@ -121,6 +125,7 @@ pub trait Desk {
         ensures written { written self.new ≡ written self.old }
         ensures device { device_faults self.new ≡ device_faults self.old }
         ensures counted { line_faults self.old ≤ line_faults self.new }
+        ensures no_fault { OnOk result (line_faults self.new ≡ line_faults self.old) }
         ensures cause { OnErr result (Rose (line_faults self.old) (line_faults self.new)) }
 
         ensures leaves { (file : List ℕ) → may_leave self.new file → may_leave self.old file }

@@ -250,6 +250,7 @@ impl Desk for MemDesk {
         ensures written { written_in self.new.calls ≡ written_in self.old.calls }
         ensures line { self.new.line_faults ≡ self.old.line_faults }
         ensures counted { self.old.device_faults ≤ self.new.device_faults }
+        ensures no_fault { OnOk result (self.new.device_faults ≡ self.old.device_faults) }
         ensures cause { OnErr result (Rose self.old.device_faults self.new.device_faults) }
         ensures leaves { (file : List ℕ) → MayLeave self.new file → MayLeave self.old file }
         ensures time { Elapses (length self.old.calls) (length self.new.calls) (ShownSince self.old) (ShownSince self.new)
@@ -280,6 +281,7 @@ impl Desk for MemDesk {
         ensures written { written_in self.new.calls ≡ written_in self.old.calls }
         ensures line { self.new.line_faults ≡ self.old.line_faults }
         ensures counted { self.old.device_faults ≤ self.new.device_faults }
+        ensures no_fault { OnOk result (self.new.device_faults ≡ self.old.device_faults) }
         ensures cause { OnErr result (Rose self.old.device_faults self.new.device_faults) }
         ensures leaves { (file : List ℕ) → MayLeave self.new file → MayLeave self.old file }
         ensures time { Elapses (length self.old.calls) (length self.new.calls) (ShownSince self.old) (ShownSince self.new)
@@ -312,6 +314,7 @@ impl Desk for MemDesk {
         ensures said { self.new.said ≡ self.old.said }
         ensures line { self.new.line_faults ≡ self.old.line_faults }
         ensures counted { self.old.device_faults ≤ self.new.device_faults }
+        ensures no_fault { OnOk result (self.new.device_faults ≡ self.old.device_faults) }
         ensures cause { OnErr result (Rose self.old.device_faults self.new.device_faults) }
         ensures leaves { Follows (Torn at (length bytes.now)) (MayLeave self.old) (MayLeave self.new) }
         ensures time { Elapses (length self.old.calls) (length self.new.calls) (ShownSince self.old) (ShownSince self.new)
@@ -348,6 +351,7 @@ impl Desk for MemDesk {
         ensures written { written_in self.new.calls ≡ written_in self.old.calls }
         ensures line { self.new.line_faults ≡ self.old.line_faults }
         ensures counted { self.old.device_faults ≤ self.new.device_faults }
+        ensures no_fault { OnOk result (self.new.device_faults ≡ self.old.device_faults) }
         ensures cause { OnErr result (Rose self.old.device_faults self.new.device_faults) }
         ensures leaves { (file : List ℕ) → MayLeave self.new file → MayLeave self.old file }
         ensures time { Elapses (length self.old.calls) (length self.new.calls) (ShownSince self.old) (ShownSince self.new)
@@ -378,6 +382,7 @@ impl Desk for MemDesk {
         ensures written { written_in self.new.calls ≡ written_in self.old.calls }
         ensures device { self.new.device_faults ≡ self.old.device_faults }
         ensures counted { self.old.line_faults ≤ self.new.line_faults }
+        ensures no_fault { OnOk result (self.new.line_faults ≡ self.old.line_faults) }
         ensures cause { OnErr result (Rose self.old.line_faults self.new.line_faults) }
         ensures leaves { (file : List ℕ) → MayLeave self.new file → MayLeave self.old file }
         ensures time { Elapses (length self.old.calls) (length self.new.calls) (ShownSince self.old) (ShownSince self.new)
