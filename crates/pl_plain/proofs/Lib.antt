@@ -26,4 +26,5 @@ pub mod ReadingPlain
 pub mod ReadingRows
 pub mod ReadingStored
 pub mod ReadingTexts
+pub mod Searches
 pub mod TestOrigins

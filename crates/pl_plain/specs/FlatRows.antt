@@ -41,6 +41,9 @@ marked_row id mark p =
 abbrev pub visit_of : FlatVisit → Visit
 visit_of v = record { id = v.id; page = v.page; date = v.date; transition = v.transition; source = v.source }
 
+abbrev pub page_numbers : List FlatPage → List ℕ
+page_numbers pages = map (λ (p : FlatPage). p.id.0) pages
+
 -- an origin by its name, with no total yet
 abbrev pub origin_named : ℕ → KeptOrigin
 origin_named n = record { origin = record { 0 = n }; total = 0 }

@@ -1,4 +1,4 @@
-// A store over vectors. Its calls scan.
+// A store over vectors.
 mod insert;
 mod mark;
 pub(crate) mod row;
@@ -20,7 +20,8 @@ use std::alloc::Global;
 
 /// A store over vectors of its rows.
 ///
-/// Each call takes a time that grows with their lengths, and `touched` gives the whole store.
+/// A page or a visit is found by its id by halves. A page's latest visits are found by a scan of all visits, and
+/// `touched` gives the whole store.
 #[derive(Debug, Drop)]
 pub struct Flat {
     alloc: Global,

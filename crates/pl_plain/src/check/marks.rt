@@ -66,10 +66,8 @@ impl StoredRows {
         requires { AreStored self.now }
         ensures { result ≡ marks.visit_count (stored_store self.now) page }
     {
-        let counted = self
-            .visits
-            .iter()
-            .filter(|visit| visit.page == page && visit.transition.is_counted());
+        let counted = self.visits.iter().filter(|visit| visit.page == page
+            && visit.transition.is_counted());
         counted.count() as u32
     }
 

@@ -1,16 +1,17 @@
 ghost use Rattle.std.specs.Prelude.{◌≡◌, map};
-ghost use Rattle.pl_plain.specs.FlatRows.{marked_row};
+ghost use Rattle.std.specs.List.Sorted.{IsStrictlyIncreasing};
+ghost use Rattle.pl_plain.specs.FlatRows.{marked_row, page_numbers};
 
 use crate::flat::row::FlatPage;
+use crate::flat::search::page_index;
 use pl_base::{Mark, PageId};
 
 /// Gives a page its mark.
 pub fn mark_page(pages: &mut [FlatPage], id: PageId, mark: Mark)
+    requires { IsStrictlyIncreasing (page_numbers pages.old) }
     ensures { pages.new ≡ map (marked_row id mark) pages.old }
 {
-    for page in pages.iter_mut() {
-        if page.id == id {
-            page.set_mark(mark);
-        }
+    if let Some(index) = page_index(pages, id) {
+        pages[index].set_mark(mark);
     }
 }

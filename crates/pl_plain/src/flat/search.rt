@@ -1,31 +1,52 @@
 ghost use Rattle.std.specs.Prelude.{◌≡◌, ◌==◌, filter, find, map, nat_lt};
+ghost use Rattle.std.specs.List.{position};
+ghost use Rattle.std.specs.List.Sorted.{IsStrictlyIncreasing};
 ghost use Rattle.std.specs.Option.{option_copied, option_map};
 ghost use Rattle.pl_base.specs.Visits.{latest_first};
 ghost use Rattle.pl_plain.specs.declared.flat.row.FlatPage.{FlatPage};
-ghost use Rattle.pl_plain.specs.FlatRows.{visit_of};
+ghost use Rattle.pl_plain.specs.Check.{visit_numbers};
+ghost use Rattle.pl_plain.specs.FlatRows.{page_numbers, visit_of};
 ghost use Rattle.pl_plain.specs.Latest.{first_of, is_within};
 
 use crate::flat::row::{FlatPage, FlatVisit};
 use pl_base::{PageId, VisitId};
 
+/// Where the page with this id stands.
+pub fn page_index(pages: &[FlatPage], id: PageId) -> Option<usize>
+    requires { IsStrictlyIncreasing (page_numbers pages.now) }
+    ensures { result ≡ position (λ p. p.id.0 == id.0) pages.now }
+{
+    pages.binary_search_by_key(&id.0, |page| page.id.0).ok()
+}
+
 pub fn find_page(pages: &[FlatPage], id: PageId) -> Option<&FlatPage>
+    requires { IsStrictlyIncreasing (page_numbers pages.now) }
     ensures { option_copied result ≡ find (λ p. p.id.0 == id.0) pages.now }
 {
-    pages.iter().find(|page| page.id == id)
+    pages.get(page_index(pages, id)?)
 }
 
 /// The first page with a greater id.
 pub fn behind(pages: &[FlatPage], id: u32) -> Option<PageId>
+    requires { IsStrictlyIncreasing (page_numbers pages.now) }
     ensures { result ≡ option_map (λ (p : FlatPage). p.id) (find (λ p. nat_lt id p.id.0) pages.now) }
 {
-    let page = pages.iter().find(|page| page.id.0 > id)?;
+    let page = pages.get(pages.partition_point(|page| page.id.0 <= id))?;
     Some(page.id)
 }
 
+fn visit_index(visits: &[FlatVisit], id: VisitId) -> Option<usize>
+    requires { IsStrictlyIncreasing (visit_numbers visits.now) }
+    ensures { result ≡ position (λ v. v.id.0 == id.0) visits.now }
+{
+    visits.binary_search_by_key(&id.0, |visit| visit.id.0).ok()
+}
+
 pub fn find_visit(visits: &[FlatVisit], id: VisitId) -> Option<&FlatVisit>
+    requires { IsStrictlyIncreasing (visit_numbers visits.now) }
     ensures { option_copied result ≡ find (λ v. v.id.0 == id.0) visits.now }
 {
-    visits.iter().find(|visit| visit.id == id)
+    visits.get(visit_index(visits, id)?)
 }
 
 /// The latest visit of a page, of all or of those before the limit.

@@ -1,16 +1,10 @@
-use Rattle.std.proofs.Common.{sym, ◌∙◌}
-use Rattle.pl_plain.proofs.Marks.{marked_all, marked_more-other, marked_more-same}
+use Rattle.std.proofs.Common.{◌∙◌, sym}
+use Rattle.pl_plain.proofs.Marks.{marked_nowhere, marked_there}
 use Rattle.pl_plain.proofs.flat.mark.mark_page.Goals as goal
-use Rattle.pl_plain.proofs.flat.mark.mark_page.Goals.{then-eq, else-eq}
 
-pub loop-page-preserved : goal.loop-page-preserved
-loop-page-preserved c =
-    elim c.if-eq.branch [
-      | then-eq w ↦
-          rw w.pages-is (marked_more-same _ _ _ _ _ c.page-item.result _ c.loop-page-test.true c.loop-page.invariant c.page-item.is (sym c.eq.ensures ∙ w.if-eq.true) w.set_mark.ensures)
-      | else-eq w ↦
-          rw w.pages-is (marked_more-other _ _ _ _ _ c.page-item.result c.loop-page-test.true c.loop-page.invariant c.page-item.is (sym c.eq.ensures ∙ w.if-eq.false))
-    ]
+pub returns-in-Some : goal.returns-in-Some
+returns-in-Some c =
+    marked_there c.args.id c.args.mark c.args.pages.now c.in-Some.index c.index-pages-index.result c.set_mark.new.self c.requires (sym c.page_index.ensures ∙ c.in-Some.is) c.set_mark.ensures
 
-pub returns : goal.returns
-returns c = marked_all _ _ _ _ _ c.loop-page-test.false c.loop-page.invariant
+pub returns-in_default : goal.returns-in_default
+returns-in_default c = marked_nowhere c.args.id c.args.mark c.args.pages.now (sym c.page_index.ensures ∙ c.in_default.is)

@@ -8,7 +8,11 @@ use Rattle.pl_plain.specs.FlatRows.{visit_of}
 use Rattle.pl_plain.specs.Latest.{first_of, is_within}
 use Rattle.pl_plain.proofs.Lookups.{none-found, older_visit-none, one-found}
 use Rattle.pl_plain.proofs.OlderVisits.{older_visit-found}
+use Rattle.pl_plain.proofs.Searches.{visits_ascend}
 use Rattle.pl_plain.proofs.flat.rows.FlatRows.older.Goals as goal
+
+pub find_visit-requires : goal.find_visit-requires
+find_visit-requires g c = visits_ascend c.args.self.now.visits.items c.deref.result.now c.args.self.now.rows.visit_ids.ascending c.deref.ensures.value
 
 pub returns-in_err-visit-clause-older : goal.returns-in_err-visit-clause-older
 returns-in_err-visit-clause-older g c =

@@ -2,7 +2,14 @@ use Rattle.std.proofs.Common.{◌∙◌, ap, map, sym}
 use Rattle.pl_plain.specs.Flat.{kept_of}
 use Rattle.pl_plain.specs.FlatRows.{page_of}
 use Rattle.pl_plain.proofs.Lookups.{page_behind-none, page_behind-some}
+use Rattle.pl_plain.proofs.Searches.{pages_ascend}
 use Rattle.pl_plain.proofs.flat.rows.FlatRows.page_after.Goals as goal
+
+pub behind-requires-in-None : goal.behind-requires-in-None
+behind-requires-in-None g c = pages_ascend c.args.self.now.pages.items c.deref-in-None.result.now c.args.self.now.rows.page_ids.ascending c.deref-in-None.ensures.value
+
+pub behind-requires : goal.behind-requires
+behind-requires g c = pages_ascend c.args.self.now.pages.items c.deref.result.now c.args.self.now.rows.page_ids.ascending c.deref.ensures.value
 
 pub returns-in-Some-clause-next : goal.returns-in-Some-clause-next
 returns-in-Some-clause-next g c =

@@ -2,7 +2,11 @@ use Rattle.std.proofs.Common.{◌∙◌, ◌==◌, Some, ap}
 use Rattle.pl_base.specs.Rows.{KeptPage, mark_of}
 use Rattle.pl_plain.specs.FlatRows.{page_of}
 use Rattle.pl_plain.proofs.Lookups.{found-none, found-some}
+use Rattle.pl_plain.proofs.Searches.{pages_ascend}
 use Rattle.pl_plain.proofs.flat.rows.FlatRows.page_at.Goals as goal
+
+pub find_page-requires : goal.find_page-requires
+find_page-requires g c = pages_ascend c.args.self.now.pages.items c.deref.result.now c.args.self.now.rows.page_ids.ascending c.deref.ensures.value
 
 pub returns-in_err-page-clause-mark : goal.returns-in_err-page-clause-mark
 returns-in_err-page-clause-mark g c =

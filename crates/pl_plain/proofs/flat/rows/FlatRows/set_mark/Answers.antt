@@ -7,7 +7,11 @@ use Rattle.pl_plain.specs.Flat.{kept_of}
 use Rattle.pl_plain.specs.FlatRows.{IsFlat, kept_from, marked_row, page_of}
 use Rattle.pl_plain.proofs.FlatChanges.{IsFlat-with_mark}
 use Rattle.pl_plain.proofs.Marks.{all_written, kept_marked}
+use Rattle.pl_plain.proofs.Searches.{pages_ascend}
 use Rattle.pl_plain.proofs.flat.rows.FlatRows.set_mark.Goals as goal
+
+pub mark_page-requires : goal.mark_page-requires
+mark_page-requires g c = pages_ascend c.args.self.now.pages.items c.deref_mut.result.now c.args.self.now.rows.page_ids.ascending c.deref_mut.ensures.value
 
 pub invariant_of-self : goal.invariant_of-self
 invariant_of-self g c =

@@ -3,7 +3,11 @@ use Rattle.pl_base.specs.Rows.{row_of}
 use Rattle.pl_base.specs.Store.{Visit}
 use Rattle.pl_plain.specs.FlatRows.{visit_of}
 use Rattle.pl_plain.proofs.Lookups.{found-none, found-some}
+use Rattle.pl_plain.proofs.Searches.{visits_ascend}
 use Rattle.pl_plain.proofs.flat.rows.FlatRows.visit_at.Goals as goal
+
+pub find_visit-requires : goal.find_visit-requires
+find_visit-requires g c = visits_ascend c.args.self.now.visits.items c.deref.result.now c.args.self.now.rows.visit_ids.ascending c.deref.ensures.value
 
 pub returns-in_err-visit-clause-row : goal.returns-in_err-visit-clause-row
 returns-in_err-visit-clause-row g c =
