@@ -6,7 +6,7 @@ use Rattle.std.proofs.lemmas.List.Folds.{flat_map-map}
 use Rattle.std.proofs.lemmas.List.FromFn.{map-range_with_len_more}
 use Rattle.pl_base.specs.declared.id.ItemId.{ItemId}
 use Rattle.pl_base.specs.Store.{item_id}
-use Rattle.pl_plain.specs.Form.{four, listed}
+use Rattle.pl_form.specs.Form.{four, listed}
 
 -- two writes, and more
 pub two_writes : (o a b : List ℕ) {o1 o2 : List ℕ} → o1 ≡ o ++ a → o2 ≡ o1 ++ b → o2 ≡ o ++ (a ++ b)

@@ -20,19 +20,19 @@ use Rattle.pl_base.specs.Rows.{IsOfVisits, IsRight, Kept, KeptPage, has_page, st
 use Rattle.pl_base.specs.Store.{Page, Store, Visit, roots}
 use Rattle.pl_base.proofs.OriginLaws.{origins_equal}
 use Rattle.pl_plain.specs.declared.flat.row.FlatPage.{FlatPage}
-use Rattle.pl_plain.specs.declared.form.stored.StoredPage.{StoredPage}
+use Rattle.pl_form.specs.declared.stored.StoredPage.{StoredPage}
 use Rattle.pl_plain.specs.CheckOrigins.{AreNamed, IsNamed, Key}
 use Rattle.pl_plain.specs.CheckPages.{IsAssessed, IsFrecencyRight, IsGiven, kept_of_rows}
 use Rattle.pl_plain.specs.FlatLaws.{rows_are_right}
-use Rattle.pl_plain.specs.FlatRows.{IsFlat, bytes_from, page_of, visit_of}
-use Rattle.pl_plain.specs.Form.{FormRows, StandsFor, filled_pages, form_bytes, in_pages, kept_rows, store_rows}
-use Rattle.pl_plain.specs.Stored.{AreStored, HoldsRows, IsStoredPage, Stored, form_rows, page_row, stored_bytes, stored_page, stored_store}
+use Rattle.pl_plain.specs.FlatRows.{IsFlat, bytes_from, page_of}
+use Rattle.pl_form.specs.Form.{FormRows, StandsFor, filled_pages, form_bytes, in_pages, kept_rows, store_rows}
+use Rattle.pl_form.specs.Stored.{AreStored, HoldsRows, IsStoredPage, Stored, form_rows, page_row, stored_bytes, stored_page, stored_store, visit_of}
 use Rattle.pl_base.specs.Touched.{page_at}
 use Rattle.pl_plain.proofs.CheckGood.{AllPairs-from_map}
 use Rattle.pl_plain.proofs.CheckOrigins.{same_of_key}
 use Rattle.pl_plain.proofs.Lengths.{length-in_pages}
 use Rattle.pl_plain.proofs.Lists.{list_any-map, map-map}
-use Rattle.pl_plain.proofs.ReadingFile.{store_url-is}
+use Rattle.pl_plain.proofs.StoredUrls.{store_url-is}
 
 same_page : (rows : Stored) (p : StoredPage) (q : FlatPage) → IsAssessed rows p q → (page_of q).page ≡ stored_page p
 same_page rows p q h =

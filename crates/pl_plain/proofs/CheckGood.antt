@@ -17,11 +17,10 @@ use Rattle.pl_base.specs.Good.{AreIds, IsGood, IsGoodPage, IsGoodVisit}
 use Rattle.pl_base.specs.Redirects.{visit_at}
 use Rattle.pl_base.specs.Store.{Page, Visit}
 use Rattle.pl_base.specs.Touched.{ascends_above}
-use Rattle.pl_plain.specs.declared.flat.row.FlatVisit.{FlatVisit}
-use Rattle.pl_plain.specs.declared.form.stored.StoredPage.{StoredPage}
-use Rattle.pl_plain.specs.FlatRows.{visit_of}
+use Rattle.pl_form.specs.declared.stored.StoredVisit.{StoredVisit}
+use Rattle.pl_form.specs.declared.stored.StoredPage.{StoredPage}
 use Rattle.pl_plain.specs.Check.{are_good, are_good_numbers, are_ids, have_own_urls, is_good_page, is_good_visit, is_typed, page_numbers, visit_numbers}
-use Rattle.pl_plain.specs.Stored.{AreStored, IsStoredPage, IsStoredVisit, Stored, stored_page, stored_store}
+use Rattle.pl_form.specs.Stored.{AreStored, IsStoredPage, IsStoredVisit, Stored, stored_page, stored_store, visit_of}
 use Rattle.pl_plain.proofs.Lists.{All-from_map, list_any-map, map-map}
 use Rattle.pl_plain.proofs.CheckRoots.{has_roots, root_ids, roots_are_good, roots_tags, roots_tree}
 
@@ -158,13 +157,13 @@ typed_number Reload h = absurd (false≢true h)
 same_page : (a b : PageId) → (a.0 == b.0) ≡ true → a ≡ b
 same_page a b h = ap (λ (n : ℕ). record { 0 = n }) (eqb-true a.0 b.0 h)
 
-abbrev typed_visit : PageId → FlatVisit → Bool
+abbrev typed_visit : PageId → StoredVisit → Bool
 typed_visit id v = (v.page.0 == id.0) && is_typed v.transition
 
 abbrev IsTypedBy : PageId → Bool → Visit → Type 0
 IsTypedBy id t v = v.page ≡ id → v.transition ≡ Typed → IsTrue t
 
-typed-to : (id : PageId) (t : Bool) (visits : List FlatVisit) → (t || not (list_any (typed_visit id) visits)) ≡ true → All (λ (v : FlatVisit). IsTypedBy id t (visit_of v)) visits
+typed-to : (id : PageId) (t : Bool) (visits : List StoredVisit) → (t || not (list_any (typed_visit id) visits)) ≡ true → All (λ (v : StoredVisit). IsTypedBy id t (visit_of v)) visits
 typed-to id true visits h k d within page typed = refl
 typed-to id false visits h k d within page typed =
     let none = none_pass (typed_visit id) visits (not-true _ h) in
@@ -172,13 +171,13 @@ typed-to id false visits h k d within page typed =
     and_true ((get_or visits k d).page.0 == id.0) (is_typed (get_or visits k d).transition) (eq-eqb _ _ (ap (λ (p : PageId). p.0) page)) (ap is_typed typed) in
     absurd (true≢false (sym passes ∙ none k d within))
 
-typed-from : (id : PageId) (t : Bool) (visits : List FlatVisit) → All (λ (v : FlatVisit). IsTypedBy id t (visit_of v)) visits → (t || not (list_any (typed_visit id) visits)) ≡ true
+typed-from : (id : PageId) (t : Bool) (visits : List StoredVisit) → All (λ (v : StoredVisit). IsTypedBy id t (visit_of v)) visits → (t || not (list_any (typed_visit id) visits)) ≡ true
 typed-from id true visits h = refl
 typed-from id false visits h =
     not_from_false _ (none_by _ (λ some.
     let at = Any-from_list_any (typed_visit id) visits some in
     let parts = both (at.1.page.0 == id.0) (is_typed at.1.transition) at.4 in
-    let typed : IsTypedBy id false (visit_of at.1) = subst (λ (v : FlatVisit). IsTypedBy id false (visit_of v)) at.3 (h at.0 at.1 at.2) in
+    let typed : IsTypedBy id false (visit_of at.1) = subst (λ (v : StoredVisit). IsTypedBy id false (visit_of v)) at.3 (h at.0 at.1 at.2) in
     false≢true (typed (same_page at.1.page id parts.0) (typed_number at.1.transition parts.1))))
 
 -- ---- the rows
@@ -189,7 +188,7 @@ or_false false = refl
 
 page-to : (rows : Stored) (p : StoredPage) → IsStoredPage p → is_good_page rows.visits p ≡ true → IsGoodPage (stored_store rows) (stored_page p)
 page-to rows p one h =
-    let parts = both (list_any (λ (v : FlatVisit). v.page.0 == p.id.0) rows.visits) (p.typed || not (list_any (typed_visit p.id) rows.visits)) h in
+    let parts = both (list_any (λ (v : StoredVisit). v.page.0 == p.id.0) rows.visits) (p.typed || not (list_any (typed_visit p.id) rows.visits)) h in
     record {
       url = one.2.1;
       title = (IsUtf8-nil, omega arith);
@@ -199,11 +198,11 @@ page-to rows p one h =
 
 pub page-from : (rows : Stored) (p : StoredPage) → IsGoodPage (stored_store rows) (stored_page p) → is_good_page rows.visits p ≡ true
 page-from rows p h =
-    and_true (list_any (λ (v : FlatVisit). v.page.0 == p.id.0) rows.visits) (p.typed || not (list_any (typed_visit p.id) rows.visits))
+    and_true (list_any (λ (v : StoredVisit). v.page.0 == p.id.0) rows.visits) (p.typed || not (list_any (typed_visit p.id) rows.visits))
     (sym (or_false _ ∙ list_any-map (λ (v : Visit). v.page.0 == p.id.0) visit_of rows.visits) ∙ h.kept)
     (typed-from p.id p.typed rows.visits (All-from_map (IsTypedBy p.id p.typed) visit_of rows.visits h.typed))
 
-visit-to : (rows : Stored) (v : FlatVisit) → IsStoredVisit v → is_good_visit rows.pages v ≡ true → IsGoodVisit (stored_store rows) (visit_of v)
+visit-to : (rows : Stored) (v : StoredVisit) → IsStoredVisit v → is_good_visit rows.pages v ≡ true → IsGoodVisit (stored_store rows) (visit_of v)
 visit-to rows v one h =
     let parts = both (nat_le v.date.0 253_402_300_799_999_999) (list_any (λ (p : StoredPage). p.id.0 == v.page.0) rows.pages) h in
     record {
@@ -212,7 +211,7 @@ visit-to rows v one h =
       source = subst (λ (o : Option VisitId). IfSome o (λ id. (id.0 < v.id.0) × IsSome (visit_at (stored_store rows) id))) (sym one.2) tt;
     }
 
-visit-from : (rows : Stored) (v : FlatVisit) → IsGoodVisit (stored_store rows) (visit_of v) → is_good_visit rows.pages v ≡ true
+visit-from : (rows : Stored) (v : StoredVisit) → IsGoodVisit (stored_store rows) (visit_of v) → is_good_visit rows.pages v ≡ true
 visit-from rows v h =
     and_true (nat_le v.date.0 253_402_300_799_999_999) (list_any (λ (p : StoredPage). p.id.0 == v.page.0) rows.pages)
     (le-leb v.date.0 253_402_300_799_999_999 h.date)

@@ -20,14 +20,13 @@ use Rattle.pl_base.specs.Store.{Item, Page, Store, Visit, roots}
 use Rattle.pl_base.specs.Visits.{latest_first, sample_of, visits_of}
 use Rattle.pl_score.specs.declared.sample.Sampled.{Sampled}
 use Rattle.pl_score.proofs.Points.{points_of-le}
-use Rattle.pl_plain.specs.declared.check_error.CheckError.{CheckError}
-use Rattle.pl_plain.specs.declared.check_error.CheckError.TheVariants.{NoMemory, NotAStore}
-use Rattle.pl_plain.specs.declared.flat.row.FlatVisit.{FlatVisit}
-use Rattle.pl_plain.specs.declared.form.stored.StoredPage.{StoredPage}
+use Rattle.pl_form.specs.declared.check_error.CheckError.{CheckError}
+use Rattle.pl_form.specs.declared.check_error.CheckError.TheVariants.{NoMemory, NotAStore}
+use Rattle.pl_form.specs.declared.stored.StoredVisit.{StoredVisit}
+use Rattle.pl_form.specs.declared.stored.StoredPage.{StoredPage}
 use Rattle.pl_plain.specs.CheckPages.{IsFrecencyRight}
-use Rattle.pl_plain.specs.FlatRows.{visit_of}
-use Rattle.pl_plain.specs.Form.{FormRows, StandsFor, filled_pages, form_bytes, in_pages, item_bytes, listed, page_bytes, plain_bytes, store_rows, text, visit_bytes}
-use Rattle.pl_plain.specs.Stored.{AreStored, HoldsRows, IsShort, IsStoredPage, IsStoredVisit, Stored, form_rows, stored_bytes, stored_page, stored_store}
+use Rattle.pl_form.specs.Form.{FormRows, StandsFor, filled_pages, form_bytes, in_pages, item_bytes, listed, page_bytes, plain_bytes, store_rows, text, visit_bytes}
+use Rattle.pl_form.specs.Stored.{AreStored, HoldsRows, IsShort, IsStoredPage, IsStoredVisit, Stored, form_rows, stored_bytes, stored_page, stored_store, visit_of}
 use Rattle.pl_plain.proofs.CheckFlat.{store_rows-is}
 use Rattle.pl_plain.specs.CheckSample.{sampled_of}
 use Rattle.pl_plain.proofs.CheckMarks.{sampled-small}
@@ -37,7 +36,7 @@ use Rattle.pl_plain.proofs.Lists.{All-from_map, sum_by-map}
 abbrev page_from : Store → Page → StoredPage
 page_from store p = record { id = p.id; typed = p.typed; frecency = frecency_of store p; url = p.url }
 
-abbrev visit_from : Visit → FlatVisit
+abbrev visit_from : Visit → StoredVisit
 visit_from v = record { id = v.id; page = v.page; date = v.date; transition = v.transition; source = v.source }
 
 abbrev pub rows_of : Store → Stored

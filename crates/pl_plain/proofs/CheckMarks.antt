@@ -18,11 +18,10 @@ use Rattle.pl_base.specs.Tables.{bonus_of, bonus_by_source, transition_bonus}
 use Rattle.pl_base.specs.Visits.{sample_of, in_place, is_later, latest_first, visits_of}
 use Rattle.pl_score.specs.declared.sample.Sampled.{Sampled}
 use Rattle.pl_score.specs.Sample.{points_of}
-use Rattle.pl_plain.specs.declared.flat.row.FlatVisit.{FlatVisit}
-use Rattle.pl_plain.specs.declared.form.stored.StoredPage.{StoredPage}
-use Rattle.pl_plain.specs.FlatRows.{visit_of}
+use Rattle.pl_form.specs.declared.stored.StoredVisit.{StoredVisit}
+use Rattle.pl_form.specs.declared.stored.StoredPage.{StoredPage}
 use Rattle.pl_plain.specs.CheckSample.{sampled_of, sampled_row}
-use Rattle.pl_plain.specs.Stored.{Stored, stored_page, stored_store}
+use Rattle.pl_form.specs.Stored.{Stored, stored_page, stored_store, visit_of}
 use Rattle.pl_plain.proofs.CheckSamples.{of_page, visits_of-rows}
 
 -- ---- the frecency of a page by what its sample counts
@@ -96,23 +95,23 @@ sample_of-filled store page h =
 -- ---- the rows of a file have no sources, and no page in an item
 
 -- no visit has a source
-abbrev pub HaveNoSource : List FlatVisit → Type 0
-HaveNoSource rows = All (λ (v : FlatVisit). v.source ≡ None) rows
+abbrev pub HaveNoSource : List StoredVisit → Type 0
+HaveNoSource rows = All (λ (v : StoredVisit). v.source ≡ None) rows
 
 redirect_without_source : (b : Bool) → (b && false) ≡ false
 redirect_without_source true = refl
 redirect_without_source false = refl
 
-no_redirect_sources : (v : Visit) (rows : List FlatVisit) → HaveNoSource rows → list_any (λ (w : Visit). is_redirect w.transition && came_from v w.source) (map visit_of rows) ≡ false
+no_redirect_sources : (v : Visit) (rows : List StoredVisit) → HaveNoSource rows → list_any (λ (w : Visit). is_redirect w.transition && came_from v w.source) (map visit_of rows) ≡ false
 no_redirect_sources v [] none = refl
 no_redirect_sources v (row ∷ rows) none =
-    rw (All-head (λ (w : FlatVisit). w.source ≡ None) row rows none, redirect_without_source (is_redirect row.transition), no_redirect_sources v rows (All-tail (λ (w : FlatVisit). w.source ≡ None) row rows none))
+    rw (All-head (λ (w : StoredVisit). w.source ≡ None) row rows none, redirect_without_source (is_redirect row.transition), no_redirect_sources v rows (All-tail (λ (w : StoredVisit). w.source ≡ None) row rows none))
 
 no_source_by : (b : Bool) (t : Option Transition) → t ≡ None → (if b then t else None) ≡ t
 no_source_by true t e = refl
 no_source_by false t e = sym e
 
-sampled_of-row : (rows : Stored) (row : FlatVisit) → HaveNoSource rows.visits → row.source ≡ None → sampled_of (stored_store rows) (visit_of row) ≡ sampled_row row
+sampled_of-row : (rows : Stored) (row : StoredVisit) → HaveNoSource rows.visits → row.source ≡ None → sampled_of (stored_store rows) (visit_of row) ≡ sampled_row row
 sampled_of-row rows row none own = rw (own, no_source_by (is_redirect row.transition) None refl, no_redirect_sources (visit_of row) rows.visits none)
 
 or_false : (a : Bool) → (a || false) ≡ a
@@ -140,13 +139,13 @@ sample-all rows page none =
     (latest_first-all (visits_of (stored_store rows) page)
     (All-filter (λ (v : Visit). v.page.0 == page.0) HasNoSource (map visit_of rows.visits) (All-map HasNoSource visit_of rows.visits none)))
 
-sampled_of-rows : (rows : Stored) (sample : List FlatVisit) → HaveNoSource rows.visits → All HasNoSource (map visit_of sample) → map sampled_row sample ≡ map (sampled_of (stored_store rows)) (map visit_of sample)
+sampled_of-rows : (rows : Stored) (sample : List StoredVisit) → HaveNoSource rows.visits → All HasNoSource (map visit_of sample) → map sampled_row sample ≡ map (sampled_of (stored_store rows)) (map visit_of sample)
 sampled_of-rows rows [] none own = refl
 sampled_of-rows rows (v ∷ sample) none own =
     rw (sampled_of-row rows v none (All-head HasNoSource (visit_of v) (map visit_of sample) own), sampled_of-rows rows sample none (All-tail HasNoSource (visit_of v) (map visit_of sample) own))
 
 -- what the rows of a sample count
-pub sampled-is : (rows : Stored) (page : PageId) (sample : List FlatVisit) → HaveNoSource rows.visits → map visit_of sample ≡ sample_of (stored_store rows) page → map sampled_row sample ≡ map (sampled_of (stored_store rows)) (sample_of (stored_store rows) page)
+pub sampled-is : (rows : Stored) (page : PageId) (sample : List StoredVisit) → HaveNoSource rows.visits → map visit_of sample ≡ sample_of (stored_store rows) page → map sampled_row sample ≡ map (sampled_of (stored_store rows)) (sample_of (stored_store rows) page)
 sampled-is rows page sample none is =
     sampled_of-rows rows sample none (subst (All HasNoSource) (sym is) (sample-all rows page none))
     ∙ ap (map (sampled_of (stored_store rows))) is
@@ -163,13 +162,13 @@ sample_filled store page sampled count all counted some =
 framed_or : (rows : Stored) (v : Visit) → HaveNoSource rows.visits → (is_framed v.transition || is_redirect_source (stored_store rows) v) ≡ is_framed v.transition
 framed_or rows v none = ap (λ b. is_framed v.transition || b) (no_redirect_sources v rows.visits none) ∙ or_false (is_framed v.transition)
 
-framed_rows : (rows : Stored) (seen : List FlatVisit) → HaveNoSource rows.visits → list_all (λ (w : Visit). is_framed w.transition || is_redirect_source (stored_store rows) w) (map visit_of seen) ≡ list_all (λ (v : FlatVisit). is_framed v.transition) seen
+framed_rows : (rows : Stored) (seen : List StoredVisit) → HaveNoSource rows.visits → list_all (λ (w : Visit). is_framed w.transition || is_redirect_source (stored_store rows) w) (map visit_of seen) ≡ list_all (λ (v : StoredVisit). is_framed v.transition) seen
 framed_rows rows [] none = refl
 framed_rows rows (v ∷ seen) none =
     ap (λ b. b && list_all (λ (w : Visit). is_framed w.transition || is_redirect_source (stored_store rows) w) (map visit_of seen)) (framed_or rows (visit_of v) none)
     ∙ ap (λ b. is_framed v.transition && b) (framed_rows rows seen none)
 
-hidden_with : (rows : Stored) (p : StoredPage) (seen : List FlatVisit) → HaveNoSource rows.visits → visits_of (stored_store rows) p.id ≡ map visit_of seen → 0 < length seen → is_hidden (stored_store rows) (stored_page p) ≡ (is_place_url p.url || list_all (λ (v : FlatVisit). is_framed v.transition) seen)
+hidden_with : (rows : Stored) (p : StoredPage) (seen : List StoredVisit) → HaveNoSource rows.visits → visits_of (stored_store rows) p.id ≡ map visit_of seen → 0 < length seen → is_hidden (stored_store rows) (stored_page p) ≡ (is_place_url p.url || list_all (λ (v : StoredVisit). is_framed v.transition) seen)
 hidden_with rows p [] none all some = absurd (omega arith)
 hidden_with rows p (v ∷ seen) none all some =
     rw all (ap (λ b. is_place_url p.url || b) (framed_rows rows (v ∷ seen) none))
@@ -182,16 +181,16 @@ some_kept p (x ∷ xs) some =
       | false ↦ λ h. some_kept p xs h
     ] some
 
-pub hidden-is : (rows : Stored) (p : StoredPage) → HaveNoSource rows.visits → list_any (λ (v : FlatVisit). v.page.0 == p.id.0) rows.visits ≡ true → is_hidden (stored_store rows) (stored_page p) ≡ (is_place_url p.url || list_all (λ (v : FlatVisit). is_framed v.transition) (filter (λ (v : FlatVisit). v.page.0 == p.id.0) rows.visits))
+pub hidden-is : (rows : Stored) (p : StoredPage) → HaveNoSource rows.visits → list_any (λ (v : StoredVisit). v.page.0 == p.id.0) rows.visits ≡ true → is_hidden (stored_store rows) (stored_page p) ≡ (is_place_url p.url || list_all (λ (v : StoredVisit). is_framed v.transition) (filter (λ (v : StoredVisit). v.page.0 == p.id.0) rows.visits))
 hidden-is rows p none some =
     hidden_with rows p (filter (of_page p.id) rows.visits) none (sym (visits_of-rows p.id rows.visits)) (some_kept (of_page p.id) rows.visits some)
 
-pub hidden-place : (rows : Stored) (p : StoredPage) → HaveNoSource rows.visits → list_any (λ (v : FlatVisit). v.page.0 == p.id.0) rows.visits ≡ true → true ≡ is_place_url p.url → true ≡ is_hidden (stored_store rows) (stored_page p)
+pub hidden-place : (rows : Stored) (p : StoredPage) → HaveNoSource rows.visits → list_any (λ (v : StoredVisit). v.page.0 == p.id.0) rows.visits ≡ true → true ≡ is_place_url p.url → true ≡ is_hidden (stored_store rows) (stored_page p)
 hidden-place rows p none some place =
-    ap (λ b. b || list_all (λ (v : FlatVisit). is_framed v.transition) (filter (λ (v : FlatVisit). v.page.0 == p.id.0) rows.visits)) place
+    ap (λ b. b || list_all (λ (v : StoredVisit). is_framed v.transition) (filter (λ (v : StoredVisit). v.page.0 == p.id.0) rows.visits)) place
     ∙ sym (hidden-is rows p none some)
 
-pub hidden-framed : (rows : Stored) (p : StoredPage) → HaveNoSource rows.visits → list_any (λ (v : FlatVisit). v.page.0 == p.id.0) rows.visits ≡ true → false ≡ is_place_url p.url → list_all (λ (v : FlatVisit). is_framed v.transition) (filter (λ (v : FlatVisit). v.page.0 == p.id.0) rows.visits) ≡ is_hidden (stored_store rows) (stored_page p)
+pub hidden-framed : (rows : Stored) (p : StoredPage) → HaveNoSource rows.visits → list_any (λ (v : StoredVisit). v.page.0 == p.id.0) rows.visits ≡ true → false ≡ is_place_url p.url → list_all (λ (v : StoredVisit). is_framed v.transition) (filter (λ (v : StoredVisit). v.page.0 == p.id.0) rows.visits) ≡ is_hidden (stored_store rows) (stored_page p)
 hidden-framed rows p none some place =
-    ap (λ b. b || list_all (λ (v : FlatVisit). is_framed v.transition) (filter (λ (v : FlatVisit). v.page.0 == p.id.0) rows.visits)) place
+    ap (λ b. b || list_all (λ (v : StoredVisit). is_framed v.transition) (filter (λ (v : StoredVisit). v.page.0 == p.id.0) rows.visits)) place
     ∙ sym (hidden-is rows p none some)

@@ -9,11 +9,11 @@ use Rattle.pl_link.specs.declared.parts.Parts.{Parts}
 use Rattle.pl_link.specs.Parts.{ArePartsOf}
 use Rattle.pl_base.specs.declared.id.Slot.{Slot}
 use Rattle.pl_plain.specs.declared.flat.row.FlatPage.{FlatPage}
-use Rattle.pl_plain.specs.declared.flat.row.FlatVisit.{FlatVisit}
-use Rattle.pl_plain.specs.declared.form.stored.StoredPage.{StoredPage}
+use Rattle.pl_form.specs.declared.stored.StoredVisit.{StoredVisit}
+use Rattle.pl_form.specs.declared.stored.StoredPage.{StoredPage}
 use Rattle.pl_plain.specs.CheckOrigins.{AreNamed, Key, Names, key_of}
 use Rattle.pl_plain.specs.CheckPages.{IsAssessed, IsFrecencyRight}
-use Rattle.pl_plain.specs.Stored.{Stored, stored_page, stored_store}
+use Rattle.pl_form.specs.Stored.{Stored, stored_page, stored_store}
 use Rattle.pl_plain.proofs.CheckGood.{both, page-from}
 use Rattle.pl_plain.proofs.CheckOrigins.{named_push}
 use Rattle.pl_plain.proofs.Lists.{All-from_map}
@@ -36,13 +36,13 @@ place-is text parts h =
     rw at.1 at.2.is_place
 
 -- a page of a good store has a visit
-pub visited-is : (rows : Stored) (k : ℕ) (p : StoredPage) → IsGood (stored_store rows) → k < length rows.pages → p ≡ get_or rows.pages k p → list_any (λ (v : FlatVisit). v.page.0 == p.id.0) rows.visits ≡ true
+pub visited-is : (rows : Stored) (k : ℕ) (p : StoredPage) → IsGood (stored_store rows) → k < length rows.pages → p ≡ get_or rows.pages k p → list_any (λ (v : StoredVisit). v.page.0 == p.id.0) rows.visits ≡ true
 visited-is rows k p good within at =
     let page : IsGoodPage (stored_store rows) (stored_page p) =
     subst (λ (q : StoredPage). IsGoodPage (stored_store rows) (stored_page q)) (sym at) (All-from_map (IsGoodPage (stored_store rows)) stored_page rows.pages good.pages k p within) in
     (both _ _ (page-from rows p page)).0
 
-pub visited-at : (rows : Stored) (items : List StoredPage) (k : ℕ) (p : StoredPage) → items ≡ rows.pages → IsGood (stored_store rows) → k < length items → p ≡ get_or items k p → list_any (λ (v : FlatVisit). v.page.0 == p.id.0) rows.visits ≡ true
+pub visited-at : (rows : Stored) (items : List StoredPage) (k : ℕ) (p : StoredPage) → items ≡ rows.pages → IsGood (stored_store rows) → k < length items → p ≡ get_or items k p → list_any (λ (v : StoredVisit). v.page.0 == p.id.0) rows.visits ≡ true
 visited-at rows items k p same good within at =
     visited-is rows k p good (subst (λ (xs : List StoredPage). k < length xs) same within) (at ∙ ap (λ (xs : List StoredPage). get_or xs k p) same)
 

@@ -9,7 +9,7 @@ use Rattle.std.proofs.lemmas.Str.{IsUtf8-nil}
 use Rattle.pl_base.specs.declared.id.ItemId.{ItemId}
 use Rattle.pl_base.specs.Good.{AreIds, HasRoots, HasTags, IsGoodItem, IsTree, item_at}
 use Rattle.pl_base.specs.Store.{Item, root_folder, roots, top_folders}
-use Rattle.pl_plain.specs.Stored.{Stored, stored_store}
+use Rattle.pl_form.specs.Stored.{Stored, stored_store}
 
 roots_ascend : IsStrictlyIncreasing (1 ∷ 2 ∷ 3 ∷ 4 ∷ 5 ∷ 6 ∷ [])
 roots_ascend zero h = omega arith

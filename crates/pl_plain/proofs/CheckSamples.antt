@@ -8,27 +8,27 @@ use Rattle.std.specs.List.{insert, position_or_len}
 use Rattle.pl_base.specs.declared.id.PageId.{PageId}
 use Rattle.pl_base.specs.Store.{Visit}
 use Rattle.pl_base.specs.Visits.{in_place, is_later, latest_first}
-use Rattle.pl_plain.specs.declared.flat.row.FlatVisit.{FlatVisit}
-use Rattle.pl_plain.specs.FlatRows.{visit_of}
+use Rattle.pl_form.specs.declared.stored.StoredVisit.{StoredVisit}
+use Rattle.pl_form.specs.Stored.{visit_of}
 
 -- the place before the first row that a visit is later than, and the end where there is none
-abbrev pub place_in : FlatVisit → List FlatVisit → ℕ
-place_in v rows = position_or_len (λ (w : FlatVisit). is_later (visit_of v) (visit_of w)) rows
+abbrev pub place_in : StoredVisit → List StoredVisit → ℕ
+place_in v rows = position_or_len (λ (w : StoredVisit). is_later (visit_of v) (visit_of w)) rows
 
-in_place_at : (b : Bool) (v w : FlatVisit) (rows : List FlatVisit) (n : ℕ) (vs : List Visit) → map visit_of (insert rows n v) ≡ vs → map visit_of (insert (w ∷ rows) (cond (not b) (1 + n) 0) v) ≡ (if b then visit_of v ∷ visit_of w ∷ map visit_of rows else visit_of w ∷ vs)
+in_place_at : (b : Bool) (v w : StoredVisit) (rows : List StoredVisit) (n : ℕ) (vs : List Visit) → map visit_of (insert rows n v) ≡ vs → map visit_of (insert (w ∷ rows) (cond (not b) (1 + n) 0) v) ≡ (if b then visit_of v ∷ visit_of w ∷ map visit_of rows else visit_of w ∷ vs)
 in_place_at true v w rows n vs e = refl
 in_place_at false v w rows n vs e = rw one-add (ap (λ xs. visit_of w ∷ xs) e)
 
-in_place-rows : (v : FlatVisit) (rows : List FlatVisit) → map visit_of (insert rows (place_in v rows) v) ≡ in_place (visit_of v) (map visit_of rows)
+in_place-rows : (v : StoredVisit) (rows : List StoredVisit) → map visit_of (insert rows (place_in v rows) v) ≡ in_place (visit_of v) (map visit_of rows)
 in_place-rows v [] = refl
 in_place-rows v (w ∷ rows) = in_place_at (is_later (visit_of v) (visit_of w)) v w rows (place_in v rows) (in_place (visit_of v) (map visit_of rows)) (in_place-rows v rows)
 
-place_from_position : (p : FlatVisit → Bool) (rows : List FlatVisit) → unwrap_or (position p rows) (length rows) ≡ position_or_len p rows
+place_from_position : (p : StoredVisit → Bool) (rows : List StoredVisit) → unwrap_or (position p rows) (length rows) ≡ position_or_len p rows
 place_from_position p rows = grind (arith, nat_tests, prefix_len-le-length (λ x. not (p x)) rows)
 
-pub put_in_place-rows : (v : FlatVisit) (rows : List FlatVisit) (len : ℕ) → len ≡ length rows → map visit_of (take 10 (insert rows (unwrap_or (position (λ (w : FlatVisit). is_later (visit_of v) (visit_of w)) rows) len) v)) ≡ take 10 (in_place (visit_of v) (map visit_of rows))
+pub put_in_place-rows : (v : StoredVisit) (rows : List StoredVisit) (len : ℕ) → len ≡ length rows → map visit_of (take 10 (insert rows (unwrap_or (position (λ (w : StoredVisit). is_later (visit_of v) (visit_of w)) rows) len) v)) ≡ take 10 (in_place (visit_of v) (map visit_of rows))
 put_in_place-rows v rows len whole =
-    rw (whole, place_from_position (λ (w : FlatVisit). is_later (visit_of v) (visit_of w)) rows, ← take-map visit_of 10 (insert rows (place_in v rows) v), in_place-rows v rows)
+    rw (whole, place_from_position (λ (w : StoredVisit). is_later (visit_of v) (visit_of w)) rows, ← take-map visit_of 10 (insert rows (place_in v rows) v), in_place-rows v rows)
 
 -- ---- the sample, over a walk from the last visit to the first
 
@@ -47,19 +47,19 @@ take-in_place (suc m) v [] = refl
 take-in_place (suc m) v (w ∷ ws) = take-in_place_at (is_later v w) m v w ws (take-in_place m v ws)
 
 -- the rows that were walked, in the order in which they stand
-abbrev pub walked : List (Bor FlatVisit) → List FlatVisit
-walked seen = reverse (map (λ (row : Bor FlatVisit). row.now) seen)
+abbrev pub walked : List (Bor StoredVisit) → List StoredVisit
+walked seen = reverse (map (λ (row : Bor StoredVisit). row.now) seen)
 
 -- the sample of these rows
-abbrev pub sample_among : List FlatVisit → List Visit
+abbrev pub sample_among : List StoredVisit → List Visit
 sample_among rows = take 10 (latest_first (map visit_of rows))
 
-walked-push : (seen : List (Bor FlatVisit)) (row : Bor FlatVisit) → walked (seen ++ row ∷ []) ≡ row.now ∷ walked seen
+walked-push : (seen : List (Bor StoredVisit)) (row : Bor StoredVisit) → walked (seen ++ row ∷ []) ≡ row.now ∷ walked seen
 walked-push seen row =
-    rw (map-append (λ (row : Bor FlatVisit). row.now) seen (row ∷ []), reverse-append (map (λ (row : Bor FlatVisit). row.now) seen) (row.now ∷ []))
+    rw (map-append (λ (row : Bor StoredVisit). row.now) seen (row ∷ []), reverse-append (map (λ (row : Bor StoredVisit). row.now) seen) (row.now ∷ []))
 
 -- one row more
-pub sample_more : (seen : List (Bor FlatVisit)) (row : Bor FlatVisit) (vs : List Visit) → vs ≡ sample_among (walked seen) → take 10 (in_place (visit_of row.now) vs) ≡ sample_among (walked (seen ++ row ∷ []))
+pub sample_more : (seen : List (Bor StoredVisit)) (row : Bor StoredVisit) (vs : List Visit) → vs ≡ sample_among (walked seen) → take 10 (in_place (visit_of row.now) vs) ≡ sample_among (walked (seen ++ row ∷ []))
 sample_more seen row vs so_far =
     rw (walked-push seen row, so_far) (take-in_place 10 (visit_of row.now) (latest_first (map visit_of (walked seen))))
 
@@ -74,20 +74,20 @@ filter-reverse p (x ∷ xs) =
     ∙ ap (λ ys. ys ++ filter p (x ∷ [])) (filter-reverse p xs) ∙ filter_end (p x) x (filter p xs)
 
 -- the rows of a page
-abbrev pub of_page : PageId → FlatVisit → Bool
+abbrev pub of_page : PageId → StoredVisit → Bool
 of_page page row = row.page.0 == page.0
 
-visits_at : (b : Bool) (row : FlatVisit) (rows : List FlatVisit) (vs : List Visit) → map visit_of rows ≡ vs → map visit_of (if b then row ∷ rows else rows) ≡ (if b then visit_of row ∷ vs else vs)
+visits_at : (b : Bool) (row : StoredVisit) (rows : List StoredVisit) (vs : List Visit) → map visit_of rows ≡ vs → map visit_of (if b then row ∷ rows else rows) ≡ (if b then visit_of row ∷ vs else vs)
 visits_at true row rows vs e = ap (λ ws. visit_of row ∷ ws) e
 visits_at false row rows vs e = e
 
-pub visits_of-rows : (page : PageId) (rows : List FlatVisit) → map visit_of (filter (of_page page) rows) ≡ filter (λ (v : Visit). v.page.0 == page.0) (map visit_of rows)
+pub visits_of-rows : (page : PageId) (rows : List StoredVisit) → map visit_of (filter (of_page page) rows) ≡ filter (λ (v : Visit). v.page.0 == page.0) (map visit_of rows)
 visits_of-rows page [] = refl
 visits_of-rows page (row ∷ rows) =
     visits_at (of_page page row) row (filter (of_page page) rows) (filter (λ (v : Visit). v.page.0 == page.0) (map visit_of rows)) (visits_of-rows page rows)
 
 -- all rows of the page
-pub sample_all : (page : PageId) (rows : List FlatVisit) (seen : List (Bor FlatVisit)) → map (λ (row : Bor FlatVisit). row.now) seen ≡ filter (of_page page) (reverse rows) → sample_among (walked seen) ≡ take 10 (latest_first (filter (λ (v : Visit). v.page.0 == page.0) (map visit_of rows)))
+pub sample_all : (page : PageId) (rows : List StoredVisit) (seen : List (Bor StoredVisit)) → map (λ (row : Bor StoredVisit). row.now) seen ≡ filter (of_page page) (reverse rows) → sample_among (walked seen) ≡ take 10 (latest_first (filter (λ (v : Visit). v.page.0 == page.0) (map visit_of rows)))
 sample_all page rows seen all =
     let whole : walked seen ≡ filter (of_page page) rows =
     ap reverse (all ∙ filter-reverse (of_page page) rows) ∙ reverse-reverse (filter (of_page page) rows) in

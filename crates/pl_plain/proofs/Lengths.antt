@@ -10,7 +10,7 @@ use Rattle.pl_base.specs.Rows.{Kept, KeptPage}
 use Rattle.pl_base.specs.Store.{Item, Page, Visit, roots}
 use Rattle.pl_plain.specs.FlatRows.{IsFlat, page_of}
 use Rattle.pl_plain.specs.Place.{urls_of}
-use Rattle.pl_plain.specs.Form.{FormRows, filled_pages, four, header, in_pages, item_bytes, kept_rows, listed, page_bytes, plain_bytes, text, visit_bytes}
+use Rattle.pl_form.specs.Form.{FormRows, filled_pages, four, header, in_pages, item_bytes, kept_rows, listed, page_bytes, plain_bytes, text, visit_bytes}
 use Rattle.pl_base.specs.Touched.{page_at, page_size}
 use Rattle.pl_base.proofs.OriginLaws.{store_url-fits}
 use Rattle.pl_plain.specs.declared.flat.row.FlatPage.{FlatPage}

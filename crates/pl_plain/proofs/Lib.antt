@@ -9,7 +9,6 @@ pub mod CheckRoots
 pub mod CheckSamples
 pub mod CheckTests
 pub mod FlatChanges
-pub mod FormReads
 pub mod LatestVisits
 pub mod Lengths
 pub mod Lists
@@ -19,12 +18,6 @@ pub mod OlderVisits
 pub mod OneStore
 pub mod OpeningGood
 pub mod Pages
-pub mod ReadingFile
-pub mod ReadingLists
-pub mod ReadingNumbers
-pub mod ReadingPlain
-pub mod ReadingRows
-pub mod ReadingStored
-pub mod ReadingTexts
 pub mod Searches
+pub mod StoredUrls
 pub mod TestOrigins

@@ -4,7 +4,7 @@ use Rattle.std.proofs.lemmas.List.Elements.{All-nil}
 use Rattle.pl_base.specs.declared.id.Ids.{Ids}
 use Rattle.pl_base.specs.Good.{AreIds, IsGood}
 use Rattle.pl_base.specs.Rows.{opening_with, store_of}
-use Rattle.pl_plain.specs.Stored.{Stored}
+use Rattle.pl_form.specs.Stored.{Stored}
 use Rattle.pl_plain.proofs.CheckRoots.{has_roots, root_ids, roots_are_good, roots_tags, roots_tree}
 
 no_ids : (next : ℕ) → 1 ≤ next → next ≤ 4_294_967_295 → AreIds 1 next []

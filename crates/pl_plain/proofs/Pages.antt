@@ -8,7 +8,7 @@ use Rattle.std.proofs.lemmas.List.Folds.{list_any_at}
 use Rattle.std.proofs.lemmas.List.FromFn.{get_or-range_with_len, length-range_with_len, map-range_with_len_more}
 use Rattle.std.proofs.lemmas.Slice.{drop-append-drop}
 use Rattle.pl_base.specs.Touched.{Change, IsWithin, PageImage, ascends_above, changed, has_number, page_at, page_numbers, page_size, with_one_more, with_page, with_pages}
-use Rattle.pl_plain.specs.Form.{filled_pages, in_pages}
+use Rattle.pl_form.specs.Form.{filled_pages, in_pages}
 use Rattle.pl_plain.specs.Images.{images_of, whole_change}
 use Rattle.pl_plain.proofs.Lengths.{length-in_pages}
 use Rattle.pl_plain.proofs.Lists.{map-map}

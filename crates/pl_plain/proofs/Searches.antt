@@ -17,17 +17,18 @@ use Rattle.std.proofs.lemmas.List.Sums.{position_or_len_is}
 use Rattle.std.proofs.lemmas.Option.{slice_get_past, slice_get_read}
 use Rattle.pl_base.specs.Rows.{KeptPage}
 use Rattle.pl_base.specs.Store.{Visit}
+use Rattle.pl_form.specs.Stored.{visit_of}
 use Rattle.pl_plain.specs.declared.flat.row.FlatPage.{FlatPage}
-use Rattle.pl_plain.specs.declared.flat.row.FlatVisit.{FlatVisit}
+use Rattle.pl_form.specs.declared.stored.StoredVisit.{StoredVisit}
 use Rattle.pl_plain.specs.Check.{visit_numbers}
-use Rattle.pl_plain.specs.FlatRows.{page_numbers, page_of, visit_of}
+use Rattle.pl_plain.specs.FlatRows.{page_numbers, page_of}
 use Rattle.pl_plain.proofs.Lists.{map-map}
 
 -- the ids of the rows, seen as what is kept
 pub pages_ascend : (xs ys : List FlatPage) → IsStrictlyIncreasing (map (λ (p : KeptPage). p.page.id.0) (map page_of xs)) → ys ≡ xs → IsStrictlyIncreasing (page_numbers ys)
 pages_ascend xs ys ascending same = rw (same, ← (map-map (λ (p : KeptPage). p.page.id.0) page_of xs)) ascending
 
-pub visits_ascend : (xs ys : List FlatVisit) → IsStrictlyIncreasing (map (λ (v : Visit). v.id.0) (map visit_of xs)) → ys ≡ xs → IsStrictlyIncreasing (visit_numbers ys)
+pub visits_ascend : (xs ys : List StoredVisit) → IsStrictlyIncreasing (map (λ (v : Visit). v.id.0) (map visit_of xs)) → ys ≡ xs → IsStrictlyIncreasing (visit_numbers ys)
 visits_ascend xs ys ascending same = rw (same, ← (map-map (λ (v : Visit). v.id.0) visit_of xs)) ascending
 
 module _ {X : Type 0} (n : X → ℕ) (xs : List X) (ascending : IsStrictlyIncreasing (map n xs)) where

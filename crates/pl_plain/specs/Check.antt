@@ -4,9 +4,9 @@ use Rattle.std.specs.List.{list_all, list_any}
 use Rattle.pl_base.specs.declared.transition.Transition.{Transition}
 use Rattle.pl_base.specs.Touched.{ascends_above}
 use Rattle.pl_base.specs.Transition.{transition_number}
-use Rattle.pl_plain.specs.declared.flat.row.FlatVisit.{FlatVisit}
-use Rattle.pl_plain.specs.declared.form.stored.StoredPage.{StoredPage}
-use Rattle.pl_plain.specs.Stored.{Stored}
+use Rattle.pl_form.specs.declared.stored.StoredVisit.{StoredVisit}
+use Rattle.pl_form.specs.declared.stored.StoredPage.{StoredPage}
+use Rattle.pl_form.specs.Stored.{Stored}
 
 -- the ids ascend from above 0, and lie below the next one
 abbrev pub are_ids : ℕ → List ℕ → Bool
@@ -15,8 +15,8 @@ are_ids next ids = ascends_above 0 ids && list_all (λ id. nat_lt id next) ids
 abbrev pub page_numbers : List StoredPage → List ℕ
 page_numbers pages = map (λ (p : StoredPage). p.id.0) pages
 
-abbrev pub visit_numbers : List FlatVisit → List ℕ
-visit_numbers visits = map (λ (v : FlatVisit). v.id.0) visits
+abbrev pub visit_numbers : List StoredVisit → List ℕ
+visit_numbers visits = map (λ (v : StoredVisit). v.id.0) visits
 
 -- no URL stands twice
 abbrev pub have_own_urls : List StoredPage → Bool
@@ -27,13 +27,13 @@ abbrev pub is_typed : Transition → Bool
 is_typed t = transition_number t == 2
 
 -- a page has a visit, and is typed where a visit to it was
-abbrev pub is_good_page : List FlatVisit → StoredPage → Bool
+abbrev pub is_good_page : List StoredVisit → StoredPage → Bool
 is_good_page visits p =
-    list_any (λ (v : FlatVisit). v.page.0 == p.id.0) visits
-    && (p.typed || not (list_any (λ (v : FlatVisit). (v.page.0 == p.id.0) && is_typed v.transition) visits))
+    list_any (λ (v : StoredVisit). v.page.0 == p.id.0) visits
+    && (p.typed || not (list_any (λ (v : StoredVisit). (v.page.0 == p.id.0) && is_typed v.transition) visits))
 
 -- a visit has a page and a date
-abbrev pub is_good_visit : List StoredPage → FlatVisit → Bool
+abbrev pub is_good_visit : List StoredPage → StoredVisit → Bool
 is_good_visit pages v =
     nat_le v.date.0 253_402_300_799_999_999 && list_any (λ (p : StoredPage). p.id.0 == v.page.0) pages
 

@@ -7,10 +7,10 @@ use Rattle.pl_base.specs.Live.{chunks}
 use Rattle.pl_base.specs.Marks.{is_hidden, visit_count}
 use Rattle.pl_base.specs.Rows.{Kept}
 use Rattle.pl_plain.specs.declared.flat.row.FlatPage.{FlatPage}
-use Rattle.pl_plain.specs.declared.form.stored.StoredPage.{StoredPage}
+use Rattle.pl_form.specs.declared.stored.StoredPage.{StoredPage}
 use Rattle.pl_plain.specs.CheckOrigins.{AreNamed, Key}
 use Rattle.pl_plain.specs.FlatRows.{kept_from}
-use Rattle.pl_plain.specs.Stored.{AreStored, Stored, stored_page, stored_store}
+use Rattle.pl_form.specs.Stored.{AreStored, Stored, stored_page, stored_store}
 
 -- the frecency of the file is the one of the definition
 abbrev pub IsFrecencyRight : Stored → StoredPage → Type 0

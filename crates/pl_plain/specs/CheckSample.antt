@@ -4,10 +4,10 @@ use Rattle.pl_base.specs.Frecency.{visit_bonus}
 use Rattle.pl_base.specs.Store.{Store, Visit}
 use Rattle.pl_base.specs.Tables.{bonus_of}
 use Rattle.pl_score.specs.declared.sample.Sampled.{Sampled}
-use Rattle.pl_plain.specs.declared.flat.row.FlatVisit.{FlatVisit}
+use Rattle.pl_form.specs.declared.stored.StoredVisit.{StoredVisit}
 
 -- what a visit without a source counts, from which no redirect came, to a page that no item has
-abbrev pub sampled_row : FlatVisit → Sampled
+abbrev pub sampled_row : StoredVisit → Sampled
 sampled_row row = record { date = row.date; bonus = bonus_of row.transition None false false }
 
 -- what a visit of the store counts in a sample

@@ -17,9 +17,9 @@ use Rattle.pl_base.specs.Good.{IsGood, IsTitle}
 use Rattle.pl_base.specs.Rows.{IsOfVisits, IsRight, IsWellKept, Kept, KeptOrigin, KeptPage, NamesOrigins, store_of}
 use Rattle.pl_base.specs.Store.{Page, Store}
 use Rattle.pl_plain.specs.declared.flat.row.FlatPage.{FlatPage}
-use Rattle.pl_plain.specs.declared.flat.row.FlatVisit.{FlatVisit}
+use Rattle.pl_form.specs.declared.stored.StoredVisit.{StoredVisit}
 use Rattle.pl_plain.specs.FlatRows.{IsFlat, kept_from, origin_named, page_of}
-use Rattle.pl_plain.specs.Form.{FormRows, StandsFor, form_bytes, kept_rows, store_rows}
+use Rattle.pl_form.specs.Form.{FormRows, StandsFor, form_bytes, kept_rows, store_rows}
 
 -- ---- the rows are well kept
 
@@ -88,7 +88,7 @@ roots_given next first =
     All-from_recursion (λ id. (0 < id) × (id < next)) (1 ∷ 2 ∷ 3 ∷ 4 ∷ 5 ∷ 6 ∷ [])
     ((omega arith, omega arith), ((omega arith, omega arith), ((omega arith, omega arith), ((omega arith, omega arith), ((omega arith, omega arith), ((omega arith, omega arith), tt))))))
 
-pub well_kept : (day : Day) (ids : Ids) (pages : List FlatPage) (origins : ℕ) (visits : List FlatVisit) (live : ℕ) → IsFlat (kept_from day ids pages origins visits) origins live → IsWellKept (kept_from day ids pages origins visits)
+pub well_kept : (day : Day) (ids : Ids) (pages : List FlatPage) (origins : ℕ) (visits : List StoredVisit) (live : ℕ) → IsFlat (kept_from day ids pages origins visits) origins live → IsWellKept (kept_from day ids pages origins visits)
 well_kept day ids pages origins visits live h =
     let kept : Kept = kept_from day ids pages origins visits in
     record {

@@ -13,8 +13,9 @@ use Rattle.pl_base.specs.Live.{live_slots, origin_count}
 use Rattle.pl_base.specs.Rows.{Kept, KeptOrigin, KeptPage, has_page, store_of}
 use Rattle.pl_base.specs.Store.{Page, Visit, roots}
 use Rattle.pl_plain.specs.declared.flat.row.FlatPage.{FlatPage}
-use Rattle.pl_plain.specs.declared.flat.row.FlatVisit.{FlatVisit}
-use Rattle.pl_plain.specs.Form.{form_bytes, kept_rows}
+use Rattle.pl_form.specs.declared.stored.StoredVisit.{StoredVisit}
+use Rattle.pl_form.specs.Form.{form_bytes, kept_rows}
+use Rattle.pl_form.specs.Stored.{visit_of}
 
 -- a page without a title
 abbrev pub page_of : FlatPage → KeptPage
@@ -38,9 +39,6 @@ marked_row id mark p =
     then record p { typed = mark.typed; frecency = mark.frecency; count = mark.count; hidden = mark.hidden }
     else p
 
-abbrev pub visit_of : FlatVisit → Visit
-visit_of v = record { id = v.id; page = v.page; date = v.date; transition = v.transition; source = v.source }
-
 abbrev pub page_numbers : List FlatPage → List ℕ
 page_numbers pages = map (λ (p : FlatPage). p.id.0) pages
 
@@ -49,7 +47,7 @@ abbrev pub origin_named : ℕ → KeptOrigin
 origin_named n = record { origin = record { 0 = n }; total = 0 }
 
 -- the rows, with so many origins, and the six roots as the only items
-abbrev pub kept_from : Day → Ids → List FlatPage → ℕ → List FlatVisit → Kept
+abbrev pub kept_from : Day → Ids → List FlatPage → ℕ → List StoredVisit → Kept
 kept_from day ids pages origins visits =
     record {
       day = day;
@@ -61,7 +59,7 @@ kept_from day ids pages origins visits =
     }
 
 -- the bytes that a file of these rows holds from page 1 on
-abbrev pub bytes_from : Day → Ids → List FlatPage → ℕ → List FlatVisit → List ℕ
+abbrev pub bytes_from : Day → Ids → List FlatPage → ℕ → List StoredVisit → List ℕ
 bytes_from day ids pages origins visits = form_bytes (kept_rows (kept_from day ids pages origins visits))
 
 -- the rows are well kept, where the names of the origins are 1 to `origins`, and they take so many slots

@@ -1,14 +1,10 @@
 pub mod Check
-pub mod CheckErrors
 pub mod CheckOrigins
 pub mod CheckPages
 pub mod CheckSample
 pub mod Flat
 pub mod FlatLaws
 pub mod FlatRows
-pub mod Form
 pub mod Images
 pub mod Latest
 pub mod Place
-pub mod Reading
-pub mod Stored

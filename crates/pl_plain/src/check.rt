@@ -4,7 +4,6 @@ mod live;
 mod marks;
 mod origins;
 mod pages;
-mod read;
 #[cfg(test)]
 mod tests;
 
@@ -12,11 +11,13 @@ ghost use Rattle.std.specs.Prelude.{◌≡◌, ◌↔◌, ℕ, List, drop, lengt
 ghost use Rattle.pl_base.specs.Rows.{IsRight, store_of};
 ghost use Rattle.pl_base.specs.Store.{Store};
 ghost use Rattle.pl_plain.specs.Flat.{IsBase, bytes_of, kept_of};
-ghost use Rattle.pl_plain.specs.Form.{StandsFor};
+ghost use Rattle.pl_form.specs.Form.{StandsFor};
 
-use crate::CheckError;
-use crate::check::read::{FileRows, read_rows};
+use crate::check::good::are_good;
+use crate::check::live::live;
+use crate::check::pages::{into_flat, named_pages};
 use crate::flat::Flat;
+use pl_form::{CheckError, FileRows, read_rows};
 use std::alloc::Global;
 
 /// A store takes at most so many slots of 128 bytes.
@@ -37,14 +38,14 @@ impl Flat {
         ensures base { IfOk result (λ flat. (base_bytes : List ℕ) → IsBase flat base_bytes ↔ (base_bytes ≡ bytes_of flat)) }
     {
         let FileRows { rows, pages } = read_rows(alloc, bytes)?;
-        if !rows.are_good() {
+        if !are_good(&rows) {
             return Err(CheckError::NotAStore);
         }
-        let named = rows.named_pages(alloc)?;
-        let live = rows.live(named.origins);
+        let named = named_pages(alloc, &rows)?;
+        let live = live(&rows, named.origins);
         if live > SLOT_LIMIT {
             return Err(CheckError::NotAStore);
         }
-        Ok(rows.into_flat(alloc, named, live, pages))
+        Ok(into_flat(alloc, rows, named, live, pages))
     }
 }

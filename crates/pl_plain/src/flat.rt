@@ -14,8 +14,9 @@ ghost use Rattle.std.proofs.Props.{props};
 ghost use Rattle.pl_base.specs.Touched.{page_at};
 ghost use Rattle.pl_plain.specs.FlatRows.{IsFlat, kept_from, bytes_from};
 
-use crate::flat::row::{FlatPage, FlatVisit};
+use crate::flat::row::FlatPage;
 use pl_base::{Day, Ids, NoMemory};
+use pl_form::StoredVisit;
 use std::alloc::Global;
 
 /// A store over vectors of its rows.
@@ -30,7 +31,7 @@ pub struct Flat {
     // By ascending id.
     pages: Vec<FlatPage>,
     // By ascending id.
-    visits: Vec<FlatVisit>,
+    visits: Vec<StoredVisit>,
     // The names of origins are 1 to this.
     origins: u32,
     // In slots of 128 bytes.
@@ -89,7 +90,7 @@ impl Flat {
         day: Day,
         ids: Ids,
         pages: Vec<FlatPage>,
-        visits: Vec<FlatVisit>,
+        visits: Vec<StoredVisit>,
         origins: u32,
         live: u64,
         before: u32,

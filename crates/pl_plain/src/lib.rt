@@ -1,10 +1,9 @@
-//! A store over vectors, and the form in which a file holds it.
+//! A store over vectors, and the check of a file's bytes, which makes one.
 #![tactic(auto)]
 
 mod check;
-mod check_error;
 mod flat;
-mod form;
+mod visit;
 
-pub use check_error::CheckError;
 pub use flat::Flat;
+pub use pl_form::CheckError;

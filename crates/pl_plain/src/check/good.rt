@@ -4,56 +4,53 @@ ghost use Rattle.std.specs.List.{list_all, list_any};
 ghost use Rattle.pl_base.specs.Good.{IsGood};
 ghost use Rattle.pl_base.specs.Touched.{ascends_above};
 ghost use Rattle.pl_plain.specs.Check as good;
-ghost use Rattle.pl_plain.specs.Stored.{AreStored, stored_store};
+ghost use Rattle.pl_form.specs.Stored.{AreStored, stored_store};
 
-use crate::flat::row::FlatVisit;
-use crate::form::{StoredPage, StoredRows};
 use pl_base::{Day, Micros, PageId, Transition};
+use pl_form::{StoredPage, StoredRows, StoredVisit};
 
-impl StoredRows {
-    /// Whether they are the rows of a good store.
-    pub fn are_good(&self) -> bool
-        requires { AreStored self.now }
-        ensures { IsTrue result ↔ IsGood (stored_store self.now) }
-    {
-        self.pass_tests()
-    }
+/// Whether they are the rows of a good store.
+pub fn are_good(rows: &StoredRows) -> bool
+    requires { AreStored rows.now }
+    ensures { IsTrue result ↔ IsGood (stored_store rows.now) }
+{
+    pass_tests(rows)
+}
 
-    fn pass_tests(&self) -> bool
-        ensures { result ≡ good.are_good self.now }
-    {
-        self.have_good_numbers()
-            && are_page_ids(&self.pages, self.ids.page)
-            && are_visit_ids(&self.visits, self.ids.visit)
-            && have_own_urls(&self.pages)
-            && self.have_good_pages()
-            && self.have_good_visits()
-    }
+fn pass_tests(rows: &StoredRows) -> bool
+    ensures { result ≡ good.are_good rows.now }
+{
+    have_good_numbers(rows)
+        && are_page_ids(&rows.pages, rows.ids.page)
+        && are_visit_ids(&rows.visits, rows.ids.visit)
+        && have_own_urls(&rows.pages)
+        && have_good_pages(rows)
+        && have_good_visits(rows)
+}
 
-    fn have_good_numbers(&self) -> bool
-        ensures { result ≡ good.are_good_numbers self.now }
-    {
-        self.day.0 <= Day::LAST.0
-            && self.ids.page >= 1
-            && self.ids.visit >= 1
-            && self.ids.item >= FIRST_ITEM
-    }
+fn have_good_numbers(rows: &StoredRows) -> bool
+    ensures { result ≡ good.are_good_numbers rows.now }
+{
+    rows.day.0 <= Day::LAST.0
+        && rows.ids.page >= 1
+        && rows.ids.visit >= 1
+        && rows.ids.item >= FIRST_ITEM
+}
 
-    fn have_good_pages(&self) -> bool
-        ensures { result ≡ list_all (good.is_good_page self.now.visits) self.now.pages }
-    {
-        self.pages
-            .iter()
-            .all(|page| is_good_page(&self.visits, page))
-    }
+fn have_good_pages(rows: &StoredRows) -> bool
+    ensures { result ≡ list_all (good.is_good_page rows.now.visits) rows.now.pages }
+{
+    rows.pages
+        .iter()
+        .all(|page| is_good_page(&rows.visits, page))
+}
 
-    fn have_good_visits(&self) -> bool
-        ensures { result ≡ list_all (good.is_good_visit self.now.pages) self.now.visits }
-    {
-        self.visits
-            .iter()
-            .all(|visit| is_good_visit(&self.pages, visit))
-    }
+fn have_good_visits(rows: &StoredRows) -> bool
+    ensures { result ≡ list_all (good.is_good_visit rows.now.pages) rows.now.visits }
+{
+    rows.visits
+        .iter()
+        .all(|visit| is_good_visit(&rows.pages, visit))
 }
 
 fn are_page_ids(pages: &[StoredPage], next: u32) -> bool
@@ -81,19 +78,19 @@ fn pages_ascend(pages: &[StoredPage]) -> bool
     true
 }
 
-fn are_visit_ids(visits: &[FlatVisit], next: u32) -> bool
+fn are_visit_ids(visits: &[StoredVisit], next: u32) -> bool
     ensures { result ≡ good.are_ids next (good.visit_numbers visits.now) }
 {
     visits_ascend(visits) && visits_lie_below(visits, next)
 }
 
-fn visits_lie_below(visits: &[FlatVisit], next: u32) -> bool
+fn visits_lie_below(visits: &[StoredVisit], next: u32) -> bool
     ensures { result ≡ list_all (λ id. nat_lt id next) (good.visit_numbers visits.now) }
 {
     visits.iter().map(|visit| visit.id.0).all(|id| id < next)
 }
 
-fn visits_ascend(visits: &[FlatVisit]) -> bool
+fn visits_ascend(visits: &[StoredVisit]) -> bool
     ensures { result ≡ ascends_above 0 (good.visit_numbers visits.now) }
 {
     let mut last = 0;
@@ -123,19 +120,19 @@ fn has_url(pages: &[StoredPage], url: &str) -> bool
     pages.iter().any(|page| page.url.text() == url)
 }
 
-fn is_good_page(visits: &[FlatVisit], page: &StoredPage) -> bool
+fn is_good_page(visits: &[StoredVisit], page: &StoredPage) -> bool
     ensures { result ≡ good.is_good_page visits.now page.now }
 {
     is_visited(visits, page) && (page.typed || !is_visited_by_typing(visits, page))
 }
 
-fn is_visited(visits: &[FlatVisit], page: &StoredPage) -> bool
+fn is_visited(visits: &[StoredVisit], page: &StoredPage) -> bool
     ensures { result ≡ list_any (λ v. v.page.0 == page.now.id.0) visits.now }
 {
     visits.iter().any(|visit| visit.page.0 == page.id.0)
 }
 
-fn is_visited_by_typing(visits: &[FlatVisit], page: &StoredPage) -> bool
+fn is_visited_by_typing(visits: &[StoredVisit], page: &StoredPage) -> bool
     ensures { result ≡ list_any (λ v. (v.page.0 == page.now.id.0) && good.is_typed v.transition) visits.now }
 {
     visits.iter().any(|visit| visit.page.0 == page.id.0 && is_typed(visit.transition))
@@ -147,7 +144,7 @@ fn is_typed(transition: Transition) -> bool
     matches!(transition, Transition::Typed)
 }
 
-fn is_good_visit(pages: &[StoredPage], visit: &FlatVisit) -> bool
+fn is_good_visit(pages: &[StoredPage], visit: &StoredVisit) -> bool
     ensures { result ≡ good.is_good_visit pages.now visit.now }
 {
     visit.date.0 <= Micros::LAST.0 && has_page(pages, visit.page)

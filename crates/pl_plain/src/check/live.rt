@@ -2,28 +2,26 @@
 ghost use Rattle.std.specs.Prelude.{◌≡◌, ◌+◌, ◌*◌, ◌≤◌, length};
 ghost use Rattle.std.specs.List.{sum_by};
 ghost use Rattle.pl_base.specs.Live as live;
-ghost use Rattle.pl_plain.specs.Stored.{AreStored};
+ghost use Rattle.pl_form.specs.Stored.{AreStored};
 
-use crate::form::{StoredPage, StoredRows};
+use pl_form::{StoredPage, StoredRows};
 
-impl StoredRows {
-    /// The slots of 128 bytes that the store takes with so many origins.
-    pub fn live(&self, origins: u32) -> u64
-        requires { AreStored self.now }
-        ensures { result ≡ origins + length self.now.pages + length self.now.visits + 6
-            + sum_by (λ p. live.chunks p.url) self.now.pages }
-    {
-        let rows = u64::from(origins) + self.pages.len() as u64 + self.visits.len() as u64;
-        rows + ROOT_SLOTS + self.url_slots()
-    }
+/// The slots of 128 bytes that the store takes with so many origins.
+pub fn live(rows: &StoredRows, origins: u32) -> u64
+    requires { AreStored rows.now }
+    ensures { result ≡ origins + length rows.now.pages + length rows.now.visits + 6
+        + sum_by (λ p. live.chunks p.url) rows.now.pages }
+{
+    let slots = u64::from(origins) + rows.pages.len() as u64 + rows.visits.len() as u64;
+    slots + ROOT_SLOTS + url_slots(rows)
+}
 
-    fn url_slots(&self) -> u64
-        requires { AreStored self.now }
-        ensures exact { result ≡ sum_by (λ p. live.chunks p.url) self.now.pages }
-        ensures greatest { result ≤ 547 * 4_294_967_296 }
-    {
-        self.pages.iter().map(chunks).sum()
-    }
+fn url_slots(rows: &StoredRows) -> u64
+    requires { AreStored rows.now }
+    ensures exact { result ≡ sum_by (λ p. live.chunks p.url) rows.now.pages }
+    ensures greatest { result ≤ 547 * 4_294_967_296 }
+{
+    rows.pages.iter().map(chunks).sum()
 }
 
 // The slots of the URL, one for each 120 bytes.

@@ -6,15 +6,15 @@ ghost use Rattle.pl_base.specs.Good.{IsGood};
 ghost use Rattle.pl_plain.specs.CheckOrigins.{AreNamed, Key};
 ghost use Rattle.pl_plain.specs.CheckPages.{IsAssessed, IsFrecencyRight, IsGiven, kept_of_rows};
 ghost use Rattle.pl_plain.specs.Flat.{IsBase, bytes_of, kept_of};
-ghost use Rattle.pl_plain.specs.Form.{filled_pages};
-ghost use Rattle.pl_plain.specs.Stored.{AreStored, stored_bytes, stored_store};
+ghost use Rattle.pl_form.specs.Form.{filled_pages};
+ghost use Rattle.pl_form.specs.Stored.{AreStored, stored_bytes, stored_store};
 
-use crate::CheckError;
+use crate::check::marks::mark;
 use crate::check::origins::Origins;
 use crate::flat::Flat;
 use crate::flat::row::FlatPage;
-use crate::form::{StoredPage, StoredRows};
 use pl_base::{Slot, Txt};
+use pl_form::{CheckError, StoredPage, StoredRows};
 use pl_link::split;
 use std::alloc::Global;
 
@@ -25,74 +25,72 @@ pub struct NamedPages {
     pub origins: u32,
 }
 
-impl StoredRows {
-    /// The pages with what the definitions give of them. A frecency of the file that is another is
-    /// refused.
-    pub fn named_pages(&self, alloc: Global) -> Result<NamedPages, CheckError>
-        requires stored { AreStored self.now }
-        requires good { IsGood (stored_store self.now) }
-        ensures pages { IfOk result (λ named. AllZip (IsAssessed self.now) self.now.pages named.pages.items) }
-        ensures origins { IfOk result (λ named. (keys : List Key) × AreNamed named.pages.items keys × (named.origins ≡ length keys)) }
-        ensures right { All (IsFrecencyRight self.now) self.now.pages → IfErr result (λ e. e ≡ CheckError.NoMemory) }
-    {
-        let mut origins = Origins::new(alloc);
-        let mut pages = Vec::new(alloc);
-        for page in &self.pages {
-            let parts = split(alloc, &page.url)?;
-            let is_place = parts.is_place;
-            let origin = origins.name(parts)?;
-            pages.push(self.flat_page(alloc, page, is_place, origin)?)?;
-        }
-        Ok(NamedPages {
-            pages,
-            origins: origins.count(),
-        })
+/// The pages with what the definitions give of them. A frecency of the file that is another is
+/// refused.
+pub fn named_pages(alloc: Global, rows: &StoredRows) -> Result<NamedPages, CheckError>
+    requires stored { AreStored rows.now }
+    requires good { IsGood (stored_store rows.now) }
+    ensures pages { IfOk result (λ named. AllZip (IsAssessed rows.now) rows.now.pages named.pages.items) }
+    ensures origins { IfOk result (λ named. (keys : List Key) × AreNamed named.pages.items keys × (named.origins ≡ length keys)) }
+    ensures right { All (IsFrecencyRight rows.now) rows.now.pages → IfErr result (λ e. e ≡ CheckError.NoMemory) }
+{
+    let mut origins = Origins::new(alloc);
+    let mut pages = Vec::new(alloc);
+    for page in &rows.pages {
+        let parts = split(alloc, &page.url)?;
+        let is_place = parts.is_place;
+        let origin = origins.name(parts)?;
+        pages.push(flat_page(alloc, rows, page, is_place, origin)?)?;
     }
+    Ok(NamedPages {
+        pages,
+        origins: origins.count(),
+    })
+}
 
-    // The page in an origin.
-    fn flat_page(
-        &self,
-        alloc: Global,
-        page: &StoredPage,
-        is_place: bool,
-        origin: Slot,
-    ) -> Result<FlatPage, CheckError>
-        requires stored { AreStored self.now }
-        requires place { is_place ≡ is_place_url page.now.url }
-        requires visited { list_any (λ v. v.page.0 == page.now.id.0) self.now.visits ≡ true }
-        ensures page { IfOk result (IsAssessed self.now page.now) }
-        ensures origin { IfOk result (λ q. q.origin ≡ origin) }
-        ensures right { IsFrecencyRight self.now page.now → IfErr result (λ e. e ≡ CheckError.NoMemory) }
-    {
-        let mark = self.mark(alloc, page, is_place)?;
-        if mark.frecency != page.frecency {
-            return Err(CheckError::NotAStore);
-        }
-        Ok(FlatPage {
-            id: page.id,
-            url: Txt::copied(alloc, page.url.text())?,
-            typed: page.typed,
-            origin,
-            frecency: mark.frecency,
-            count: mark.count,
-            hidden: mark.hidden,
-        })
+// The page in an origin.
+fn flat_page(
+    alloc: Global,
+    rows: &StoredRows,
+    page: &StoredPage,
+    is_place: bool,
+    origin: Slot,
+) -> Result<FlatPage, CheckError>
+    requires stored { AreStored rows.now }
+    requires place { is_place ≡ is_place_url page.now.url }
+    requires visited { list_any (λ v. v.page.0 == page.now.id.0) rows.now.visits ≡ true }
+    ensures page { IfOk result (IsAssessed rows.now page.now) }
+    ensures origin { IfOk result (λ q. q.origin ≡ origin) }
+    ensures right { IsFrecencyRight rows.now page.now → IfErr result (λ e. e ≡ CheckError.NoMemory) }
+{
+    let mark = mark(alloc, rows, page, is_place)?;
+    if mark.frecency != page.frecency {
+        return Err(CheckError::NotAStore);
     }
+    Ok(FlatPage {
+        id: page.id,
+        url: Txt::copied(alloc, page.url.text())?,
+        typed: page.typed,
+        origin,
+        frecency: mark.frecency,
+        count: mark.count,
+        hidden: mark.hidden,
+    })
+}
 
-    /// The flat store of these rows, in a file whose store has so many pages.
-    pub fn into_flat(self, alloc: Global, named: NamedPages, live: u64, before: u32) -> Flat
-        requires given { (keys : List Key) × IsGiven self named.pages.items keys named.origins live }
-        requires before { before ≡ 2 + filled_pages (length (stored_bytes self)) }
-        ensures kept { kept_of result ≡ kept_of_rows self named.pages.items named.origins }
-        ensures base { (bytes : List ℕ) → IsBase result bytes ↔ (bytes ≡ bytes_of result) }
-    {
-        let StoredRows {
-            day,
-            ids,
-            pages: _pages,
-            visits,
-        } = self;
-        let NamedPages { pages, origins } = named;
-        Flat::from_rows(alloc, day, ids, pages, visits, origins, live, before)
-    }
+/// The flat store of these rows, in a file whose store has so many pages.
+pub fn into_flat(alloc: Global, rows: StoredRows, named: NamedPages, live: u64, before: u32) -> Flat
+    requires given { (keys : List Key) × IsGiven rows named.pages.items keys named.origins live }
+    requires before { before ≡ 2 + filled_pages (length (stored_bytes rows)) }
+    ensures kept { kept_of result ≡ kept_of_rows rows named.pages.items named.origins }
+    ensures base { (bytes : List ℕ) → IsBase result bytes ↔ (bytes ≡ bytes_of result) }
+{
+    let StoredRows {
+        day,
+        ids,
+        pages: _pages,
+        visits,
+    } = rows;
+    let NamedPages { pages, origins } = named;
+    Flat::from_rows(alloc, day, ids, pages, visits, origins, live, before)
 }

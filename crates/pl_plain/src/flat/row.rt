@@ -1,11 +1,8 @@
 ghost use Rattle.std.specs.Prelude.{◌≡◌};
-ghost use Rattle.std.specs.Option.{option_map};
-ghost use Rattle.pl_base.specs.Rows.{mark_of, row_of};
-ghost use Rattle.pl_base.specs.Visits as base;
-ghost use Rattle.pl_plain.specs.FlatRows.{page_of, visit_of};
-ghost use Rattle.pl_plain.specs.Latest as latest;
+ghost use Rattle.pl_base.specs.Rows.{mark_of};
+ghost use Rattle.pl_plain.specs.FlatRows.{page_of};
 
-use pl_base::{Mark, Micros, PageId, Slot, Transition, Txt, VisitId, VisitRow};
+use pl_base::{Mark, PageId, Slot, Txt};
 
 /// A page, which has no title, and what was computed of it last.
 #[derive(Debug, Drop)]
@@ -39,53 +36,6 @@ impl FlatPage {
             count: self.count,
             typed: self.typed,
             hidden: self.hidden,
-        }
-    }
-}
-
-/// A visit.
-#[derive(Clone, Copy, Debug)]
-pub struct FlatVisit {
-    pub id: VisitId,
-    pub page: PageId,
-    pub date: Micros,
-    pub transition: Transition,
-    pub source: Option<VisitId>,
-}
-
-impl FlatVisit {
-    /// Whether the date is later, or the same and the id greater.
-    pub fn is_later(&self, other: &FlatVisit) -> bool
-        ensures { result ≡ base.is_later (visit_of self.now) (visit_of other.now) }
-    {
-        (self.date, self.id) > (other.date, other.id)
-    }
-
-    /// The later of this visit and another one, if there is another.
-    pub fn later_of(self, other: Option<FlatVisit>) -> FlatVisit
-        ensures { visit_of result ≡ latest.later_of (visit_of self) (option_map visit_of other) }
-    {
-        match other {
-            Some(other) if !self.is_later(&other) => other,
-            _ => self,
-        }
-    }
-
-    /// Whether the visit is one of the page, and earlier than the limit if there is one.
-    pub fn is_within(&self, page: PageId, limit: Option<FlatVisit>) -> bool
-        ensures { result ≡ latest.is_within page (option_map visit_of limit) (visit_of self.now) }
-    {
-        self.page == page && limit.is_none_or(|limit| limit.is_later(self))
-    }
-
-    pub fn row(&self) -> VisitRow
-        ensures { result ≡ row_of (visit_of self.now) }
-    {
-        VisitRow {
-            page: self.page,
-            date: self.date,
-            transition: self.transition,
-            source: self.source,
         }
     }
 }

@@ -1,18 +1,18 @@
-use crate::Flat;
 use crate::flat::mark::mark_page;
-use crate::flat::row::FlatVisit;
 use crate::flat::search::{behind, find_page, find_visit, latest_visit};
 use crate::flat::touched::whole_change;
+use crate::{Flat, visit};
 use pl_base::{
     Day, Ids, Mark, NoMemory, PageId, Rows, Slot, Steps, Touched, Txt, VisitId, VisitRow,
 };
+use pl_form::StoredVisit;
 use std::sync::ledger::Ledger;
 
 // No steps are counted, since each call reads any number of rows.
 impl Rows for Flat {
     ghost use Rattle.pl_plain.specs.Flat.{kept_of, bytes_of, IsBase};
     ghost use Rattle.pl_plain.specs.FlatLaws as laws;
-    ghost use Rattle.pl_plain.specs.Form.{StandsFor};
+    ghost use Rattle.pl_form.specs.Form.{StandsFor};
 
     ghost kept = { kept_of };
 
@@ -80,7 +80,7 @@ impl Rows for Flat {
 
     fn visit_at<L: Ledger>(&self, visit: VisitId, steps: &mut Steps<L>) -> Option<VisitRow> {
         let visit = find_visit(&self.visits, visit)?;
-        Some(visit.row())
+        Some(visit::row(visit))
     }
 
     fn latest<L: Ledger>(&self, page: PageId, steps: &mut Steps<L>) -> Option<VisitId> {
@@ -100,7 +100,7 @@ impl Rows for Flat {
         steps: &mut Steps<L>,
     ) -> Result<VisitId, NoMemory> {
         let id = VisitId(self.ids.visit);
-        self.visits.push(FlatVisit {
+        self.visits.push(StoredVisit {
             id,
             page: row.page,
             date: row.date,

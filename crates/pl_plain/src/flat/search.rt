@@ -3,13 +3,16 @@ ghost use Rattle.std.specs.List.{position};
 ghost use Rattle.std.specs.List.Sorted.{IsStrictlyIncreasing};
 ghost use Rattle.std.specs.Option.{option_copied, option_map};
 ghost use Rattle.pl_base.specs.Visits.{latest_first};
+ghost use Rattle.pl_form.specs.Stored.{visit_of};
 ghost use Rattle.pl_plain.specs.declared.flat.row.FlatPage.{FlatPage};
 ghost use Rattle.pl_plain.specs.Check.{visit_numbers};
-ghost use Rattle.pl_plain.specs.FlatRows.{page_numbers, visit_of};
+ghost use Rattle.pl_plain.specs.FlatRows.{page_numbers};
 ghost use Rattle.pl_plain.specs.Latest.{first_of, is_within};
 
-use crate::flat::row::{FlatPage, FlatVisit};
+use crate::flat::row::FlatPage;
+use crate::visit::{is_within, later_of};
 use pl_base::{PageId, VisitId};
+use pl_form::StoredVisit;
 
 /// Where the page with this id stands.
 pub fn page_index(pages: &[FlatPage], id: PageId) -> Option<usize>
@@ -35,14 +38,14 @@ pub fn behind(pages: &[FlatPage], id: u32) -> Option<PageId>
     Some(page.id)
 }
 
-fn visit_index(visits: &[FlatVisit], id: VisitId) -> Option<usize>
+fn visit_index(visits: &[StoredVisit], id: VisitId) -> Option<usize>
     requires { IsStrictlyIncreasing (visit_numbers visits.now) }
     ensures { result ≡ position (λ v. v.id.0 == id.0) visits.now }
 {
     visits.binary_search_by_key(&id.0, |visit| visit.id.0).ok()
 }
 
-pub fn find_visit(visits: &[FlatVisit], id: VisitId) -> Option<&FlatVisit>
+pub fn find_visit(visits: &[StoredVisit], id: VisitId) -> Option<&StoredVisit>
     requires { IsStrictlyIncreasing (visit_numbers visits.now) }
     ensures { option_copied result ≡ find (λ v. v.id.0 == id.0) visits.now }
 {
@@ -51,10 +54,10 @@ pub fn find_visit(visits: &[FlatVisit], id: VisitId) -> Option<&FlatVisit>
 
 /// The latest visit of a page, of all or of those before the limit.
 pub fn latest_visit(
-    visits: &[FlatVisit],
+    visits: &[StoredVisit],
     page: PageId,
-    limit: Option<FlatVisit>,
-) -> Option<FlatVisit>
+    limit: Option<StoredVisit>,
+) -> Option<StoredVisit>
     ensures { option_map visit_of result ≡ first_of (latest_first
         (filter (is_within page (option_map visit_of limit)) (map visit_of visits.now))) }
 {
@@ -62,9 +65,9 @@ pub fn latest_visit(
     for visit in visits
         .iter()
         .rev()
-        .filter(|visit| visit.is_within(page, limit))
+        .filter(|visit| is_within(visit, page, limit))
     {
-        latest = Some(visit.later_of(latest));
+        latest = Some(later_of(*visit, latest));
     }
     latest
 }

@@ -1,6 +1,6 @@
 ghost use Rattle.std.specs.Prelude.{◌≡◌, ◌+◌, ◌-◌, ◌*◌, ◌≤◌, ◌<◌, ◌^◌, ◌++◌, length, replicate, IfOk, OnOk};
 ghost use Rattle.pl_base.specs.Touched.{page_at};
-ghost use Rattle.pl_plain.specs.Form as form;
+ghost use Rattle.pl_form.specs.Form as form;
 ghost use Rattle.pl_plain.specs.Images as spec;
 ghost use Rattle.pl_plain.specs.Images.{images_of};
 

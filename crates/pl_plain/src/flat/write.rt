@@ -1,12 +1,14 @@
 ghost use Rattle.std.specs.Prelude.{◌≡◌, ◌+◌, ◌≤◌, ◌<◌, ◌^◌, ◌∷◌, ◌++◌, [], codes, length, map, replicate, All, OnOk};
 ghost use Rattle.pl_base.specs.Store.{item_id, root_folder, roots};
-ghost use Rattle.pl_plain.specs.FlatRows.{form_row, visit_of};
-ghost use Rattle.pl_plain.specs.Form.{eight, filled_pages, four, header, item_bytes, listed, page_bytes, text, visit_bytes, visit_or_zero};
-ghost use Rattle.pl_plain.specs.Form as form;
+ghost use Rattle.pl_form.specs.Stored.{visit_of};
+ghost use Rattle.pl_plain.specs.FlatRows.{form_row};
+ghost use Rattle.pl_form.specs.Form.{eight, filled_pages, four, header, item_bytes, listed, page_bytes, text, visit_bytes, visit_or_zero};
+ghost use Rattle.pl_form.specs.Form as form;
 
 use crate::Flat;
-use crate::flat::row::{FlatPage, FlatVisit};
+use crate::flat::row::FlatPage;
 use pl_base::{NoMemory, VisitId};
+use pl_form::StoredVisit;
 
 pub fn put_four(out: &mut Vec<u8>, n: u32) -> Result<(), NoMemory>
     ensures { OnOk result (out.new.items ≡ out.old.items ++ four n) }
@@ -62,7 +64,7 @@ pub fn put_pages(out: &mut Vec<u8>, pages: &[FlatPage]) -> Result<(), NoMemory>
     Ok(())
 }
 
-fn put_visit(out: &mut Vec<u8>, visit: &FlatVisit) -> Result<(), NoMemory>
+fn put_visit(out: &mut Vec<u8>, visit: &StoredVisit) -> Result<(), NoMemory>
     ensures { OnOk result (out.new.items ≡ out.old.items ++ visit_bytes (visit_of visit.now)) }
 {
     put_four(out, visit.id.0)?;
@@ -80,7 +82,7 @@ fn source_number(source: Option<VisitId>) -> u32
     source.map_or(0, |source| source.0)
 }
 
-pub fn put_visits(out: &mut Vec<u8>, visits: &[FlatVisit]) -> Result<(), NoMemory>
+pub fn put_visits(out: &mut Vec<u8>, visits: &[StoredVisit]) -> Result<(), NoMemory>
     requires { length visits.now < 2 ^ 32 }
     ensures { OnOk result (out.new.items
         ≡ out.old.items ++ listed visit_bytes (map visit_of visits.now)) }
@@ -136,7 +138,7 @@ pub fn put_roots(out: &mut Vec<u8>) -> Result<(), NoMemory>
 impl Flat {
     ghost use Rattle.std.specs.Prelude.{IfOk};
     ghost use Rattle.pl_plain.specs.Flat.{kept_of};
-    ghost use Rattle.pl_plain.specs.Form.{kept_rows, plain_bytes};
+    ghost use Rattle.pl_form.specs.Form.{kept_rows, plain_bytes};
 
     /// The plain bytes of the rows.
     pub fn plain(&self) -> Result<Vec<u8>, NoMemory>

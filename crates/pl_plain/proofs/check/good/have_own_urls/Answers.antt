@@ -1,6 +1,6 @@
 use Rattle.std.proofs.Common.{◌+◌, ◌-◌, ◌∙◌, List, ℕ, ap, bytes_eq, drop, length, sym, take}
 use Rattle.std.specs.List.{list_any}
-use Rattle.pl_plain.specs.declared.form.stored.StoredPage.{StoredPage}
+use Rattle.pl_form.specs.declared.stored.StoredPage.{StoredPage}
 use Rattle.pl_plain.specs.Check as good
 use Rattle.pl_plain.proofs.CheckTests.{own_urls_more}
 use Rattle.pl_plain.proofs.check.good.have_own_urls.Goals as goal

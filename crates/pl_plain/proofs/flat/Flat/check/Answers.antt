@@ -3,7 +3,7 @@ use Rattle.std.proofs.lemmas.Bool.{true≢false}
 use Rattle.std.proofs.lemmas.Result.{err_from_is_err_and}
 use Rattle.pl_base.specs.Rows.{IsRight, Kept, store_of}
 use Rattle.pl_plain.specs.Flat.{kept_of}
-use Rattle.pl_plain.specs.Form.{StandsFor}
+use Rattle.pl_form.specs.Form.{StandsFor}
 use Rattle.pl_plain.proofs.CheckFlat.{begins-right, is-right, slots-by, stands-for}
 use Rattle.pl_plain.proofs.CheckHeld.{apart, good_read, live_read, not_read, right_read}
 use Rattle.pl_plain.proofs.OneStore.{one_store}
@@ -59,21 +59,21 @@ returns-then-live-gt-SLOT_LIMIT-clause-not_a_store c refused store held =
 
 pub returns-clause-only : goal.returns-clause-only
 returns-clause-only c store held =
-    one_store (drop 1024 c.args.bytes.now) store (store_of (kept_of c.into_flat.result)) held (returns-clause-stands c)
+    one_store (drop 1024 c.args.bytes.now) c.in_ok-rows.ensures.one store (store_of (kept_of c.into_flat.result)) held (returns-clause-stands c)
 
 -- ---- one store at most, at each exit
 
 pub returns-in_err-rows-clause-one : goal.returns-in_err-rows-clause-one
-returns-in_err-rows-clause-one c = one_store (drop 1024 c.args.bytes.now)
+returns-in_err-rows-clause-one c = one_store (drop 1024 c.args.bytes.now) c.in_err-rows.ensures.one
 
 pub returns-then-not-are_good-clause-one : goal.returns-then-not-are_good-clause-one
-returns-then-not-are_good-clause-one c = one_store (drop 1024 c.args.bytes.now)
+returns-then-not-are_good-clause-one c = one_store (drop 1024 c.args.bytes.now) c.in_ok-rows.ensures.one
 
 pub returns-in_err-named-clause-one : goal.returns-in_err-named-clause-one
-returns-in_err-named-clause-one c = one_store (drop 1024 c.args.bytes.now)
+returns-in_err-named-clause-one c = one_store (drop 1024 c.args.bytes.now) c.in_ok-rows.ensures.one
 
 pub returns-then-live-gt-SLOT_LIMIT-clause-one : goal.returns-then-live-gt-SLOT_LIMIT-clause-one
-returns-then-live-gt-SLOT_LIMIT-clause-one c = one_store (drop 1024 c.args.bytes.now)
+returns-then-live-gt-SLOT_LIMIT-clause-one c = one_store (drop 1024 c.args.bytes.now) c.in_ok-rows.ensures.one
 
 pub returns-clause-one : goal.returns-clause-one
-returns-clause-one c = one_store (drop 1024 c.args.bytes.now)
+returns-clause-one c = one_store (drop 1024 c.args.bytes.now) c.in_ok-rows.ensures.one

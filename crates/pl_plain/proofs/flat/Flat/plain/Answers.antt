@@ -1,9 +1,10 @@
 use Rattle.std.proofs.Common.{◌∙◌, ◌++◌, ap, map, refl, sym}
 use Rattle.pl_base.specs.Rows.{KeptPage}
 use Rattle.pl_base.specs.Store.{roots}
+use Rattle.pl_form.specs.Stored.{visit_of}
 use Rattle.pl_plain.specs.Flat.{kept_of}
-use Rattle.pl_plain.specs.FlatRows.{form_row, page_of, visit_of}
-use Rattle.pl_plain.specs.Form.{four, item_bytes, kept_rows, listed, page_bytes, plain_bytes, visit_bytes}
+use Rattle.pl_plain.specs.FlatRows.{form_row, page_of}
+use Rattle.pl_form.specs.Form.{four, item_bytes, kept_rows, listed, page_bytes, plain_bytes, visit_bytes}
 use Rattle.pl_plain.proofs.Appends.{seven_writes}
 use Rattle.pl_plain.proofs.Lengths.{plain_is_short, urls_fit}
 use Rattle.pl_plain.proofs.Lists.{map-map}

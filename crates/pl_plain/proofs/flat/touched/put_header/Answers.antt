@@ -1,5 +1,5 @@
 use Rattle.std.proofs.Common.{◌∙◌, ◌+◌, ◌++◌, ap, codes, replicate}
-use Rattle.pl_plain.specs.Form.{eight, filled_pages, four}
+use Rattle.pl_form.specs.Form.{eight, filled_pages, four}
 use Rattle.pl_plain.proofs.Appends.{four_writes}
 use Rattle.pl_plain.proofs.flat.touched.put_header.Goals as goal
 

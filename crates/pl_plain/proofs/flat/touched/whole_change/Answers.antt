@@ -1,6 +1,6 @@
 use Rattle.std.proofs.Common.{◌≡◌, ◌∙◌, ◌+◌, ◌-◌}
 use Rattle.std.proofs.lemmas.Result.{IfOk-weaker}
-use Rattle.pl_plain.specs.Form.{in_pages}
+use Rattle.pl_form.specs.Form.{in_pages}
 use Rattle.pl_plain.specs.Images.{images_of, whole_change}
 use Rattle.pl_plain.proofs.Pages.{whole_change-made}
 use Rattle.pl_plain.proofs.flat.touched.whole_change.Goals as goal

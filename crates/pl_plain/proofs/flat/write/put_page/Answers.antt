@@ -1,6 +1,6 @@
 use Rattle.std.proofs.Common.{◌∙◌, ◌++◌, [], ◌∷◌, ap, rules, w64}
 use Rattle.std.proofs.lemmas.Int.{to_z-of_z}
-use Rattle.pl_plain.specs.Form.{eight, four, mark, signed_eight, text}
+use Rattle.pl_form.specs.Form.{eight, four, mark, signed_eight, text}
 use Rattle.pl_plain.proofs.Appends.{five_writes}
 use Rattle.pl_plain.proofs.flat.write.put_page.Goals as goal
 

@@ -1,5 +1,5 @@
 use Rattle.pl_plain.specs.FlatRows.{form_row}
-use Rattle.pl_plain.specs.Form.{page_bytes}
+use Rattle.pl_form.specs.Form.{page_bytes}
 use Rattle.pl_plain.proofs.Appends.{listed_more}
 use Rattle.pl_plain.proofs.flat.write.put_pages.Goals as goal
 

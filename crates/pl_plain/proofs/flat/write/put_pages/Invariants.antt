@@ -1,7 +1,7 @@
 use Rattle.std.proofs.Common.{◌≡◌, ◌++◌, map, take}
 use Rattle.std.specs.List.{flat_map}
 use Rattle.pl_plain.specs.FlatRows.{form_row}
-use Rattle.pl_plain.specs.Form.{page_bytes}
+use Rattle.pl_form.specs.Form.{page_bytes}
 use Rattle.pl_plain.proofs.flat.write.put_pages.Given as goal
 
 abbrev pub invariant-loop-page : goal.invariant-loop-page

@@ -1,7 +1,7 @@
 use Rattle.std.proofs.Common.{◌∙◌, ◌++◌, [], ◌∷◌, ap, map}
 use Rattle.pl_base.specs.declared.id.ItemId.{ItemId}
 use Rattle.pl_base.specs.Store.{item_id}
-use Rattle.pl_plain.specs.Form.{eight, four, listed, text}
+use Rattle.pl_form.specs.Form.{eight, four, listed, text}
 use Rattle.pl_plain.proofs.Appends.{listed-item_id, seven_writes}
 use Rattle.pl_plain.proofs.flat.write.put_root.Goals as goal
 

@@ -1,7 +1,7 @@
 use Rattle.std.proofs.Common.{◌≡◌, ◌∙◌, ◌-◌, ◌++◌, [], ap, arith, map}
 use Rattle.std.specs.List.{flat_map, range_with_len}
 use Rattle.pl_base.specs.Store.{root_folder, top_folders}
-use Rattle.pl_plain.specs.Form.{four, item_bytes}
+use Rattle.pl_form.specs.Form.{four, item_bytes}
 use Rattle.pl_plain.proofs.Appends.{numbered_more, two_writes}
 use Rattle.pl_plain.proofs.flat.write.put_roots.Goals as goal
 

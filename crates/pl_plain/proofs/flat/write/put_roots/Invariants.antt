@@ -1,7 +1,7 @@
 use Rattle.std.proofs.Common.{◌≡◌, ◌-◌, ◌++◌, [], map}
 use Rattle.std.specs.List.{flat_map, range_with_len}
 use Rattle.pl_base.specs.Store.{root_folder}
-use Rattle.pl_plain.specs.Form.{item_bytes}
+use Rattle.pl_form.specs.Form.{item_bytes}
 use Rattle.pl_plain.proofs.flat.write.put_roots.Given as goal
 
 abbrev pub invariant-loop-id : goal.invariant-loop-id

@@ -1,6 +1,6 @@
 use Rattle.std.proofs.Common.{◌∙◌, ◌++◌, [], ◌∷◌, ap}
 use Rattle.pl_base.specs.Transition.{transition_number}
-use Rattle.pl_plain.specs.Form.{eight, four, visit_or_zero}
+use Rattle.pl_form.specs.Form.{eight, four, visit_or_zero}
 use Rattle.pl_plain.proofs.Appends.{five_writes}
 use Rattle.pl_plain.proofs.flat.write.put_visit.Goals as goal
 

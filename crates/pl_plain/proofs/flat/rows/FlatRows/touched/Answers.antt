@@ -1,6 +1,6 @@
 use Rattle.std.proofs.Common.{◌∙◌, ap, subst, sym}
 use Rattle.pl_base.specs.Touched.{Change, IsWithin, changed}
-use Rattle.pl_plain.specs.Form.{in_pages}
+use Rattle.pl_form.specs.Form.{in_pages}
 use Rattle.pl_plain.proofs.Pages.{whole_change-is, whole_change-within}
 use Rattle.pl_plain.proofs.flat.rows.FlatRows.touched.Goals as goal
 

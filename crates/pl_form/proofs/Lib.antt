@@ -1,0 +1,9 @@
+pub mod FormReads
+pub mod OneForm
+pub mod ReadingFile
+pub mod ReadingLists
+pub mod ReadingNumbers
+pub mod ReadingPlain
+pub mod ReadingRows
+pub mod ReadingStored
+pub mod ReadingTexts

@@ -1,0 +1,4 @@
+pub mod CheckErrors
+pub mod Form
+pub mod Reading
+pub mod Stored

@@ -1,0 +1,98 @@
+-- The rows of a store as a file has them, as far as its form has them yet.
+use Rattle.std.specs.Prelude.{◌≡◌, ◌+◌, ◌<◌, ◌^◌, ◌++◌, ℕ, ℤ, List, [], length, map, None, Result, Ok, Err}
+use Rattle.std.specs.List.{All}
+use Rattle.pl_base.specs.declared.date.Day.{Day}
+use Rattle.pl_base.specs.declared.id.Ids.{Ids}
+use Rattle.pl_base.specs.Store.{Page, Store, Visit, roots}
+use Rattle.pl_form.specs.declared.check_error.CheckError.{CheckError}
+use Rattle.pl_form.specs.declared.plain.Plain.{Plain}
+use Rattle.pl_form.specs.declared.stored.StoredVisit.{StoredVisit}
+use Rattle.pl_form.specs.declared.stored.StoredPage.{StoredPage}
+use Rattle.pl_form.specs.Form.{FormRows, filled_pages, four, in_pages, page_bytes, plain_bytes, visit_bytes}
+use Rattle.pl_form.specs.Reading.{IsEight, IsFour, IsSignedEight, IsUrl}
+
+-- a page without a title
+abbrev pub stored_page : StoredPage → Page
+stored_page p = record { id = p.id; url = p.url; title = []; typed = p.typed }
+
+abbrev pub visit_of : StoredVisit → Visit
+visit_of v = record { id = v.id; page = v.page; date = v.date; transition = v.transition; source = v.source }
+
+abbrev pub page_row : StoredPage → Page × ℤ
+page_row p = (stored_page p, p.frecency)
+
+abbrev pub stored_page_bytes : StoredPage → List ℕ
+stored_page_bytes p = page_bytes (page_row p)
+
+abbrev pub stored_visit_bytes : StoredVisit → List ℕ
+stored_visit_bytes v = visit_bytes (visit_of v)
+
+-- a page whose numbers fit and whose URL is one
+abbrev pub IsStoredPage : StoredPage → Type 0
+IsStoredPage p = IsFour p.id.0 × IsSignedEight p.frecency × IsUrl p.url
+
+-- a visit without a source, whose numbers fit
+abbrev pub IsStoredVisit : StoredVisit → Type 0
+IsStoredVisit v = IsFour v.id.0 × IsFour v.page.0 × (v.source ≡ None) × IsEight v.date.0
+
+-- so many that their number fits
+abbrev pub AreListed : {A : Type 0} → (A → Type 0) → List A → Type 0
+AreListed IsOne xs = All IsOne xs × (length xs < 2 ^ 32)
+
+-- the rows of a file whose only items are the roots
+pub record Stored : Type 0 where
+  pub day : Day
+  pub ids : Ids
+  pub pages : List StoredPage
+  pub visits : List StoredVisit
+
+abbrev pub form_rows : Stored → FormRows
+form_rows rows =
+    record {
+      day = rows.day;
+      ids = rows.ids;
+      pages = map page_row rows.pages;
+      visits = map visit_of rows.visits;
+      items = roots;
+    }
+
+abbrev pub stored_bytes : Stored → List ℕ
+stored_bytes rows = plain_bytes (form_rows rows)
+
+abbrev pub stored_store : Stored → Store
+stored_store rows =
+    record {
+      day = rows.day;
+      ids = rows.ids;
+      pages = map stored_page rows.pages;
+      visits = map visit_of rows.visits;
+      items = roots;
+    }
+
+abbrev pub ids_bytes : Ids → List ℕ
+ids_bytes ids = four ids.page ++ four ids.visit ++ four ids.item
+
+abbrev pub AreIdsFour : Ids → Type 0
+AreIdsFour ids = IsFour ids.page × IsFour ids.visit × IsFour ids.item
+
+-- rows whose numbers fit, with URLs of the store and no sources
+pub record AreStored (rows : Stored) : Type 0 where
+  pub day : IsFour rows.day.0
+  pub ids : AreIdsFour rows.ids
+  pub pages : AreListed IsStoredPage rows.pages
+  pub visits : AreListed IsStoredVisit rows.visits
+
+-- plain bytes whose pages have a number of 4 bytes
+abbrev pub IsShort : List ℕ → Type 0
+IsShort plain = 2 + filled_pages (length plain) < 2 ^ 32
+
+-- the plain bytes that were read
+abbrev pub plain_of : Result Plain CheckError → Result (List ℕ) CheckError
+plain_of (Ok plain) = Ok plain.bytes.now
+plain_of (Err e) = Err e
+
+-- the bytes from page 1 on begin with these rows
+pub record HoldsRows (bytes : List ℕ) (rows : Stored) : Type 0 where
+  pub short : IsShort (stored_bytes rows)
+  pub rest : List ℕ
+  pub begins : bytes ≡ in_pages (stored_bytes rows) ++ rest

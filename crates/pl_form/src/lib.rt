@@ -1,0 +1,13 @@
+//! The form in which a file holds the rows of a store, and how it is read.
+#![tactic(auto)]
+
+mod check_error;
+mod plain;
+mod read;
+mod reader;
+mod roots;
+mod stored;
+
+pub use check_error::CheckError;
+pub use read::{FileRows, read_rows};
+pub use stored::{StoredPage, StoredRows, StoredVisit};

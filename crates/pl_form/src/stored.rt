@@ -1,0 +1,142 @@
+ghost use Rattle.std.specs.Prelude.{◌≡◌};
+ghost use Rattle.pl_form.specs.Form.{listed};
+ghost use Rattle.pl_form.specs.Reading.{Reads, items_of};
+ghost use Rattle.pl_form.specs.Stored.{AreIdsFour, AreListed, AreStored, IsStoredPage, IsStoredVisit, ids_bytes, stored_bytes, stored_page_bytes, stored_visit_bytes};
+
+use crate::CheckError;
+use crate::reader::Reader;
+use crate::roots::ROOTS;
+use pl_base::{Day, Ids, Micros, PageId, Transition, VisitId};
+use pl_link::Canon;
+use std::alloc::Global;
+use std::marker::Model;
+
+/// A page as a file has it, without a title.
+#[derive(Debug, Drop)]
+pub struct StoredPage {
+    pub id: PageId,
+    pub typed: bool,
+    pub frecency: i64,
+    pub url: Canon,
+}
+
+/// A visit as a file has it.
+#[derive(Clone, Copy, Debug)]
+pub struct StoredVisit {
+    pub id: VisitId,
+    pub page: PageId,
+    pub date: Micros,
+    pub transition: Transition,
+    pub source: Option<VisitId>,
+}
+
+/// The rows of a file.
+#[derive(Debug, Drop)]
+pub struct StoredRows {
+    pub day: Day,
+    pub ids: Ids,
+    pub pages: Vec<StoredPage>,
+    pub visits: Vec<StoredVisit>,
+}
+
+impl Model for StoredRows {
+    ghost use Rattle.pl_form.specs.Stored.{Stored};
+
+    ghost Value = { Stored };
+
+    ghost view = { λ r. record { day = r.day; ids = r.ids; pages = r.pages.items; visits = r.visits.items } };
+}
+
+impl Reader<'_> {
+    /// The rows of a store whose only items are the roots.
+    pub fn rows(&mut self, alloc: Global) -> Result<StoredRows, CheckError>
+        ensures { Reads stored_bytes AreStored self.old result self.new }
+    {
+        let day = Day(self.four()?);
+        let ids = self.ids()?;
+        let pages = self.pages(alloc)?;
+        let visits = self.visits(alloc)?;
+        self.constant(ROOTS)?;
+        Ok(StoredRows {
+            day,
+            ids,
+            pages,
+            visits,
+        })
+    }
+
+    /// The next ids.
+    pub fn ids(&mut self) -> Result<Ids, CheckError>
+        ensures { Reads ids_bytes AreIdsFour self.old result self.new }
+    {
+        let page = self.four()?;
+        let visit = self.four()?;
+        let item = self.four()?;
+        Ok(Ids { page, visit, item })
+    }
+
+    /// A page without a title.
+    pub fn page(&mut self, alloc: Global) -> Result<StoredPage, CheckError>
+        ensures { Reads stored_page_bytes IsStoredPage self.old result self.new }
+    {
+        let id = PageId(self.four()?);
+        let typed = self.mark()?;
+        let frecency = self.signed_eight()?;
+        let url = self.url(alloc)?;
+        self.constant(&EMPTY)?;
+        Ok(StoredPage {
+            id,
+            typed,
+            frecency,
+            url,
+        })
+    }
+
+    /// A visit without a source.
+    pub fn visit(&mut self) -> Result<StoredVisit, CheckError>
+        ensures { Reads stored_visit_bytes IsStoredVisit self.old result self.new }
+    {
+        let id = VisitId(self.four()?);
+        let page = PageId(self.four()?);
+        self.constant(&NONE)?;
+        let date = Micros(self.eight()?);
+        let transition = self.transition()?;
+        Ok(StoredVisit {
+            id,
+            page,
+            date,
+            transition,
+            source: None,
+        })
+    }
+
+    /// Pages without titles.
+    pub fn pages(&mut self, alloc: Global) -> Result<Vec<StoredPage>, CheckError>
+        ensures { Reads (listed stored_page_bytes) (AreListed IsStoredPage) self.old (items_of result) self.new }
+    {
+        let count = self.four()?;
+        let mut pages = Vec::new(alloc);
+        for _index in 0..count {
+            pages.push(self.page(alloc)?)?;
+        }
+        Ok(pages)
+    }
+
+    /// Visits without sources.
+    pub fn visits(&mut self, alloc: Global) -> Result<Vec<StoredVisit>, CheckError>
+        ensures { Reads (listed stored_visit_bytes) (AreListed IsStoredVisit) self.old (items_of result) self.new }
+    {
+        let count = self.four()?;
+        let mut visits = Vec::new(alloc);
+        for _index in 0..count {
+            visits.push(self.visit()?)?;
+        }
+        Ok(visits)
+    }
+}
+
+// An empty text.
+const EMPTY: [u8; 4] = [0; 4];
+
+// No source.
+const NONE: [u8; 4] = [0; 4];

@@ -1,0 +1,45 @@
+// The order of visits.
+ghost use Rattle.std.specs.Prelude.{◌≡◌};
+ghost use Rattle.std.specs.Option.{option_map};
+ghost use Rattle.pl_base.specs.Rows.{row_of};
+ghost use Rattle.pl_base.specs.Visits as visits;
+ghost use Rattle.pl_form.specs.Stored.{visit_of};
+ghost use Rattle.pl_plain.specs.Latest as latest;
+
+use pl_base::{PageId, VisitRow};
+use pl_form::StoredVisit;
+
+/// Whether the date is later, or the same and the id greater.
+pub fn is_later(visit: &StoredVisit, other: &StoredVisit) -> bool
+    ensures { result ≡ visits.is_later (visit_of visit.now) (visit_of other.now) }
+{
+    (visit.date, visit.id) > (other.date, other.id)
+}
+
+/// The later of a visit and another one, if there is another.
+pub fn later_of(visit: StoredVisit, other: Option<StoredVisit>) -> StoredVisit
+    ensures { visit_of result ≡ latest.later_of (visit_of visit) (option_map visit_of other) }
+{
+    match other {
+        Some(other) if !is_later(&visit, &other) => other,
+        _ => visit,
+    }
+}
+
+/// Whether the visit is one of the page, and earlier than the limit if there is one.
+pub fn is_within(visit: &StoredVisit, page: PageId, limit: Option<StoredVisit>) -> bool
+    ensures { result ≡ latest.is_within page (option_map visit_of limit) (visit_of visit.now) }
+{
+    visit.page == page && limit.is_none_or(|limit| is_later(&limit, visit))
+}
+
+pub fn row(visit: &StoredVisit) -> VisitRow
+    ensures { result ≡ row_of (visit_of visit.now) }
+{
+    VisitRow {
+        page: visit.page,
+        date: visit.date,
+        transition: visit.transition,
+        source: visit.source,
+    }
+}
