@@ -4,7 +4,7 @@ use Rattle.pl_base.specs.Store.{Store}
 use Rattle.pl_gate.specs.Gate.{has_gate, laid}
 use Rattle.pl_gate.specs.Recovery.{IsSettledAs, StandsAs}
 use Rattle.pl_gate.specs.States.{IsClosed}
-use Rattle.pl_plain.specs.Form.{StandsFor}
+use Rattle.pl_form.specs.Form.{StandsFor}
 use Rattle.pl_store.specs.Session.{Stands}
 
 -- what holds of each value that there may be

@@ -1,7 +1,7 @@
 -- What a session is to the bytes that it was read from.
 use Rattle.std.specs.Prelude.{◌≡◌, ℕ, List, length, take}
 use Rattle.pl_base.specs.Store.{Store}
-use Rattle.pl_plain.specs.Form.{StandsFor}
+use Rattle.pl_form.specs.Form.{StandsFor}
 use Rattle.pl_store.specs.declared.session.Session.{Session}
 use Rattle.pl_store.specs.Session.{bytes_of, store_of}
 

@@ -8,7 +8,7 @@ use Rattle.pl_gate.specs.Gate.{has_gate, laid}
 use Rattle.pl_gate.specs.States.{IsClosed}
 use Rattle.pl_plain.specs.Flat.{kept_of}
 use Rattle.pl_plain.specs.Flat as flat
-use Rattle.pl_plain.specs.Form.{StandsFor}
+use Rattle.pl_form.specs.Form.{StandsFor}
 use Rattle.pl_store.specs.declared.memory.Memory.{Memory}
 use Rattle.pl_store.specs.declared.pending.Pending.{Pending}
 use Rattle.pl_store.specs.declared.session.Prepared.{Prepared}

@@ -5,7 +5,7 @@ ghost use Rattle.pl_desk.specs.Counts.{Rose};
 ghost use Rattle.pl_desk.specs.Desk.{AtAnyMoment, Rests};
 ghost use Rattle.pl_gate.specs.Gate.{has_gate};
 ghost use Rattle.pl_gate.specs.Recovery.{IsSettledAs, LeftAs};
-ghost use Rattle.pl_plain.specs.Form.{StandsFor};
+ghost use Rattle.pl_form.specs.Form.{StandsFor};
 ghost use Rattle.pl_store.specs.Reading.{IsReadFrom};
 ghost use Rattle.pl_store.specs.Session.{limit_of};
 

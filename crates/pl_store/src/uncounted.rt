@@ -4,7 +4,7 @@ ghost use Rattle.pl_base.specs.Rows.{store_of};
 ghost use Rattle.pl_base.specs.Touched.{IsWithin, changed, page_at};
 ghost use Rattle.pl_engine.specs.Step.{HasDates, perform};
 ghost use Rattle.pl_plain.specs.Flat.{IsBase, bytes_of, kept_of};
-ghost use Rattle.pl_plain.specs.Form.{StandsFor};
+ghost use Rattle.pl_form.specs.Form.{StandsFor};
 
 use pl_base::{NoMemory, Refusal, Steps, Touched};
 use pl_engine::{Command, Engine, Reply};

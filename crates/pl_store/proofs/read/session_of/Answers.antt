@@ -3,7 +3,7 @@ use Rattle.pl_base.specs.Rows.{store_of}
 use Rattle.pl_base.specs.Store.{Store}
 use Rattle.pl_plain.specs.declared.flat.Flat.{Flat}
 use Rattle.pl_plain.specs.Flat.{IsBase, bytes_of, kept_of}
-use Rattle.pl_plain.specs.Form.{StandsFor}
+use Rattle.pl_form.specs.Form.{StandsFor}
 use Rattle.pl_store.proofs.read.session_of.Goals as goal
 
 pub invariant_of-result : goal.invariant_of-result
