@@ -1,7 +1,7 @@
 -- Numbers, marks and constant bytes at the beginning of bytes.
 use Rattle.std.proofs.Common.{◌≡◌, ◌≢◌, ◌∙◌, ℕ, ◌<◌, ◌^◌, List, [], ◌∷◌, ◌++◌, Bool, true, false, Ok, Err, w32, w64, length, take, drop, replicate, zero, suc, ◌==◌, ◌&&◌, sym, ap, refl}
 use Rattle.std.specs.List.{list_all}
-use Rattle.std.proofs.lemmas.Bool.{true≢false, eqb-true}
+use Rattle.std.proofs.lemmas.Bool.{and_parts, true≢false, eqb-true}
 use Rattle.std.proofs.lemmas.List.{length-replicate}
 use Rattle.std.specs.Int.{from_le_bytes}
 use Rattle.std.proofs.Math.Seq.{take-append_seam, drop-append_seam}
@@ -65,15 +65,11 @@ zeros_cons b bs is_zero rest =
     let first : b ≡ 0 = eqb-true b 0 is_zero in
     cc
 
-both : (a b : Bool) → (a && b) ≡ true → (a ≡ true) × (b ≡ true)
-both true b h = (refl, h)
-both false b h = absurd (cc)
-
 -- bytes that all are 0 are so many zeros
 pub zeros_are : (bs : List ℕ) → list_all (λ b. b == 0) bs ≡ true → bs ≡ replicate (length bs) 0
 zeros_are [] all = refl
 zeros_are (b ∷ bs) all =
-    let parts = both (b == 0) (list_all (λ b. b == 0) bs) all in
+    let parts = and_parts (b == 0) (list_all (λ b. b == 0) bs) all in
     zeros_cons b bs parts.0 (zeros_are bs parts.1)
 
 pub all_zeros : (n : ℕ) → list_all (λ b. b == 0) (replicate n 0) ≡ true

@@ -7,6 +7,8 @@ mod read;
 mod reader;
 mod roots;
 mod stored;
+#[cfg(test)]
+mod tests;
 
 pub use check_error::CheckError;
 pub use read::{FileRows, read_rows};

@@ -3,7 +3,7 @@ use Rattle.std.proofs.Common.{◌≡◌, ◌≢◌, ◌∙◌, ◌&&◌, ◌||�
 use Rattle.std.specs.List.{AllPairs, list_all, list_any}
 use Rattle.std.specs.List.Sorted.{IsStrictlyIncreasing}
 use Rattle.std.specs.Option.{IfSome, IsSome}
-use Rattle.std.proofs.lemmas.Bool.{eqb-true, false≢true, le-leb, leb-true, lt-ltb, ltb-true, not-true, not_from_false, true≢false}
+use Rattle.std.proofs.lemmas.Bool.{and_from, and_parts, eqb-true, false≢true, le-leb, leb-true, lt-ltb, ltb-true, not-true, not_from_false, true≢false}
 use Rattle.std.proofs.lemmas.List.{length-map, get_or-map}
 use Rattle.std.proofs.lemmas.List.Elements.{All-cons, All-head, All-map, All-nil, All-tail, All-weaker}
 use Rattle.std.proofs.lemmas.List.Folds.{Any-from_list_any}
@@ -19,31 +19,24 @@ use Rattle.pl_base.specs.Store.{Page, Visit}
 use Rattle.pl_base.specs.Touched.{ascends_above}
 use Rattle.pl_form.specs.declared.stored.StoredVisit.{StoredVisit}
 use Rattle.pl_form.specs.declared.stored.StoredPage.{StoredPage}
+use Rattle.pl_plain.specs.FlatLaws.{root_ids}
 use Rattle.pl_plain.specs.Check.{are_good, are_good_numbers, are_ids, have_own_urls, is_good_page, is_good_visit, is_typed, page_numbers, visit_numbers}
 use Rattle.pl_form.specs.Stored.{AreStored, IsStoredPage, IsStoredVisit, Stored, stored_page, stored_store, visit_of}
 use Rattle.pl_plain.proofs.Lists.{All-from_map, list_any-map, map-map}
-use Rattle.pl_plain.proofs.CheckRoots.{has_roots, root_ids, roots_are_good, roots_tags, roots_tree}
+use Rattle.pl_plain.proofs.CheckRoots.{has_roots, roots_are_good, roots_tags, roots_tree}
 
 -- ---- tests of lists
-
-pub both : (a b : Bool) → (a && b) ≡ true → (a ≡ true) × (b ≡ true)
-both true b h = (refl, h)
-both false b h = absurd (cc)
-
-pub and_true : (a b : Bool) → a ≡ true → b ≡ true → (a && b) ≡ true
-and_true true b first second = second
-and_true false b first second = first
 
 pub all_pass : {X : Type 0} (p : X → Bool) (xs : List X) → list_all p xs ≡ true → All (λ x. p x ≡ true) xs
 all_pass p [] all = All-nil _
 all_pass p (x ∷ xs) all =
-    let parts = both (p x) (list_all p xs) all in
+    let parts = and_parts (p x) (list_all p xs) all in
     All-cons (λ y. p y ≡ true) x xs parts.0 (all_pass p xs parts.1)
 
 pub pass_all : {X : Type 0} (p : X → Bool) (xs : List X) → All (λ x. p x ≡ true) xs → list_all p xs ≡ true
 pass_all p [] all = refl
 pass_all p (x ∷ xs) all =
-    and_true (p x) (list_all p xs) (All-head (λ y. p y ≡ true) x xs all) (pass_all p xs (All-tail (λ y. p y ≡ true) x xs all))
+    and_from (p x) (list_all p xs) (All-head (λ y. p y ≡ true) x xs all) (pass_all p xs (All-tail (λ y. p y ≡ true) x xs all))
 
 none_of_two : (a b : Bool) → (a || b) ≡ false → (a ≡ false) × (b ≡ false)
 none_of_two true b h = absurd (cc)
@@ -64,7 +57,7 @@ none_by false h = refl
 ascends_all : (last : ℕ) (ids : List ℕ) → ascends_above last ids ≡ true → All (λ id. last < id) ids
 ascends_all last [] h = All-nil _
 ascends_all last (n ∷ ns) h =
-    let parts = both (nat_lt last n) (ascends_above n ns) h in
+    let parts = and_parts (nat_lt last n) (ascends_above n ns) h in
     let above : last < n = ltb-true last n parts.0 in
     All-cons (λ id. last < id) n ns above (All-weaker (λ id. n < id) (λ id. last < id) (λ id more. omega arith) ns (ascends_all n ns parts.1))
 
@@ -72,10 +65,10 @@ increases : (last : ℕ) (ids : List ℕ) → ascends_above last ids ≡ true �
 increases last [] h k within = absurd (omega arith)
 increases last (n ∷ []) h k within = absurd (omega arith)
 increases last (n ∷ m ∷ ms) h zero within =
-    let parts = both (nat_lt last n) (ascends_above n (m ∷ ms)) h in
-    ltb-true n m (both (nat_lt n m) (ascends_above m ms) parts.1).0
+    let parts = and_parts (nat_lt last n) (ascends_above n (m ∷ ms)) h in
+    ltb-true n m (and_parts (nat_lt n m) (ascends_above m ms) parts.1).0
 increases last (n ∷ m ∷ ms) h (suc k) within =
-    let parts = both (nat_lt last n) (ascends_above n (m ∷ ms)) h in
+    let parts = and_parts (nat_lt last n) (ascends_above n (m ∷ ms)) h in
     let P : ℕ → Type 0 = λ j. get_or (m ∷ ms) k 0 < get_or (n ∷ m ∷ ms) j 0 in
     let next : suc (k + 1) ≡ suc k + 1 = omega arith in
     subst P next (increases n (m ∷ ms) parts.1 k (omega arith))
@@ -89,7 +82,7 @@ rest_increases n ns h k within =
 ascends : (last : ℕ) (ids : List ℕ) → IsStrictlyIncreasing ids → (0 < length ids → last < get_or ids 0 0) → ascends_above last ids ≡ true
 ascends last [] increasing above = refl
 ascends last (n ∷ ns) increasing above =
-    and_true (nat_lt last n) (ascends_above n ns) (lt-ltb last n (above (omega arith)))
+    and_from (nat_lt last n) (ascends_above n ns) (lt-ltb last n (above (omega arith)))
     (ascends n ns (rest_increases n ns increasing) (λ some. increasing 0 (omega arith)))
 
 ids_given : (next : ℕ) (ids : List ℕ) → All (λ id. 0 < id) ids → All (λ id. nat_lt id next ≡ true) ids → All (λ id. (0 < id) × (id < next)) ids
@@ -97,7 +90,7 @@ ids_given next ids above below k d within = (above k d within, ltb-true (get_or 
 
 pub are_ids-to : (next : ℕ) (ids : List ℕ) → 1 ≤ next → next ≤ 4_294_967_295 → are_ids next ids ≡ true → AreIds 1 next ids
 are_ids-to next ids first last h =
-    let parts = both (ascends_above 0 ids) (list_all (λ id. nat_lt id next) ids) h in
+    let parts = and_parts (ascends_above 0 ids) (list_all (λ id. nat_lt id next) ids) h in
     record {
       ascending = increases 0 ids parts.0;
       given = ids_given next ids (ascends_all 0 ids parts.0) (all_pass (λ id. nat_lt id next) ids parts.1);
@@ -107,7 +100,7 @@ are_ids-to next ids first last h =
 
 pub are_ids-from : (next : ℕ) (ids : List ℕ) → AreIds 1 next ids → are_ids next ids ≡ true
 are_ids-from next ids h =
-    and_true (ascends_above 0 ids) (list_all (λ id. nat_lt id next) ids)
+    and_from (ascends_above 0 ids) (list_all (λ id. nat_lt id next) ids)
     (ascends 0 ids h.ascending (λ some. (h.given 0 0 some).0))
     (pass_all (λ id. nat_lt id next) ids (λ k d within. lt-ltb (get_or ids k d) next (h.given k d within).1))
 
@@ -125,7 +118,7 @@ pairs_cons R x xs each pairs (suc i) (suc j) d before within = pairs i j d (omeg
 own_urls-to : (pages : List StoredPage) → have_own_urls pages ≡ true → AllPairs (λ (p q : StoredPage). p.url ≢ q.url) pages
 own_urls-to [] h = pairs_nil (λ (p q : StoredPage). p.url ≢ q.url)
 own_urls-to (p ∷ pages) h =
-    let parts = both (not (list_any (λ (q : StoredPage). bytes_eq q.url p.url) pages)) (have_own_urls pages) h in
+    let parts = and_parts (not (list_any (λ (q : StoredPage). bytes_eq q.url p.url) pages)) (have_own_urls pages) h in
     let none = none_pass (λ (q : StoredPage). bytes_eq q.url p.url) pages (not-true _ parts.0) in
     pairs_cons (λ (p q : StoredPage). p.url ≢ q.url) p pages
     (λ k d within same. true≢false (sym ((bytes_eq-Decides (get_or pages k d).url p.url).1 (sym same)) ∙ none k d within))
@@ -134,7 +127,7 @@ own_urls-to (p ∷ pages) h =
 own_urls-from : (pages : List StoredPage) → AllPairs (λ (p q : StoredPage). p.url ≢ q.url) pages → have_own_urls pages ≡ true
 own_urls-from [] h = refl
 own_urls-from (p ∷ pages) h =
-    and_true (not (list_any (λ (q : StoredPage). bytes_eq q.url p.url) pages)) (have_own_urls pages)
+    and_from (not (list_any (λ (q : StoredPage). bytes_eq q.url p.url) pages)) (have_own_urls pages)
     (not_from_false _ (none_by _ (λ some.
     let at = Any-from_list_any (λ (q : StoredPage). bytes_eq q.url p.url) pages some in
     h 0 (suc at.0) at.1 (omega arith) (omega (arith, at.2))
@@ -168,7 +161,7 @@ typed-to id true visits h k d within page typed = refl
 typed-to id false visits h k d within page typed =
     let none = none_pass (typed_visit id) visits (not-true _ h) in
     let passes : typed_visit id (get_or visits k d) ≡ true =
-    and_true ((get_or visits k d).page.0 == id.0) (is_typed (get_or visits k d).transition) (eq-eqb _ _ (ap (λ (p : PageId). p.0) page)) (ap is_typed typed) in
+    and_from ((get_or visits k d).page.0 == id.0) (is_typed (get_or visits k d).transition) (eq-eqb _ _ (ap (λ (p : PageId). p.0) page)) (ap is_typed typed) in
     absurd (true≢false (sym passes ∙ none k d within))
 
 typed-from : (id : PageId) (t : Bool) (visits : List StoredVisit) → All (λ (v : StoredVisit). IsTypedBy id t (visit_of v)) visits → (t || not (list_any (typed_visit id) visits)) ≡ true
@@ -176,7 +169,7 @@ typed-from id true visits h = refl
 typed-from id false visits h =
     not_from_false _ (none_by _ (λ some.
     let at = Any-from_list_any (typed_visit id) visits some in
-    let parts = both (at.1.page.0 == id.0) (is_typed at.1.transition) at.4 in
+    let parts = and_parts (at.1.page.0 == id.0) (is_typed at.1.transition) at.4 in
     let typed : IsTypedBy id false (visit_of at.1) = subst (λ (v : StoredVisit). IsTypedBy id false (visit_of v)) at.3 (h at.0 at.1 at.2) in
     false≢true (typed (same_page at.1.page id parts.0) (typed_number at.1.transition parts.1))))
 
@@ -188,7 +181,7 @@ or_false false = refl
 
 page-to : (rows : Stored) (p : StoredPage) → IsStoredPage p → is_good_page rows.visits p ≡ true → IsGoodPage (stored_store rows) (stored_page p)
 page-to rows p one h =
-    let parts = both (list_any (λ (v : StoredVisit). v.page.0 == p.id.0) rows.visits) (p.typed || not (list_any (typed_visit p.id) rows.visits)) h in
+    let parts = and_parts (list_any (λ (v : StoredVisit). v.page.0 == p.id.0) rows.visits) (p.typed || not (list_any (typed_visit p.id) rows.visits)) h in
     record {
       url = one.2.1;
       title = (IsUtf8-nil, omega arith);
@@ -198,13 +191,13 @@ page-to rows p one h =
 
 pub page-from : (rows : Stored) (p : StoredPage) → IsGoodPage (stored_store rows) (stored_page p) → is_good_page rows.visits p ≡ true
 page-from rows p h =
-    and_true (list_any (λ (v : StoredVisit). v.page.0 == p.id.0) rows.visits) (p.typed || not (list_any (typed_visit p.id) rows.visits))
+    and_from (list_any (λ (v : StoredVisit). v.page.0 == p.id.0) rows.visits) (p.typed || not (list_any (typed_visit p.id) rows.visits))
     (sym (or_false _ ∙ list_any-map (λ (v : Visit). v.page.0 == p.id.0) visit_of rows.visits) ∙ h.kept)
     (typed-from p.id p.typed rows.visits (All-from_map (IsTypedBy p.id p.typed) visit_of rows.visits h.typed))
 
 visit-to : (rows : Stored) (v : StoredVisit) → IsStoredVisit v → is_good_visit rows.pages v ≡ true → IsGoodVisit (stored_store rows) (visit_of v)
 visit-to rows v one h =
-    let parts = both (nat_le v.date.0 253_402_300_799_999_999) (list_any (λ (p : StoredPage). p.id.0 == v.page.0) rows.pages) h in
+    let parts = and_parts (nat_le v.date.0 253_402_300_799_999_999) (list_any (λ (p : StoredPage). p.id.0 == v.page.0) rows.pages) h in
     record {
       date = leb-true v.date.0 253_402_300_799_999_999 parts.0;
       page = list_any-map (λ (p : Page). p.id.0 == v.page.0) stored_page rows.pages ∙ parts.1;
@@ -213,7 +206,7 @@ visit-to rows v one h =
 
 visit-from : (rows : Stored) (v : StoredVisit) → IsGoodVisit (stored_store rows) (visit_of v) → is_good_visit rows.pages v ≡ true
 visit-from rows v h =
-    and_true (nat_le v.date.0 253_402_300_799_999_999) (list_any (λ (p : StoredPage). p.id.0 == v.page.0) rows.pages)
+    and_from (nat_le v.date.0 253_402_300_799_999_999) (list_any (λ (p : StoredPage). p.id.0 == v.page.0) rows.pages)
     (le-leb v.date.0 253_402_300_799_999_999 h.date)
     (sym (list_any-map (λ (p : Page). p.id.0 == v.page.0) stored_page rows.pages) ∙ h.page)
 
@@ -273,14 +266,14 @@ AllPairs-from_map R f xs pairs i j d before within =
 
 pub good-from : (rows : Stored) → IsGood (stored_store rows) → are_good rows ≡ true
 good-from rows h =
-    and_true _ (list_all (is_good_visit rows.pages) rows.visits)
-    (and_true _ (list_all (is_good_page rows.visits) rows.pages)
-    (and_true _ (have_own_urls rows.pages)
-    (and_true _ (are_ids rows.ids.visit (visit_numbers rows.visits))
-    (and_true (are_good_numbers rows) (are_ids rows.ids.page (page_numbers rows.pages))
-    (and_true _ (nat_le 7 rows.ids.item)
-    (and_true _ (nat_le 1 rows.ids.visit)
-    (and_true (nat_le rows.day.0 2_932_896) (nat_le 1 rows.ids.page) (le-leb rows.day.0 2_932_896 h.day) (le-leb 1 rows.ids.page h.page_ids.next_first))
+    and_from _ (list_all (is_good_visit rows.pages) rows.visits)
+    (and_from _ (list_all (is_good_page rows.visits) rows.pages)
+    (and_from _ (have_own_urls rows.pages)
+    (and_from _ (are_ids rows.ids.visit (visit_numbers rows.visits))
+    (and_from (are_good_numbers rows) (are_ids rows.ids.page (page_numbers rows.pages))
+    (and_from _ (nat_le 7 rows.ids.item)
+    (and_from _ (nat_le 1 rows.ids.visit)
+    (and_from (nat_le rows.day.0 2_932_896) (nat_le 1 rows.ids.page) (le-leb rows.day.0 2_932_896 h.day) (le-leb 1 rows.ids.page h.page_ids.next_first))
     (le-leb 1 rows.ids.visit h.visit_ids.next_first))
     (le-leb 7 rows.ids.item h.item_ids.next_first))
     (are_ids-from rows.ids.page (page_numbers rows.pages) (rw (map-map (λ (p : Page). p.id.0) stored_page rows.pages) at h.page_ids)))

@@ -1,7 +1,7 @@
 -- How origins are named.
 use Rattle.std.proofs.Common.{◌≡◌, ◌≢◌, ◌∙◌, ◌&&◌, ◌||◌, ◌==◌, ℕ, ◌+◌, ◌-◌, ◌<◌, ◌≤◌, ◌++◌, All, Bool, true, false, cond, not, List, [], ◌∷◌, Some, None, bytes_eq, get_or, length, map, position, nat_lt, if◌then◌else◌, sym, ap, refl, subst, inl, inr, suc, zero, arith, eq-eqb}
 use Rattle.std.specs.List.{AllPairs, list_any, position_or_len}
-use Rattle.std.proofs.lemmas.Bool.{or_right, eqb-true, ltb-false, true≢false, cases_lt}
+use Rattle.std.proofs.lemmas.Bool.{and_from, and_parts, or_right, eqb-true, ltb-false, true≢false, cases_lt}
 use Rattle.std.proofs.lemmas.List.{get_or-map, get_or_append_left, get_or_push, length-map, length_push, map_push}
 use Rattle.std.proofs.lemmas.List.Elements.{All-cons, All-map, All-nil, All-push, All-weaker}
 use Rattle.std.proofs.lemmas.List.Folds.{Any-from_list_any}
@@ -14,7 +14,7 @@ use Rattle.pl_link.specs.declared.parts.Parts.{Parts}
 use Rattle.pl_plain.specs.declared.flat.row.FlatPage.{FlatPage}
 use Rattle.pl_plain.specs.CheckOrigins.{AreNamed, IsNamed, Key, Names, key_of}
 use Rattle.pl_plain.proofs.Lists.{list_any-map, list_any_last, list_any_push}
-use Rattle.pl_plain.proofs.CheckGood.{both, and_true, none_by}
+use Rattle.pl_plain.proofs.CheckGood.{none_by}
 
 abbrev pub is_same : Parts → Parts → Bool
 is_same parts other = bytes_eq other.prefix parts.prefix && bytes_eq other.host parts.host
@@ -24,12 +24,12 @@ same_pair a b c d first second = cc
 
 same-key : (parts other : Parts) → is_same parts other ≡ true → key_of other ≡ key_of parts
 same-key parts other h =
-    let parts_same = both (bytes_eq other.prefix parts.prefix) (bytes_eq other.host parts.host) h in
+    let parts_same = and_parts (bytes_eq other.prefix parts.prefix) (bytes_eq other.host parts.host) h in
     same_pair other.prefix other.host parts.prefix parts.host ((bytes_eq-Decides other.prefix parts.prefix).0 parts_same.0) ((bytes_eq-Decides other.host parts.host).0 parts_same.1)
 
 key-same : (parts other : Parts) → key_of other ≡ key_of parts → is_same parts other ≡ true
 key-same parts other h =
-    and_true (bytes_eq other.prefix parts.prefix) (bytes_eq other.host parts.host)
+    and_from (bytes_eq other.prefix parts.prefix) (bytes_eq other.host parts.host)
     ((bytes_eq-Decides other.prefix parts.prefix).1 (ap (λ (k : Key). k.0) h)) ((bytes_eq-Decides other.host parts.host).1 (ap (λ (k : Key). k.1) h))
 
 -- the origin stands at the index
@@ -94,7 +94,7 @@ new_named known after old parts count view none pushed counted =
 
 pub same_of_key : (a b : List ℕ) (k : Key) → origin_of_url a ≡ Some k → origin_of_url b ≡ Some k → same_origin a b ≡ true
 same_of_key a b k first second =
-    rw (first, second) (and_true (bytes_eq k.0 k.0) (bytes_eq k.1 k.1) ((bytes_eq-Decides k.0 k.0).1 refl) ((bytes_eq-Decides k.1 k.1).1 refl))
+    rw (first, second) (and_from (bytes_eq k.0 k.0) (bytes_eq k.1 k.1) ((bytes_eq-Decides k.0 k.0).1 refl) ((bytes_eq-Decides k.1 k.1).1 refl))
 
 named_more : (old new : List Key) (key k : Key) (name n : ℕ) → Names old key name new → IsNamed old n k → IsNamed new n k
 named_more old new key k name n h at =

@@ -3,6 +3,7 @@ use Rattle.std.proofs.Common.{◌≡◌, ◌∙◌, ◌==◌, ◌+◌, ◌≤◌
 use Rattle.std.proofs.lemmas.List.{length_push, take_more}
 use Rattle.std.specs.List.{AllZip, list_any}
 use Rattle.std.specs.Result.{IsOkAnd}
+use Rattle.std.proofs.lemmas.Bool.{and_parts}
 use Rattle.pl_base.specs.Address.{host_and_port, is_place_url, origin_of_record, origin_of_url, prefix, record_of}
 use Rattle.pl_base.specs.Good.{IsGood, IsGoodPage}
 use Rattle.pl_link.specs.declared.parts.Parts.{Parts}
@@ -14,7 +15,7 @@ use Rattle.pl_form.specs.declared.stored.StoredPage.{StoredPage}
 use Rattle.pl_plain.specs.CheckOrigins.{AreNamed, Key, Names, key_of}
 use Rattle.pl_plain.specs.CheckPages.{IsAssessed, IsFrecencyRight}
 use Rattle.pl_form.specs.Stored.{Stored, stored_page, stored_store}
-use Rattle.pl_plain.proofs.CheckGood.{both, page-from}
+use Rattle.pl_plain.proofs.CheckGood.{page-from}
 use Rattle.pl_plain.proofs.CheckOrigins.{named_push}
 use Rattle.pl_plain.proofs.Lists.{All-from_map}
 
@@ -40,7 +41,7 @@ pub visited-is : (rows : Stored) (k : ℕ) (p : StoredPage) → IsGood (stored_s
 visited-is rows k p good within at =
     let page : IsGoodPage (stored_store rows) (stored_page p) =
     subst (λ (q : StoredPage). IsGoodPage (stored_store rows) (stored_page q)) (sym at) (All-from_map (IsGoodPage (stored_store rows)) stored_page rows.pages good.pages k p within) in
-    (both _ _ (page-from rows p page)).0
+    (and_parts _ _ (page-from rows p page)).0
 
 pub visited-at : (rows : Stored) (items : List StoredPage) (k : ℕ) (p : StoredPage) → items ≡ rows.pages → IsGood (stored_store rows) → k < length items → p ≡ get_or items k p → list_any (λ (v : StoredVisit). v.page.0 == p.id.0) rows.visits ≡ true
 visited-at rows items k p same good within at =

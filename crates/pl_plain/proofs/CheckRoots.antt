@@ -1,34 +1,14 @@
 -- A store whose items are the six roots is good as far as its items go.
-use Rattle.std.proofs.Common.{◌≡◌, ◌+◌, ◌<◌, ◌≤◌, ◌==◌, if◌then◌else◌, ℕ, All, zero, suc, List, [], ◌∷◌, arith, get_or, map, refl}
+use Rattle.std.proofs.Common.{◌≡◌, ◌+◌, ◌==◌, if◌then◌else◌, ℕ, All, List, [], ◌∷◌, arith, get_or, map, refl}
 use Rattle.std.specs.List.{range_with_len}
-use Rattle.std.specs.List.Sorted.{IsStrictlyIncreasing}
 use Rattle.std.specs.Option.{IsSomeAnd}
 use Rattle.std.proofs.lemmas.List.Elements.{All-cons, All-from_recursion, All-map, All-nil}
 use Rattle.std.proofs.lemmas.List.Sorted.{IsPermutation-refl}
 use Rattle.std.proofs.lemmas.Str.{IsUtf8-nil}
 use Rattle.pl_base.specs.declared.id.ItemId.{ItemId}
-use Rattle.pl_base.specs.Good.{AreIds, HasRoots, HasTags, IsGoodItem, IsTree, item_at}
+use Rattle.pl_base.specs.Good.{HasRoots, HasTags, IsGoodItem, IsTree, item_at}
 use Rattle.pl_base.specs.Store.{Item, root_folder, roots, top_folders}
 use Rattle.pl_form.specs.Stored.{Stored, stored_store}
-
-roots_ascend : IsStrictlyIncreasing (1 ∷ 2 ∷ 3 ∷ 4 ∷ 5 ∷ 6 ∷ [])
-roots_ascend zero h = omega arith
-roots_ascend (suc zero) h = omega arith
-roots_ascend (suc (suc zero)) h = omega arith
-roots_ascend (suc (suc (suc zero))) h = omega arith
-roots_ascend (suc (suc (suc (suc zero)))) h = omega arith
-roots_ascend (suc (suc (suc (suc (suc k))))) h = absurd (omega arith)
-
-pub root_ids : (next : ℕ) → 7 ≤ next → next ≤ 4_294_967_295 → AreIds 7 next (1 ∷ 2 ∷ 3 ∷ 4 ∷ 5 ∷ 6 ∷ [])
-root_ids next first last =
-    record {
-      ascending = roots_ascend;
-      given =
-          All-from_recursion (λ id. (0 < id) × (id < next)) (1 ∷ 2 ∷ 3 ∷ 4 ∷ 5 ∷ 6 ∷ [])
-          ((omega arith, omega arith), ((omega arith, omega arith), ((omega arith, omega arith), ((omega arith, omega arith), ((omega arith, omega arith), ((omega arith, omega arith), tt))))));
-      next_first = first;
-      next_last = last;
-    }
 
 root_is_good : (rows : Stored) (n : ℕ) (children : List ItemId) → IsGoodItem (stored_store rows) (root_folder n children)
 root_is_good rows n children =

@@ -5,7 +5,8 @@ use Rattle.pl_base.specs.declared.id.Ids.{Ids}
 use Rattle.pl_base.specs.Good.{AreIds, IsGood}
 use Rattle.pl_base.specs.Rows.{opening_with, store_of}
 use Rattle.pl_form.specs.Stored.{Stored}
-use Rattle.pl_plain.proofs.CheckRoots.{has_roots, root_ids, roots_are_good, roots_tags, roots_tree}
+use Rattle.pl_plain.specs.FlatLaws.{root_ids}
+use Rattle.pl_plain.proofs.CheckRoots.{has_roots, roots_are_good, roots_tags, roots_tree}
 
 no_ids : (next : ℕ) → 1 ≤ next → next ≤ 4_294_967_295 → AreIds 1 next []
 no_ids next first last = record { ascending = λ k h. absurd (omega arith); given = All-nil _; next_first = first; next_last = last }

@@ -13,7 +13,7 @@ use Rattle.std.specs.Str.{IsUtf8}
 use Rattle.pl_base.specs.declared.date.Day.{Day}
 use Rattle.pl_base.specs.declared.id.Ids.{Ids}
 use Rattle.pl_base.specs.Frecency.{frecency_of}
-use Rattle.pl_base.specs.Good.{IsGood, IsTitle}
+use Rattle.pl_base.specs.Good.{AreIds, IsGood, IsTitle}
 use Rattle.pl_base.specs.Rows.{IsOfVisits, IsRight, IsWellKept, Kept, KeptOrigin, KeptPage, NamesOrigins, store_of}
 use Rattle.pl_base.specs.Store.{Page, Store}
 use Rattle.pl_plain.specs.declared.flat.row.FlatPage.{FlatPage}
@@ -83,10 +83,16 @@ roots_ascend (suc (suc (suc zero))) h = omega arith
 roots_ascend (suc (suc (suc (suc zero)))) h = omega arith
 roots_ascend (suc (suc (suc (suc (suc k))))) h = absurd (omega arith)
 
-roots_given : (next : ℕ) → 7 ≤ next → All (λ id. (0 < id) × (id < next)) (1 ∷ 2 ∷ 3 ∷ 4 ∷ 5 ∷ 6 ∷ [])
-roots_given next first =
-    All-from_recursion (λ id. (0 < id) × (id < next)) (1 ∷ 2 ∷ 3 ∷ 4 ∷ 5 ∷ 6 ∷ [])
-    ((omega arith, omega arith), ((omega arith, omega arith), ((omega arith, omega arith), ((omega arith, omega arith), ((omega arith, omega arith), ((omega arith, omega arith), tt))))))
+pub root_ids : (next : ℕ) → 7 ≤ next → next ≤ 4_294_967_295 → AreIds 7 next (1 ∷ 2 ∷ 3 ∷ 4 ∷ 5 ∷ 6 ∷ [])
+root_ids next first last =
+    record {
+      ascending = roots_ascend;
+      given =
+          All-from_recursion (λ id. (0 < id) × (id < next)) (1 ∷ 2 ∷ 3 ∷ 4 ∷ 5 ∷ 6 ∷ [])
+          ((omega arith, omega arith), ((omega arith, omega arith), ((omega arith, omega arith), ((omega arith, omega arith), ((omega arith, omega arith), ((omega arith, omega arith), tt))))));
+      next_first = first;
+      next_last = last;
+    }
 
 pub well_kept : (day : Day) (ids : Ids) (pages : List FlatPage) (origins : ℕ) (visits : List StoredVisit) (live : ℕ) → IsFlat (kept_from day ids pages origins visits) origins live → IsWellKept (kept_from day ids pages origins visits)
 well_kept day ids pages origins visits live h =
@@ -95,7 +101,7 @@ well_kept day ids pages origins visits live h =
       day = h.day;
       page_ids = h.page_ids;
       visit_ids = h.visit_ids;
-      item_ids = record { ascending = roots_ascend; given = roots_given ids.item h.item_first; next_first = h.item_first; next_last = h.item_last };
+      item_ids = root_ids ids.item h.item_first h.item_last;
       urls = h.urls;
       distinct_urls = h.distinct_urls;
       titles = All-map (λ (p : KeptPage). IsTitle p.page.title) page_of pages (λ k d within. (IsUtf8-nil, omega arith));

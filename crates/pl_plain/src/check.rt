@@ -33,7 +33,6 @@ impl Flat {
         ensures begins { IfOk result (λ flat. take (length (bytes_of flat)) (drop 1024 bytes.now) ≡ bytes_of flat) }
         // The bytes stand for one store at most.
         ensures one { (a b : Store) → StandsFor (drop 1024 bytes.now) a → StandsFor (drop 1024 bytes.now) b → a ≡ b }
-        ensures only { IfOk result (λ flat. (store : Store) → StandsFor (drop 1024 bytes.now) store → store ≡ store_of (kept_of flat)) }
         ensures not_a_store { IsErrOf result CheckError.NotAStore → (store : Store) → StandsFor (drop 1024 bytes.now) store → ⊥ }
         ensures base { IfOk result (λ flat. (base_bytes : List ℕ) → IsBase flat base_bytes ↔ (base_bytes ≡ bytes_of flat)) }
     {

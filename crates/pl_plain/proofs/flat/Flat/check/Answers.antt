@@ -57,10 +57,6 @@ returns-then-live-gt-SLOT_LIMIT-clause-not_a_store c refused store held =
     c.in_ok-named.ensures.pages c.in_ok-named.ensures.origins.1 c.in_ok-named.ensures.origins.2 c.live-live.ensures in
     omega (arith, few, slots, c.if-live-gt-SLOT_LIMIT.true)
 
-pub returns-clause-only : goal.returns-clause-only
-returns-clause-only c store held =
-    one_store (drop 1024 c.args.bytes.now) c.in_ok-rows.ensures.one store (store_of (kept_of c.into_flat.result)) held (returns-clause-stands c)
-
 -- ---- one store at most, at each exit
 
 pub returns-in_err-rows-clause-one : goal.returns-in_err-rows-clause-one
