@@ -1,9 +1,9 @@
 -- Worked rows of addresses: the definitions compute to values that were worked out by hand from the URL
 -- Standard.
-use Rattle.std.proofs.Common.{◌≡◌, List, ℕ, [], Some, None, Ok, Err, true, refl}
+use Rattle.std.proofs.Common.{◌≡◌, List, ℕ, [], Some, None, Ok, Err, true, false, refl}
 use Rattle.std.specs.Prelude.{codes}
 use Rattle.url.proofs.OnLiterals.{url_on_literals}
-use Rattle.pl_base.specs.Address.{canon, record_of, prefix, host_and_port, reversed_host, is_place_url}
+use Rattle.pl_base.specs.Address.{canon, record_of, prefix, host_and_port, reversed_host, is_place_url, is_unrecorded_url, same_origin}
 use Rattle.url.specs.Parser.{Parsed}
 use Rattle.url.specs.Parts.{Parts}
 
@@ -42,3 +42,29 @@ no_host = refl
 a_query : is_place_url (codes "place:sort=8") ≡ true
 unfolding url_on_literals
 a_query = refl
+
+-- the scheme is told in either case, and an address that holds a query may be visited
+an_unrecorded : is_unrecorded_url (codes "About:blank") ≡ true
+unfolding url_on_literals
+an_unrecorded = refl
+
+a_recorded_query : is_unrecorded_url (codes "place:sort=8") ≡ false
+unfolding url_on_literals
+a_recorded_query = refl
+
+-- the port that a scheme has by itself tells no origin apart, and another port does, and another scheme
+by_port : same_origin (codes "https://a.example:443/x") (codes "https://a.example/y") ≡ true
+unfolding url_on_literals
+by_port = refl
+
+by_other_port : same_origin (codes "https://a.example:444/") (codes "https://a.example/") ≡ false
+unfolding url_on_literals
+by_other_port = refl
+
+by_scheme : same_origin (codes "http://a.example/") (codes "https://a.example/") ≡ false
+unfolding url_on_literals
+by_scheme = refl
+
+by_user : same_origin (codes "https://user@a.example/") (codes "https://a.example/") ≡ true
+unfolding url_on_literals
+by_user = refl

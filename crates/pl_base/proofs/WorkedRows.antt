@@ -1,11 +1,14 @@
--- Worked rows of frecencies: the definitions compute to values that were worked out by hand.
-use Rattle.std.proofs.Common.{◌≡◌, ℕ, ◌+◌, List, [], ◌∷◌, ◌++◌, map, Option, Some, None, false, refl}
-use Rattle.std.specs.Prelude.{ℤ, pos, negsuc}
+-- Worked rows of frecencies, marks and slots: the definitions compute to values that were worked out by hand.
+use Rattle.std.proofs.Common.{◌≡◌, ℕ, ◌+◌, List, [], ◌∷◌, ◌++◌, map, Option, Some, None, true, false, refl}
+use Rattle.std.specs.Prelude.{ℤ, pos, negsuc, codes, replicate}
 use Rattle.std.specs.List.{range_with_len}
 use Rattle.pl_base.specs.declared.transition.Transition.{Transition}
-use Rattle.pl_base.specs.declared.transition.Transition.TheVariants.{Link, Typed, Bookmark, RedirectPermanent, Download, Reload}
+use Rattle.pl_base.specs.declared.transition.Transition.TheVariants.{Link, Typed, Bookmark, Embed, RedirectPermanent, RedirectTemporary, Download, FramedLink, Reload}
 use Rattle.pl_base.specs.declared.id.VisitId.{VisitId}
+use Rattle.url.proofs.OnLiterals.{url_on_literals}
 use Rattle.pl_base.specs.Frecency.{frecency_of}
+use Rattle.pl_base.specs.Live.{chunks, live_slots}
+use Rattle.pl_base.specs.Marks.{is_hidden, visit_count}
 use Rattle.pl_base.specs.Store.{Store, Page, Visit, Item, item_id, bookmark, opening}
 
 abbrev page : ℕ → Page
@@ -113,3 +116,65 @@ five_days_old = refl
 
 a_season_old : ahead 20_108 ≡ pos 10
 a_season_old = refl
+
+-- ---- marks
+
+-- of a visit by each transition five count
+each_transition : visit_count (on_day 0 (map (λ t. visit 1 1 0 t None) (Link ∷ Typed ∷ Bookmark ∷ Embed ∷ RedirectPermanent ∷ RedirectTemporary ∷ Download ∷ FramedLink ∷ Reload ∷ []))) (record { 0 = 1 }) ≡ 5
+each_transition = refl
+
+-- a page is hidden whose visits were all within frames or led to redirects, and one that is a query
+only_framed : is_hidden (on_day 0 (visit 1 1 0 Embed None ∷ visit 2 1 1 FramedLink None ∷ [])) (page 1) ≡ true
+unfolding url_on_literals
+only_framed = refl
+
+framed_and_linked : is_hidden (on_day 0 (visit 1 1 0 Embed None ∷ visit 2 1 1 Link None ∷ [])) (page 1) ≡ false
+unfolding url_on_literals
+framed_and_linked = refl
+
+hidden_source : is_hidden redirected (page 1) ≡ true
+unfolding url_on_literals
+hidden_source = refl
+
+shown_target : is_hidden redirected (page 2) ≡ false
+unfolding url_on_literals
+shown_target = refl
+
+never_visited : is_hidden bookmarked (page 2) ≡ false
+unfolding url_on_literals
+never_visited = refl
+
+a_query : is_hidden (on_day 0 (link ∷ [])) (record (page 1) { url = codes "place:sort=8" }) ≡ true
+unfolding url_on_literals
+a_query = refl
+
+-- ---- slots
+
+-- a text takes a slot for each 120 bytes, and an empty one none
+no_chunk : chunks [] ≡ 0
+no_chunk = refl
+
+one_chunk : chunks (replicate 120 97) ≡ 1
+one_chunk = refl
+
+two_chunks : chunks (replicate 121 97) ≡ 2
+two_chunks = refl
+
+longest_url : chunks (replicate 65_536 97) ≡ 547
+longest_url = refl
+
+only_roots : live_slots opening ≡ 6
+only_roots = refl
+
+-- two pages of one origin, one of another, three visits, six roots, and a chunk for each URL
+abbrev at : ℕ → List ℕ → Page
+at n url = record (page n) { url = url }
+
+abbrev two_origins : Store
+two_origins = record (on_day 0 (link ∷ visit 2 2 0 Link None ∷ visit 3 3 0 Link None ∷ [])) {
+  pages = at 1 (codes "https://a.example/") ∷ at 2 (codes "http://a.example/") ∷ at 3 (codes "https://a.example/x") ∷ [];
+}
+
+slots_of_two_origins : live_slots two_origins ≡ 2 + 3 + 3 + 6 + 3
+unfolding url_on_literals
+slots_of_two_origins = refl

@@ -1,3 +1,4 @@
 mod Escapes
 mod FieldLemmas
 mod Numbers
+mod WorkedScripts
