@@ -1,1 +1,3 @@
-pub mod OpenedFiles
+mod CommitLemmas
+mod LeftLemmas
+mod OpenedFiles

@@ -24,9 +24,13 @@ pub record Stands (file : List ℕ) (store : Store) : Type 0 where
 abbrev pub StandsForEither : Store → Store → List ℕ → Type 0
 StandsForEither before after file = Stands file before ⊎ Stands file after
 
+-- the later file stands for each store that this one stands for
+abbrev pub StandsFurther : List ℕ → List ℕ → Type 0
+StandsFurther file later = (store : Store) → Stands file store → Stands later store
+
 -- the file stands for each store that one stood for that might have been left
 abbrev pub LeftAs : (List ℕ → Type 0) → List ℕ → Type 0
-LeftAs may_leave file = (from : List ℕ) × may_leave from × ((store : Store) → Stands from store → Stands file store)
+LeftAs may_leave file = (from : List ℕ) × may_leave from × StandsFurther from file
 
 -- ---- a store in memory
 

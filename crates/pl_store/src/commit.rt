@@ -1,4 +1,4 @@
-ghost use Rattle.std.specs.Prelude.{◌≡◌, ◌≤◌, ◌+◌, IfOk, IsOk, OnOk, OnErr};
+ghost use Rattle.std.specs.Prelude.{◌≡◌, ◌≤◌, ◌+◌, ℕ, List, IfOk, IsOk, OnOk, OnErr};
 ghost use Rattle.pl_desk.specs.Counts.{Rose};
 ghost use Rattle.pl_desk.specs.Desk.{AtAnyMoment};
 ghost use Rattle.pl_store.specs.Session.{IsPreparedFrom, IsSettled, StandsForEither, bytes_to_write, limit_of, next_limit, next_store, store_of, writes_nothing};
@@ -19,6 +19,8 @@ impl Prepared {
             → IsSettled before (D.held desk.old) (D.may_leave desk.old) → IsSettled session (D.held desk.new) (D.may_leave desk.new)) }
         ensures any_moment { (before : Session) → IsPreparedFrom before self → IsSettled before (D.held desk.old) (D.may_leave desk.old)
             → AtAnyMoment D.moment D.shown_since D.said desk.old desk.new (StandsForEither (store_of before) (next_store self)) }
+        ensures left { (before : Session) → IsPreparedFrom before self → IsSettled before (D.held desk.old) (D.may_leave desk.old)
+            → (file : List ℕ) → D.may_leave desk.new file → StandsForEither (store_of before) (next_store self) file }
         ensures unasked { writes_nothing self → desk.new ≡ desk.old }
         ensures unasked_ok { writes_nothing self → IsOk result }
         ensures written { OnOk result (D.written desk.new ≡ D.written desk.old + bytes_to_write self) }

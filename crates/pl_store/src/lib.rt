@@ -1,9 +1,10 @@
 //! A session over a store's file: a command is prepared in memory, and then its change is committed whole
-//! or not at all. `Memory` is the same without a file.
+//! or not at all. `Memory` is the same without a file, and `Keeper` is either of them.
 #![tactic(auto)]
 
 mod commit;
 mod ended;
+mod keeper;
 mod memory;
 mod open;
 mod pending;
@@ -14,6 +15,7 @@ mod uncounted;
 mod write;
 
 pub use ended::Ended;
+pub use keeper::{Keeper, Ready};
 pub use memory::{Memory, SLOT_LIMIT};
 pub use open::{create, reopen};
 pub use session::{Prepared, Session};

@@ -1,9 +1,9 @@
 ghost use Rattle.std.specs.Prelude.{◌≡◌, ◌≤◌, ◌<◌, ℕ, List, [], Err, Some, length, IfOk, IfSome, OnOk};
 ghost use Rattle.pl_base.specs.Store.{Store, opening};
 ghost use Rattle.pl_desk.specs.Counts.{Rose};
-ghost use Rattle.pl_desk.specs.Desk.{AtAnyMoment};
+ghost use Rattle.pl_desk.specs.Desk.{AtAnyMoment, Rests};
 ghost use Rattle.pl_store.specs.Ending.{StandsForNone};
-ghost use Rattle.pl_store.specs.Session.{IsSettled, LeftAs, Stands, limit_of, store_of};
+ghost use Rattle.pl_store.specs.Session.{IsSettled, LeftAs, Stands, StandsFurther, limit_of, store_of};
 
 use crate::ended::Ended;
 use crate::memory::SLOT_LIMIT;
@@ -53,6 +53,8 @@ pub fn reopen<D: Desk>(alloc: Global, desk: &mut D, limit: u32) -> Result<Sessio
     ensures still_none { result ≡ Err Ended.NotAStore → IfSome (D.held desk.new) StandsForNone }
     ensures any_moment { (file : List ℕ) → D.held desk.old ≡ Some file
         → AtAnyMoment D.moment D.shown_since D.said desk.old desk.new (LeftAs (D.may_leave desk.old)) }
+    ensures left { (file : List ℕ) → D.held desk.old ≡ Some file → (later : List ℕ) → D.may_leave desk.new later → LeftAs (D.may_leave desk.old) later }
+    ensures no_memory { result ≡ Err Ended.NoMemory → (file : List ℕ) → D.held desk.old ≡ Some file → Rests (D.held desk.new) (D.may_leave desk.new) (StandsFurther file) }
     ensures no_length { (n : ℕ) → result ≡ Err (Ended.NotEmpty n) → ⊥ }
     ensures no_less { D.written desk.old ≤ D.written desk.new }
     ensures said { D.said desk.new ≡ D.said desk.old }

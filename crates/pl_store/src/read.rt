@@ -25,6 +25,7 @@ pub(crate) fn settle<D: Desk>(desk: &mut D) -> Result<(), Ended>
     ensures untouched { result ≡ Err Ended.NotAStore → D.held desk.new ≡ D.held desk.old }
     ensures any_moment { (file : List ℕ) → D.held desk.old ≡ Some file
         → AtAnyMoment D.moment D.shown_since D.said desk.old desk.new (LeftAs (D.may_leave desk.old)) }
+    ensures no_memory { result ≡ Err Ended.NoMemory → ⊥ }
     ensures no_length { (n : ℕ) → result ≡ Err (Ended.NotEmpty n) → ⊥ }
     ensures no_less { D.written desk.old ≤ D.written desk.new }
     ensures said { D.said desk.new ≡ D.said desk.old }

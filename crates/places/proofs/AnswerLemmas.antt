@@ -12,21 +12,44 @@ use Rattle.pl_engine.specs.Parsed.{Parsed}
 use Rattle.pl_engine.specs.Run.{replies, after}
 use Rattle.pl_engine.specs.Step.{perform}
 use Rattle.pl_script.specs.Reply.{reply_text}
-use Rattle.places.specs.declared.keeper.Keeper.{Keeper}
-use Rattle.places.specs.Keeper.{IsKept, Leaves, LeavesEither, is_file, store_of}
+use Rattle.pl_store.specs.declared.keeper.Keeper.{Keeper}
+use Rattle.pl_store.specs.Keeper.{IsKept, Keeps, Leaves, LeavesEither, is_file, store_of}
+use Rattle.places.specs.declared.answer_error.AnswerError.{AnswerError}
+use Rattle.places.specs.declared.answer_error.AnswerError.TheVariants as answer
 use Rattle.places.specs.Said.{texts}
-use Rattle.places.specs.Stops.{ShowsAnswer, ShowsFront}
-use Rattle.places.proofs.KeeperLemmas.{kept_leaves}
+use Rattle.places.specs.Stops.{LeavesOfAnswer, ShowsAnswer, ShowsFront}
+use Rattle.pl_store.specs.KeeperLaws.{kept_keeps, kept_leaves, still_keeps}
 
 -- the text of a command's reply
-pub text_of_command : (limit : ℕ) (store : Store) (command : Command) (done : Reply × Store) (text : List ℕ) → done ≡ perform limit store command → text ≡ reply_text done.0
-    → texts (replies limit store (Ok command ∷ [])) ≡ text
-text_of_command limit store command done text step written =
-    append-nil (reply_text (perform limit store command).0) ∙ ap (λ (d : Reply × Store). reply_text d.0) (sym step) ∙ sym written
+pub text_of_command : (limit : ℕ) (store : Store) (entries : List (Parsed Command)) (command : Command) (done : Reply × Store) (text : List ℕ) → entries ≡ Ok command ∷ [] → done ≡ perform limit store command → text ≡ reply_text done.0
+    → texts (replies limit store entries) ≡ text
+text_of_command limit store entries command done text one step written =
+    ap (λ (es : List (Parsed Command)). texts (replies limit store es)) one
+    ∙ append-nil (reply_text (perform limit store command).0) ∙ ap (λ (d : Reply × Store). reply_text d.0) (sym step) ∙ sym written
+
+-- the store after it
+pub after_command : (limit : ℕ) (store next : Store) (entries : List (Parsed Command)) (command : Command) (done : Reply × Store) → entries ≡ Ok command ∷ [] → done ≡ perform limit store command → next ≡ done.1 → next ≡ after limit store entries
+after_command limit store next entries command done one step stepped =
+    stepped ∙ ap (λ (d : Reply × Store). d.1) step ∙ sym (ap (after limit store) one)
+
+-- the store's file after a refused line
+pub keeps_refused : (keeper : Keeper) (limit : ℕ) (entries : List (Parsed Command)) (refusal : Refusal) (first : List ℕ → Type 0) (held held_now : Option (List ℕ)) (may_leave may_leave_now : List ℕ → Type 0) (error : AnswerError)
+    → entries ≡ Err refusal ∷ [] → held_now ≡ held → ((file : List ℕ) → may_leave_now file → may_leave file) → (error ≡ answer.DeviceFault → ⊥)
+    → IsKept keeper first held may_leave → LeavesOfAnswer error (is_file keeper) first (store_of keeper) (after limit (store_of keeper) entries) held_now may_leave_now
+keeps_refused keeper limit entries refusal first held held_now may_leave may_leave_now error one same leaves no_fault kept =
+    at error no_fault (still_keeps (is_file keeper) first (store_of keeper) held held_now may_leave may_leave_now same leaves (kept_keeps keeper first held may_leave kept))
+  where
+    at : (e : AnswerError) → (e ≡ answer.DeviceFault → ⊥) → Keeps (is_file keeper) first (store_of keeper) held_now may_leave_now → LeavesOfAnswer e (is_file keeper) first (store_of keeper) (after limit (store_of keeper) entries) held_now may_leave_now
+    at answer.SayFault other keeps = rw one keeps
+    at answer.DeviceFault other keeps = absurd (other refl)
+    at answer.NoMemory other keeps = keeps
 
 leaves_as : (first : List ℕ → Type 0) (file : List ℕ) (kind kind_now : Bool) (store store_now : Store) → kind ≡ kind_now → store ≡ store_now → Leaves kind first store file → Leaves kind_now first store_now file
 leaves_as first file kind kind_now store store_now same_kind same_store leaves =
     subst (λ (k : Bool). Leaves k first store_now file) same_kind (subst (λ (s : Store). Leaves kind first s file) same_store leaves)
+
+pub keeps_as : (kind kind_now : Bool) (first : List ℕ → Type 0) (store store_now : Store) (held : Option (List ℕ)) (may_leave : List ℕ → Type 0) → kind ≡ kind_now → store ≡ store_now → Keeps kind first store held may_leave → Keeps kind_now first store_now held may_leave
+keeps_as kind kind_now first store store_now held may_leave same_kind same_store keeps = rw (← same_kind, ← same_store) keeps
 
 module _ {D : Type 0} (moment : D → ℕ) (shown_since : D → ℕ → List ℕ → List ℕ → Type 0) (may_leave : D → List ℕ → Type 0) (said held : D → Option (List ℕ)) where
   abbrev pub OnlyNow : Type 0
@@ -72,16 +95,16 @@ module _ {D : Type 0} (moment : D → ℕ) (shown_since : D → ℕ → List ℕ
       })
 
   -- a command is performed, its step is taken by the file, and its reply is said
-  pub performing : (old mid new first : D) (keeper next : Keeper) (limit : ℕ) (command : Command) (done : Reply × Store) (before text : List ℕ) → said old ≡ Some before → said mid ≡ said old
-      → done ≡ perform limit (store_of keeper) command → text ≡ reply_text done.0
+  pub performing : (old mid new first : D) (keeper next : Keeper) (limit : ℕ) (entries : List (Parsed Command)) (command : Command) (done : Reply × Store) (before text : List ℕ) → said old ≡ Some before → said mid ≡ said old
+      → entries ≡ Ok command ∷ [] → done ≡ perform limit (store_of keeper) command → text ≡ reply_text done.0
       → is_file next ≡ is_file keeper → store_of next ≡ done.1 → IsKept next (may_leave first) (held mid) (may_leave mid)
       → AtAnyMoment moment shown_since said old mid (LeavesEither (is_file keeper) (may_leave first) (store_of keeper) done.1)
       → ((line : List ℕ) → said mid ≡ Some line → ShowsOnly moment shown_since mid new (ShowsFront (may_leave mid) line text))
-      → ShowsOnly moment shown_since old new (ShowsAnswer (is_file keeper) (may_leave first) limit (store_of keeper) (Ok command ∷ []) before)
-  performing old mid new first keeper next limit command done before text is unsaid step written same_kind stepped kept shows saying =
-      answering old mid new first keeper next limit (Ok command ∷ []) before text same_kind (stepped ∙ ap (λ (d : Reply × Store). d.1) step)
-      (text_of_command limit (store_of keeper) command done text step written) kept
-      (committing old mid first keeper limit (Ok command ∷ []) before done.1 is (ap (λ (d : Reply × Store). d.1) step) shows) (saying before (unsaid ∙ is))
+      → ShowsOnly moment shown_since old new (ShowsAnswer (is_file keeper) (may_leave first) limit (store_of keeper) entries before)
+  performing old mid new first keeper next limit entries command done before text is unsaid one step written same_kind stepped kept shows saying =
+      answering old mid new first keeper next limit entries before text same_kind (after_command limit (store_of keeper) (store_of next) entries command done one step stepped)
+      (text_of_command limit (store_of keeper) entries command done text one step written) kept
+      (committing old mid first keeper limit entries before done.1 is (after_command limit (store_of keeper) done.1 entries command done one step refl) shows) (saying before (unsaid ∙ is))
 
   -- a refusal is said, and the store stays
   pub refusing : OnlyNow → (old new first : D) (keeper : Keeper) (limit : ℕ) (entries : List (Parsed Command)) (refusal : Refusal) (before : List ℕ) → said old ≡ Some before → entries ≡ Err refusal ∷ []

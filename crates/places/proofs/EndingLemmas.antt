@@ -9,22 +9,23 @@ use Rattle.std.proofs.lemmas.Bool.{eqb-true}
 use Rattle.pl_base.specs.Store.{Store}
 use Rattle.pl_desk.specs.Desk.{ShowsOnly}
 use Rattle.pl_desk.specs.Moments.{and_on, shows_less}
-use Rattle.pl_engine.specs.Run.{replies}
+use Rattle.pl_engine.specs.Run.{replies, after}
 use Rattle.pl_script.specs.Script.{script}
 use Rattle.places.specs.declared.answer_error.AnswerError.{AnswerError}
 use Rattle.places.specs.declared.answer_error.AnswerError.TheVariants as answer
 use Rattle.places.specs.declared.script_run.ScriptRun.{ScriptRun}
 use Rattle.places.specs.declared.status.Status.{Status}
+use Rattle.places.specs.declared.status.Status.TheVariants as status
 use Rattle.places.specs.declared.stop.Stop.{Stop}
 use Rattle.places.specs.declared.stop.Stop.TheVariants as stop
-use Rattle.places.specs.Ending.{Becomes, EndsScript, SaysAll, SaysAtStop, SaysEnded, SaysFront}
-use Rattle.places.specs.Keeper.{IsKept, is_file, slot_limit}
+use Rattle.places.specs.Ending.{Becomes, LeavesAtEnd, SaysAll, SaysEnded}
+use Rattle.pl_store.specs.Keeper.{IsKept, Keeps, is_file, slot_limit}
 use Rattle.places.specs.Status.{EndsIn}
-use Rattle.places.specs.Progress.{IsAt, StoppedAt, ended_entries}
+use Rattle.places.specs.Progress.{IsAt, ended_entries}
 use Rattle.places.specs.Said.{Says, texts}
-use Rattle.places.specs.Stops.{LeavesAnswered, ShowsAnswered}
-use Rattle.places.proofs.ProgressLemmas.{stopped_here, stopped_script}
-use Rattle.places.proofs.StopLemmas.{leaves_here, leaves_script, shows_here, shows_script}
+use Rattle.places.specs.Stops.{LeavesAtEntry, ShowsAnswered}
+use Rattle.places.proofs.EntryLemmas.{keeps_here, leaves_here, leaves_script}
+use Rattle.places.proofs.StopLemmas.{shows_here, shows_script}
 
 -- the bytes read are a front of the input, and the run stands behind them
 pub record IsBehind (start : Store) (read : ℕ) (bytes before : List ℕ) (left : Option (List ℕ)) (run : ScriptRun) (said : Option (List ℕ)) : Type 0 where
@@ -79,7 +80,7 @@ at_end : (start : Store) (read : ℕ) (bytes before piece : List ℕ) (left said
 at_end start read bytes before piece left said run behind ended =
     all_read read bytes behind.in_input (subst (λ l. IfSome l (λ rest. rest ≡ [])) behind.rest_left ended)
 
-pub says_all : (start : Store) (read : ℕ) (bytes before piece : List ℕ) (left left' said said' : Option (List ℕ)) (run : ScriptRun) → IsBehind start read bytes before left run said → read < 2_147_483_648 → length piece ≡ 0 → left ≡ option_map (λ rest. piece ++ rest) left' → IfSome left (λ rest. rest ≡ []) → ((b : List ℕ) (begun : Option (List ℕ)) → IsAt start b begun run said → Says begun (texts (replies slot_limit start (script b))) said') → SaysAll start bytes before left' said'
+says_all : (start : Store) (read : ℕ) (bytes before piece : List ℕ) (left left' said said' : Option (List ℕ)) (run : ScriptRun) → IsBehind start read bytes before left run said → read < 2_147_483_648 → length piece ≡ 0 → left ≡ option_map (λ rest. piece ++ rest) left' → IfSome left (λ rest. rest ≡ []) → ((b : List ℕ) (begun : Option (List ℕ)) → IsAt start b begun run said → Says begun (texts (replies slot_limit start (script b))) said') → SaysAll start bytes before left' said'
 says_all start read bytes before piece left left' said said' run behind short empty taken ended answered =
     let whole = at_end start read bytes before piece left said run behind ended in
     let is = piece_of read bytes piece left' behind.in_input (sym behind.rest_left ∙ taken) in
@@ -90,35 +91,9 @@ says_all start read bytes before piece left left' said said' run behind short em
       in_limit = omega (arith, whole.1);
     }
 
-says_front : (start : Store) (error : AnswerError) (bytes before : List ℕ) (said : Option (List ℕ)) → StoppedAt error start (script bytes) (Some before) said → SaysFront error start bytes before said
-says_front start error bytes before said stopped =
-    record { piece = stopped.piece; front_said = stopped.text; until = stopped.until }
-
-becomes_stop : (start : Store) (error : AnswerError) (e : Stop) (bytes before : List ℕ) (left said : Option (List ℕ)) → Becomes error e → SaysFront error start bytes before said → SaysAtStop e start bytes before left said
-becomes_stop start answer.SayFault e bytes before left said is front =
-    subst (λ s. SaysAtStop s start bytes before left said) (sym is) front
-becomes_stop start answer.DeviceFault e bytes before left said is front =
-    subst (λ s. SaysAtStop s start bytes before left said) (sym is) front
-becomes_stop start answer.NoMemory e bytes before left said is front =
-    subst (λ s. SaysAtStop s start bytes before left said) (sym is) front
-
 -- a front of the bytes, and the rest
 halves : (read : ℕ) (bytes : List ℕ) → take read bytes ++ drop read bytes ≡ bytes
 halves read bytes = take-append-drop read bytes
-
-pub stopped_at_end : (start : Store) (error : AnswerError) (e : Stop) (read : ℕ) (bytes before piece : List ℕ) (left left' said said' : Option (List ℕ)) (run : ScriptRun) → IsBehind start read bytes before left run said → Becomes error e → IfSome left (λ rest. rest ≡ []) → ((b : List ℕ) (begun : Option (List ℕ)) → IsAt start b begun run said → StoppedAt error start (script b) begun said') → SaysAtStop e start bytes before left' said'
-stopped_at_end start error e read bytes before piece left left' said said' run behind is ended stopped =
-    let whole = at_end start read bytes before piece left said run behind ended in
-    becomes_stop start error e bytes before left' said' is
-    (says_front start error bytes before said' (rw whole.0 at (stopped (take read bytes) (Some before) behind.at)))
-
-pub stopped_in_piece : (start : Store) (error : AnswerError) (e : Stop) (read : ℕ) (bytes before piece : List ℕ) (left left' said said' : Option (List ℕ)) (run : ScriptRun) → IsBehind start read bytes before left run said → Becomes error e → left ≡ option_map (λ rest. piece ++ rest) left' → ((b : List ℕ) (begun : Option (List ℕ)) → IsAt start b begun run said → StoppedAt error start (ended_entries (b ++ piece)) begun said') → SaysAtStop e start bytes before left' said'
-stopped_in_piece start error e read bytes before piece left left' said said' run behind is taken stopped =
-    let part = piece_of read bytes piece left' behind.in_input (sym behind.rest_left ∙ taken) in
-    let order : (take read bytes ++ piece) ++ drop (read + length piece) bytes ≡ bytes = ap (λ front. front ++ drop (read + length piece) bytes) (sym part.front) ∙ halves (read + length piece) bytes in
-    becomes_stop start error e bytes before left' said' is
-    (says_front start error bytes before said'
-    (rw order at (stopped_script start error (take read bytes ++ piece) (drop (read + length piece) bytes) (Some before) said' (stopped (take read bytes) (Some before) behind.at))))
 
 ended_so_far : (start : Store) (read : ℕ) (bytes before : List ℕ) (left left' said : Option (List ℕ)) (run : ScriptRun) → IsBehind start read bytes before left run said → left' ≡ left → SaysEnded start bytes before left' said
 ended_so_far start read bytes before left left' said run behind kept = record {
@@ -128,24 +103,6 @@ ended_so_far start read bytes before left left' said run behind kept = record {
   rest_left = kept ∙ behind.rest_left;
   ended_said = behind.at.text;
 }
-
-memory_so_far : (start : Store) (read : ℕ) (bytes before : List ℕ) (left said : Option (List ℕ)) (run : ScriptRun) → IsBehind start read bytes before left run said → SaysFront answer.NoMemory start bytes before said
-memory_so_far start read bytes before left said run behind =
-    let here = stopped_here start (take read bytes) [] (Some before) said run behind.at in
-    let before_rest : StoppedAt answer.NoMemory start (ended_entries (take read bytes)) (Some before) said = rw append-nil at here in
-    says_front start answer.NoMemory bytes before said
-    (rw (halves read bytes) at (stopped_script start answer.NoMemory (take read bytes) (drop read bytes) (Some before) said before_rest))
-
-pub stopped_reading : (start : Store) (e : Stop) (read : ℕ) (bytes before : List ℕ) (left left' said : Option (List ℕ)) (run : ScriptRun) → IsBehind start read bytes before left run said → (e ≡ stop.ReadFault) ⊎ (e ≡ stop.NoMemory) → left' ≡ left → SaysAtStop e start bytes before left' said
-stopped_reading start e read bytes before left left' said run behind (inl fault) kept =
-    subst (λ s. SaysAtStop s start bytes before left' said) (sym fault) (ended_so_far start read bytes before left left' said run behind kept)
-stopped_reading start e read bytes before left left' said run behind (inr memory) kept =
-    subst (λ s. SaysAtStop s start bytes before left' said) (sym memory) (memory_so_far start read bytes before left said run behind)
-
-pub too_long : (start : Store) (read : ℕ) (bytes before : List ℕ) (left said : Option (List ℕ)) (run : ScriptRun) → IsBehind start read bytes before left run said → read ≡ 2_147_483_648 → SaysAtStop stop.TooLong start bytes before left said
-unfolding ended_so_far
-too_long start read bytes before left said run behind limit =
-    (ended_so_far start read bytes before left left said run behind refl, length-take-le read bytes behind.in_input ∙ limit)
 
 -- the length of a piece as a vector tells it
 pub empty_piece : {len : ℕ} (items : List ℕ) → len ≡ length items → eqb len 0 ≡ true → length items ≡ 0
@@ -166,27 +123,6 @@ module _ (kind : Bool) (first : List ℕ → Type 0) (start : Store) where
       → ShowsAnswered kind first slot_limit start (script (take read bytes)) before file line → ShowsAnswered kind first slot_limit start (script bytes) before file line
   shows_at_end read bytes before piece left said run behind ended file line shows =
       rw (at_end start read bytes before piece left said run behind ended).0 at shows
-
--- ---- what a run leaves that ends with nothing of a line done
-
-module _ (kind : Bool) (first : List ℕ → Type 0) (start : Store) (read : ℕ) (bytes before : List ℕ) (left : Option (List ℕ)) (run : ScriptRun) where
-  pub leaves_behind : (said held : Option (List ℕ)) (may_leave : List ℕ → Type 0) → IsBehind start read bytes before left run said → is_file run.keeper ≡ kind → IsKept run.keeper first held may_leave
-      → LeavesAnswered kind first slot_limit start (script bytes) before said may_leave
-  leaves_behind said held may_leave behind is kept =
-      let here = leaves_here first start (take read bytes) before run said held may_leave behind.at kept in
-      rw (halves read bytes) at (leaves_script kind first start before said may_leave (take read bytes) (drop read bytes) (rw is at here))
-
-  pub leaves_piece : (piece : List ℕ) (left' said now : Option (List ℕ)) (may_leave : List ℕ → Type 0) → IsBehind start read bytes before left run said → is_file run.keeper ≡ kind → left ≡ option_map (λ rest. piece ++ rest) left'
-      → LeavesAnswered (is_file run.keeper) first slot_limit start (ended_entries (take read bytes ++ piece)) before now may_leave → LeavesAnswered kind first slot_limit start (script bytes) before now may_leave
-  leaves_piece piece left' said now may_leave behind is taken leaves =
-      let part = piece_of read bytes piece left' behind.in_input (sym behind.rest_left ∙ taken) in
-      let order : (take read bytes ++ piece) ++ drop (read + length piece) bytes ≡ bytes = ap (λ front. front ++ drop (read + length piece) bytes) (sym part.front) ∙ halves (read + length piece) bytes in
-      rw order at (leaves_script kind first start before now may_leave (take read bytes ++ piece) (drop (read + length piece) bytes) (rw is at leaves))
-
-pub memory_becomes : {X : Type 0} (error : AnswerError) (e : Stop) (result : Result X Stop) → result ≡ Err e → Becomes error e → result ≡ Err stop.NoMemory → error ≡ answer.NoMemory
-memory_becomes answer.SayFault e result ended becomes is = absurd (cc)
-memory_becomes answer.DeviceFault e result ended becomes is = absurd (cc)
-memory_becomes answer.NoMemory e result ended becomes is = refl
 
 module _ {D : Type 0} (moment : D → ℕ) (shown_since : D → ℕ → List ℕ → List ℕ → Type 0) (may_leave : D → List ℕ → Type 0) (said held : D → Option (List ℕ)) where
   -- before anything happens on the desk
@@ -225,11 +161,63 @@ module _ {D : Type 0} (moment : D → ℕ) (shown_since : D → ℕ → List ℕ
       so_far more
       (λ file line shows. shows_at_end kind first start read bytes before piece left (said mid) run behind ended file line (rw is at shows))
 
--- ---- by the status
+-- ---- what a run leaves at its end
 
-pub ends_script : (start : Store) (e : Stop) (s : Status) (bytes before : List ℕ) (left said : Option (List ℕ)) → EndsIn e s → SaysAtStop e start bytes before left said → EndsScript s start bytes before left said
-ends_script start stop.ReadFault s bytes before left said ends at = subst (λ (t : Status). EndsScript t start bytes before left said) (sym ends) at
-ends_script start stop.SayFault s bytes before left said ends at = subst (λ (t : Status). EndsScript t start bytes before left said) (sym ends) at
-ends_script start stop.DeviceFault s bytes before left said ends at = subst (λ (t : Status). EndsScript t start bytes before left said) (sym ends) at
-ends_script start stop.NoMemory s bytes before left said ends at = subst (λ (t : Status). EndsScript t start bytes before left said) (sym ends) at
-ends_script start stop.TooLong s bytes before left said ends at = subst (λ (t : Status). EndsScript t start bytes before left said) (sym ends) at
+-- by the status that comes of the error
+ends_at : (error : AnswerError) (e : Stop) (s : Status) (kind : Bool) (first : List ℕ → Type 0) (start : Store) (bytes before : List ℕ) (left said held : Option (List ℕ)) (may_leave : List ℕ → Type 0) → Becomes error e → EndsIn e s
+    → LeavesAtEntry error kind first slot_limit start (script bytes) before said held may_leave → LeavesAtEnd s kind first start bytes before left said held may_leave
+ends_at answer.SayFault e s kind first start bytes before left said held may_leave is ends leaves =
+    subst (λ (t : Status). LeavesAtEnd t kind first start bytes before left said held may_leave) (sym (rw is at ends)) leaves
+ends_at answer.DeviceFault e s kind first start bytes before left said held may_leave is ends leaves =
+    subst (λ (t : Status). LeavesAtEnd t kind first start bytes before left said held may_leave) (sym (rw is at ends)) leaves
+ends_at answer.NoMemory e s kind first start bytes before left said held may_leave is ends leaves =
+    subst (λ (t : Status). LeavesAtEnd t kind first start bytes before left said held may_leave) (sym (rw is at ends)) leaves
+
+module _ (kind : Bool) (first : List ℕ → Type 0) (start : Store) (read : ℕ) (bytes before piece : List ℕ) (left left_now : Option (List ℕ)) (run : ScriptRun) (was said held : Option (List ℕ)) (may_leave : List ℕ → Type 0) where
+  -- at the end of the input
+  pub ends_done : (s : Status) (store : Store) → s ≡ status.Done → IsBehind start read bytes before left run was → read < 2_147_483_648 → length piece ≡ 0 → left ≡ option_map (λ rest. piece ++ rest) left_now → IfSome left (λ rest. rest ≡ [])
+      → ((b : List ℕ) (begun : Option (List ℕ)) → IsAt start b begun run was → Says begun (texts (replies slot_limit start (script b))) said)
+      → ((b : List ℕ) (begun : Option (List ℕ)) → IsAt start b begun run was → store ≡ after slot_limit start (script b)) → Keeps kind first store held may_leave
+      → LeavesAtEnd s kind first start bytes before left_now said held may_leave
+  ends_done s store is behind below none taken ended answered stepped keeps =
+      subst (λ (t : Status). LeavesAtEnd t kind first start bytes before left_now said held may_leave) (sym is) (
+        says_all start read bytes before piece left left_now was said run behind below none taken ended answered,
+        rw (at_end start read bytes before piece left was run behind ended).0 at (rw (stepped (take read bytes) (Some before) behind.at) at keeps),
+      )
+
+  pub ends_last : (error : AnswerError) (e : Stop) (s : Status) → Becomes error e → EndsIn e s → IsBehind start read bytes before left run was → is_file run.keeper ≡ kind → IfSome left (λ rest. rest ≡ [])
+      → LeavesAtEntry error (is_file run.keeper) first slot_limit start (script (take read bytes)) before said held may_leave → LeavesAtEnd s kind first start bytes before left_now said held may_leave
+  ends_last error e s becomes ends behind is ended leaves =
+      ends_at error e s kind first start bytes before left_now said held may_leave becomes ends
+      (rw (at_end start read bytes before piece left was run behind ended).0 at (rw is at leaves))
+
+  -- in a piece
+  pub ends_piece : (error : AnswerError) (e : Stop) (s : Status) → Becomes error e → EndsIn e s → IsBehind start read bytes before left run was → is_file run.keeper ≡ kind → left ≡ option_map (λ rest. piece ++ rest) left_now
+      → LeavesAtEntry error (is_file run.keeper) first slot_limit start (ended_entries (take read bytes ++ piece)) before said held may_leave → LeavesAtEnd s kind first start bytes before left_now said held may_leave
+  ends_piece error e s becomes ends behind is taken leaves =
+      let part = piece_of read bytes piece left_now behind.in_input (sym behind.rest_left ∙ taken) in
+      let order : (take read bytes ++ piece) ++ drop (read + length piece) bytes ≡ bytes = ap (λ front. front ++ drop (read + length piece) bytes) (sym part.front) ∙ halves (read + length piece) bytes in
+      ends_at error e s kind first start bytes before left_now said held may_leave becomes ends
+      (rw order at (leaves_script error kind first start before said held may_leave (take read bytes ++ piece) (drop (read + length piece) bytes) (rw is at leaves)))
+
+  -- between two pieces
+  keeps_behind : IsBehind start read bytes before left run said → is_file run.keeper ≡ kind → IsKept run.keeper first held may_leave → Keeps kind first (after slot_limit start (ended_entries (take read bytes))) held may_leave
+  keeps_behind behind is kept = rw is at (keeps_here first start (take read bytes) (Some before) run said held may_leave behind.at kept)
+
+  pub ends_reading : (e : Stop) (s : Status) → (e ≡ stop.ReadFault) ⊎ (e ≡ stop.NoMemory) → EndsIn e s → IsBehind start read bytes before left run said → is_file run.keeper ≡ kind → IsKept run.keeper first held may_leave → left_now ≡ left
+      → LeavesAtEnd s kind first start bytes before left_now said held may_leave
+  unfolding ended_so_far
+  ends_reading e s (inl fault) ends behind is kept same =
+      subst (λ (t : Status). LeavesAtEnd t kind first start bytes before left_now said held may_leave) (sym (rw fault at ends))
+      (ended_so_far start read bytes before left left_now said run behind same, keeps_behind behind is kept)
+  ends_reading e s (inr memory) ends behind is kept same =
+      let here = leaves_here first start (take read bytes) before run said held may_leave behind.at kept in
+      let all = leaves_script answer.NoMemory kind first start before said held may_leave (take read bytes) (drop read bytes) (rw is at here) in
+      ends_at answer.NoMemory e s kind first start bytes before left_now said held may_leave memory ends (rw (halves read bytes) at all)
+
+  pub ends_too_long : (s : Status) → s ≡ status.TooLong 2_147_483_648 → IsBehind start read bytes before left run said → is_file run.keeper ≡ kind → IsKept run.keeper first held may_leave → read ≡ 2_147_483_648
+      → LeavesAtEnd s kind first start bytes before left said held may_leave
+  unfolding ended_so_far
+  ends_too_long s ends behind is kept limit =
+      subst (λ (t : Status). LeavesAtEnd t kind first start bytes before left said held may_leave) (sym ends)
+      (ended_so_far start read bytes before left left said run behind refl, length-take-le read bytes behind.in_input ∙ limit, keeps_behind behind is kept)

@@ -1,7 +1,6 @@
 mod AnswerLemmas
-mod CommitLemmas
 mod EndingLemmas
-mod KeeperLemmas
+mod EntryLemmas
 mod LineLemmas
 mod LongLines
 mod OpeningLemmas

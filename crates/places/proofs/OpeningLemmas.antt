@@ -1,39 +1,86 @@
 -- The ends of a run by its status, and the runs that have no store to begin with.
-use Rattle.std.proofs.Common.{◌≡◌, ◌≢◌, ◌⊎◌, ◌≤◌, ◌<◌, true, false, ℕ, List, [], ◌∷◌, length, map, slice_index_or, Bor, arith, Some, None, Option, Result, Ok, Err, refl, ap, sym, subst, ◌∙◌, append-nil, inl, inr}
+use Rattle.std.proofs.Common.{◌≡◌, ◌≢◌, ◌⊎◌, ◌≤◌, ◌<◌, Bool, true, false, ℕ, List, [], ◌∷◌, ◌++◌, append_assoc, take, length, map, slice_index_or, Bor, arith, Some, None, Option, Result, Ok, Err, refl, ap, sym, subst, ◌∙◌, append-nil, inl, inr}
 use Rattle.std.specs.Prelude.{◌↔◌, IfErr, IsSome, OnOk, ⊤}
 use Rattle.std.proofs.lemmas.Bool.{both_ways}
 use Rattle.std.proofs.lemmas.List.{length-map}
 use Rattle.std.proofs.lemmas.Option.{same_Some}
 use Rattle.pl_base.specs.Store.{Store}
-use Rattle.pl_desk.specs.Desk.{AtAnyMoment, ShowsOnly}
+use Rattle.pl_desk.specs.Desk.{AtAnyMoment, Rests, ShowsOnly}
 use Rattle.pl_desk.specs.Moments.{shows_less}
 use Rattle.pl_engine.specs.declared.command.Command.{Command}
 use Rattle.pl_engine.specs.Parsed.{Parsed}
-use Rattle.pl_engine.specs.Run.{replies}
+use Rattle.pl_engine.specs.Run.{replies, after}
+use Rattle.pl_engine.specs.Step.{step}
+use Rattle.pl_script.specs.Reply.{reply_text}
 use Rattle.pl_script.specs.Script.{script}
 use Rattle.pl_store.specs.declared.ended.Ended.{Ended}
 use Rattle.pl_store.specs.declared.ended.Ended.TheVariants as ended
-use Rattle.pl_store.specs.Session.{LeftAs, Stands}
+use Rattle.pl_store.specs.Session.{LeftAs, Stands, StandsFurther}
+use Rattle.places.specs.declared.answer_error.AnswerError.{AnswerError}
+use Rattle.places.specs.declared.answer_error.AnswerError.TheVariants as answer
 use Rattle.places.specs.declared.status.Status.{Status}
 use Rattle.places.specs.declared.status.Status.TheVariants as status
 use Rattle.places.specs.declared.stop.Stop.{Stop}
 use Rattle.places.specs.declared.stop.Stop.TheVariants as stop
-use Rattle.places.specs.Ending.{BeginsWith, EndsScript, IfTold, SaysAll, SaysAtStop}
-use Rattle.places.specs.Keeper.{slot_limit}
+use Rattle.places.specs.Ending.{BeginsWith, EndsScript, LeavesAtEnd, SaysFront}
+use Rattle.pl_store.specs.Keeper.{slot_limit}
+use Rattle.places.specs.Said.{Says, SaysPart, SaysWhole, texts}
 use Rattle.places.specs.Status.{EndsAs, without_session}
-use Rattle.places.specs.Stops.{LeavesAnswered, ShowsAnswered}
-use Rattle.places.proofs.EndingLemmas.{ends_script}
+use Rattle.places.specs.Stops.{LeavesAtEntry, ShowsAnswered}
+use Rattle.places.proofs.ProgressLemmas.{replies-append}
 use Rattle.places.proofs.StopLemmas.{shows_nothing}
 
 -- ---- a script that was run
 
-pub ends_as : (start : Store) (end : Result ⊤ Stop) (s : Status) (left0 said0 left said : Option (List ℕ)) → EndsAs end s
-    → OnOk end (IfTold left0 said0 (λ bytes before. SaysAll start bytes before left said)) → IfErr end (λ e. IfTold left0 said0 (λ bytes before. SaysAtStop e start bytes before left said))
-    → IfTold left0 said0 (λ bytes before. EndsScript s start bytes before left said)
-ends_as start (Ok done) s left0 said0 left said is all stopped bytes before told begun =
-    subst (λ (t : Status). EndsScript t start bytes before left said) (sym is) (all bytes before told begun)
-ends_as start (Err e) s left0 said0 left said is all stopped bytes before told begun =
-    ends_script start e s bytes before left said is (stopped bytes before told begun)
+says_part : (start : Store) (answered next more entries : List (Parsed Command)) (before : List ℕ) (said : Option (List ℕ)) (n : ℕ) → entries ≡ answered ++ (next ++ more) → length next ≤ 1 → n < length (texts (replies slot_limit (after slot_limit start answered) next))
+    → Says (Some (before ++ texts (replies slot_limit start answered))) (take n (texts (replies slot_limit (after slot_limit start answered) next))) said
+    → (piece : List ℕ) × (said ≡ Some (before ++ piece)) × SaysPart (replies slot_limit start entries) piece
+says_part start answered [] more entries before said n order one below text = absurd (omega arith)
+says_part start answered (e ∷ []) more entries before said n order one below text =
+    let reply = (step slot_limit (after slot_limit start answered) e).0 in
+    let whole : texts (reply ∷ []) ≡ reply_text reply = append-nil (reply_text reply) in (
+      texts (replies slot_limit start answered) ++ take n (reply_text reply),
+      rw whole at text ∙ ap Some (append_assoc before (texts (replies slot_limit start answered)) (take n (reply_text reply))),
+      record {
+        answered = replies slot_limit start answered;
+        next = reply;
+        more = replies slot_limit (step slot_limit (after slot_limit start answered) e).1 more;
+        part = n;
+        order = ap (replies slot_limit start) order ∙ replies-append start answered (e ∷ more);
+        proper = rw whole at below;
+        text = refl;
+      },
+    )
+says_part start answered (e ∷ f ∷ next) more entries before said n order one below text = absurd (omega (arith, one))
+
+says_whole : (start : Store) (answered more entries : List (Parsed Command)) → entries ≡ answered ++ more → SaysWhole (replies slot_limit start entries) (texts (replies slot_limit start answered))
+says_whole start answered more entries order = record {
+  answered = replies slot_limit start answered;
+  more = replies slot_limit (after slot_limit start answered) more;
+  order = ap (replies slot_limit start) order ∙ replies-append start answered more;
+  text = refl;
+}
+
+says_front : (error : AnswerError) (kind : Bool) (first : List ℕ → Type 0) (start : Store) (bytes before : List ℕ) (said held : Option (List ℕ)) (may_leave : List ℕ → Type 0) → LeavesAtEntry error kind first slot_limit start (script bytes) before said held may_leave → SaysFront error start bytes before said
+says_front answer.SayFault kind first start bytes before said held may_leave left =
+    let part = says_part start left.answered left.next left.more (script bytes) before said left.text.0 left.order left.one left.text.1 left.text.2 in
+    record { piece = part.0; front_said = part.1; until = part.2 }
+says_front answer.DeviceFault kind first start bytes before said held may_leave left =
+    record { piece = texts (replies slot_limit start left.answered); front_said = left.text; until = says_whole start left.answered (left.next ++ left.more) (script bytes) left.order }
+says_front answer.NoMemory kind first start bytes before said held may_leave left =
+    record { piece = texts (replies slot_limit start left.answered); front_said = left.text; until = says_whole start left.answered (left.next ++ left.more) (script bytes) left.order }
+
+-- what was said at the end, of what is left then
+pub says_at_end : (s : Status) (kind : Bool) (first : List ℕ → Type 0) (start : Store) (bytes before : List ℕ) (left said held : Option (List ℕ)) (may_leave : List ℕ → Type 0) → LeavesAtEnd s kind first start bytes before left said held may_leave → EndsScript s start bytes before left said
+says_at_end status.Done kind first start bytes before left said held may_leave leaves = leaves.0
+says_at_end status.Usage kind first start bytes before left said held may_leave leaves = leaves
+says_at_end status.ReadFault kind first start bytes before left said held may_leave leaves = leaves.0
+says_at_end status.SayFault kind first start bytes before left said held may_leave leaves = says_front answer.SayFault kind first start bytes before said held may_leave leaves
+says_at_end status.DeviceFault kind first start bytes before left said held may_leave leaves = says_front answer.DeviceFault kind first start bytes before said held may_leave leaves
+says_at_end status.NoMemory kind first start bytes before left said held may_leave leaves = says_front answer.NoMemory kind first start bytes before said held may_leave leaves
+says_at_end status.NotAStore kind first start bytes before left said held may_leave leaves = leaves
+says_at_end (status.NotEmpty len) kind first start bytes before left said held may_leave leaves = leaves
+says_at_end (status.TooLong limit) kind first start bytes before left said held may_leave leaves = (leaves.0, leaves.1)
 
 pub read_stopped : (end : Result ⊤ Stop) (s : Status) → EndsAs end s → s ≡ status.ReadFault → end ≡ Err stop.ReadFault
 read_stopped (Ok done) s is at = absurd (cc)
@@ -58,14 +105,6 @@ device_stopped (Err stop.SayFault) s is at = absurd (cc)
 device_stopped (Err stop.DeviceFault) s is at = refl
 device_stopped (Err stop.NoMemory) s is at = absurd (cc)
 device_stopped (Err stop.TooLong) s is at = absurd (cc)
-
-pub memory_stopped : (end : Result ⊤ Stop) (s : Status) → EndsAs end s → s ≡ status.NoMemory → end ≡ Err stop.NoMemory
-memory_stopped (Ok done) s is at = absurd (cc)
-memory_stopped (Err stop.ReadFault) s is at = absurd (cc)
-memory_stopped (Err stop.SayFault) s is at = absurd (cc)
-memory_stopped (Err stop.DeviceFault) s is at = absurd (cc)
-memory_stopped (Err stop.NoMemory) s is at = refl
-memory_stopped (Err stop.TooLong) s is at = absurd (cc)
 
 pub stopped_limit : (end : Result ⊤ Stop) (s : Status) (limit : ℕ) → EndsAs end s → s ≡ status.TooLong limit → limit ≡ 2_147_483_648
 stopped_limit (Ok done) s limit is at = absurd (cc)
@@ -149,18 +188,35 @@ module _ {D : Type 0} (moment : D → ℕ) (shown_since : D → ℕ → List ℕ
       (λ file line (left, now). subst (λ (l : List ℕ). ShowsAnswered true first slot_limit start entries before file l) (same_Some before line (sym is ∙ now))
       (shows_nothing true first start entries before file (left.2 start (stands left.0 left.1))))
 
+-- a file at rest that stands for what another one stands for
+pub rests_further : (file : List ℕ) (start : Store) (held : Option (List ℕ)) (may_leave : List ℕ → Type 0) → Stands file start → Rests held may_leave (StandsFurther file) → Rests held may_leave (λ later. Stands later start)
+rests_further file start held may_leave stands rests = record { file = rests.file; is_held = rests.is_held; only = rests.only; has = rests.has start stands }
+
 -- what an opening leaves that ends with no store
-module _ {D : Type 0} (moment : D → ℕ) (shown_since : D → ℕ → List ℕ → List ℕ → Type 0) (may_leave : D → List ℕ → Type 0) (said : D → Option (List ℕ)) where
-  pub leaves_opening : ((desk : D) (t : ℕ) (file line : List ℕ) → t ≤ moment desk → may_leave desk file → said desk ≡ Some line → shown_since desk t file line)
-      → (first left_before : List ℕ → Type 0) (start : Store) (entries : List (Parsed Command)) (before : List ℕ) (old new : D) → ((file : List ℕ) → left_before file → Stands file start) → said old ≡ Some before → said new ≡ said old
-      → AtAnyMoment moment shown_since said old new (LeftAs left_before) → LeavesAnswered true first slot_limit start entries before (said new) (may_leave new)
-  leaves_opening counts_now first left_before start entries before old new stands is unsaid shows = record {
-    answered = [];
-    more = entries;
-    order = refl;
-    text = unsaid ∙ is ∙ ap Some (sym (append-nil before));
-    leaves = λ file left. let has = (shows.each file before (counts_now new (moment old) file before shows.later left (unsaid ∙ is))).0 in has.2 start (stands has.0 has.1);
-  }
+pub ends_without : (e : Ended) (s : Status) (first : List ℕ → Type 0) (start : Store) (bytes before : List ℕ) (left said held : Option (List ℕ)) (may_leave : List ℕ → Type 0) → s ≡ without_session e → e ≢ ended.NotAStore → ((n : ℕ) → e ≢ ended.NotEmpty n) → said ≡ Some before
+    → ((file : List ℕ) → may_leave file → Stands file start) → (e ≡ ended.NoMemory → Rests held may_leave (λ file. Stands file start)) → LeavesAtEnd s true first start bytes before left said held may_leave
+ends_without ended.DeviceFault s first start bytes before left said held may_leave is none no_len unsaid stands rests =
+    subst (λ (t : Status). LeavesAtEnd t true first start bytes before left said held may_leave) (sym is) (record {
+      answered = [];
+      next = [];
+      more = script bytes;
+      order = refl;
+      one = omega arith;
+      text = unsaid ∙ ap Some (sym (append-nil before));
+      file = λ file is_left. inl (stands file is_left);
+    })
+ends_without ended.NoMemory s first start bytes before left said held may_leave is none no_len unsaid stands rests =
+    subst (λ (t : Status). LeavesAtEnd t true first start bytes before left said held may_leave) (sym is) (record {
+      answered = [];
+      next = [];
+      more = script bytes;
+      order = refl;
+      one = omega arith;
+      text = unsaid ∙ ap Some (sym (append-nil before));
+      file = rests refl;
+    })
+ends_without ended.NotAStore s first start bytes before left said held may_leave is none no_len unsaid stands rests = absurd (none refl)
+ends_without (ended.NotEmpty n) s first start bytes before left said held may_leave is none no_len unsaid stands rests = absurd (no_len n refl)
 
 -- a desk that tells what was said tells its file too
 pub with_held : {D X : Type 0} (said held : D → Option (List ℕ)) (desk : D) (before : List ℕ) → IsSome (held desk) ↔ IsSome (said desk) → said desk ≡ Some before → ((file : List ℕ) → held desk ≡ Some file → X) → X

@@ -13,13 +13,11 @@ use Rattle.pl_engine.specs.Parsed.{Parsed}
 use Rattle.pl_engine.specs.Step.{step}
 use Rattle.pl_script.specs.Reply.{reply_text}
 use Rattle.pl_script.specs.Script.{entry, script}
-use Rattle.places.specs.declared.answer_error.AnswerError.{AnswerError}
-use Rattle.places.specs.declared.answer_error.AnswerError.TheVariants.{SayFault, DeviceFault, NoMemory}
 use Rattle.places.specs.declared.script_run.ScriptRun.{ScriptRun}
-use Rattle.places.specs.Keeper.{limit_of, slot_limit, store_of}
+use Rattle.pl_store.specs.Keeper.{limit_of, slot_limit, store_of}
 use Rattle.places.specs.Lines.{ended_lines, entries_of, entries_in, open_line}
-use Rattle.places.specs.Progress.{IsAt, StoppedAt, ended_entries}
-use Rattle.places.specs.Said.{Says, SaysOfAnswer, SaysPart, SaysUntil, SaysWhole, texts}
+use Rattle.places.specs.Progress.{IsAt, ended_entries}
+use Rattle.places.specs.Said.{Says, texts}
 use Rattle.places.proofs.LineLemmas.{ended_lines-lf, ended_lines-on, entries_of-append, entries_of-one, open_line-lf, open_line-on, script-is}
 use Rattle.places.proofs.LongLines.{entry-kept, entry-kept_stripped}
 use Rattle.places.proofs.SaidLemmas.{says_more}
@@ -34,34 +32,9 @@ pub after-append : (store : Store) (xs ys : List (Parsed Command)) → after slo
 after-append store [] ys = refl
 after-append store (x ∷ xs) ys = after-append (step slot_limit store x).1 xs ys
 
-texts-append : (store : Store) (xs ys : List (Parsed Command)) → texts (replies slot_limit store (xs ++ ys)) ≡ texts (replies slot_limit store xs) ++ texts (replies slot_limit (after slot_limit store xs) ys)
+pub texts-append : (store : Store) (xs ys : List (Parsed Command)) → texts (replies slot_limit store (xs ++ ys)) ≡ texts (replies slot_limit store xs) ++ texts (replies slot_limit (after slot_limit store xs) ys)
 texts-append store xs ys =
     ap texts (replies-append store xs ys) ∙ flat_map-append reply_text (replies slot_limit store xs) (replies slot_limit (after slot_limit store xs) ys)
-
--- what was said at a stop is so of more entries too
-stopped_part : (rs more : List Reply) (piece : List ℕ) → SaysPart rs piece → SaysPart (rs ++ more) piece
-stopped_part rs more piece part = record {
-  answered = part.answered;
-  next = part.next;
-  more = part.more ++ more;
-  part = part.part;
-  order = ap (λ all. all ++ more) part.order ∙ append_assoc part.answered (part.next ∷ part.more) more;
-  proper = part.proper;
-  text = part.text;
-}
-
-stopped_whole : (rs more : List Reply) (piece : List ℕ) → SaysWhole rs piece → SaysWhole (rs ++ more) piece
-stopped_whole rs more piece whole = record {
-  answered = whole.answered;
-  more = whole.more ++ more;
-  order = ap (λ all. all ++ more) whole.order ∙ append_assoc whole.answered whole.more more;
-  text = whole.text;
-}
-
-until_further : (error : AnswerError) (rs more : List Reply) (piece : List ℕ) → SaysUntil error rs piece → SaysUntil error (rs ++ more) piece
-until_further SayFault rs more piece until = stopped_part rs more piece until
-until_further DeviceFault rs more piece until = stopped_whole rs more piece until
-until_further NoMemory rs more piece until = stopped_whole rs more piece until
 
 -- ---- lines
 
@@ -132,54 +105,6 @@ module _ (start : Store) where
   says_further xs ys store begun said now at before more =
       rw (texts-append start xs ys, ← at) (says_more _ _ _ _ _ before more)
 
-  part_of_answer : (xs : List (Parsed Command)) (found : Option (Parsed Command)) (begun said now : Option (List ℕ)) → Says begun (texts (replies slot_limit start xs)) said → SaysOfAnswer SayFault (replies slot_limit (after slot_limit start xs) (option_to_list found)) said now → StoppedAt SayFault start (xs ++ option_to_list found) begun now
-  part_of_answer xs None begun said now before (n, below, more) = absurd (omega arith)
-  part_of_answer xs (Some e) begun said now before (n, below, more) =
-      let reply = (step slot_limit (after slot_limit start xs) e).0 in
-      let one : texts (reply ∷ []) ≡ reply_text reply = append-nil (reply_text reply) in
-      record {
-        piece = texts (replies slot_limit start xs) ++ take n (reply_text reply);
-        text = says_more _ _ _ _ _ before (rw one at more);
-        until = record {
-          answered = replies slot_limit start xs;
-          next = reply;
-          more = [];
-          part = n;
-          order = replies-append start xs (e ∷ []);
-          proper = rw one at below;
-          text = refl;
-        };
-      }
-
-  unsaid_answer : (xs : List (Parsed Command)) (found : Option (Parsed Command)) (begun said now : Option (List ℕ)) → Says begun (texts (replies slot_limit start xs)) said → now ≡ said
-      → (piece : List ℕ) × Says begun piece now × SaysWhole (replies slot_limit start (xs ++ option_to_list found)) piece
-  unsaid_answer xs found begun said now before same = (
-    texts (replies slot_limit start xs),
-    same ∙ before,
-    record {
-      answered = replies slot_limit start xs;
-      more = replies slot_limit (after slot_limit start xs) (option_to_list found);
-      order = replies-append start xs (option_to_list found);
-      text = refl;
-    },
-  )
-
-  stopped_answer : (error : AnswerError) (xs : List (Parsed Command)) (found : Option (Parsed Command)) (begun said now : Option (List ℕ)) → Says begun (texts (replies slot_limit start xs)) said → SaysOfAnswer error (replies slot_limit (after slot_limit start xs) (option_to_list found)) said now → StoppedAt error start (xs ++ option_to_list found) begun now
-  stopped_answer SayFault xs found begun said now before part = part_of_answer xs found begun said now before part
-  stopped_answer DeviceFault xs found begun said now before same =
-      let at = unsaid_answer xs found begun said now before same in record { piece = at.0; text = at.1; until = at.2 }
-  stopped_answer NoMemory xs found begun said now before same =
-      let at = unsaid_answer xs found begun said now before same in record { piece = at.0; text = at.1; until = at.2 }
-
-  pub stopped_further : (error : AnswerError) (xs ys : List (Parsed Command)) (begun said : Option (List ℕ)) → StoppedAt error start xs begun said → StoppedAt error start (xs ++ ys) begun said
-  stopped_further error xs ys begun said stopped = record {
-    piece = stopped.piece;
-    text = stopped.text;
-    until =
-        rw (replies-append start xs ys)
-        (until_further error (replies slot_limit start xs) (replies slot_limit (after slot_limit start xs) ys) stopped.piece stopped.until);
-  }
-
   -- ---- the steps of a run
 
   pub line_ended : (bytes line : List ℕ) (begun said now : Option (List ℕ)) (old new : ScriptRun) → IsAt start bytes begun old said → line ≡ strip_carriage_return old.line.items
@@ -195,13 +120,6 @@ module _ (start : Store) where
         line = rw (open_line-lf bytes) empty;
         text = rw (ended_lf bytes) (says_further (ended_entries bytes) more (store_of old.keeper) begun said now at.store at.text (rw (at.limit, same) at says));
       }
-
-  pub line_stopped : (error : AnswerError) (bytes line : List ℕ) (begun said now : Option (List ℕ)) (old : ScriptRun) → IsAt start bytes begun old said → line ≡ strip_carriage_return old.line.items
-      → SaysOfAnswer error (replies (limit_of old.keeper) (store_of old.keeper) (entries_in line)) said now → StoppedAt error start (ended_entries (bytes ++ 10 ∷ [])) begun now
-  line_stopped error bytes line begun said now old at is says =
-      rw (ended_lf bytes)
-      (stopped_answer error (ended_entries bytes) (entry (strip_carriage_return (open_line bytes))) begun said now at.text
-      (rw (at.limit, at.store, kept_stripped bytes old.line.items line at.line is) at says))
 
   pub line_kept : (bytes : List ℕ) (b : ℕ) (begun said : Option (List ℕ)) (old new : ScriptRun) → IsAt start bytes begun old said → b ≢ 10 → new.keeper ≡ old.keeper → length old.line.items < 262_146 → new.line.items ≡ old.line.items ++ b ∷ [] → IsAt start (bytes ++ b ∷ []) begun new said
   line_kept bytes b begun said old new at on keeper short pushed =
@@ -230,40 +148,8 @@ module _ (start : Store) where
       let same = ap entries_in is ∙ kept_open bytes run.line.items at.line in
       rw (script-is bytes) (says_further (ended_entries bytes) (entries_in (open_line bytes)) (store_of run.keeper) begun said now at.store at.text (rw (at.limit, same) at says))
 
-  pub finish_stopped : (error : AnswerError) (bytes line : List ℕ) (begun said now : Option (List ℕ)) (run : ScriptRun) → IsAt start bytes begun run said → line ≡ run.line.items
-      → SaysOfAnswer error (replies (limit_of run.keeper) (store_of run.keeper) (entries_in line)) said now → StoppedAt error start (script bytes) begun now
-  finish_stopped error bytes line begun said now run at is says =
-      rw (script-is bytes)
-      (stopped_answer error (ended_entries bytes) (entry (open_line bytes)) begun said now at.text
-      (rw (at.limit, at.store, ap entries_in is ∙ kept_open bytes run.line.items at.line) at says))
-
-  -- ---- more of the input
-
-  pub stopped_later : (error : AnswerError) (bytes piece : List ℕ) (begun said : Option (List ℕ)) → StoppedAt error start (ended_entries bytes) begun said → StoppedAt error start (ended_entries (bytes ++ piece)) begun said
-  stopped_later error bytes piece begun said stopped =
-      let further = ended_further bytes piece in
-      rw further.1 (stopped_further error (ended_entries bytes) further.0 begun said stopped)
-
-  -- a run that stops before anything more is said
-  pub stopped_here : (bytes piece : List ℕ) (begun said : Option (List ℕ)) (run : ScriptRun) → IsAt start bytes begun run said → StoppedAt NoMemory start (ended_entries (bytes ++ piece)) begun said
-  stopped_here bytes piece begun said run at = stopped_later NoMemory bytes piece begun said (record {
-    piece = texts (replies slot_limit start (ended_entries bytes));
-    text = at.text;
-    until = record {
-      answered = replies slot_limit start (ended_entries bytes);
-      more = [];
-      order = sym (append-nil (replies slot_limit start (ended_entries bytes)));
-      text = refl;
-    };
-  })
-
-  -- what was said at a stop is so of the script whose front was read
-  pub stopped_script : (error : AnswerError) (bytes rest : List ℕ) (begun said : Option (List ℕ)) → StoppedAt error start (ended_entries bytes) begun said → StoppedAt error start (script (bytes ++ rest)) begun said
-  stopped_script error bytes rest begun said stopped =
-      rw (script-is (bytes ++ rest))
-      (stopped_further error (ended_entries (bytes ++ rest)) (entries_in (open_line (bytes ++ rest))) begun said (stopped_later error bytes rest begun said stopped))
-
-  pub stopped_within : (error : AnswerError) (bytes piece : List ℕ) (i : ℕ) (begun said : Option (List ℕ)) → i < length piece → StoppedAt error start (ended_entries ((bytes ++ take i piece) ++ get_or piece i 0 ∷ [])) begun said → StoppedAt error start (ended_entries (bytes ++ piece)) begun said
-  stopped_within error bytes piece i begun said within stopped =
-      rw (← around bytes piece i within)
-      (stopped_later error ((bytes ++ take i piece) ++ get_or piece i 0 ∷ []) (drop (i + 1) piece) begun said stopped)
+  pub finished_store : (bytes line : List ℕ) (begun said : Option (List ℕ)) (run : ScriptRun) (store : Store) → IsAt start bytes begun run said → line ≡ run.line.items
+      → store ≡ after (limit_of run.keeper) (store_of run.keeper) (entries_in line) → store ≡ after slot_limit start (script bytes)
+  finished_store bytes line begun said run store at is stepped =
+      rw (script-is bytes, after-append start (ended_entries bytes) (entries_in (open_line bytes)), ← at.store, ← ap entries_in is ∙ kept_open bytes run.line.items at.line)
+      (stepped ∙ ap (λ (most : ℕ). after most (store_of run.keeper) (entries_in line)) at.limit)

@@ -10,12 +10,12 @@ use Rattle.pl_engine.specs.Parsed.{Parsed}
 use Rattle.pl_engine.specs.Run.{replies, after}
 use Rattle.pl_script.specs.Script.{entry, script}
 use Rattle.places.specs.declared.script_run.ScriptRun.{ScriptRun}
-use Rattle.places.specs.Keeper.{IsKept, Leaves, is_file, limit_of, slot_limit, store_of}
+use Rattle.pl_store.specs.Keeper.{IsKept, Leaves, is_file, limit_of, slot_limit, store_of}
 use Rattle.places.specs.Lines.{entries_in, open_line}
 use Rattle.places.specs.Progress.{IsAt, ended_entries}
 use Rattle.places.specs.Said.{texts}
-use Rattle.places.specs.Stops.{LeavesAnswered, ShowsAnswer, ShowsAnswered}
-use Rattle.places.proofs.KeeperLemmas.{kept_leaves}
+use Rattle.places.specs.Stops.{ShowsAnswer, ShowsAnswered}
+use Rattle.pl_store.specs.KeeperLaws.{kept_leaves}
 use Rattle.places.proofs.LineLemmas.{script-is}
 use Rattle.places.proofs.ProgressLemmas.{around, ended_further, ended_lf, kept_open, kept_stripped}
 
@@ -95,42 +95,6 @@ module _ (kind : Bool) (first : List ℕ → Type 0) (start : Store) where
       rw (script-is bytes)
       (shows_line (ended_entries bytes) (entry (open_line bytes)) begun file shown
       (rw (at.limit, at.store, ap entries_in is ∙ kept_open bytes run.line.items at.line) at shows))
-
-module _ (kind : Bool) (first : List ℕ → Type 0) (start : Store) (begun : List ℕ) (said : Option (List ℕ)) (may_leave : List ℕ → Type 0) where
-  leaves_further : (xs ys : List (Parsed Command)) → LeavesAnswered kind first slot_limit start xs begun said may_leave → LeavesAnswered kind first slot_limit start (xs ++ ys) begun said may_leave
-  leaves_further xs ys left = record {
-    answered = left.answered;
-    more = left.more ++ ys;
-    order = ap (λ all. all ++ ys) left.order ∙ append_assoc left.answered left.more ys;
-    text = left.text;
-    leaves = left.leaves;
-  }
-
-  pub leaves_later : (bytes piece : List ℕ) → LeavesAnswered kind first slot_limit start (ended_entries bytes) begun said may_leave → LeavesAnswered kind first slot_limit start (ended_entries (bytes ++ piece)) begun said may_leave
-  leaves_later bytes piece left =
-      let further = ended_further bytes piece in
-      rw further.1 (leaves_further (ended_entries bytes) further.0 left)
-
-  pub leaves_taken : (bytes piece : List ℕ) (i : ℕ) → LeavesAnswered kind first slot_limit start (ended_entries (bytes ++ take i piece)) begun said may_leave → LeavesAnswered kind first slot_limit start (ended_entries (bytes ++ piece)) begun said may_leave
-  leaves_taken bytes piece i left =
-      let order : (bytes ++ take i piece) ++ drop i piece ≡ bytes ++ piece = append_assoc bytes (take i piece) (drop i piece) ∙ ap (λ all. bytes ++ all) (take-append-drop i piece) in
-      rw (← order) (leaves_later (bytes ++ take i piece) (drop i piece) left)
-
-  pub leaves_script : (bytes rest : List ℕ) → LeavesAnswered kind first slot_limit start (ended_entries bytes) begun said may_leave → LeavesAnswered kind first slot_limit start (script (bytes ++ rest)) begun said may_leave
-  leaves_script bytes rest left =
-      rw (script-is (bytes ++ rest))
-      (leaves_further (ended_entries (bytes ++ rest)) (entries_in (open_line (bytes ++ rest))) (leaves_later bytes rest left))
-
--- what a run leaves whose lines so far were answered
-pub leaves_here : (first : List ℕ → Type 0) (start : Store) (bytes begun : List ℕ) (run : ScriptRun) (said held : Option (List ℕ)) (may_leave : List ℕ → Type 0) → IsAt start bytes (Some begun) run said → IsKept run.keeper first held may_leave
-    → LeavesAnswered (is_file run.keeper) first slot_limit start (ended_entries bytes) begun said may_leave
-leaves_here first start bytes begun run said held may_leave at kept = record {
-  answered = ended_entries bytes;
-  more = [];
-  order = sym (append-nil (ended_entries bytes));
-  text = at.text;
-  leaves = λ file left. subst (λ (store : Store). Leaves (is_file run.keeper) first store file) at.store (kept_leaves run.keeper first held may_leave kept file left);
-}
 
 -- nothing happens on the desk
 module _ {D : Type 0} (moment : D → ℕ) (shown_since : D → ℕ → List ℕ → List ℕ → Type 0) (may_leave : D → List ℕ → Type 0) (said held : D → Option (List ℕ)) where

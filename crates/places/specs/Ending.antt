@@ -1,9 +1,10 @@
 -- What a run leaves at each of its ends, where the source and the desk tell their content.
-use Rattle.std.specs.Prelude.{◌≡◌, ◌⊎◌, ℕ, ◌<◌, List, [], ◌∷◌, ◌++◌, codes, length, Option, Some}
+use Rattle.std.specs.Prelude.{◌≡◌, ◌⊎◌, ℕ, Bool, ◌<◌, List, [], ◌∷◌, ◌++◌, codes, length, Option, Some}
 use Rattle.pl_base.specs.Store.{Store, opening}
 use Rattle.pl_desk.specs.Desk.{Rests}
-use Rattle.pl_engine.specs.Run.{replies}
+use Rattle.pl_engine.specs.Run.{replies, after}
 use Rattle.pl_script.specs.Script.{script}
+use Rattle.pl_store.specs.Keeper.{Keeps, slot_limit}
 use Rattle.pl_store.specs.Session.{Stands}
 use Rattle.places.specs.declared.answer_error.AnswerError.{AnswerError}
 use Rattle.places.specs.declared.answer_error.AnswerError.TheVariants as answer
@@ -11,9 +12,9 @@ use Rattle.places.specs.declared.status.Status.{Status}
 use Rattle.places.specs.declared.status.Status.TheVariants as status
 use Rattle.places.specs.declared.stop.Stop.{Stop}
 use Rattle.places.specs.declared.stop.Stop.TheVariants as stop
-use Rattle.places.specs.Keeper.{slot_limit}
 use Rattle.places.specs.Progress.{ended_entries}
 use Rattle.places.specs.Said.{SaysUntil, texts}
+use Rattle.places.specs.Stops.{LeavesAtEntry}
 
 abbrev pub Becomes : AnswerError → Stop → Type 0
 Becomes answer.SayFault e = e ≡ stop.SayFault
@@ -65,15 +66,6 @@ pub record SaysFront (error : AnswerError) (start : Store) (bytes before : List 
   pub front_said : said ≡ Some (before ++ piece)
   pub until : SaysUntil error (replies slot_limit start (script bytes)) piece
 
--- what was said at a stop
-abbrev pub SaysAtStop : Stop → Store → List ℕ → List ℕ → Option (List ℕ) → Option (List ℕ) → Type 0
-SaysAtStop stop.ReadFault start bytes before left said = SaysEnded start bytes before left said
-SaysAtStop stop.TooLong start bytes before left said =
-    (ended : SaysEnded start bytes before left said) × (length ended.read ≡ 2_147_483_648)
-SaysAtStop stop.SayFault start bytes before left said = SaysFront answer.SayFault start bytes before said
-SaysAtStop stop.DeviceFault start bytes before left said = SaysFront answer.DeviceFault start bytes before said
-SaysAtStop stop.NoMemory start bytes before left said = SaysFront answer.NoMemory start bytes before said
-
 -- what a script's run leaves said at each status; on a store there are no others
 abbrev pub EndsScript : Status → Store → List ℕ → List ℕ → Option (List ℕ) → Option (List ℕ) → Type 0
 EndsScript status.Done start bytes before left said = SaysAll start bytes before left said
@@ -86,6 +78,29 @@ EndsScript status.NoMemory start bytes before left said = SaysFront answer.NoMem
 EndsScript status.Usage start bytes before left said = ⊥
 EndsScript status.NotAStore start bytes before left said = ⊥
 EndsScript (status.NotEmpty len) start bytes before left said = ⊥
+
+-- ---- what was said, and the file
+
+-- What a script's run leaves at each status. At Done the file holds the store after all entries, and a read that fails
+-- and the limit of a script leave it with the store after those that ended within what was read. A line that fails
+-- leaves the store after the entry whose reply was not said whole, a file that fails the store before or after an
+-- entry, and want of memory the store after those that were answered.
+abbrev pub LeavesAtEnd : Status → Bool → (List ℕ → Type 0) → Store → List ℕ → List ℕ → Option (List ℕ) → Option (List ℕ) → Option (List ℕ) → (List ℕ → Type 0) → Type 0
+LeavesAtEnd status.Done is_file first start bytes before left said held may_leave =
+    SaysAll start bytes before left said × Keeps is_file first (after slot_limit start (script bytes)) held may_leave
+LeavesAtEnd status.ReadFault is_file first start bytes before left said held may_leave =
+    (ended : SaysEnded start bytes before left said) × Keeps is_file first (after slot_limit start (ended_entries ended.read)) held may_leave
+LeavesAtEnd (status.TooLong limit) is_file first start bytes before left said held may_leave =
+    (ended : SaysEnded start bytes before left said) × (length ended.read ≡ limit) × Keeps is_file first (after slot_limit start (ended_entries ended.read)) held may_leave
+LeavesAtEnd status.SayFault is_file first start bytes before left said held may_leave =
+    LeavesAtEntry answer.SayFault is_file first slot_limit start (script bytes) before said held may_leave
+LeavesAtEnd status.DeviceFault is_file first start bytes before left said held may_leave =
+    LeavesAtEntry answer.DeviceFault is_file first slot_limit start (script bytes) before said held may_leave
+LeavesAtEnd status.NoMemory is_file first start bytes before left said held may_leave =
+    LeavesAtEntry answer.NoMemory is_file first slot_limit start (script bytes) before said held may_leave
+LeavesAtEnd status.Usage is_file first start bytes before left said held may_leave = ⊥
+LeavesAtEnd status.NotAStore is_file first start bytes before left said held may_leave = ⊥
+LeavesAtEnd (status.NotEmpty len) is_file first start bytes before left said held may_leave = ⊥
 
 -- ---- a new store
 

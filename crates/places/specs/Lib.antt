@@ -1,5 +1,4 @@
 pub mod Ending
-pub mod Keeper
 pub mod Lines
 pub mod Progress
 pub mod Said

@@ -5,10 +5,9 @@ use Rattle.pl_engine.specs.declared.command.Command.{Command}
 use Rattle.pl_engine.specs.Run.{replies, after}
 use Rattle.pl_engine.specs.Parsed.{Parsed}
 use Rattle.places.specs.declared.script_run.ScriptRun.{ScriptRun}
-use Rattle.places.specs.declared.answer_error.AnswerError.{AnswerError}
-use Rattle.places.specs.Keeper.{limit_of, slot_limit, store_of}
+use Rattle.pl_store.specs.Keeper.{limit_of, slot_limit, store_of}
 use Rattle.places.specs.Lines.{ended_lines, entries_of, open_line}
-use Rattle.places.specs.Said.{Says, SaysUntil, texts}
+use Rattle.places.specs.Said.{Says, texts}
 
 -- what the lines ask for that ended within the bytes
 abbrev pub ended_entries : List ℕ → List (Parsed Command)
@@ -21,9 +20,3 @@ pub record IsAt (start : Store) (bytes : List ℕ) (begun : Option (List ℕ)) (
   pub store : store_of run.keeper ≡ after slot_limit start (ended_entries bytes)
   pub line : run.line.items ≡ take 262_146 (open_line bytes)
   pub text : Says begun (texts (replies slot_limit start (ended_entries bytes))) said
-
--- a run that stopped at one of these entries
-pub record StoppedAt (error : AnswerError) (start : Store) (entries : List (Parsed Command)) (begun said : Option (List ℕ)) : Type 0 where
-  pub piece : List ℕ
-  pub text : Says begun piece said
-  pub until : SaysUntil error (replies slot_limit start entries) piece

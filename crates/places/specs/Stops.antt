@@ -1,11 +1,14 @@
--- What a stop of the machine shows during a run: the file, and what was said.
+-- What a stop of the machine shows during a run, and what a run leaves that stopped at an entry: the file, and
+-- what was said.
 use Rattle.std.specs.Prelude.{◌≡◌, ◌⊎◌, ◌≤◌, ℕ, Bool, List, ◌++◌, length, take, Option, Some}
 use Rattle.pl_base.specs.Store.{Store}
 use Rattle.pl_engine.specs.declared.command.Command.{Command}
 use Rattle.pl_engine.specs.Parsed.{Parsed}
 use Rattle.pl_engine.specs.Run.{replies, after}
-use Rattle.places.specs.Keeper.{Leaves}
-use Rattle.places.specs.Said.{texts}
+use Rattle.pl_store.specs.Keeper.{Keeps, Leaves, LeavesEither}
+use Rattle.places.specs.declared.answer_error.AnswerError.{AnswerError}
+use Rattle.places.specs.declared.answer_error.AnswerError.TheVariants.{SayFault, DeviceFault, NoMemory}
+use Rattle.places.specs.Said.{SaysOfAnswer, texts}
 
 -- a front of a text was said behind what was said before, and the file is one that a stop might have left
 abbrev pub ShowsFront : (List ℕ → Type 0) → List ℕ → List ℕ → List ℕ → List ℕ → Type 0
@@ -27,11 +30,19 @@ pub record ShowsAnswered (is_file : Bool) (first : List ℕ → Type 0) (limit :
   pub one : length next ≤ 1
   pub shows : ShowsAnswer is_file first limit (after limit start answered) next (before ++ texts (replies limit start answered)) file line
 
--- A run that ended at one of its entries with nothing of it done: the texts of the replies before it were said, and
--- the file is that of the store before it.
-pub record LeavesAnswered (is_file : Bool) (first : List ℕ → Type 0) (limit : ℕ) (start : Store) (entries : List (Parsed Command)) (before : List ℕ) (said : Option (List ℕ)) (may_leave : List ℕ → Type 0) : Type 0 where
+-- What an answer that failed leaves of the file: the store before it for want of memory, the one after it where its
+-- reply could not be said whole, and one of the two where the file failed.
+abbrev pub LeavesOfAnswer : AnswerError → Bool → (List ℕ → Type 0) → Store → Store → Option (List ℕ) → (List ℕ → Type 0) → Type 0
+LeavesOfAnswer NoMemory is_file first store next held may_leave = Keeps is_file first store held may_leave
+LeavesOfAnswer SayFault is_file first store next held may_leave = Keeps is_file first next held may_leave
+LeavesOfAnswer DeviceFault is_file first store next held may_leave = (file : List ℕ) → may_leave file → LeavesEither is_file first store next file
+
+-- A run that stopped at one of its entries, or before the next one: those before it were answered.
+pub record LeavesAtEntry (error : AnswerError) (is_file : Bool) (first : List ℕ → Type 0) (limit : ℕ) (start : Store) (entries : List (Parsed Command)) (before : List ℕ) (said held : Option (List ℕ)) (may_leave : List ℕ → Type 0) : Type 0 where
   pub answered : List (Parsed Command)
+  pub next : List (Parsed Command)
   pub more : List (Parsed Command)
-  pub order : entries ≡ answered ++ more
-  pub text : said ≡ Some (before ++ texts (replies limit start answered))
-  pub leaves : (file : List ℕ) → may_leave file → Leaves is_file first (after limit start answered) file
+  pub order : entries ≡ answered ++ (next ++ more)
+  pub one : length next ≤ 1
+  pub text : SaysOfAnswer error (replies limit (after limit start answered) next) (Some (before ++ texts (replies limit start answered))) said
+  pub file : LeavesOfAnswer error is_file first (after limit start answered) (after limit (after limit start answered) next) held may_leave

@@ -1,25 +1,25 @@
 // The answer to one line.
-ghost use Rattle.std.specs.Prelude.{◌≡◌, ◌≤◌, ℕ, List, [], ◌∷◌, Some, Ok, Err, false, IfOk, IfErr, OnOk, OnErr};
+ghost use Rattle.std.specs.Prelude.{◌≡◌, ◌≤◌, ℕ, List, [], ◌∷◌, Some, Err, false, IfOk, IfErr, OnOk, OnErr};
 ghost use Rattle.pl_desk.specs.Counts.{Rose};
 ghost use Rattle.pl_desk.specs.Desk.{ShowsOnly};
 ghost use Rattle.pl_engine.specs.Run.{replies, after};
-ghost use Rattle.pl_engine.specs.Step.{HasDates};
 ghost use Rattle.pl_script.specs.Reply.{reply_text as text_of_reply};
-ghost use Rattle.places.specs.Keeper.{IsKept, is_file, limit_of, store_of};
+ghost use Rattle.pl_store.specs.Keeper.{IsKept, is_file, limit_of, store_of};
 ghost use Rattle.places.specs.Lines.{entries_in};
 ghost use Rattle.places.specs.Said.{Says, SaysOfAnswer, texts};
-ghost use Rattle.places.specs.Stops.{ShowsAnswer, ShowsFront};
+ghost use Rattle.places.specs.Stops.{LeavesOfAnswer, ShowsAnswer, ShowsFront};
 
 use crate::answer_error::AnswerError;
-use crate::keeper::Keeper;
 use crate::say::say_all;
 use pl_base::Refusal;
 use pl_desk::Desk;
-use pl_engine::{Command, Reply};
+use pl_engine::Reply;
 use pl_script::{LineError, line, reply_text};
+use pl_store::Keeper;
 use std::alloc::Global;
 
-/// Answers a line without its LF: the store makes its step, the file takes it, and the reply is said.
+/// Answers a line without its LF: the store makes its step, the file takes it, and the reply is said. The
+/// reply's text is made before the file takes the step.
 pub fn answer<D: Desk>(
     alloc: Global,
     keeper: Keeper,
@@ -33,6 +33,8 @@ pub fn answer<D: Desk>(
         → IsKept next (D.may_leave first) (D.held desk.new) (D.may_leave desk.new)) }
     ensures said { OnOk result (Says (D.said desk.old) (texts (replies (limit_of keeper) (store_of keeper) (entries_in bytes.now))) (D.said desk.new)) }
     ensures stopped { IfErr result (λ error. SaysOfAnswer error (replies (limit_of keeper) (store_of keeper) (entries_in bytes.now)) (D.said desk.old) (D.said desk.new)) }
+    ensures left { IfErr result (λ error. (first : D) → IsKept keeper (D.may_leave first) (D.held desk.old) (D.may_leave desk.old)
+        → LeavesOfAnswer error (is_file keeper) (D.may_leave first) (store_of keeper) (after (limit_of keeper) (store_of keeper) (entries_in bytes.now)) (D.held desk.new) (D.may_leave desk.new)) }
     ensures shows { (first : D) (before : List ℕ) → D.said desk.old ≡ Some before
         → IsKept keeper (D.may_leave first) (D.held desk.old) (D.may_leave desk.old)
         → ShowsOnly D.moment D.shown_since desk.old desk.new
@@ -44,44 +46,16 @@ pub fn answer<D: Desk>(
     ensures device_counted { D.device_faults desk.old ≤ D.device_faults desk.new }
     ensures device_cause { result ≡ Err AnswerError.DeviceFault → Rose (D.device_faults desk.old) (D.device_faults desk.new) }
 {
-    match line(alloc, bytes) {
-        Ok(None) => Ok(keeper),
-        Ok(Some(command)) => perform(alloc, keeper, &command, desk),
+    let command = match line(alloc, bytes) {
+        Ok(Some(command)) => command,
+        Ok(None) => return Ok(keeper),
         Err(LineError::Refused(refusal)) => {
             refuse(alloc, refusal, desk)?;
-            Ok(keeper)
+            return Ok(keeper);
         }
-        Err(LineError::NoMemory) => Err(AnswerError::NoMemory),
-    }
-}
-
-// Performs a command: the reply's text is made before the file takes the step, and said after it.
-fn perform<D: Desk>(
-    alloc: Global,
-    keeper: Keeper,
-    command: &Command,
-    desk: &mut D,
-) -> Result<Keeper, AnswerError>
-    requires dates { HasDates command.now }
-    ensures store { IfOk result (λ next. store_of next ≡ after (limit_of keeper) (store_of keeper) (Ok command.now ∷ [])) }
-    ensures limit { IfOk result (λ next. limit_of next ≡ limit_of keeper) }
-    ensures kind { IfOk result (λ next. is_file next ≡ is_file keeper) }
-    ensures kept { IfOk result (λ next. (first : D) → IsKept keeper (D.may_leave first) (D.held desk.old) (D.may_leave desk.old)
-        → IsKept next (D.may_leave first) (D.held desk.new) (D.may_leave desk.new)) }
-    ensures said { OnOk result (Says (D.said desk.old) (texts (replies (limit_of keeper) (store_of keeper) (Ok command.now ∷ []))) (D.said desk.new)) }
-    ensures stopped { IfErr result (λ error. SaysOfAnswer error (replies (limit_of keeper) (store_of keeper) (Ok command.now ∷ [])) (D.said desk.old) (D.said desk.new)) }
-    ensures shows { (first : D) (before : List ℕ) → D.said desk.old ≡ Some before
-        → IsKept keeper (D.may_leave first) (D.held desk.old) (D.may_leave desk.old)
-        → ShowsOnly D.moment D.shown_since desk.old desk.new
-        (ShowsAnswer (is_file keeper) (D.may_leave first) (limit_of keeper) (store_of keeper) (Ok command.now ∷ []) before) }
-    ensures alone { is_file keeper ≡ false → (D.held desk.new ≡ D.held desk.old) × (D.written desk.new ≡ D.written desk.old) × (D.device_faults desk.new ≡ D.device_faults desk.old) }
-    ensures no_memory { result ≡ Err AnswerError.NoMemory → desk.new ≡ desk.old }
-    ensures says_counted { D.line_faults desk.old ≤ D.line_faults desk.new }
-    ensures say_cause { result ≡ Err AnswerError.SayFault → Rose (D.line_faults desk.old) (D.line_faults desk.new) }
-    ensures device_counted { D.device_faults desk.old ≤ D.device_faults desk.new }
-    ensures device_cause { result ≡ Err AnswerError.DeviceFault → Rose (D.device_faults desk.old) (D.device_faults desk.new) }
-{
-    let (ready, reply) = keeper.prepare(command)?;
+        Err(LineError::NoMemory) => return Err(AnswerError::NoMemory),
+    };
+    let (ready, reply) = keeper.prepare(&command)?;
     let text = reply_text(alloc, &reply)?;
     let next = ready.commit(desk)?;
     match say_all(desk, text.as_str().as_bytes()) {

@@ -7,7 +7,6 @@
 mod answer;
 mod answer_error;
 mod input;
-mod keeper;
 mod make_store;
 mod run;
 mod run_script;

@@ -5,10 +5,10 @@ ghost use Rattle.pl_desk.specs.Desk.{ShowsOnly};
 ghost use Rattle.pl_script.specs.Script.{script};
 ghost use Rattle.pl_store.specs.Ending.{StandsForNone};
 ghost use Rattle.pl_store.specs.Session.{Stands};
-ghost use Rattle.places.specs.Ending.{BeginsWith, EndsScript, IfTold, IsMade, IsNew, IsRun, IsTry, made_text};
-ghost use Rattle.places.specs.Keeper.{slot_limit};
+ghost use Rattle.places.specs.Ending.{BeginsWith, EndsScript, IfTold, IsMade, IsNew, IsRun, IsTry, LeavesAtEnd, made_text};
+ghost use Rattle.pl_store.specs.Keeper.{slot_limit};
 ghost use Rattle.places.specs.Said.{Says};
-ghost use Rattle.places.specs.Stops.{LeavesAnswered, ShowsAnswered};
+ghost use Rattle.places.specs.Stops.{ShowsAnswered};
 
 use crate::make_store::make_store;
 use crate::script::{run_stored, try_script};
@@ -35,10 +35,10 @@ pub fn run<S: Source, D: Desk>(alloc: Global, words: &[&str], input: &mut S, des
     ensures stops { IsRun (map (λ word. word.now) words.now) → (start : Store) → ((file : List ℕ) → D.may_leave desk.old file → Stands file start)
         → IfTold (S.left input.old) (D.said desk.old) (λ bytes before.
         ShowsOnly D.moment D.shown_since desk.old desk.new (ShowsAnswered true (D.may_leave desk.old) slot_limit start (script bytes) before)) }
-    // Want of memory leaves nothing of its command in the file.
-    ensures no_memory { result ≡ Status.NoMemory → IsRun (map (λ word. word.now) words.now) → (start : Store) → ((file : List ℕ) → D.may_leave desk.old file → Stands file start)
+    // What the file of `run` holds at each status, beside what was said then.
+    ensures ends { IsRun (map (λ word. word.now) words.now) → (start : Store) → ((file : List ℕ) → D.may_leave desk.old file → Stands file start)
         → IfTold (S.left input.old) (D.said desk.old) (λ bytes before.
-        LeavesAnswered true (D.may_leave desk.old) slot_limit start (script bytes) before (D.said desk.new) (D.may_leave desk.new)) }
+        LeavesAtEnd result true (D.may_leave desk.old) start bytes before (S.left input.new) (D.said desk.new) (D.held desk.new) (D.may_leave desk.new)) }
     // Of `try` it is one that a stop might have left before.
     ensures stops_in_memory { IsTry (map (λ word. word.now) words.now) → IfTold (S.left input.old) (D.said desk.old) (λ bytes before.
         ShowsOnly D.moment D.shown_since desk.old desk.new (ShowsAnswered false (D.may_leave desk.old) slot_limit opening (script bytes) before)) }

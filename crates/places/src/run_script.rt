@@ -1,17 +1,19 @@
 // The script of the input on a store.
-ghost use Rattle.std.specs.Prelude.{◌≡◌, ◌≤◌, false, Err, IfErr, OnOk};
+ghost use Rattle.std.specs.Prelude.{◌≡◌, ◌≤◌, false, Err};
 ghost use Rattle.pl_desk.specs.Counts.{Rose};
 ghost use Rattle.pl_desk.specs.Desk.{ShowsOnly};
 ghost use Rattle.pl_script.specs.Script.{script};
-ghost use Rattle.places.specs.Ending.{IfTold, SaysAll, SaysAtStop};
-ghost use Rattle.places.specs.Keeper.{IsKept, is_file, limit_of, slot_limit, store_of};
-ghost use Rattle.places.specs.Stops.{LeavesAnswered, ShowsAnswered};
+ghost use Rattle.places.specs.Ending.{IfTold, LeavesAtEnd};
+ghost use Rattle.pl_store.specs.Keeper.{IsKept, is_file, limit_of, slot_limit, store_of};
+ghost use Rattle.places.specs.declared.status.Status.{Status};
+ghost use Rattle.places.specs.Status.{EndsAs};
+ghost use Rattle.places.specs.Stops.{ShowsAnswered};
 
 use crate::input::next_piece;
-use crate::keeper::Keeper;
 use crate::script_run::ScriptRun;
 use crate::stop::Stop;
 use pl_desk::{Desk, Source};
+use pl_store::Keeper;
 use std::alloc::Global;
 
 /// Reading stops where this many bytes were read.
@@ -28,15 +30,13 @@ pub fn run_script<S: Source, D: Desk>(
     desk: &mut D,
 ) -> Result<(), Stop>
     requires limit { limit_of keeper ≡ slot_limit }
-    ensures done { OnOk result (IfTold (S.left input.old) (D.said desk.old) (λ bytes before. SaysAll (store_of keeper) bytes before (S.left input.new) (D.said desk.new))) }
-    ensures stopped { IfErr result (λ stop. IfTold (S.left input.old) (D.said desk.old) (λ bytes before. SaysAtStop stop (store_of keeper) bytes before (S.left input.new) (D.said desk.new))) }
+    ensures ends { (status : Status) → EndsAs result status → IfTold (S.left input.old) (D.said desk.old) (λ bytes before. (first : D)
+        → IsKept keeper (D.may_leave first) (D.held desk.old) (D.may_leave desk.old)
+        → LeavesAtEnd status (is_file keeper) (D.may_leave first) (store_of keeper) bytes before (S.left input.new) (D.said desk.new) (D.held desk.new) (D.may_leave desk.new)) }
     ensures shows { IfTold (S.left input.old) (D.said desk.old) (λ bytes before. (first : D)
         → IsKept keeper (D.may_leave first) (D.held desk.old) (D.may_leave desk.old)
         → ShowsOnly D.moment D.shown_since desk.old desk.new
         (ShowsAnswered (is_file keeper) (D.may_leave first) slot_limit (store_of keeper) (script bytes) before)) }
-    ensures no_memory { result ≡ Err Stop.NoMemory → IfTold (S.left input.old) (D.said desk.old) (λ bytes before. (first : D)
-        → IsKept keeper (D.may_leave first) (D.held desk.old) (D.may_leave desk.old)
-        → LeavesAnswered (is_file keeper) (D.may_leave first) slot_limit (store_of keeper) (script bytes) before (D.said desk.new) (D.may_leave desk.new)) }
     ensures reads_counted { S.faults input.old ≤ S.faults input.new }
     ensures read_cause { result ≡ Err Stop.ReadFault → Rose (S.faults input.old) (S.faults input.new) }
     ensures says_counted { D.line_faults desk.old ≤ D.line_faults desk.new }

@@ -6,17 +6,16 @@ ghost use Rattle.pl_desk.specs.Desk.{ShowsOnly};
 ghost use Rattle.pl_script.specs.Script.{script};
 ghost use Rattle.pl_store.specs.Ending.{StandsForNone};
 ghost use Rattle.pl_store.specs.Session.{Stands};
-ghost use Rattle.places.specs.Ending.{EndsScript, IfTold};
-ghost use Rattle.places.specs.Keeper.{slot_limit};
+ghost use Rattle.places.specs.Ending.{EndsScript, IfTold, LeavesAtEnd};
+ghost use Rattle.pl_store.specs.Keeper.{slot_limit};
 ghost use Rattle.places.specs.Status.{EndsAs};
-ghost use Rattle.places.specs.Stops.{LeavesAnswered, ShowsAnswered};
+ghost use Rattle.places.specs.Stops.{ShowsAnswered};
 
-use crate::keeper::Keeper;
 use crate::run_script::run_script;
 use crate::status::Status;
 use crate::stop::Stop;
 use pl_desk::{Desk, Source};
-use pl_store::{Memory, SLOT_LIMIT, reopen};
+use pl_store::{Keeper, Memory, SLOT_LIMIT, reopen};
 use std::alloc::Global;
 
 /// Runs the script of the input on a store in memory, from the one before its first command on.
@@ -51,9 +50,9 @@ pub fn run_stored<S: Source, D: Desk>(alloc: Global, input: &mut S, desk: &mut D
     ensures stops { (start : Store) → ((file : List ℕ) → D.may_leave desk.old file → Stands file start)
         → IfTold (S.left input.old) (D.said desk.old) (λ bytes before.
         ShowsOnly D.moment D.shown_since desk.old desk.new (ShowsAnswered true (D.may_leave desk.old) slot_limit start (script bytes) before)) }
-    ensures no_memory { result ≡ Status.NoMemory → (start : Store) → ((file : List ℕ) → D.may_leave desk.old file → Stands file start)
+    ensures ends { (start : Store) → ((file : List ℕ) → D.may_leave desk.old file → Stands file start)
         → IfTold (S.left input.old) (D.said desk.old) (λ bytes before.
-        LeavesAnswered true (D.may_leave desk.old) slot_limit start (script bytes) before (D.said desk.new) (D.may_leave desk.new)) }
+        LeavesAtEnd result true (D.may_leave desk.old) start bytes before (S.left input.new) (D.said desk.new) (D.held desk.new) (D.may_leave desk.new)) }
     ensures not_a_store { result ≡ Status.NotAStore → IfSome (D.held desk.old) StandsForNone × IfSome (D.held desk.new) StandsForNone }
     ensures not_run { result ≡ Status.NotAStore → (input.new ≡ input.old) × (D.said desk.new ≡ D.said desk.old) }
     ensures no_store { (file : List ℕ) → D.held desk.old ≡ Some file → StandsForNone file

@@ -5,9 +5,9 @@ ghost use Rattle.pl_desk.specs.Counts.{Rose};
 
 use crate::answer::answer;
 use crate::answer_error::AnswerError;
-use crate::keeper::Keeper;
 use pl_base::NoMemory;
 use pl_desk::Desk;
+use pl_store::Keeper;
 use std::alloc::Global;
 
 /// As much of a line is kept as tells what it asks for: past the longest line two bytes more, of which the
@@ -25,12 +25,12 @@ pub struct ScriptRun {
 impl ScriptRun {
     ghost use Rattle.pl_base.specs.Store.{Store};
     ghost use Rattle.pl_desk.specs.Desk.{ShowsOnly};
-    ghost use Rattle.pl_engine.specs.Run.{replies};
+    ghost use Rattle.pl_engine.specs.Run.{replies, after};
     ghost use Rattle.pl_script.specs.Script.{script};
-    ghost use Rattle.places.specs.Keeper.{IsKept, is_file, limit_of, slot_limit, store_of};
-    ghost use Rattle.places.specs.Progress.{IsAt, StoppedAt, ended_entries};
+    ghost use Rattle.pl_store.specs.Keeper.{IsKept, is_file, limit_of, slot_limit, store_of};
+    ghost use Rattle.places.specs.Progress.{IsAt, ended_entries};
     ghost use Rattle.places.specs.Said.{Says, texts};
-    ghost use Rattle.places.specs.Stops.{LeavesAnswered, ShowsAnswered};
+    ghost use Rattle.places.specs.Stops.{LeavesAtEntry, ShowsAnswered};
 
     pub fn new(alloc: Global, keeper: Keeper) -> Self
         ensures at { limit_of keeper ≡ slot_limit → (begun : Option (List ℕ)) → IsAt (store_of keeper) [] begun result begun }
@@ -50,16 +50,14 @@ impl ScriptRun {
         ensures kind { IfOk result (λ run. is_file run.keeper ≡ is_file self.keeper) }
         ensures kept { IfOk result (λ run. (first : D) → IsKept self.keeper (D.may_leave first) (D.held desk.old) (D.may_leave desk.old)
             → IsKept run.keeper (D.may_leave first) (D.held desk.new) (D.may_leave desk.new)) }
-        ensures stopped { IfErr result (λ error. (start : Store) (bytes : List ℕ) (begun : Option (List ℕ)) → IsAt start bytes begun self (D.said desk.old)
-            → StoppedAt error start (ended_entries (bytes ++ piece.now)) begun (D.said desk.new)) }
+        ensures ends { IfErr result (λ error. (start : Store) (bytes begun : List ℕ) (first : D) → IsAt start bytes (Some begun) self (D.said desk.old)
+            → IsKept self.keeper (D.may_leave first) (D.held desk.old) (D.may_leave desk.old)
+            → LeavesAtEntry error (is_file self.keeper) (D.may_leave first) slot_limit start (ended_entries (bytes ++ piece.now)) begun (D.said desk.new) (D.held desk.new) (D.may_leave desk.new)) }
         ensures shows { (start : Store) (bytes begun : List ℕ) (first : D) → IsAt start bytes (Some begun) self (D.said desk.old)
             → IsKept self.keeper (D.may_leave first) (D.held desk.old) (D.may_leave desk.old)
             → ShowsOnly D.moment D.shown_since desk.old desk.new
             (ShowsAnswered (is_file self.keeper) (D.may_leave first) slot_limit start (ended_entries (bytes ++ piece.now)) begun) }
         ensures alone { is_file self.keeper ≡ false → (D.held desk.new ≡ D.held desk.old) × (D.written desk.new ≡ D.written desk.old) × (D.device_faults desk.new ≡ D.device_faults desk.old) }
-        ensures no_memory { result ≡ Err AnswerError.NoMemory → (start : Store) (bytes begun : List ℕ) (first : D) → IsAt start bytes (Some begun) self (D.said desk.old)
-            → IsKept self.keeper (D.may_leave first) (D.held desk.old) (D.may_leave desk.old)
-            → LeavesAnswered (is_file self.keeper) (D.may_leave first) slot_limit start (ended_entries (bytes ++ piece.now)) begun (D.said desk.new) (D.may_leave desk.new) }
         ensures says_counted { D.line_faults desk.old ≤ D.line_faults desk.new }
         ensures say_cause { result ≡ Err AnswerError.SayFault → Rose (D.line_faults desk.old) (D.line_faults desk.new) }
         ensures device_counted { D.device_faults desk.old ≤ D.device_faults desk.new }
@@ -78,14 +76,14 @@ impl ScriptRun {
         ensures kind { IfOk result (λ run. is_file run.keeper ≡ is_file self.keeper) }
         ensures kept { IfOk result (λ run. (first : D) → IsKept self.keeper (D.may_leave first) (D.held desk.old) (D.may_leave desk.old)
             → IsKept run.keeper (D.may_leave first) (D.held desk.new) (D.may_leave desk.new)) }
-        ensures stopped { IfErr result (λ error. (start : Store) (bytes : List ℕ) (begun : Option (List ℕ)) → IsAt start bytes begun self (D.said desk.old)
-            → StoppedAt error start (ended_entries (bytes ++ byte ∷ [])) begun (D.said desk.new)) }
+        ensures ends { IfErr result (λ error. (start : Store) (bytes begun : List ℕ) (first : D) → IsAt start bytes (Some begun) self (D.said desk.old)
+            → IsKept self.keeper (D.may_leave first) (D.held desk.old) (D.may_leave desk.old)
+            → LeavesAtEntry error (is_file self.keeper) (D.may_leave first) slot_limit start (ended_entries (bytes ++ byte ∷ [])) begun (D.said desk.new) (D.held desk.new) (D.may_leave desk.new)) }
         ensures shows { (start : Store) (bytes begun : List ℕ) (first : D) → IsAt start bytes (Some begun) self (D.said desk.old)
             → IsKept self.keeper (D.may_leave first) (D.held desk.old) (D.may_leave desk.old)
             → ShowsOnly D.moment D.shown_since desk.old desk.new
             (ShowsAnswered (is_file self.keeper) (D.may_leave first) slot_limit start (ended_entries (bytes ++ byte ∷ [])) begun) }
         ensures alone { is_file self.keeper ≡ false → (D.held desk.new ≡ D.held desk.old) × (D.written desk.new ≡ D.written desk.old) × (D.device_faults desk.new ≡ D.device_faults desk.old) }
-        ensures no_memory { result ≡ Err AnswerError.NoMemory → desk.new ≡ desk.old }
         ensures says_counted { D.line_faults desk.old ≤ D.line_faults desk.new }
         ensures say_cause { result ≡ Err AnswerError.SayFault → Rose (D.line_faults desk.old) (D.line_faults desk.new) }
         ensures device_counted { D.device_faults desk.old ≤ D.device_faults desk.new }
@@ -105,14 +103,14 @@ impl ScriptRun {
         ensures kind { IfOk result (λ run. is_file run.keeper ≡ is_file self.keeper) }
         ensures kept { IfOk result (λ run. (first : D) → IsKept self.keeper (D.may_leave first) (D.held desk.old) (D.may_leave desk.old)
             → IsKept run.keeper (D.may_leave first) (D.held desk.new) (D.may_leave desk.new)) }
-        ensures stopped { IfErr result (λ error. (start : Store) (bytes : List ℕ) (begun : Option (List ℕ)) → IsAt start bytes begun self (D.said desk.old)
-            → StoppedAt error start (ended_entries (bytes ++ 10 ∷ [])) begun (D.said desk.new)) }
+        ensures ends { IfErr result (λ error. (start : Store) (bytes begun : List ℕ) (first : D) → IsAt start bytes (Some begun) self (D.said desk.old)
+            → IsKept self.keeper (D.may_leave first) (D.held desk.old) (D.may_leave desk.old)
+            → LeavesAtEntry error (is_file self.keeper) (D.may_leave first) slot_limit start (ended_entries (bytes ++ 10 ∷ [])) begun (D.said desk.new) (D.held desk.new) (D.may_leave desk.new)) }
         ensures shows { (start : Store) (bytes begun : List ℕ) (first : D) → IsAt start bytes (Some begun) self (D.said desk.old)
             → IsKept self.keeper (D.may_leave first) (D.held desk.old) (D.may_leave desk.old)
             → ShowsOnly D.moment D.shown_since desk.old desk.new
             (ShowsAnswered (is_file self.keeper) (D.may_leave first) slot_limit start (ended_entries (bytes ++ 10 ∷ [])) begun) }
         ensures alone { is_file self.keeper ≡ false → (D.held desk.new ≡ D.held desk.old) × (D.written desk.new ≡ D.written desk.old) × (D.device_faults desk.new ≡ D.device_faults desk.old) }
-        ensures no_memory { result ≡ Err AnswerError.NoMemory → desk.new ≡ desk.old }
         ensures says_counted { D.line_faults desk.old ≤ D.line_faults desk.new }
         ensures say_cause { result ≡ Err AnswerError.SayFault → Rose (D.line_faults desk.old) (D.line_faults desk.new) }
         ensures device_counted { D.device_faults desk.old ≤ D.device_faults desk.new }
@@ -149,14 +147,19 @@ impl ScriptRun {
     pub fn finish<D: Desk>(self, desk: &mut D) -> Result<Keeper, AnswerError>
         ensures ok { OnOk result ((start : Store) (bytes : List ℕ) (begun : Option (List ℕ)) → IsAt start bytes begun self (D.said desk.old)
             → Says begun (texts (replies slot_limit start (script bytes))) (D.said desk.new)) }
-        ensures stopped { IfErr result (λ error. (start : Store) (bytes : List ℕ) (begun : Option (List ℕ)) → IsAt start bytes begun self (D.said desk.old)
-            → StoppedAt error start (script bytes) begun (D.said desk.new)) }
+        ensures store { IfOk result (λ keeper. (start : Store) (bytes : List ℕ) (begun : Option (List ℕ)) → IsAt start bytes begun self (D.said desk.old)
+            → store_of keeper ≡ after slot_limit start (script bytes)) }
+        ensures kind { IfOk result (λ keeper. is_file keeper ≡ is_file self.keeper) }
+        ensures kept { IfOk result (λ keeper. (first : D) → IsKept self.keeper (D.may_leave first) (D.held desk.old) (D.may_leave desk.old)
+            → IsKept keeper (D.may_leave first) (D.held desk.new) (D.may_leave desk.new)) }
+        ensures ends { IfErr result (λ error. (start : Store) (bytes begun : List ℕ) (first : D) → IsAt start bytes (Some begun) self (D.said desk.old)
+            → IsKept self.keeper (D.may_leave first) (D.held desk.old) (D.may_leave desk.old)
+            → LeavesAtEntry error (is_file self.keeper) (D.may_leave first) slot_limit start (script bytes) begun (D.said desk.new) (D.held desk.new) (D.may_leave desk.new)) }
         ensures shows { (start : Store) (bytes begun : List ℕ) (first : D) → IsAt start bytes (Some begun) self (D.said desk.old)
             → IsKept self.keeper (D.may_leave first) (D.held desk.old) (D.may_leave desk.old)
             → ShowsOnly D.moment D.shown_since desk.old desk.new
             (ShowsAnswered (is_file self.keeper) (D.may_leave first) slot_limit start (script bytes) begun) }
         ensures alone { is_file self.keeper ≡ false → (D.held desk.new ≡ D.held desk.old) × (D.written desk.new ≡ D.written desk.old) × (D.device_faults desk.new ≡ D.device_faults desk.old) }
-        ensures no_memory { result ≡ Err AnswerError.NoMemory → desk.new ≡ desk.old }
         ensures says_counted { D.line_faults desk.old ≤ D.line_faults desk.new }
         ensures say_cause { result ≡ Err AnswerError.SayFault → Rose (D.line_faults desk.old) (D.line_faults desk.new) }
         ensures device_counted { D.device_faults desk.old ≤ D.device_faults desk.new }

@@ -10,6 +10,7 @@ use Rattle.pl_gate.specs.Recovery as gate
 use Rattle.pl_store.specs.Ending.{StandsForNone}
 use Rattle.pl_store.specs.Reading.{IsReadFrom}
 use Rattle.pl_store.specs.Session.{IsSettled, LeftAs, Stands, bytes_of, store_of}
+use Rattle.pl_store.proofs.LeftLemmas.{left_now}
 use Rattle.pl_store.proofs.OpenedFiles.{closed, if_some, later_form, settled_form, stands_later, stands_settled}
 use Rattle.pl_store.proofs.open.reopen.Given.{Over}
 use Rattle.pl_store.proofs.open.reopen.Goals as goal
@@ -80,8 +81,8 @@ settle_shown g old mid shows =
     weaker desk.moment desk.shown_since desk.may_leave desk.said desk.held old mid (gate.LeftAs (desk.may_leave old)) (LeftAs (desk.may_leave old)) shows
     (λ later left. (left.0, left.1, stands_later left.0 later left.2))
 
-pub returns-clause-any_moment : goal.returns-clause-any_moment
-returns-clause-any_moment g c file is =
+opened_shown : goal.returns-clause-any_moment
+opened_shown g c file is =
     let desk = g.D.Desk in let old = c.args.desk.now in let mid = c.settle.new.desk in
     let rests = c.in_ok-settle.ensures.settled file is in
     let some = some_said desk.moment desk.shown_since desk.may_leave desk.said desk.held old file (g.met.D.Desk.told_together old) is in
@@ -89,3 +90,28 @@ returns-clause-any_moment g c file is =
     and_more desk.moment desk.shown_since desk.may_leave desk.said desk.held old mid c.read_session.new.desk (LeftAs (desk.may_leave old)) (desk.may_leave mid) c.settle.ensures.said
     (settle_shown g old mid (c.settle.ensures.any_moment file is)) (c.read_session.ensures.any_moment (subst IsSome (sym c.settle.ensures.said) some))
     (λ later may. (file, left, subst (λ (l : List ℕ). (store : Store) → Stands file store → Stands l store) (sym (rests.only later may)) (stands_later file rests.file rests.has.stands)))
+
+pub returns-clause-any_moment : goal.returns-clause-any_moment
+returns-clause-any_moment g c = opened_shown g c
+
+pub returns-clause-left : goal.returns-clause-left
+returns-clause-left g c file is =
+    let desk = g.D.Desk in let old = c.args.desk.now in let new = c.read_session.new.desk in
+    let some = some_said desk.moment desk.shown_since desk.may_leave desk.said desk.held old file (g.met.D.Desk.told_together old) is in
+    left_now desk.moment desk.shown_since desk.may_leave desk.said g.met.D.Desk.counts_now old new (LeftAs (desk.may_leave old)) (subst IsSome (sym (c.read_session.ensures.said ∙ c.settle.ensures.said)) some) (opened_shown g c file is)
+
+pub returns-in_err-settle-clause-left : goal.returns-in_err-settle-clause-left
+returns-in_err-settle-clause-left g c file is =
+    let desk = g.D.Desk in let old = c.args.desk.now in let new = c.settle.new.desk in
+    let some = some_said desk.moment desk.shown_since desk.may_leave desk.said desk.held old file (g.met.D.Desk.told_together old) is in
+    left_now desk.moment desk.shown_since desk.may_leave desk.said g.met.D.Desk.counts_now old new (LeftAs (desk.may_leave old)) (subst IsSome (sym c.settle.ensures.said) some)
+    (settle_shown g old new (c.settle.ensures.any_moment file is))
+
+pub returns-clause-no_memory : goal.returns-clause-no_memory
+returns-clause-no_memory g c ended file is =
+    let rests = c.in_ok-settle.ensures.settled file is in record {
+      file = rests.file;
+      is_held = c.read_session.ensures.held ∙ rests.is_held;
+      only = λ later left. rests.only later (c.read_session.ensures.leaves later left);
+      has = stands_later file rests.file rests.has.stands;
+    }

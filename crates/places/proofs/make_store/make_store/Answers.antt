@@ -3,10 +3,10 @@ use Rattle.std.proofs.lemmas.Option.{MatchOption-at_some}
 use Rattle.pl_base.specs.Store.{opening}
 use Rattle.pl_store.specs.declared.ended.Ended.{Ended}
 use Rattle.pl_store.specs.declared.ended.Ended.TheVariants as ended
-use Rattle.places.specs.declared.keeper.Keeper.TheVariants.{File}
+use Rattle.pl_store.specs.declared.keeper.Keeper.TheVariants.{File}
 use Rattle.places.specs.declared.status.Status.TheVariants as status
 use Rattle.places.specs.Status.{without_session}
-use Rattle.places.proofs.KeeperLemmas.{still_stands}
+use Rattle.pl_store.specs.KeeperLaws.{still_stands}
 use Rattle.places.proofs.make_store.make_store.Goals as goal
 
 -- the length that the status tells is the one that was found

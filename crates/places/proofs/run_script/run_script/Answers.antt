@@ -1,11 +1,11 @@
 use Rattle.std.proofs.Common.{◌∙◌, [], ap, sym, length, arith, refl, subst, take, ℕ, List, Option, ◌≡◌, Err}
 use Rattle.std.proofs.lemmas.Result.{err_from_is_err_and}
-use Rattle.places.specs.declared.keeper.Keeper.{Keeper}
+use Rattle.pl_store.specs.declared.keeper.Keeper.{Keeper}
 use Rattle.pl_script.specs.Script.{script}
-use Rattle.places.specs.Keeper.{is_file, slot_limit, store_of}
-use Rattle.places.specs.Stops.{LeavesAnswered}
+use Rattle.pl_store.specs.Keeper.{is_file, slot_limit, store_of}
+use Rattle.pl_store.specs.KeeperLaws.{kept_keeps}
 use Rattle.places.specs.Progress.{IsAt}
-use Rattle.places.proofs.EndingLemmas.{empty_piece, goes_on_behind, leaves_behind, leaves_piece, memory_becomes, says_all, shows_begun, shows_last, shows_piece, starts_behind, stopped_at_end, stopped_in_piece, stopped_reading, too_long}
+use Rattle.places.proofs.EndingLemmas.{empty_piece, ends_done, ends_last, ends_piece, ends_reading, ends_too_long, goes_on_behind, shows_begun, shows_last, shows_piece, starts_behind}
 use Rattle.places.proofs.run_script.run_script.Goals as goal
 
 pub loop-read-init : goal.loop-read-init
@@ -26,19 +26,8 @@ loop-read-init g c = let desk = g.D.Desk in let run = c.new-run.result in let st
       alone = λ memory. (refl, refl, refl);
     }
 
-pub returns-in_err-piece-clause-stopped : goal.returns-in_err-piece-clause-stopped
-returns-in_err-piece-clause-stopped g c =
-    let p = err_from_is_err_and c.from_residual.result c.from_residual.ensures.1 in
-    rw (p.1, p.2, ← c.new-run.ensures.keeper) (λ bytes before all begun. stopped_reading (store_of c.new-run.result.keeper) _ c.loop-read.read bytes before _ _ _ c.loop-read.run (c.loop-read.invariant.told bytes before all begun) c.in_err-piece.ensures.errors c.in_err-piece.ensures.kept)
-
 pub returns-in_err-piece-clause-shows : goal.returns-in_err-piece-clause-shows
 returns-in_err-piece-clause-shows g c = rw (← c.new-run.ensures.keeper) c.loop-read.invariant.shows
-
-pub returns-in_err-finish-clause-stopped : goal.returns-in_err-finish-clause-stopped
-returns-in_err-finish-clause-stopped g c =
-    let p = err_from_is_err_and c.from_residual-in_err-finish.result c.from_residual-in_err-finish.ensures.1 in
-    rw (p.1, ← c.new-run.ensures.keeper) (λ bytes before all begun. stopped_at_end (store_of c.new-run.result.keeper) _ _ c.loop-read.read bytes before c.in_ok-piece.piece.items (g.S.Source.left c.loop-read.input) (g.S.Source.left c.next_piece.new.input) (g.D.Desk.said c.loop-read.desk) (g.D.Desk.said c.finish.new.desk) c.loop-read.run (c.loop-read.invariant.told bytes before all begun) p.2
-    (c.in_ok-piece.ensures.ended (empty_piece _ c.in_ok-piece.piece.ok.0 (sym c.if-is_empty.ensures))) (c.in_err-finish.ensures.stopped (store_of c.new-run.result.keeper)))
 
 pub returns-in_err-finish-clause-shows : goal.returns-in_err-finish-clause-shows
 returns-in_err-finish-clause-shows g c = rw (← c.new-run.ensures.keeper) (λ bytes before all begun first kept.
@@ -47,11 +36,6 @@ returns-in_err-finish-clause-shows g c = rw (← c.new-run.ensures.keeper) (λ b
     behind is.kind (c.in_ok-piece.ensures.ended (empty_piece _ c.in_ok-piece.piece.ok.0 (sym c.if-is_empty.ensures))) (is.shows bytes before all begun first kept)
     (c.finish.ensures.shows start (take c.loop-read.read bytes) before first behind.at (is.kept first kept)))
 
-pub returns-then-is_empty-clause-done : goal.returns-then-is_empty-clause-done
-returns-then-is_empty-clause-done g c = rw (← c.new-run.ensures.keeper) (λ bytes before all begun.
-    says_all (store_of c.new-run.result.keeper) c.loop-read.read bytes before c.in_ok-piece.piece.items (g.S.Source.left c.loop-read.input) (g.S.Source.left c.next_piece.new.input) (g.D.Desk.said c.loop-read.desk) (g.D.Desk.said c.finish.new.desk) c.loop-read.run (c.loop-read.invariant.told bytes before all begun) c.loop-read-test.true
-    (empty_piece _ c.in_ok-piece.piece.ok.0 (sym c.if-is_empty.ensures)) c.in_ok-piece.ensures.taken (c.in_ok-piece.ensures.ended (empty_piece _ c.in_ok-piece.piece.ok.0 (sym c.if-is_empty.ensures))) (c.in_ok-finish.ensures.ok (store_of c.new-run.result.keeper)))
-
 pub returns-then-is_empty-clause-shows : goal.returns-then-is_empty-clause-shows
 returns-then-is_empty-clause-shows g c = rw (← c.new-run.ensures.keeper) (λ bytes before all begun first kept.
     let desk = g.D.Desk in let is = c.loop-read.invariant in let start = store_of c.new-run.result.keeper in let behind = is.told bytes before all begun in
@@ -59,41 +43,12 @@ returns-then-is_empty-clause-shows g c = rw (← c.new-run.ensures.keeper) (λ b
     behind is.kind (c.in_ok-piece.ensures.ended (empty_piece _ c.in_ok-piece.piece.ok.0 (sym c.if-is_empty.ensures))) (is.shows bytes before all begun first kept)
     (c.finish.ensures.shows start (take c.loop-read.read bytes) before first behind.at (is.kept first kept)))
 
-pub returns-in_err-run-clause-stopped : goal.returns-in_err-run-clause-stopped
-returns-in_err-run-clause-stopped g c =
-    let p = err_from_is_err_and c.from_residual-in_err-run.result c.from_residual-in_err-run.ensures.1 in
-    rw (p.1, ← c.new-run.ensures.keeper) (λ bytes before all begun. stopped_in_piece (store_of c.new-run.result.keeper) _ _ c.loop-read.read bytes before c.deref.result.now (g.S.Source.left c.loop-read.input) (g.S.Source.left c.next_piece.new.input) (g.D.Desk.said c.loop-read.desk) (g.D.Desk.said c.take_all.new.desk) c.loop-read.run (c.loop-read.invariant.told bytes before all begun) p.2
-    (rw c.deref.ensures.value c.in_ok-piece.ensures.taken) (c.in_err-run.ensures.stopped (store_of c.new-run.result.keeper)))
-
 pub returns-in_err-run-clause-shows : goal.returns-in_err-run-clause-shows
 returns-in_err-run-clause-shows g c = rw (← c.new-run.ensures.keeper) (λ bytes before all begun first kept.
     let desk = g.D.Desk in let is = c.loop-read.invariant in let start = store_of c.new-run.result.keeper in let behind = is.told bytes before all begun in
     shows_piece desk.moment desk.shown_since desk.may_leave desk.said desk.held (desk.may_leave first) start c.loop-read.read bytes before c.deref.result.now (g.S.Source.left c.loop-read.input) (g.S.Source.left c.next_piece.new.input) (is_file c.new-run.result.keeper) c.loop-read.run c.args.desk.now c.loop-read.desk c.take_all.new.desk
     behind is.kind (rw c.deref.ensures.value c.in_ok-piece.ensures.taken) (is.shows bytes before all begun first kept)
     (c.take_all.ensures.shows start (take c.loop-read.read bytes) before first behind.at (is.kept first kept)))
-
-pub returns-in_err-piece-clause-no_memory : goal.returns-in_err-piece-clause-no_memory
-returns-in_err-piece-clause-no_memory g c = rw (← c.new-run.ensures.keeper) (λ ended bytes before all begun first kept.
-    let desk = g.D.Desk in let is = c.loop-read.invariant in let start = store_of c.new-run.result.keeper in
-    leaves_behind (is_file c.new-run.result.keeper) (desk.may_leave first) start c.loop-read.read bytes before (g.S.Source.left c.loop-read.input) c.loop-read.run
-    (desk.said c.loop-read.desk) (desk.held c.loop-read.desk) (desk.may_leave c.loop-read.desk) (is.told bytes before all begun) is.kind (is.kept first kept))
-
-pub returns-in_err-finish-clause-no_memory : goal.returns-in_err-finish-clause-no_memory
-returns-in_err-finish-clause-no_memory g c = rw (← c.new-run.ensures.keeper) (λ ended bytes before all begun first kept.
-    let p = err_from_is_err_and c.from_residual-in_err-finish.result c.from_residual-in_err-finish.ensures.1 in
-    let desk = g.D.Desk in let is = c.loop-read.invariant in let start = store_of c.new-run.result.keeper in
-    let same : c.finish.new.desk ≡ c.loop-read.desk = c.finish.ensures.no_memory (c.in_err-finish.was ∙ ap Err (memory_becomes _ _ c.from_residual-in_err-finish.result p.1 p.2 ended)) in
-    subst (λ (d : g.row.D.Denot). LeavesAnswered (is_file c.new-run.result.keeper) (desk.may_leave first) slot_limit start (script bytes) before (desk.said d) (desk.may_leave d)) (sym same)
-    (leaves_behind (is_file c.new-run.result.keeper) (desk.may_leave first) start c.loop-read.read bytes before (g.S.Source.left c.loop-read.input) c.loop-read.run
-    (desk.said c.loop-read.desk) (desk.held c.loop-read.desk) (desk.may_leave c.loop-read.desk) (is.told bytes before all begun) is.kind (is.kept first kept)))
-
-pub returns-in_err-run-clause-no_memory : goal.returns-in_err-run-clause-no_memory
-returns-in_err-run-clause-no_memory g c = rw (← c.new-run.ensures.keeper) (λ ended bytes before all begun first kept.
-    let p = err_from_is_err_and c.from_residual-in_err-run.result c.from_residual-in_err-run.ensures.1 in
-    let desk = g.D.Desk in let is = c.loop-read.invariant in let start = store_of c.new-run.result.keeper in let behind = is.told bytes before all begun in
-    leaves_piece (is_file c.new-run.result.keeper) (desk.may_leave first) start c.loop-read.read bytes before (g.S.Source.left c.loop-read.input) c.loop-read.run
-    c.deref.result.now (g.S.Source.left c.next_piece.new.input) (desk.said c.loop-read.desk) (desk.said c.take_all.new.desk) (desk.may_leave c.take_all.new.desk) behind is.kind (rw c.deref.ensures.value c.in_ok-piece.ensures.taken)
-    (c.take_all.ensures.no_memory (c.in_err-run.was ∙ ap Err (memory_becomes _ _ c.from_residual-in_err-run.result p.1 p.2 ended)) start (take c.loop-read.read bytes) before first behind.at (is.kept first kept)))
 
 pub loop-read-preserved : goal.loop-read-preserved
 loop-read-preserved g c = let desk = g.D.Desk in let is = c.loop-read.invariant in let start = store_of c.new-run.result.keeper in let did = c.in_ok-run.ensures in record {
@@ -114,9 +69,47 @@ loop-read-preserved g c = let desk = g.D.Desk in let is = c.loop-read.invariant 
   alone = λ memory. let now = did.alone (is.kind ∙ memory) in let before = is.alone memory in (now.0 ∙ before.0, now.1 ∙ before.1, now.2 ∙ before.2);
 }
 
-pub returns-clause-stopped : goal.returns-clause-stopped
-returns-clause-stopped g c = rw (← c.new-run.ensures.keeper) (λ bytes before all begun.
-    too_long (store_of c.new-run.result.keeper) c.loop-read.read bytes before _ _ c.loop-read.run (c.loop-read.invariant.told bytes before all begun) (omega (arith, c.loop-read.invariant.in_limit, c.loop-read-test.false)))
-
 pub returns-clause-shows : goal.returns-clause-shows
 returns-clause-shows g c = rw (← c.new-run.ensures.keeper) c.loop-read.invariant.shows
+
+-- ---- what a run leaves at its end
+
+pub returns-in_err-piece-clause-ends : goal.returns-in_err-piece-clause-ends
+returns-in_err-piece-clause-ends g c =
+    let p = err_from_is_err_and c.from_residual.result c.from_residual.ensures.1 in
+    rw (p.1, p.2, ← c.new-run.ensures.keeper) (λ status ends bytes before all begun first kept. let desk = g.D.Desk in let is = c.loop-read.invariant in let start = store_of c.new-run.result.keeper in let kind = is_file c.new-run.result.keeper in let left = g.S.Source.left in let read = c.loop-read.read in
+    let now = c.loop-read.desk in
+    ends_reading kind (desk.may_leave first) start read bytes before [] (left c.loop-read.input) (left c.next_piece.new.input) c.loop-read.run (desk.said now) (desk.said now) (desk.held now) (desk.may_leave now)
+    _ status c.in_err-piece.ensures.errors ends (is.told bytes before all begun) is.kind (is.kept first kept) c.in_err-piece.ensures.kept)
+
+pub returns-in_err-finish-clause-ends : goal.returns-in_err-finish-clause-ends
+returns-in_err-finish-clause-ends g c =
+    let p = err_from_is_err_and c.from_residual-in_err-finish.result c.from_residual-in_err-finish.ensures.1 in
+    rw (p.1, ← c.new-run.ensures.keeper) (λ status ends bytes before all begun first kept. let desk = g.D.Desk in let is = c.loop-read.invariant in let start = store_of c.new-run.result.keeper in let kind = is_file c.new-run.result.keeper in let left = g.S.Source.left in let read = c.loop-read.read in
+    let now = c.loop-read.desk in let new = c.finish.new.desk in let behind = is.told bytes before all begun in
+    ends_last kind (desk.may_leave first) start read bytes before c.in_ok-piece.piece.items (left c.loop-read.input) (left c.next_piece.new.input) c.loop-read.run (desk.said now) (desk.said new) (desk.held new) (desk.may_leave new)
+    _ _ status p.2 ends behind is.kind (c.in_ok-piece.ensures.ended (empty_piece _ c.in_ok-piece.piece.ok.0 (sym c.if-is_empty.ensures)))
+    (c.in_err-finish.ensures.ends start (take read bytes) before first behind.at (is.kept first kept)))
+
+pub returns-in_err-run-clause-ends : goal.returns-in_err-run-clause-ends
+returns-in_err-run-clause-ends g c =
+    let p = err_from_is_err_and c.from_residual-in_err-run.result c.from_residual-in_err-run.ensures.1 in
+    rw (p.1, ← c.new-run.ensures.keeper) (λ status ends bytes before all begun first kept. let desk = g.D.Desk in let is = c.loop-read.invariant in let start = store_of c.new-run.result.keeper in let kind = is_file c.new-run.result.keeper in let left = g.S.Source.left in let read = c.loop-read.read in
+    let now = c.loop-read.desk in let new = c.take_all.new.desk in let behind = is.told bytes before all begun in
+    ends_piece kind (desk.may_leave first) start read bytes before c.deref.result.now (left c.loop-read.input) (left c.next_piece.new.input) c.loop-read.run (desk.said now) (desk.said new) (desk.held new) (desk.may_leave new)
+    _ _ status p.2 ends behind is.kind (rw c.deref.ensures.value c.in_ok-piece.ensures.taken)
+    (c.in_err-run.ensures.ends start (take read bytes) before first behind.at (is.kept first kept)))
+
+pub returns-then-is_empty-clause-ends : goal.returns-then-is_empty-clause-ends
+returns-then-is_empty-clause-ends g c = rw (← c.new-run.ensures.keeper) (λ status ends bytes before all begun first kept. let desk = g.D.Desk in let is = c.loop-read.invariant in let start = store_of c.new-run.result.keeper in let kind = is_file c.new-run.result.keeper in let left = g.S.Source.left in let read = c.loop-read.read in
+    let now = c.loop-read.desk in let new = c.finish.new.desk in let did = c.in_ok-finish.ensures in let keeper = c.in_ok-finish.field-0 in
+    let nothing = empty_piece _ c.in_ok-piece.piece.ok.0 (sym c.if-is_empty.ensures) in
+    ends_done kind (desk.may_leave first) start read bytes before c.in_ok-piece.piece.items (left c.loop-read.input) (left c.next_piece.new.input) c.loop-read.run (desk.said now) (desk.said new) (desk.held new) (desk.may_leave new)
+    status (store_of keeper) ends (is.told bytes before all begun) c.loop-read-test.true nothing c.in_ok-piece.ensures.taken (c.in_ok-piece.ensures.ended nothing)
+    (did.ok start) (did.store start) (rw (did.kind, is.kind) at (kept_keeps keeper (desk.may_leave first) (desk.held new) (desk.may_leave new) (did.kept first (is.kept first kept)))))
+
+pub returns-clause-ends : goal.returns-clause-ends
+returns-clause-ends g c = rw (← c.new-run.ensures.keeper) (λ status ends bytes before all begun first kept. let desk = g.D.Desk in let is = c.loop-read.invariant in let start = store_of c.new-run.result.keeper in let kind = is_file c.new-run.result.keeper in let left = g.S.Source.left in let read = c.loop-read.read in
+    let now = c.loop-read.desk in
+    ends_too_long kind (desk.may_leave first) start read bytes before [] (left c.loop-read.input) (left c.loop-read.input) c.loop-read.run (desk.said now) (desk.said now) (desk.held now) (desk.may_leave now)
+    status ends (is.told bytes before all begun) is.kind (is.kept first kept) (omega (arith, is.in_limit, c.loop-read-test.false)))

@@ -2,7 +2,7 @@ use Rattle.std.proofs.Common.{◌≡◌, ◌≤◌, ◌-◌, false}
 use Rattle.pl_desk.specs.Desk.{ShowsOnly}
 use Rattle.pl_script.specs.Script.{script}
 use Rattle.places.specs.Ending.{IfTold}
-use Rattle.places.specs.Keeper.{IsKept, is_file, slot_limit, store_of}
+use Rattle.pl_store.specs.Keeper.{IsKept, is_file, slot_limit, store_of}
 use Rattle.places.specs.Stops.{ShowsAnswered}
 use Rattle.places.proofs.EndingLemmas.{IsBehind}
 use Rattle.places.proofs.run_script.run_script.Given as goal

@@ -4,19 +4,19 @@ use Rattle.pl_desk.specs.Desk.{ShowsOnly}
 use Rattle.pl_desk.specs.Moments.{started}
 use Rattle.pl_script.specs.Script.{script}
 use Rattle.pl_store.specs.Session.{memory_store}
-use Rattle.places.specs.Ending.{EndsScript, IfTold}
-use Rattle.places.specs.Keeper.{slot_limit}
+use Rattle.places.specs.Ending.{EndsScript}
+use Rattle.pl_store.specs.Keeper.{slot_limit}
 use Rattle.places.specs.Stops.{ShowsAnswered}
-use Rattle.places.proofs.OpeningLemmas.{ends_as}
+use Rattle.places.proofs.OpeningLemmas.{says_at_end}
 use Rattle.places.proofs.StopLemmas.{shows_nothing}
 use Rattle.places.proofs.script.try_script.Goals as goal
 
 pub returns-in-Ok-clause-replies : goal.returns-in-Ok-clause-replies
-returns-in-Ok-clause-replies g c =
-    let left0 = g.S.Source.left c.args.input.now in let left = g.S.Source.left c.run_script.new.input in
-    let said0 = g.D.Desk.said c.args.desk.now in let said = g.D.Desk.said c.run_script.new.desk in
-    subst (λ (start : Store). IfTold left0 said0 (λ bytes before. EndsScript c.status_of.result start bytes before left said)) c.in-Ok.ensures.store
-    (ends_as (memory_store c.in-Ok.memory) c.run_script.result c.status_of.result left0 said0 left said c.status_of.ensures c.run_script.ensures.done c.run_script.ensures.stopped)
+returns-in-Ok-clause-replies g c = λ bytes before told begun.
+    let desk = g.D.Desk in let old = c.args.desk.now in let new = c.run_script.new.desk in let left = g.S.Source.left c.run_script.new.input in
+    subst (λ (start : Store). EndsScript c.status_of.result start bytes before left (desk.said new)) c.in-Ok.ensures.store
+    (says_at_end c.status_of.result false (desk.may_leave old) (memory_store c.in-Ok.memory) bytes before left (desk.said new) (desk.held new) (desk.may_leave new)
+    (c.run_script.ensures.ends c.status_of.result c.status_of.ensures bytes before told begun old (λ file is_left. is_left)))
 
 pub returns-in-Ok-clause-stops : goal.returns-in-Ok-clause-stops
 returns-in-Ok-clause-stops g c = λ bytes before told begun. let desk = g.D.Desk in

@@ -1,4 +1,4 @@
-use Rattle.std.proofs.Common.{◌≡◌, ℕ, List, Some, length, inl, sym, subst}
+use Rattle.std.proofs.Common.{◌≡◌, ℕ, IsSome, List, Some, length, inl, sym, subst}
 use Rattle.pl_base.specs.Touched.{page_at}
 use Rattle.pl_desk.specs.AnyMoment.{begun, some_said, weaker}
 use Rattle.pl_desk.specs.Desk.{AtAnyMoment, Rests}
@@ -8,6 +8,7 @@ use Rattle.pl_store.specs.declared.session.Prepared.{Prepared}
 use Rattle.pl_store.specs.declared.session.Session.{Session}
 use Rattle.pl_store.specs.Session.{IsPreparedFrom, IsSettled, StandsForEither, bytes_of, next_bytes, next_store, store_of}
 use Rattle.pl_store.specs.StandsLaws.{settled_stands, stands_by_either}
+use Rattle.pl_store.proofs.LeftLemmas.{left_now}
 use Rattle.pl_store.proofs.session.Prepared.commit.Given.{Over}
 use Rattle.pl_store.proofs.session.Prepared.commit.Goals as goal
 
@@ -53,3 +54,26 @@ returns-clause-settled g c before from settled =
 pub returns-clause-any_moment : goal.returns-clause-any_moment
 returns-clause-any_moment g c before from settled =
     write_shown g c.args.desk.now c.write_change.new.desk c.args.self c.in-Some.pending c.in-Some.is c.write_change.ensures.any_moment before from settled
+
+-- what a stop after it leaves
+write_left : (g : Over) (old new : g.row.D.Denot) (prepared : Prepared) (before : Session) → IsSettled before (g.D.Desk.held old) (g.D.Desk.may_leave old) → g.D.Desk.said new ≡ g.D.Desk.said old
+    → AtAnyMoment g.D.Desk.moment g.D.Desk.shown_since g.D.Desk.said old new (StandsForEither (store_of before) (next_store prepared))
+    → (file : List ℕ) → g.D.Desk.may_leave new file → StandsForEither (store_of before) (next_store prepared) file
+write_left g old new prepared before settled unsaid shows =
+    let desk = g.D.Desk in
+    let some = some_said desk.moment desk.shown_since desk.may_leave desk.said desk.held old settled.rests.file (g.met.D.Desk.told_together old) settled.rests.is_held in
+    left_now desk.moment desk.shown_since desk.may_leave desk.said g.met.D.Desk.counts_now old new (StandsForEither (store_of before) (next_store prepared)) (subst IsSome (sym unsaid) some) shows
+
+pub returns-in_default-clause-left : goal.returns-in_default-clause-left
+returns-in_default-clause-left g c before from settled file left =
+    let desk = g.D.Desk in inl (settled_stands before (desk.held c.args.desk.now) (desk.may_leave c.args.desk.now) settled file left)
+
+pub returns-in_err-write_change-clause-left : goal.returns-in_err-write_change-clause-left
+returns-in_err-write_change-clause-left g c before from settled =
+    write_left g c.args.desk.now c.write_change.new.desk c.args.self before settled c.write_change.ensures.said
+    (write_shown g c.args.desk.now c.write_change.new.desk c.args.self c.in-Some.pending c.in-Some.is c.write_change.ensures.any_moment before from settled)
+
+pub returns-clause-left : goal.returns-clause-left
+returns-clause-left g c before from settled =
+    write_left g c.args.desk.now c.write_change.new.desk c.args.self before settled c.write_change.ensures.said
+    (write_shown g c.args.desk.now c.write_change.new.desk c.args.self c.in-Some.pending c.in-Some.is c.write_change.ensures.any_moment before from settled)

@@ -3,11 +3,12 @@ use Rattle.std.proofs.lemmas.Result.{err_from_is_err_and}
 use Rattle.std.specs.Str.Lines.{strip_carriage_return}
 use Rattle.pl_desk.specs.Moments.{shows_less}
 use Rattle.pl_engine.specs.Run.{replies}
-use Rattle.places.specs.Keeper.{is_file, slot_limit}
+use Rattle.pl_store.specs.Keeper.{is_file, slot_limit}
 use Rattle.places.specs.Progress.{ended_entries}
 use Rattle.places.specs.Said.{texts}
 use Rattle.places.specs.Stops.{ShowsAnswered}
-use Rattle.places.proofs.ProgressLemmas.{line_ended, line_stopped}
+use Rattle.places.proofs.EntryLemmas.{line_leaves}
+use Rattle.places.proofs.ProgressLemmas.{line_ended}
 use Rattle.places.proofs.StopLemmas.{line_shows}
 use Rattle.places.proofs.script_run.ScriptRun.end_line.Goals as goal
 
@@ -17,11 +18,12 @@ returns-clause-ok g c = λ start bytes begun at.
     (c.without_carriage_return.ensures ∙ ap strip_carriage_return c.deref.ensures.value)
     c.in_ok-keeper.ensures.limit c.in_ok-keeper.ensures.store c.clear.ensures.items c.in_ok-keeper.ensures.said
 
-pub returns-in_err-keeper-clause-stopped : goal.returns-in_err-keeper-clause-stopped
-returns-in_err-keeper-clause-stopped g c =
-    let p = err_from_is_err_and c.from_residual.result c.from_residual.ensures.1 in
-    rw (p.1, p.2) (λ start bytes begun at. line_stopped start _ bytes c.without_carriage_return.result.now begun _ _ c.args.self at
-    (c.without_carriage_return.ensures ∙ ap strip_carriage_return c.deref.ensures.value) c.in_err-keeper.ensures.stopped)
+pub returns-in_err-keeper-clause-ends : goal.returns-in_err-keeper-clause-ends
+returns-in_err-keeper-clause-ends g c =
+    let p = err_from_is_err_and c.from_residual.result c.from_residual.ensures.1 in let desk = g.D.Desk in let new = c.answer.new.desk in
+    rw (p.1, p.2) (λ start bytes begun first at kept.
+    line_leaves _ (is_file c.args.self.keeper) (desk.may_leave first) start begun (desk.said new) (desk.held new) (desk.may_leave new) bytes c.without_carriage_return.result.now (desk.said c.args.desk.now) c.args.self at
+    c.in_err-keeper.ensures.stopped (c.in_err-keeper.ensures.left first kept) (c.without_carriage_return.ensures ∙ ap strip_carriage_return c.deref.ensures.value))
 
 pub returns-clause-shows : goal.returns-clause-shows
 returns-clause-shows g c = λ start bytes begun first at kept. let desk = g.D.Desk in

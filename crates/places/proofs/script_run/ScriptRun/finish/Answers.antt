@@ -1,13 +1,14 @@
 use Rattle.std.proofs.Common.{◌++◌}
-use Rattle.std.proofs.lemmas.Result.{IfErr-weaker, on_ok_weaker}
+use Rattle.std.proofs.lemmas.Result.{IfOk-weaker, on_ok_weaker}
 use Rattle.pl_desk.specs.Moments.{shows_less}
 use Rattle.pl_engine.specs.Run.{replies}
 use Rattle.pl_script.specs.Script.{script}
-use Rattle.places.specs.Keeper.{is_file, slot_limit}
+use Rattle.pl_store.specs.Keeper.{is_file, slot_limit, store_of}
 use Rattle.places.specs.Progress.{ended_entries}
 use Rattle.places.specs.Said.{texts}
 use Rattle.places.specs.Stops.{ShowsAnswered}
-use Rattle.places.proofs.ProgressLemmas.{finished, finish_stopped}
+use Rattle.places.proofs.EntryLemmas.{if_err_both, last_leaves}
+use Rattle.places.proofs.ProgressLemmas.{finished, finished_store}
 use Rattle.places.proofs.StopLemmas.{last_shows}
 use Rattle.places.proofs.script_run.ScriptRun.finish.Goals as goal
 
@@ -15,9 +16,14 @@ pub returns-clause-ok : goal.returns-clause-ok
 returns-clause-ok g c =
     on_ok_weaker c.answer.result (λ says. λ start bytes begun at. finished start bytes c.deref.result.now begun _ _ c.args.self at c.deref.ensures.value says) c.answer.ensures.said
 
-pub returns-clause-stopped : goal.returns-clause-stopped
-returns-clause-stopped g c =
-    IfErr-weaker c.answer.result _ _ (λ error says. λ start bytes begun at. finish_stopped start error bytes c.deref.result.now begun _ _ c.args.self at c.deref.ensures.value says) c.answer.ensures.stopped
+pub returns-clause-store : goal.returns-clause-store
+returns-clause-store g c =
+    IfOk-weaker c.answer.result _ _ (λ keeper stepped. λ start bytes begun at. finished_store start bytes c.deref.result.now begun _ c.args.self (store_of keeper) at c.deref.ensures.value stepped) c.answer.ensures.store
+
+pub returns-clause-ends : goal.returns-clause-ends
+returns-clause-ends g c = let desk = g.D.Desk in let new = c.answer.new.desk in
+    if_err_both c.answer.result _ _ _ c.answer.ensures.stopped c.answer.ensures.left (λ error says left. λ start bytes begun first at kept.
+    last_leaves error (is_file c.args.self.keeper) (desk.may_leave first) start begun (desk.said new) (desk.held new) (desk.may_leave new) bytes c.deref.result.now (desk.said c.args.desk.now) c.args.self at says (left first kept) c.deref.ensures.value)
 
 pub returns-clause-shows : goal.returns-clause-shows
 returns-clause-shows g c = λ start bytes begun first at kept. let desk = g.D.Desk in

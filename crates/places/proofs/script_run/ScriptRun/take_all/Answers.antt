@@ -1,18 +1,20 @@
 use Rattle.std.proofs.Common.{◌≡◌, ◌∙◌, ◌++◌, ℕ, List, Err, Some, ap, append-nil, arith, refl, subst, sym, take}
 use Rattle.std.proofs.lemmas.Result.{err_from_is_err_and}
 use Rattle.pl_desk.specs.Moments.{shows_less}
-use Rattle.places.specs.Keeper.{is_file, slot_limit}
+use Rattle.pl_store.specs.Keeper.{is_file, slot_limit}
 use Rattle.places.specs.Progress.{IsAt, ended_entries}
-use Rattle.places.specs.Stops.{LeavesAnswered, ShowsAnswered}
-use Rattle.places.proofs.ProgressLemmas.{stopped_within, taken_further}
-use Rattle.places.proofs.StopLemmas.{leaves_here, leaves_taken, shows_here, shows_later, shows_taken}
+use Rattle.places.specs.Stops.{ShowsAnswered}
+use Rattle.places.proofs.EntryLemmas.{leaves_within}
+use Rattle.places.proofs.ProgressLemmas.{taken_further}
+use Rattle.places.proofs.StopLemmas.{shows_here, shows_later, shows_taken}
 use Rattle.places.proofs.script_run.ScriptRun.take_all.Goals as goal
 
-pub returns-in_err-run-clause-stopped : goal.returns-in_err-run-clause-stopped
-returns-in_err-run-clause-stopped g c =
+pub returns-in_err-run-clause-ends : goal.returns-in_err-run-clause-ends
+returns-in_err-run-clause-ends g c =
     let p = err_from_is_err_and c.from_residual.result c.from_residual.ensures.1 in
-    rw (p.1, p.2) (λ start bytes begun at. stopped_within start _ bytes c.args.piece.now c.loop-byte.byte-index begun _ c.loop-byte-test.true
-    (c.in_err-run.ensures.stopped start _ begun (c.loop-byte.invariant.at start bytes begun at)))
+    rw (p.1, p.2) (λ start bytes begun first at kept. let desk = g.D.Desk in let is = c.loop-byte.invariant in let i = c.loop-byte.byte-index in let piece = c.args.piece.now in let new = c.take.new.desk in
+    leaves_within _ (is_file c.args.self.keeper) (desk.may_leave first) start begun (desk.said new) (desk.held new) (desk.may_leave new) bytes piece i c.loop-byte-test.true
+    (rw is.kind at (c.in_err-run.ensures.ends start (bytes ++ take i piece) begun first (is.at start bytes (Some begun) at) (is.kept first kept))))
 
 pub returns-in_err-run-clause-shows : goal.returns-in_err-run-clause-shows
 returns-in_err-run-clause-shows g c = λ start bytes begun first at kept.
@@ -20,16 +22,6 @@ returns-in_err-run-clause-shows g c = λ start bytes begun first at kept.
     shows_taken desk.moment desk.shown_since desk.may_leave desk.said desk.held (desk.may_leave first) start bytes piece i begun (is_file c.args.self.keeper) c.loop-byte.run
     c.args.desk.now c.loop-byte.desk c.take.new.desk c.loop-byte-test.true is.kind (is.shows start bytes begun first at kept)
     (c.take.ensures.shows start (bytes ++ take i piece) begun first (is.at start bytes (Some begun) at) (is.kept first kept))
-
-pub returns-in_err-run-clause-no_memory : goal.returns-in_err-run-clause-no_memory
-returns-in_err-run-clause-no_memory g c = λ is start bytes begun first at kept.
-    let p = err_from_is_err_and c.from_residual.result c.from_residual.ensures.1 in
-    let desk = g.D.Desk in let before = c.loop-byte.invariant in let i = c.loop-byte.byte-index in let piece = c.args.piece.now in
-    let same : c.take.new.desk ≡ c.loop-byte.desk = c.take.ensures.no_memory (c.in_err-run.was ∙ ap Err (sym p.2) ∙ sym p.1 ∙ is) in
-    let left = leaves_here (desk.may_leave first) start (bytes ++ take i piece) begun c.loop-byte.run (desk.said c.loop-byte.desk) (desk.held c.loop-byte.desk) (desk.may_leave c.loop-byte.desk)
-    (before.at start bytes (Some begun) at) (before.kept first kept) in
-    subst (λ (d : g.row.D.Denot). LeavesAnswered (is_file c.args.self.keeper) (desk.may_leave first) slot_limit start (ended_entries (bytes ++ piece)) begun (desk.said d) (desk.may_leave d)) (sym same)
-    (leaves_taken (is_file c.args.self.keeper) (desk.may_leave first) start begun (desk.said c.loop-byte.desk) (desk.may_leave c.loop-byte.desk) bytes piece i (rw before.kind at left))
 
 pub loop-byte-init : goal.loop-byte-init
 loop-byte-init g c = let desk = g.D.Desk in record {

@@ -1,4 +1,4 @@
-use Rattle.places.proofs.keeper.Keeper.prepare.Goals as goal
+use Rattle.pl_store.proofs.keeper.Keeper.prepare.Goals as goal
 
 pub returns-in_ok-prepared-in-File-clause-step : goal.returns-in_ok-prepared-in-File-clause-step
 returns-in_ok-prepared-in-File-clause-step c = rw c.in-File.is c.in_ok-prepared-in-File.ensures.step

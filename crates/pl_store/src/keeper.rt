@@ -1,14 +1,15 @@
-// What keeps the store of a run: memory alone, or a file too.
+// A store in memory alone, or in a file too.
 ghost use Rattle.std.specs.Prelude.{◌≡◌, ◌≤◌, List, ℕ, Some, true, false, IfOk, OnOk, OnErr};
 ghost use Rattle.pl_desk.specs.Counts.{Rose};
 ghost use Rattle.pl_desk.specs.Desk.{AtAnyMoment};
 ghost use Rattle.pl_engine.specs.Step.{HasDates, perform};
-ghost use Rattle.places.specs.Keeper.{IsKept, IsReadyFrom, LeavesEither, is_file, limit_of, ready_limit, ready_store, store_of};
+ghost use Rattle.pl_store.specs.Keeper.{IsKept, IsReadyFrom, LeavesEither, is_file, limit_of, ready_limit, ready_store, store_of};
 
+use crate::memory::Memory;
+use crate::session::{Prepared, Session};
 use pl_base::{DeviceFault, NoMemory};
 use pl_desk::Desk;
 use pl_engine::{Command, Reply};
-use pl_store::{Memory, Prepared, Session};
 
 /// A store, between two commands.
 #[derive(Drop)]
@@ -59,6 +60,9 @@ impl Ready {
             → IsKept before (D.may_leave first) (D.held desk.old) (D.may_leave desk.old) → D.said desk.old ≡ Some line
             → AtAnyMoment D.moment D.shown_since D.said desk.old desk.new
             (LeavesEither (is_file before) (D.may_leave first) (store_of before) (ready_store self)) }
+        ensures left { OnErr result ((before : Keeper) (first : D) (file : List ℕ) → IsReadyFrom before self
+            → IsKept before (D.may_leave first) (D.held desk.old) (D.may_leave desk.old) → D.may_leave desk.new file
+            → LeavesEither (is_file before) (D.may_leave first) (store_of before) (ready_store self) file) }
         ensures alone { (before : Keeper) → IsReadyFrom before self → is_file before ≡ false → desk.new ≡ desk.old }
         ensures no_less { D.written desk.old ≤ D.written desk.new }
         ensures said { D.said desk.new ≡ D.said desk.old }

@@ -1,12 +1,13 @@
--- What keeps the store of a run, and what the desk's file is to it.
+-- What keeps a store, and what the desk's file is to it.
 use Rattle.std.specs.Prelude.{◌⊎◌, ⊤, ℕ, Bool, true, false, List, Option}
 use Rattle.pl_base.specs.Store.{Store}
+use Rattle.pl_desk.specs.Desk.{Rests}
 use Rattle.pl_store.specs.Session as session
 use Rattle.pl_store.specs.Session.{IsPreparedFrom, IsSettled, Stands, memory_limit, memory_store, next_limit, next_store}
-use Rattle.places.specs.declared.keeper.Keeper.{Keeper}
-use Rattle.places.specs.declared.keeper.Keeper.TheVariants.{Memory, File}
-use Rattle.places.specs.declared.keeper.Ready.{Ready}
-use Rattle.places.specs.declared.keeper.Ready.TheVariants as ready
+use Rattle.pl_store.specs.declared.keeper.Keeper.{Keeper}
+use Rattle.pl_store.specs.declared.keeper.Keeper.TheVariants.{Memory, File}
+use Rattle.pl_store.specs.declared.keeper.Ready.{Ready}
+use Rattle.pl_store.specs.declared.keeper.Ready.TheVariants as ready
 
 -- how many slots of 128 bytes a store of the program may take
 abbrev pub slot_limit : ℕ
@@ -52,3 +53,9 @@ LeavesEither is_file first before after file = Leaves is_file first before file 
 abbrev pub IsKept : Keeper → (List ℕ → Type 0) → Option (List ℕ) → (List ℕ → Type 0) → Type 0
 IsKept (Memory memory) first held may_leave = (file : List ℕ) → may_leave file → first file
 IsKept (File s) first held may_leave = IsSettled s held may_leave
+
+-- the file holds this store: it is at rest and stands for it; without a file a stop leaves a file that it might
+-- have left at first
+abbrev pub Keeps : Bool → (List ℕ → Type 0) → Store → Option (List ℕ) → (List ℕ → Type 0) → Type 0
+Keeps true first store held may_leave = Rests held may_leave (λ file. Stands file store)
+Keeps false first store held may_leave = (file : List ℕ) → may_leave file → first file

@@ -1,13 +1,13 @@
 -- Which files a stop may leave beside a keeper.
-use Rattle.std.proofs.Common.{◌≡◌, ℕ, true, false, List, Option, refl, ◌∙◌, subst}
+use Rattle.std.proofs.Common.{◌≡◌, ℕ, Bool, true, false, List, Option, refl, ◌∙◌, subst}
 use Rattle.std.proofs.lemmas.Bool.{both_ways}
 use Rattle.pl_base.specs.Store.{Store}
 use Rattle.pl_desk.specs.Desk.{Rests}
 use Rattle.pl_store.specs.Session.{Stands}
 use Rattle.pl_store.specs.StandsLaws.{settled_stands, stands_by}
-use Rattle.places.specs.declared.keeper.Keeper.{Keeper}
-use Rattle.places.specs.declared.keeper.Keeper.TheVariants.{Memory, File}
-use Rattle.places.specs.Keeper.{IsKept, Leaves, is_file, store_of}
+use Rattle.pl_store.specs.declared.keeper.Keeper.{Keeper}
+use Rattle.pl_store.specs.declared.keeper.Keeper.TheVariants.{Memory, File}
+use Rattle.pl_store.specs.Keeper.{IsKept, Keeps, Leaves, is_file, store_of}
 
 -- a keeper's file stands for its store
 kept_stands : (keeper : Keeper) (first : List ℕ → Type 0) (held : Option (List ℕ)) (may_leave : List ℕ → Type 0) → is_file keeper ≡ true → IsKept keeper first held may_leave
@@ -41,3 +41,14 @@ pub still_stands : (keeper : Keeper) (store : Store) (first : List ℕ → Type 
 still_stands keeper store first held held_now may_leave may_leave_now kind is same leaves kept =
     subst (λ (s : Store). Rests held_now may_leave_now (λ file. Stands file s)) is
     (kept_stands keeper first held_now may_leave_now kind (still_kept keeper first held held_now may_leave may_leave_now same leaves kept))
+
+-- the same for a keeper of either kind
+pub kept_keeps : (keeper : Keeper) (first : List ℕ → Type 0) (held : Option (List ℕ)) (may_leave : List ℕ → Type 0) → IsKept keeper first held may_leave → Keeps (is_file keeper) first (store_of keeper) held may_leave
+kept_keeps (Memory memory) first held may_leave kept = kept
+kept_keeps (File session) first held may_leave kept = kept_stands (File session) first held may_leave refl kept
+
+pub still_keeps : (kind : Bool) (first : List ℕ → Type 0) (store : Store) (held held_now : Option (List ℕ)) (may_leave may_leave_now : List ℕ → Type 0) → held_now ≡ held → ((file : List ℕ) → may_leave_now file → may_leave file)
+    → Keeps kind first store held may_leave → Keeps kind first store held_now may_leave_now
+still_keeps true first store held held_now may_leave may_leave_now same leaves keeps =
+    record { file = keeps.file; is_held = same ∙ keeps.is_held; only = λ file left. keeps.only file (leaves file left); has = keeps.has }
+still_keeps false first store held held_now may_leave may_leave_now same leaves keeps = λ file left. keeps file (leaves file left)
