@@ -5,6 +5,7 @@ ghost use Rattle.std.specs.Prelude.{◌<◌};
 mod cuts;
 mod faults;
 mod lines;
+mod made;
 mod rows;
 mod stored;
 
