@@ -5,7 +5,7 @@ ghost use Rattle.pl_base.specs.Store.{opening};
 ghost use Rattle.pl_engine.specs.Run.{replies};
 ghost use Rattle.pl_script.specs.Script.{script};
 ghost use Rattle.places.specs.Ending.{made_text};
-ghost use Rattle.places.specs.Keeper.{slot_limit};
+ghost use Rattle.pl_store.specs.Keeper.{slot_limit};
 ghost use Rattle.places.specs.Said.{texts};
 
 use crate::run::run;
