@@ -1,5 +1,5 @@
--- What a reader of lines gives: what the grammar says, but that want of memory is free.
-use Rattle.std.specs.Prelude.{◌≡◌, Option, Some, None, Result, Ok, Err}
+-- What a reader of lines gives: what the grammar says, but that want of memory is free where a text is read.
+use Rattle.std.specs.Prelude.{◌≡◌, ◌≤◌, ℕ, List, length, Option, Some, None, Result, Ok, Err, IsOk}
 use Rattle.pl_base.specs.declared.refusal.Refusal.TheVariants as refusal
 use Rattle.pl_link.specs.declared.canon.CanonError.{CanonError}
 use Rattle.pl_link.specs.declared.canon.CanonError.TheVariants as canon
@@ -7,6 +7,7 @@ use Rattle.pl_engine.specs.declared.command.Command.{Command}
 use Rattle.pl_engine.specs.Parsed.{Parsed}
 use Rattle.pl_script.specs.declared.lines.LineError.{LineError}
 use Rattle.pl_script.specs.declared.lines.LineError.TheVariants.{Refused, NoMemory}
+use Rattle.pl_script.specs.Script.{fields_of, next_field, word_of}
 
 abbrev pub Fails : {A : Type 0} → LineError → Parsed A → Type 0
 Fails (Refused refusal) expected = expected ≡ Err refusal
@@ -17,12 +18,23 @@ abbrev pub Reads : {X A : Type 0} → (X → A) → Result X LineError → Parse
 Reads view (Ok x) expected = expected ≡ Ok (view x)
 Reads view (Err e) expected = Fails e expected
 
+-- the same, and memory is never wanted
+abbrev pub ReadsInPlace : {X A : Type 0} → (X → A) → Result X LineError → Parsed A → Type 0
+ReadsInPlace view (Ok x) expected = expected ≡ Ok (view x)
+ReadsInPlace view (Err (Refused refusal)) expected = expected ≡ Err refusal
+ReadsInPlace view (Err NoMemory) expected = ⊥
+
 -- the same of an entry, which a line may lack
 abbrev pub ReadsEntry : Result (Option Command) LineError → Option (Parsed Command) → Type 0
 ReadsEntry (Ok None) expected = expected ≡ None
 ReadsEntry (Ok (Some command)) expected = expected ≡ Some (Ok command)
 ReadsEntry (Err (Refused refusal)) expected = expected ≡ Some (Err refusal)
 ReadsEntry (Err NoMemory) expected = Unit {0}
+
+-- the line is not too long, and begins with a word that is known
+pub record HasWord (line : List ℕ) : Type 0 where
+  pub short : length line ≤ 262_144
+  pub word : IsOk (next_field word_of (fields_of line))
 
 -- the error of a line whose address is refused
 abbrev pub Becomes : CanonError → LineError → Type 0

@@ -5,7 +5,7 @@ ghost use Rattle.std.specs.Option.{ok_or};
 ghost use Rattle.std.specs.List.{position, position_or_len};
 ghost use Rattle.pl_base.specs.Date.{IsDate};
 ghost use Rattle.pl_script.specs.Fields.{GivesField, TakesField};
-ghost use Rattle.pl_script.specs.LineError.{Reads};
+ghost use Rattle.pl_script.specs.LineError.{Reads, ReadsInPlace};
 ghost use Rattle.pl_script.specs.Script as spec;
 
 use crate::field;
@@ -80,7 +80,7 @@ impl<'a> Fields<'a> {
     }
 
     pub fn word(&mut self) -> Result<Word, LineError>
-        ensures { Reads (λ word. (word, self.new)) result (spec.next_field spec.word_of self.old) }
+        ensures { ReadsInPlace (λ word. (word, self.new)) result (spec.next_field spec.word_of self.old) }
     {
         let (column, bytes) = self.next()?;
         formed(field::word(bytes), column)
@@ -94,14 +94,14 @@ impl<'a> Fields<'a> {
     }
 
     pub fn transition(&mut self) -> Result<Transition, LineError>
-        ensures { Reads (λ transition. (transition, self.new)) result (spec.next_field spec.transition_of self.old) }
+        ensures { ReadsInPlace (λ transition. (transition, self.new)) result (spec.next_field spec.transition_of self.old) }
     {
         let (column, bytes) = self.next()?;
         formed(field::transition(bytes), column)
     }
 
     pub fn date(&mut self) -> Result<Micros, LineError>
-        ensures date { Reads (λ date. (date, self.new)) result (spec.next_field spec.date_of self.old) }
+        ensures date { ReadsInPlace (λ date. (date, self.new)) result (spec.next_field spec.date_of self.old) }
         ensures range { IfOk result IsDate }
     {
         let (column, bytes) = self.next()?;
@@ -110,7 +110,7 @@ impl<'a> Fields<'a> {
 
     /// A field too many is refused at its column.
     pub fn end(mut self) -> Result<(), LineError>
-        ensures { Reads (λ end. end) result (spec.no_more_fields self.entry) }
+        ensures { ReadsInPlace (λ end. end) result (spec.no_more_fields self.entry) }
     {
         let column = self.column();
         match self.take() {

@@ -1,7 +1,7 @@
 // One line.
-ghost use Rattle.std.specs.Prelude.{◌≡◌, IfOk, IfSome};
+ghost use Rattle.std.specs.Prelude.{◌≡◌, IfOk, IfSome, IsErrOf};
 ghost use Rattle.pl_engine.specs.Step.{HasDates};
-ghost use Rattle.pl_script.specs.LineError.{Becomes, Reads, ReadsEntry};
+ghost use Rattle.pl_script.specs.LineError.{Becomes, HasWord, Reads, ReadsEntry};
 ghost use Rattle.pl_script.specs.Script as spec;
 ghost use Rattle.pl_script.specs.declared.lines.LineError.TheVariants.{Refused, NoMemory as OutOfMemory};
 
@@ -48,6 +48,9 @@ impl From<CanonError> for LineError {
 pub fn line(alloc: Global, bytes: &[u8]) -> Result<Option<Command>, LineError>
     ensures entry { ReadsEntry result (spec.entry bytes.now) }
     ensures dates { IfOk result (λ command. IfSome command HasDates) }
+
+    // A line whose first word is not known wants no memory.
+    ensures no_memory { IsErrOf result LineError.NoMemory → HasWord bytes.now }
 {
     match bytes {
         [] | [b'#', ..] => Ok(None),
@@ -58,6 +61,7 @@ pub fn line(alloc: Global, bytes: &[u8]) -> Result<Option<Command>, LineError>
 fn command_line(alloc: Global, bytes: &[u8]) -> Result<Command, LineError>
     ensures command { Reads (λ command. command) result (spec.command_line bytes.now) }
     ensures dates { IfOk result HasDates }
+    ensures no_memory { IsErrOf result LineError.NoMemory → HasWord bytes.now }
 {
     if bytes.len() > LONGEST_LINE {
         return Err(LineError::Refused(Refusal::BadLine(BEHIND_LONGEST_LINE)));
