@@ -1,5 +1,5 @@
 -- One step of the machine: what a command answers and what it leaves of the store.
-use Rattle.std.specs.Prelude.{ℕ, ◌+◌, ◌==◌, ◌&&◌, ◌||◌, Bool, true, false, List, [], ◌∷◌, ◌++◌, map, nat_lt, bytes_eq, unwrap_or, is_none, Option, Some, None, Ok, Err, if◌then◌else◌}
+use Rattle.std.specs.Prelude.{◌≡◌, ℕ, ◌+◌, ◌==◌, ◌&&◌, ◌||◌, Bool, true, false, List, [], ◌∷◌, ◌++◌, map, nat_lt, bytes_eq, unwrap_or, is_none, Option, Some, None, Ok, Err, if◌then◌else◌}
 use Rattle.std.specs.List.{find}
 use Rattle.pl_base.specs.declared.date.Micros.{Micros}
 use Rattle.pl_base.specs.declared.id.IdKind.TheVariants.{Page as PageKind, Visit as VisitKind}
@@ -93,6 +93,10 @@ visit_reply store url transition date =
 -- the dates of a command are in range
 abbrev pub HasDates : Command → Type 0
 HasDates (VisitCommand url transition date) = IsDate date
+
+-- a visit to an address whose visits are recorded
+abbrev pub IsRecorded : Command → Type 0
+IsRecorded (VisitCommand url transition date) = is_unrecorded_url url ≡ false
 
 -- a refused command changes nothing
 abbrev pub unless_refused : Option Refusal → Store → Reply × Store → Reply × Store

@@ -2,7 +2,7 @@ mod find;
 mod mark;
 mod visit;
 
-ghost use Rattle.std.specs.Prelude.{◌≡◌, ◌≤◌, ℕ, List, length, IfOk, OnOk};
+ghost use Rattle.std.specs.Prelude.{◌≡◌, ◌≤◌, ℕ, List, length, IfOk, IsErr, OnOk};
 ghost use Rattle.std.proofs.Props.{props};
 ghost use Rattle.pl_base.specs.Good.{IsGood};
 ghost use Rattle.pl_base.specs.Rows.{IsOfVisits, IsRight, store_of};
@@ -60,6 +60,9 @@ impl<R: Rows + Drop> Engine<R> {
         ensures base { IfOk result (λ done. (bytes : List ℕ) → R.base self.rows bytes → R.base done.0.rows bytes) }
         ensures stands { IfOk result (λ done. R.form (R.bytes done.0.rows) (store_of (R.kept done.0.rows))) }
         ensures limit { IfOk result (λ done. done.0.limit ≡ self.limit) }
+
+        // A visit that is not recorded wants no memory.
+        ensures no_memory { IsErr result → spec.IsRecorded command.now }
     {
         let Engine {
             alloc,

@@ -1,5 +1,5 @@
 // A visit, performed on rows.
-ghost use Rattle.std.specs.Prelude.{◌≡◌, ◌≤◌, ◌<◌, ◌+◌, ℕ, List, None, false, true, is_none, if◌then◌else◌, IfOk, OnOk};
+ghost use Rattle.std.specs.Prelude.{◌≡◌, ◌≤◌, ◌<◌, ◌+◌, ℕ, List, None, false, true, is_none, if◌then◌else◌, IfOk, IsErr, OnOk};
 ghost use Rattle.pl_base.specs.Address.{is_unrecorded_url};
 ghost use Rattle.pl_base.specs.Date.{IsDate};
 ghost use Rattle.pl_base.specs.Live.{chunks, live_slots};
@@ -142,6 +142,7 @@ pub fn visit<R: Rows, L: Ledger>(
     ensures refused { IfOk result (λ reply. (refusal : Refusal) → reply ≡ Reply.Refused refusal → rows.new ≡ rows.old) }
     ensures base { OnOk result ((bytes : List ℕ) → R.base rows.old bytes → R.base rows.new bytes) }
     ensures sound { OnOk result (IsSound (R.kept rows.new)) }
+    ensures no_memory { IsErr result → is_unrecorded_url url.now ≡ false }
 {
     if !url.recorded() {
         return Ok(Reply::Refused(Refusal::NotRecorded));
