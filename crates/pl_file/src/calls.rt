@@ -1,4 +1,4 @@
-ghost use Rattle.std.specs.Prelude.{◌≡◌, ◌↔◌, ◌≤◌, ◌+◌, Ok, OnOk, OnErr, IfOk, IsErr, IsTrue, ◌<◌};
+ghost use Rattle.std.specs.Prelude.{◌≡◌, ◌↔◌, ℕ, ◌≤◌, ◌+◌, Ok, OnOk, OnErr, IfOk, IsErr, IsTrue, ◌<◌};
 ghost use Rattle.pl_desk.specs.Counts.{Rose, last_count};
 ghost use Rattle.pl_file.specs.Calls.{no_calls, after_write, after_failed_call, after_failed_say};
 
@@ -79,6 +79,7 @@ impl Calls {
     /// Counts a call of `say` by its answer. Where nothing was taken it has failed too.
     pub fn count_say(&mut self, answer: io::Result<usize>) -> Result<usize, Failed>
         ensures same { IfOk result (λ n. (0 < n) × (answer ≡ Ok n)) }
+        ensures taken { (n : ℕ) → 0 < n → answer ≡ Ok n → result ≡ Ok n }
         ensures after { OnOk result (self.new ≡ self.old) }
         ensures after_failed { OnErr result (self.new ≡ after_failed_say self.old) }
         ensures cause { OnErr result (Rose self.old.line_faults self.new.line_faults) }

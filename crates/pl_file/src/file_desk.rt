@@ -1,5 +1,9 @@
-ghost use Rattle.std.specs.Prelude.{◌≡◌, None};
+ghost use Rattle.std.specs.Prelude.{◌≡◌, ◌↔◌, ℕ, ◌≤◌, ◌<◌, ◌+◌, List, Some, None, ◌++◌, length, take, slice_range, IsTrue, IsErr, IfOk, IfSome, OnOk, OnErr, MatchOption};
+ghost use Rattle.std.specs.Option.{option_map};
 ghost use Rattle.std.proofs.lemmas.Option.{none-some};
+ghost use Rattle.pl_desk.specs.Counts.{Rose};
+ghost use Rattle.pl_desk.specs.Desk.{last_offset, overwritten, Torn, Follows, Only, Shows, ShowsSaying, said_by, Elapses};
+ghost use Rattle.pl_file.specs.Calls.{new_file, after_write, after_failed_call, after_failed_say, after_failed_access, untold, AnyFile, AnyShown};
 
 use crate::calls::Calls;
 use crate::store_file::StoreFile;
@@ -7,8 +11,10 @@ use pl_base::NoMemory;
 use pl_desk::{Desk, Failed};
 use std::fs::{File, Files};
 use std::io::{self, ErrorKind, Write};
+use std::marker::Model;
 
-/// A store's file, and standard output. It tells nothing of its content.
+/// A store's file, and standard output. It tells nothing of its content. After a sync that failed each
+/// later one fails too.
 #[derive(Drop)]
 pub struct FileDesk<'a, R> {
     rt: &'a R,
@@ -16,9 +22,19 @@ pub struct FileDesk<'a, R> {
     calls: Calls,
 }
 
+impl<'a, R> Model for FileDesk<'a, R> {
+    ghost use Rattle.pl_file.specs.Calls.{FileState};
+
+    ghost Value = { FileState };
+
+    ghost view = { λ d. record { counts = d.calls; is_in_doubt = d.file } };
+}
+
 impl<'a, R: AllocGlobal> FileDesk<'a, R> {
     /// The file is opened at first need. A missing file reads as empty, and the first write makes it.
-    pub fn at(rt: &'a R, path: &str) -> Result<FileDesk<'a, R>, NoMemory> {
+    pub fn at(rt: &'a R, path: &str) -> Result<FileDesk<'a, R>, NoMemory>
+        ensures { IfOk result (λ desk. desk ≡ new_file) }
+    {
         Ok(FileDesk {
             rt,
             file: StoreFile::at(String::from_str(rt.alloc(), path)?),
@@ -28,22 +44,21 @@ impl<'a, R: AllocGlobal> FileDesk<'a, R> {
 }
 
 impl<R: Files<File = File> + Print> Desk for FileDesk<'_, R> {
-    ghost held = { λ _. None };
+    ghost held = { untold };
 
-    ghost said = { λ _. None };
+    ghost said = { untold };
 
-    ghost written = { λ d. d.calls.written };
+    ghost written = { λ d. d.counts.written };
 
-    ghost device_faults = { λ d. d.calls.device_faults };
+    ghost device_faults = { λ d. d.counts.device_faults };
 
-    ghost line_faults = { λ d. d.calls.line_faults };
+    ghost line_faults = { λ d. d.counts.line_faults };
 
-    // Any file may be left, and anything shown.
-    ghost may_leave = { λ _ _. Unit {0} };
+    ghost may_leave = { AnyFile };
 
     ghost moment = { λ _. 0 };
 
-    ghost shown_since = { λ _ _ _ _. Unit {0} };
+    ghost shown_since = { AnyShown };
 
     ghost told_together = { λ _. (λ told. told, λ told. told) };
 
@@ -53,18 +68,60 @@ impl<R: Files<File = File> + Print> Desk for FileDesk<'_, R> {
 
     ghost only_now = { λ _ line_now _ _ same _. absurd (none-some line_now same) };
 
-    fn len(&mut self) -> Result<u64, Failed> {
+    fn len(&mut self) -> Result<u64, Failed>
+        ensures after { OnOk result (self.new ≡ self.old) }
+        ensures after_failed { OnErr result (self.new ≡ after_failed_access self.old) }
+
+        // What each desk promises.
+        ensures length { IfOk result (λ n. IfSome (untold self.old) (λ file. n ≡ length file)) }
+        ensures most { IfOk result (λ n. n ≤ last_offset) }
+        ensures written { self.new.counts.written ≡ self.old.counts.written }
+        ensures line { self.new.counts.line_faults ≡ self.old.counts.line_faults }
+        ensures counted { self.old.counts.device_faults ≤ self.new.counts.device_faults }
+        ensures no_fault { OnOk result (self.new.counts.device_faults ≡ self.old.counts.device_faults) }
+        ensures cause { OnErr result (Rose self.old.counts.device_faults self.new.counts.device_faults) }
+        ensures time { Elapses 0 0 (AnyShown self.old) (AnyShown self.new) (Shows (AnyFile self.new) (untold self.old)) }
+    {
         let answer = self.file.len(self.rt);
         self.calls.count(answer)
     }
 
-    fn read_at(&mut self, at: u64, out: &mut [u8]) -> Result<(), Failed> {
+    fn read_at(&mut self, at: u64, out: &mut [u8]) -> Result<(), Failed>
+        ensures after { OnOk result (self.new ≡ self.old) }
+        ensures after_failed { OnErr result (self.new ≡ after_failed_access self.old) }
+
+        // What each desk promises.
+        ensures read { OnOk result (IfSome (untold self.old) (λ file. out.new ≡ slice_range file at (at + length out.old))) }
+        ensures written { self.new.counts.written ≡ self.old.counts.written }
+        ensures line { self.new.counts.line_faults ≡ self.old.counts.line_faults }
+        ensures counted { self.old.counts.device_faults ≤ self.new.counts.device_faults }
+        ensures no_fault { OnOk result (self.new.counts.device_faults ≡ self.old.counts.device_faults) }
+        ensures cause { OnErr result (Rose self.old.counts.device_faults self.new.counts.device_faults) }
+        ensures time { Elapses 0 0 (AnyShown self.old) (AnyShown self.new) (Shows (AnyFile self.new) (untold self.old)) }
+    {
         let answer = self.file.read_at(self.rt, at, out);
         self.calls.count(answer)
     }
 
     /// A write with which the bytes written would pass 2^64 - 1 is a failed call.
-    fn write_at(&mut self, at: u64, bytes: &[u8]) -> Result<(), Failed> {
+    fn write_at(&mut self, at: u64, bytes: &[u8]) -> Result<(), Failed>
+        ensures after { OnOk result (self.new.counts ≡ after_write self.old.counts (length bytes.now)) }
+        ensures after_failed { OnErr result (self.new ≡ after_failed_access self.old) }
+        ensures doubt { self.new.is_in_doubt ≡ self.old.is_in_doubt }
+
+        // What each desk promises.
+        ensures held { OnOk result (untold self.new ≡ option_map (overwritten 0 at bytes.now) (untold self.old)) }
+        ensures torn { OnErr result (MatchOption (untold self.old) (untold self.new ≡ None) (λ old. (new : List ℕ) × (untold self.new ≡ Some new) × Torn at (length bytes.now) old new)) }
+        ensures written { OnOk result (self.new.counts.written ≡ self.old.counts.written + length bytes.now) }
+        ensures no_less { self.old.counts.written ≤ self.new.counts.written }
+        ensures no_more { self.new.counts.written ≤ self.old.counts.written + length bytes.now }
+        ensures line { self.new.counts.line_faults ≡ self.old.counts.line_faults }
+        ensures counted { self.old.counts.device_faults ≤ self.new.counts.device_faults }
+        ensures no_fault { OnOk result (self.new.counts.device_faults ≡ self.old.counts.device_faults) }
+        ensures cause { OnErr result (Rose self.old.counts.device_faults self.new.counts.device_faults) }
+        ensures leaves { Follows (Torn at (length bytes.now)) (AnyFile self.old) (AnyFile self.new) }
+        ensures time { Elapses 0 0 (AnyShown self.old) (AnyShown self.new) (Shows (AnyFile self.new) (untold self.old)) }
+    {
         if !self.calls.has_room(bytes.len()) {
             return self.calls.count(Err(ErrorKind::QuotaExceeded.into()));
         }
@@ -72,12 +129,41 @@ impl<R: Files<File = File> + Print> Desk for FileDesk<'_, R> {
         self.calls.count_write(bytes.len(), answer)
     }
 
-    fn sync(&mut self) -> Result<(), Failed> {
+    fn sync(&mut self) -> Result<(), Failed>
+        ensures refused { IsTrue self.old.is_in_doubt → IsErr result }
+        ensures doubt { IsTrue self.new.is_in_doubt ↔ IsErr result }
+        ensures after { OnOk result (self.new.counts ≡ self.old.counts) }
+        ensures after_failed { OnErr result (self.new.counts ≡ after_failed_call self.old.counts) }
+
+        // What each desk promises.
+        ensures durable { OnOk result (IfSome (untold self.old) (λ file. Only file (AnyFile self.new))) }
+        ensures written { self.new.counts.written ≡ self.old.counts.written }
+        ensures line { self.new.counts.line_faults ≡ self.old.counts.line_faults }
+        ensures counted { self.old.counts.device_faults ≤ self.new.counts.device_faults }
+        ensures no_fault { OnOk result (self.new.counts.device_faults ≡ self.old.counts.device_faults) }
+        ensures cause { OnErr result (Rose self.old.counts.device_faults self.new.counts.device_faults) }
+        ensures time { Elapses 0 0 (AnyShown self.old) (AnyShown self.new) (Shows (AnyFile self.new) (untold self.old)) }
+    {
         let answer = self.file.sync(self.rt);
         self.calls.count(answer)
     }
 
-    fn say(&mut self, bytes: &[u8]) -> Result<usize, Failed> {
+    fn say(&mut self, bytes: &[u8]) -> Result<usize, Failed>
+        ensures after { OnOk result (self.new ≡ self.old) }
+        ensures after_failed { OnErr result (self.new.counts ≡ after_failed_say self.old.counts) }
+        ensures doubt { self.new.is_in_doubt ≡ self.old.is_in_doubt }
+
+        // What each desk promises.
+        ensures said { IfOk result (λ n. untold self.new ≡ option_map (λ before. before ++ take n bytes.now) (untold self.old)) }
+        ensures kept { OnErr result (untold self.new ≡ untold self.old) }
+        ensures within { IfOk result (λ n. (0 < n) × (n ≤ length bytes.now)) }
+        ensures written { self.new.counts.written ≡ self.old.counts.written }
+        ensures device { self.new.counts.device_faults ≡ self.old.counts.device_faults }
+        ensures counted { self.old.counts.line_faults ≤ self.new.counts.line_faults }
+        ensures no_fault { OnOk result (self.new.counts.line_faults ≡ self.old.counts.line_faults) }
+        ensures cause { OnErr result (Rose self.old.counts.line_faults self.new.counts.line_faults) }
+        ensures time { Elapses 0 0 (AnyShown self.old) (AnyShown self.new) (ShowsSaying (AnyFile self.new) (untold self.old) bytes.now (said_by result)) }
+    {
         let answer = io::writer(self.rt).write(bytes);
         self.calls.count_say(answer)
     }

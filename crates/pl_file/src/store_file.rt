@@ -1,9 +1,10 @@
 // The file at a path, opened at first need.
-ghost use Rattle.std.specs.Prelude.{◌≤◌, IfOk};
+ghost use Rattle.std.specs.Prelude.{◌≡◌, ◌≤◌, ◌↔◌, false, IfOk, IsErr, IsTrue};
 ghost use Rattle.pl_desk.specs.Desk.{last_offset};
 
 use std::fs::{self, File, Files, OpenOptions};
 use std::io::{self, ErrorKind};
+use std::marker::Model;
 use std::os::fd::AsRawFd;
 use std::os::unix::fs::FileExt;
 use std::path::Path;
@@ -21,8 +22,19 @@ pub struct StoreFile {
     is_in_doubt: bool,
 }
 
+// Whether a sync of it failed. Nothing else of it is told.
+impl Model for StoreFile {
+    ghost use Rattle.std.specs.Prelude.{Bool};
+
+    ghost Value = { Bool };
+
+    ghost view = { λ f. f.is_in_doubt };
+}
+
 impl StoreFile {
-    pub fn at(path: String) -> StoreFile {
+    pub fn at(path: String) -> StoreFile
+        ensures { result ≡ false }
+    {
         StoreFile {
             path,
             file: None,
@@ -33,7 +45,8 @@ impl StoreFile {
 
     /// In bytes. A file that is missing in a folder that is there has none.
     pub fn len(&mut self, rt: &impl Files<File = File>) -> io::Result<u64>
-        ensures { IfOk result (λ n. n ≤ last_offset) }
+        ensures most { IfOk result (λ n. n ≤ last_offset) }
+        ensures doubt { self.new ≡ self.old }
     {
         self.open(rt)?;
         let len = match &self.file {
@@ -52,7 +65,9 @@ impl StoreFile {
         rt: &impl Files<File = File>,
         at: u64,
         out: &mut [u8],
-    ) -> io::Result<()> {
+    ) -> io::Result<()>
+        ensures doubt { self.new ≡ self.old }
+    {
         let len = self.len(rt)?;
         if at > len || len - at < out.len() as u64 {
             return Err(ErrorKind::UnexpectedEof.into());
@@ -70,7 +85,9 @@ impl StoreFile {
         rt: &impl Files<File = File>,
         at: u64,
         bytes: &[u8],
-    ) -> io::Result<()> {
+    ) -> io::Result<()>
+        ensures doubt { self.new ≡ self.old }
+    {
         let len = self.len(rt)?;
         self.make(rt)?;
         match &self.file {
@@ -82,7 +99,10 @@ impl StoreFile {
 
     /// Syncs the content and the length, and the first time the file's name in its folder. After a sync
     /// that failed each later one fails too: the system then keeps no record of what it didn't write.
-    pub fn sync(&mut self, rt: &impl Files<File = File>) -> io::Result<()> {
+    pub fn sync(&mut self, rt: &impl Files<File = File>) -> io::Result<()>
+        ensures refused { IsTrue self.old → IsErr result }
+        ensures doubt { IsTrue self.new ↔ IsErr result }
+    {
         if self.is_in_doubt {
             return Err(ErrorKind::Other.into());
         }
@@ -92,7 +112,9 @@ impl StoreFile {
         Ok(())
     }
 
-    fn sync_file(&mut self, rt: &impl Files<File = File>) -> io::Result<()> {
+    fn sync_file(&mut self, rt: &impl Files<File = File>) -> io::Result<()>
+        ensures doubt { self.new ≡ self.old }
+    {
         self.open(rt)?;
         let Some(file) = &self.file else {
             return Ok(());
@@ -106,7 +128,9 @@ impl StoreFile {
     }
 
     // Opens the file, if it is there and isn't open yet.
-    fn open(&mut self, rt: &impl Files<File = File>) -> io::Result<()> {
+    fn open(&mut self, rt: &impl Files<File = File>) -> io::Result<()>
+        ensures doubt { self.new ≡ self.old }
+    {
         if self.file.is_some() {
             return Ok(());
         }
@@ -125,7 +149,9 @@ impl StoreFile {
     }
 
     // Makes the file, if it was missing.
-    fn make(&mut self, rt: &impl Files<File = File>) -> io::Result<()> {
+    fn make(&mut self, rt: &impl Files<File = File>) -> io::Result<()>
+        ensures doubt { self.new ≡ self.old }
+    {
         if self.file.is_some() {
             return Ok(());
         }

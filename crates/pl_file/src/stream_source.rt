@@ -1,29 +1,29 @@
 ghost use Rattle.std.specs.Prelude.{◌≡◌, ◌≤◌, None, length, IfOk, OnOk, OnErr};
+ghost use Rattle.std.specs.Io.KnownBytes.{ReadConsumes};
 ghost use Rattle.pl_desk.specs.Counts.{Rose, next_count};
 
 use pl_desk::{Failed, Source};
 use std::io::Read;
 use std::marker::Model;
 
-/// Standard input. It tells nothing of its content.
+/// Standard input. As a source it tells nothing of its content: its reader may know none.
 #[derive(Drop)]
 pub struct StreamSource<R: Input> {
     reader: R::Reader,
     faults: u64,
 }
 
-// Its count of reads that failed. Nothing else of it is told.
 impl<R: Input> Model for StreamSource<R> {
-    ghost use Rattle.std.specs.Prelude.{ℕ};
+    ghost use Rattle.pl_file.specs.Streams.{StreamState};
 
-    ghost Value = { ℕ };
+    ghost Value = { StreamState };
 
-    ghost view = { λ s. s.faults };
+    ghost view = { λ s. record { remaining = R.Reader.remaining s.reader; faults = s.faults } };
 }
 
 impl<R: Input> StreamSource<R> {
     pub fn new(rt: &R) -> StreamSource<R>
-        ensures { result ≡ 0 }
+        ensures { result.faults ≡ 0 }
     {
         StreamSource {
             reader: rt.reader(),
@@ -35,14 +35,18 @@ impl<R: Input> StreamSource<R> {
 impl<R: Input> Source for StreamSource<R> {
     ghost left = { λ _. None };
 
-    ghost faults = { λ faults. faults };
+    ghost faults = { λ s. s.faults };
 
+    /// Makes one read of the reader.
     fn read(&mut self, out: &mut [u8]) -> Result<usize, Failed>
+        ensures bytes { ReadConsumes self.old.remaining self.new.remaining result out.new }
+        ensures after_failed { OnErr result (self.new.faults ≡ next_count self.old.faults) }
+
+        // What each source promises.
         ensures within { IfOk result (λ n. n ≤ length out.old) }
-        ensures after { OnOk result (self.new ≡ self.old) }
-        ensures after_failed { OnErr result (self.new ≡ next_count self.old) }
-        ensures counted { self.old ≤ self.new }
-        ensures cause { OnErr result (Rose self.old self.new) }
+        ensures counted { self.old.faults ≤ self.new.faults }
+        ensures no_fault { OnOk result (self.new.faults ≡ self.old.faults) }
+        ensures cause { OnErr result (Rose self.old.faults self.new.faults) }
     {
         match self.reader.read(out) {
             Ok(count) => Ok(count),
