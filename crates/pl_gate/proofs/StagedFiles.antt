@@ -116,11 +116,13 @@ module _ (change : Change) (told : IsTold change) (pages file : List ℕ) (close
   from_place : take 16 (drop 8 told_file) ≡ place
   from_place = (overwritten_range 8 place file).0
 
-  start_is : journal_start set_file ≡ start_of change
-  start_is =
-      ap (from_le_bytes w64) (same_in_back told_file set_file 8 16 1 (omega arith) refl
-      ∙ sym (take-take 8 16 (drop 8 told_file) (omega arith)) ∙ ap (take 8) from_place)
+  start_told : journal_start told_file ≡ start_of change
+  start_told =
+      ap (from_le_bytes w64) (sym (take-take 8 16 (drop 8 told_file) (omega arith)) ∙ ap (take 8) from_place)
       ∙ from_le_bytes-to_le_bytes_8 (start_of change) told.start
+
+  start_is : journal_start set_file ≡ start_of change
+  start_is = ap (from_le_bytes w64) (same_in_back told_file set_file 8 16 1 (omega arith) refl) ∙ start_told
 
   count_is : journal_len set_file ≡ length change.pages
   count_is =
@@ -202,5 +204,6 @@ module _ (change : Change) (told : IsTold change) (pages file : List ℕ) (close
   pub staged : IsStaged change pages told_file
   staged = record {
     closed = closed_torn_place pages file closed told_file torn_place;
+    start = start_told;
     ready = subst (IsArmed change (changed change pages)) (sym (with_gate_is 1 told_file)) armed;
   }

@@ -1,8 +1,8 @@
 -- The states of a commit.
 use Rattle.std.specs.Prelude.{◌≡◌, ◌⊎◌, ℕ, true, false, List, drop}
 use Rattle.pl_base.specs.Touched.{Change, changed}
-use Rattle.pl_gate.specs.Device.{with_gate}
-use Rattle.pl_gate.specs.Gate.{Holds, is_set, journal, laid, pages_after}
+use Rattle.pl_gate.specs.Device.{start_of, with_gate}
+use Rattle.pl_gate.specs.Gate.{Holds, is_set, journal, journal_start, laid, pages_after}
 
 -- the file stands for the bytes before the change, or for those after it
 abbrev pub HoldsEither : Change → List ℕ → List ℕ → Type 0
@@ -20,9 +20,11 @@ pub record IsArmed (change : Change) (pages file : List ℕ) : Type 0 where
   pub after : pages_after file ≡ change.after
   pub holds : Holds pages file
 
--- the gate is not set, and its file would be armed with the gate set
+-- the gate is not set, the journal begins behind the pages, old and new, and the file would be armed with the
+-- gate set
 pub record IsStaged (change : Change) (pages file : List ℕ) : Type 0 where
   pub closed : IsClosed pages file
+  pub start : journal_start file ≡ start_of change
   pub ready : IsArmed change (changed change pages) (with_gate 1 file)
 
 -- armed, and each page is in its place

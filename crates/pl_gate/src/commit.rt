@@ -29,6 +29,7 @@ impl<'d, D: Desk> Gate<'d, D> {
         ensures said { D.said self.new.desk.now ≡ D.said self.old.desk.now }
         ensures line { D.line_faults self.new.desk.now ≡ D.line_faults self.old.desk.now }
         ensures counted { D.device_faults self.old.desk.now ≤ D.device_faults self.new.desk.now }
+        ensures no_fault { OnOk result (D.device_faults self.new.desk.now ≡ D.device_faults self.old.desk.now) }
         ensures cause { OnErr result (Rose (D.device_faults self.old.desk.now) (D.device_faults self.new.desk.now)) }
         ensures same_desk { self.new.desk.ghost_name ≡ self.old.desk.ghost_name }
     {

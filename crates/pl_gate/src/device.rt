@@ -29,6 +29,7 @@ pub fn write_entries<D: Desk>(desk: &mut D, start: u64, touched: &Touched) -> Re
     ensures no_less { D.written desk.old ≤ D.written desk.new }
     ensures line { D.line_faults desk.new ≡ D.line_faults desk.old }
     ensures counted { D.device_faults desk.old ≤ D.device_faults desk.new }
+    ensures no_fault { OnOk result (D.device_faults desk.new ≡ D.device_faults desk.old) }
     ensures cause { OnErr result (Rose (D.device_faults desk.old) (D.device_faults desk.new)) }
 {
     let mut index = 0;
@@ -62,6 +63,7 @@ pub fn write_place<D: Desk>(desk: &mut D, start: u64, count: u32, after: u32) ->
     ensures no_less { D.written desk.old ≤ D.written desk.new }
     ensures line { D.line_faults desk.new ≡ D.line_faults desk.old }
     ensures counted { D.device_faults desk.old ≤ D.device_faults desk.new }
+    ensures no_fault { OnOk result (D.device_faults desk.new ≡ D.device_faults desk.old) }
     ensures cause { OnErr result (Rose (D.device_faults desk.old) (D.device_faults desk.new)) }
 {
     desk.write_at(PLACE, &place_bytes(start, count, after))
@@ -88,6 +90,7 @@ pub fn write_images<D: Desk>(desk: &mut D, touched: &Touched) -> Result<(), Fail
     ensures no_less { D.written desk.old ≤ D.written desk.new }
     ensures line { D.line_faults desk.new ≡ D.line_faults desk.old }
     ensures counted { D.device_faults desk.old ≤ D.device_faults desk.new }
+    ensures no_fault { OnOk result (D.device_faults desk.new ≡ D.device_faults desk.old) }
     ensures cause { OnErr result (Rose (D.device_faults desk.old) (D.device_faults desk.new)) }
 {
     let mut index = 0;
@@ -111,6 +114,7 @@ pub fn write_gate<D: Desk>(desk: &mut D, byte: u8) -> Result<(), Failed>
     ensures no_less { D.written desk.old ≤ D.written desk.new }
     ensures line { D.line_faults desk.new ≡ D.line_faults desk.old }
     ensures counted { D.device_faults desk.old ≤ D.device_faults desk.new }
+    ensures no_fault { OnOk result (D.device_faults desk.new ≡ D.device_faults desk.old) }
     ensures cause { OnErr result (Rose (D.device_faults desk.old) (D.device_faults desk.new)) }
 {
     desk.write_at(0, &[byte])?;

@@ -1,6 +1,8 @@
 ghost use Rattle.std.specs.Prelude.{◌≡◌, ◌≤◌, ◌<◌, ◌+◌, ◌*◌, ℕ, List, [], Some, length, IfOk, OnOk, OnErr};
+ghost use Rattle.std.specs.Option.{option_map};
 ghost use Rattle.pl_base.specs.Touched.{IsWithin, changed, page_at, page_size};
 ghost use Rattle.pl_desk.specs.Counts.{Rose};
+ghost use Rattle.pl_gate.specs.Device.{with_gate, with_images};
 ghost use Rattle.pl_gate.specs.Gate.{Holds, entry_size};
 ghost use Rattle.pl_desk.specs.Desk.{AtAnyMoment, Rests};
 ghost use Rattle.pl_gate.specs.States.{HoldsEither, IsArmed, IsClosed, IsInstalled, IsStaged};
@@ -52,6 +54,7 @@ impl<'d, D: Desk> Gate<'d, D> {
         ensures said { D.said self.new.desk.now ≡ D.said self.old.desk.now }
         ensures line { D.line_faults self.new.desk.now ≡ D.line_faults self.old.desk.now }
         ensures counted { D.device_faults self.old.desk.now ≤ D.device_faults self.new.desk.now }
+        ensures no_fault { OnOk result (D.device_faults self.new.desk.now ≡ D.device_faults self.old.desk.now) }
         ensures cause { OnErr result (Rose (D.device_faults self.old.desk.now) (D.device_faults self.new.desk.now)) }
         ensures same_desk { self.new.desk.ghost_name ≡ self.old.desk.ghost_name }
     {
@@ -69,6 +72,7 @@ impl<'d, D: Desk> Gate<'d, D> {
         ensures change { IfOk result (λ armed. armed ≡ staged.entry) }
         ensures armed { OnOk result ((pages : List ℕ) → Rests (D.held self.old.desk.now) (D.may_leave self.old.desk.now) (IsStaged staged.entry pages)
             → Rests (D.held self.new.desk.now) (D.may_leave self.new.desk.now) (IsArmed staged.entry (changed staged.entry pages))) }
+        ensures set { OnOk result (D.held self.new.desk.now ≡ option_map (with_gate 1) (D.held self.old.desk.now)) }
         ensures any_moment { (pages : List ℕ) → Rests (D.held self.old.desk.now) (D.may_leave self.old.desk.now) (IsStaged staged.entry pages)
             → AtAnyMoment D.moment D.shown_since D.said self.old.desk.now self.new.desk.now (HoldsEither staged.entry pages) }
 
@@ -78,6 +82,7 @@ impl<'d, D: Desk> Gate<'d, D> {
         ensures said { D.said self.new.desk.now ≡ D.said self.old.desk.now }
         ensures line { D.line_faults self.new.desk.now ≡ D.line_faults self.old.desk.now }
         ensures counted { D.device_faults self.old.desk.now ≤ D.device_faults self.new.desk.now }
+        ensures no_fault { OnOk result (D.device_faults self.new.desk.now ≡ D.device_faults self.old.desk.now) }
         ensures cause { OnErr result (Rose (D.device_faults self.old.desk.now) (D.device_faults self.new.desk.now)) }
         ensures same_desk { self.new.desk.ghost_name ≡ self.old.desk.ghost_name }
     {
@@ -92,6 +97,7 @@ impl<'d, D: Desk> Gate<'d, D> {
         ensures change { IfOk result (λ installed. installed ≡ armed.entry) }
         ensures installed { OnOk result ((pages : List ℕ) → Rests (D.held self.old.desk.now) (D.may_leave self.old.desk.now) (IsArmed armed.entry pages)
             → Rests (D.held self.new.desk.now) (D.may_leave self.new.desk.now) (IsInstalled armed.entry pages)) }
+        ensures placed { OnOk result (D.held self.new.desk.now ≡ option_map (with_images armed.entry.pages) (D.held self.old.desk.now)) }
         ensures any_moment { (pages : List ℕ) → Rests (D.held self.old.desk.now) (D.may_leave self.old.desk.now) (IsArmed armed.entry pages)
             → AtAnyMoment D.moment D.shown_since D.said self.old.desk.now self.new.desk.now (Holds pages) }
 
@@ -101,6 +107,7 @@ impl<'d, D: Desk> Gate<'d, D> {
         ensures said { D.said self.new.desk.now ≡ D.said self.old.desk.now }
         ensures line { D.line_faults self.new.desk.now ≡ D.line_faults self.old.desk.now }
         ensures counted { D.device_faults self.old.desk.now ≤ D.device_faults self.new.desk.now }
+        ensures no_fault { OnOk result (D.device_faults self.new.desk.now ≡ D.device_faults self.old.desk.now) }
         ensures cause { OnErr result (Rose (D.device_faults self.old.desk.now) (D.device_faults self.new.desk.now)) }
         ensures same_desk { self.new.desk.ghost_name ≡ self.old.desk.ghost_name }
     {
@@ -115,6 +122,7 @@ impl<'d, D: Desk> Gate<'d, D> {
     pub fn disarm(&mut self, installed: Installed<'_>) -> Result<Closed, DeviceFault>
         ensures closed { OnOk result ((pages : List ℕ) → Rests (D.held self.old.desk.now) (D.may_leave self.old.desk.now) (IsInstalled installed.entry pages)
             → Rests (D.held self.new.desk.now) (D.may_leave self.new.desk.now) (IsClosed pages)) }
+        ensures cleared { OnOk result (D.held self.new.desk.now ≡ option_map (with_gate 0) (D.held self.old.desk.now)) }
         ensures any_moment { (pages : List ℕ) → Rests (D.held self.old.desk.now) (D.may_leave self.old.desk.now) (IsInstalled installed.entry pages)
             → AtAnyMoment D.moment D.shown_since D.said self.old.desk.now self.new.desk.now (Holds pages) }
 
@@ -124,6 +132,7 @@ impl<'d, D: Desk> Gate<'d, D> {
         ensures said { D.said self.new.desk.now ≡ D.said self.old.desk.now }
         ensures line { D.line_faults self.new.desk.now ≡ D.line_faults self.old.desk.now }
         ensures counted { D.device_faults self.old.desk.now ≤ D.device_faults self.new.desk.now }
+        ensures no_fault { OnOk result (D.device_faults self.new.desk.now ≡ D.device_faults self.old.desk.now) }
         ensures cause { OnErr result (Rose (D.device_faults self.old.desk.now) (D.device_faults self.new.desk.now)) }
         ensures same_desk { self.new.desk.ghost_name ≡ self.old.desk.ghost_name }
     {

@@ -29,6 +29,7 @@ pub fn read_place<D: Desk>(desk: &mut D) -> Result<Place, Failed>
     ensures written { D.written desk.new ≡ D.written desk.old }
     ensures line { D.line_faults desk.new ≡ D.line_faults desk.old }
     ensures counted { D.device_faults desk.old ≤ D.device_faults desk.new }
+    ensures no_fault { OnOk result (D.device_faults desk.new ≡ D.device_faults desk.old) }
     ensures cause { OnErr result (Rose (D.device_faults desk.old) (D.device_faults desk.new)) }
 {
     let mut gate = [0; 1];
@@ -56,6 +57,7 @@ pub fn read_u64<D: Desk>(desk: &mut D, at: u64) -> Result<u64, Failed>
     ensures written { D.written desk.new ≡ D.written desk.old }
     ensures line { D.line_faults desk.new ≡ D.line_faults desk.old }
     ensures counted { D.device_faults desk.old ≤ D.device_faults desk.new }
+    ensures no_fault { OnOk result (D.device_faults desk.new ≡ D.device_faults desk.old) }
     ensures cause { OnErr result (Rose (D.device_faults desk.old) (D.device_faults desk.new)) }
 {
     let mut bytes = [0; 8];
@@ -75,6 +77,7 @@ fn read_u32<D: Desk>(desk: &mut D, at: u64) -> Result<u32, Failed>
     ensures written { D.written desk.new ≡ D.written desk.old }
     ensures line { D.line_faults desk.new ≡ D.line_faults desk.old }
     ensures counted { D.device_faults desk.old ≤ D.device_faults desk.new }
+    ensures no_fault { OnOk result (D.device_faults desk.new ≡ D.device_faults desk.old) }
     ensures cause { OnErr result (Rose (D.device_faults desk.old) (D.device_faults desk.new)) }
 {
     let mut bytes = [0; 4];

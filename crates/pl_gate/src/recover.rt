@@ -25,6 +25,8 @@ impl<'d, D: Desk> Gate<'d, D> {
         ensures good { OnOk result (IfSome (D.held self.old.desk.now) (λ file. has_gate file ≡ true)) }
         ensures bad { result ≡ Err GateError.BadGate → IfSome (D.held self.old.desk.now) (λ file. has_gate file ≡ false) }
         ensures untouched { result ≡ Err GateError.BadGate → D.held self.new.desk.now ≡ D.held self.old.desk.now }
+        ensures unwritten { result ≡ Err GateError.BadGate → (file : List ℕ) → D.held self.old.desk.now ≡ Some file → D.written self.new.desk.now ≡ D.written self.old.desk.now }
+        ensures at_rest { result ≡ Err GateError.BadGate → (file : List ℕ) → D.held self.old.desk.now ≡ Some file → Only file (D.may_leave self.new.desk.now) }
 
         // A stop at any moment shows a file that stands for what one stood for that might have been left before;
         // and once the file was synced for what was read then.
@@ -40,6 +42,7 @@ impl<'d, D: Desk> Gate<'d, D> {
         ensures said { D.said self.new.desk.now ≡ D.said self.old.desk.now }
         ensures line { D.line_faults self.new.desk.now ≡ D.line_faults self.old.desk.now }
         ensures counted { D.device_faults self.old.desk.now ≤ D.device_faults self.new.desk.now }
+        ensures no_fault { OnOk result (D.device_faults self.new.desk.now ≡ D.device_faults self.old.desk.now) }
         ensures cause { result ≡ Err GateError.DeviceFault → Rose (D.device_faults self.old.desk.now) (D.device_faults self.new.desk.now) }
         ensures same_desk { self.new.desk.ghost_name ≡ self.old.desk.ghost_name }
     {
@@ -74,6 +77,7 @@ fn clear_gate<D: Desk>(desk: &mut D, place: &Place) -> Result<(), GateError>
     ensures said { D.said desk.new ≡ D.said desk.old }
     ensures line { D.line_faults desk.new ≡ D.line_faults desk.old }
     ensures counted { D.device_faults desk.old ≤ D.device_faults desk.new }
+    ensures no_fault { OnOk result (D.device_faults desk.new ≡ D.device_faults desk.old) }
     ensures cause { result ≡ Err GateError.DeviceFault → Rose (D.device_faults desk.old) (D.device_faults desk.new) }
 {
     install_journal(desk, place)?;

@@ -20,7 +20,7 @@ loop-index-init g c =
       said = refl;
       written = omega arith;
       line = refl;
-      counted = omega arith;
+      no_fault = refl;
     }
 
 less : (g : Over) (c : After-write_at g) → c.loop-index.index < length c.args.touched.now.pages
@@ -72,5 +72,5 @@ loop-index-preserved g c =
       said = c.write_at.ensures.said ∙ c.loop-index.invariant.said;
       written = c.in_ok-write_at.ensures.written ∙ omega (arith, c.loop-index.invariant.written, c.image.ensures.whole);
       line = c.write_at.ensures.line ∙ c.loop-index.invariant.line;
-      counted = omega (arith, c.loop-index.invariant.counted, c.write_at.ensures.counted);
+      no_fault = c.in_ok-write_at.ensures.no_fault ∙ c.loop-index.invariant.no_fault;
     }

@@ -25,7 +25,7 @@ loop-index-init g c =
       said = refl;
       written = refl;
       line = refl;
-      counted = omega arith;
+      no_fault = refl;
     }
 
 -- what the gate's page tells of the file that is held
@@ -77,7 +77,7 @@ loop-index-preserved g c =
       said = c.read_page.ensures.said ∙ c.loop-index.invariant.said;
       written = c.read_page.ensures.written ∙ c.loop-index.invariant.written;
       line = c.read_page.ensures.line ∙ c.loop-index.invariant.line;
-      counted = omega (arith, c.read_page.ensures.counted, c.loop-index.invariant.counted);
+      no_fault = c.in_ok-last.ensures.no_fault ∙ c.loop-index.invariant.no_fault;
     }
 
 pub returns-clause-journal : goal.returns-clause-journal

@@ -18,7 +18,7 @@ invariant-loop-index g l =
       said : desk.said l.desk ≡ desk.said old;
       written : desk.written l.desk ≡ desk.written old;
       line : desk.line_faults l.desk ≡ desk.line_faults old;
-      counted : desk.device_faults old ≤ desk.device_faults l.desk;
+      no_fault : desk.device_faults l.desk ≡ desk.device_faults old;
     }
 
 abbrev pub decreases-loop-index : goal.decreases-loop-index

@@ -33,7 +33,7 @@ loop-index-init g c =
       said = refl;
       written = omega arith;
       line = refl;
-      counted = omega arith;
+      no_fault = refl;
     }
 
 -- the entry that is installed next
@@ -130,7 +130,7 @@ loop-index-preserved g c =
       said = c.install_entry.ensures.said ∙ c.loop-index.invariant.said;
       written = c.in_ok-last.ensures.written ∙ omega (arith, c.loop-index.invariant.written);
       line = c.install_entry.ensures.line ∙ c.loop-index.invariant.line;
-      counted = omega (arith, c.install_entry.ensures.counted, c.loop-index.invariant.counted);
+      no_fault = c.in_ok-last.ensures.no_fault ∙ c.loop-index.invariant.no_fault;
     }
 
 pub returns-clause-held : goal.returns-clause-held
