@@ -1,8 +1,8 @@
 -- What a settled file stands for.
-use Rattle.std.proofs.Common.{◌≡◌, ℕ, true, List, Option, Some, None, IfSome, length, take, drop, refl, sym, ◌∙◌, subst}
+use Rattle.std.proofs.Common.{◌≡◌, ◌≤◌, ◌+◌, arith, ℕ, true, false, List, Option, Some, None, IfSome, length, take, drop, refl, sym, ◌∙◌, subst}
 use Rattle.pl_base.specs.Store.{Store}
-use Rattle.pl_gate.specs.Gate.{has_gate, laid}
-use Rattle.pl_gate.specs.Recovery.{IsSettledAs, StandsAs}
+use Rattle.pl_gate.specs.Gate.{has_gate, is_set, laid}
+use Rattle.pl_gate.specs.Recovery.{IsSettledAs, StandsAs, written_by}
 use Rattle.pl_gate.specs.States.{IsClosed}
 use Rattle.pl_form.specs.Form.{StandsFor}
 use Rattle.pl_store.specs.Session.{Stands}
@@ -43,3 +43,7 @@ module _ (file later : List ℕ) (settled : IsSettledAs file later) where
       begins = subst (λ (all : List ℕ). take (length bytes) all ≡ bytes) (sym lies) begins;
     };
   }
+
+-- a recovery of a file whose gate is not set writes nothing
+pub writes_none : (file : List ℕ) (old new : ℕ) → is_set file ≡ false → old ≤ new → new ≤ old + written_by file → new ≡ old
+writes_none file old new unset no_less no_more = let most = rw unset at no_more in omega (arith, no_less, most)

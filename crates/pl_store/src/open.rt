@@ -2,7 +2,7 @@ ghost use Rattle.std.specs.Prelude.{◌≡◌, ◌≤◌, ◌<◌, ℕ, List, []
 ghost use Rattle.pl_base.specs.Store.{Store, opening};
 ghost use Rattle.pl_desk.specs.Counts.{Rose};
 ghost use Rattle.pl_desk.specs.Desk.{AtAnyMoment, Rests};
-ghost use Rattle.pl_store.specs.Ending.{StandsForNone};
+ghost use Rattle.pl_store.specs.Ending.{IsFinished, LacksGate, StandsForNone};
 ghost use Rattle.pl_store.specs.Session.{IsSettled, LeftAs, Stands, StandsFurther, limit_of, store_of};
 
 use crate::ended::Ended;
@@ -15,7 +15,7 @@ use pl_desk::Desk;
 use std::alloc::Global;
 
 /// Writes the store before its first command into an empty file. `NotEmpty` comes just where the file has
-/// bytes, and says how many. A stop within it may leave a file that stands for no store.
+/// bytes, and says how many; a file that has bytes is left as it was at each end. A stop within it may leave a file that stands for no store.
 pub fn create<D: Desk>(alloc: Global, desk: &mut D) -> Result<Session, Ended>
     ensures store { IfOk result (λ session. store_of session ≡ opening) }
     ensures limit { IfOk result (λ session. limit_of session ≡ 4_194_304) }
@@ -24,6 +24,9 @@ pub fn create<D: Desk>(alloc: Global, desk: &mut D) -> Result<Session, Ended>
     ensures was_empty { OnOk result (IfSome (D.held desk.old) (λ file. file ≡ [])) }
     ensures not_empty { (n : ℕ) → result ≡ Err (Ended.NotEmpty n) → (0 < n) × IfSome (D.held desk.old) (λ file. n ≡ length file) }
     ensures not_written { (n : ℕ) → result ≡ Err (Ended.NotEmpty n) → (D.held desk.new ≡ D.held desk.old) × (D.written desk.new ≡ D.written desk.old) }
+    ensures not_over { (file : List ℕ) → D.held desk.old ≡ Some file → 0 < length file
+        → (D.held desk.new ≡ D.held desk.old) × (D.written desk.new ≡ D.written desk.old) × ((later : List ℕ) → D.may_leave desk.new later → D.may_leave desk.old later) }
+    ensures not_made { result ≡ Err Ended.NoMemory → (D.held desk.new ≡ D.held desk.old) × (D.written desk.new ≡ D.written desk.old) }
     ensures no_check { result ≡ Err Ended.NotAStore → ⊥ }
     ensures no_less { D.written desk.old ≤ D.written desk.new }
     ensures said { D.said desk.new ≡ D.said desk.old }
@@ -51,6 +54,8 @@ pub fn reopen<D: Desk>(alloc: Global, desk: &mut D, limit: u32) -> Result<Sessio
         → IsSettled session (D.held desk.new) (D.may_leave desk.new)) }
     ensures not_a_store { result ≡ Err Ended.NotAStore → IfSome (D.held desk.old) StandsForNone }
     ensures still_none { result ≡ Err Ended.NotAStore → IfSome (D.held desk.new) StandsForNone }
+    ensures bad_gate { result ≡ Err Ended.NotAStore → (file : List ℕ) → D.held desk.old ≡ Some file → LacksGate file → D.held desk.new ≡ D.held desk.old }
+    ensures finished { (file : List ℕ) → D.held desk.old ≡ Some file → IsFinished file → D.written desk.new ≡ D.written desk.old }
     ensures any_moment { (file : List ℕ) → D.held desk.old ≡ Some file
         → AtAnyMoment D.moment D.shown_since D.said desk.old desk.new (LeftAs (D.may_leave desk.old)) }
     ensures left { (file : List ℕ) → D.held desk.old ≡ Some file → (later : List ℕ) → D.may_leave desk.new later → LeftAs (D.may_leave desk.old) later }

@@ -1,10 +1,10 @@
 // What an opening reads of a file.
-ghost use Rattle.std.specs.Prelude.{◌≡◌, ◌≤◌, ℕ, List, Err, Some, true, false, drop, IfOk, IfSome, IsSome, OnOk};
+ghost use Rattle.std.specs.Prelude.{◌≡◌, ◌≤◌, ◌+◌, ℕ, List, Err, Some, true, false, drop, IfOk, IfSome, IsSome, OnOk};
 ghost use Rattle.pl_base.specs.Store.{Store};
 ghost use Rattle.pl_desk.specs.Counts.{Rose};
 ghost use Rattle.pl_desk.specs.Desk.{AtAnyMoment, Rests};
 ghost use Rattle.pl_gate.specs.Gate.{has_gate};
-ghost use Rattle.pl_gate.specs.Recovery.{IsSettledAs, LeftAs};
+ghost use Rattle.pl_gate.specs.Recovery.{IsSettledAs, LeftAs, written_by};
 ghost use Rattle.pl_form.specs.Form.{StandsFor};
 ghost use Rattle.pl_store.specs.Reading.{IsReadFrom};
 ghost use Rattle.pl_store.specs.Session.{limit_of};
@@ -25,6 +25,7 @@ pub(crate) fn settle<D: Desk>(desk: &mut D) -> Result<(), Ended>
     ensures untouched { result ≡ Err Ended.NotAStore → D.held desk.new ≡ D.held desk.old }
     ensures any_moment { (file : List ℕ) → D.held desk.old ≡ Some file
         → AtAnyMoment D.moment D.shown_since D.said desk.old desk.new (LeftAs (D.may_leave desk.old)) }
+    ensures no_more { (file : List ℕ) → D.held desk.old ≡ Some file → D.written desk.new ≤ D.written desk.old + written_by file }
     ensures no_memory { result ≡ Err Ended.NoMemory → ⊥ }
     ensures no_length { (n : ℕ) → result ≡ Err (Ended.NotEmpty n) → ⊥ }
     ensures no_less { D.written desk.old ≤ D.written desk.new }

@@ -20,6 +20,9 @@ pub fn make_store<D: Desk>(alloc: Global, desk: &mut D) -> Status
     ensures made { (result ≡ Status.Done) ⊎ (result ≡ Status.SayFault) → (file : List ℕ) → D.held desk.old ≡ Some file → (file ≡ []) × IsMade (D.held desk.new) (D.may_leave desk.new) }
     ensures not_empty { (n : ℕ) → result ≡ Status.NotEmpty n → (0 < n) × IfSome (D.held desk.old) (λ file. n ≡ length file) }
     ensures not_written { (n : ℕ) → result ≡ Status.NotEmpty n → (D.held desk.new ≡ D.held desk.old) × (D.written desk.new ≡ D.written desk.old) × (D.said desk.new ≡ D.said desk.old) }
+    ensures not_over { (file : List ℕ) → D.held desk.old ≡ Some file → 0 < length file
+        → (D.held desk.new ≡ D.held desk.old) × (D.written desk.new ≡ D.written desk.old) × ((later : List ℕ) → D.may_leave desk.new later → D.may_leave desk.old later) }
+    ensures not_made { result ≡ Status.NoMemory → (D.held desk.new ≡ D.held desk.old) × (D.written desk.new ≡ D.written desk.old) }
     ensures says_counted { D.line_faults desk.old ≤ D.line_faults desk.new }
     ensures say_cause { result ≡ Status.SayFault → Rose (D.line_faults desk.old) (D.line_faults desk.new) }
     ensures device_counted { D.device_faults desk.old ≤ D.device_faults desk.new }

@@ -3,7 +3,7 @@ ghost use Rattle.pl_base.specs.Store.{Store, opening};
 ghost use Rattle.pl_desk.specs.Counts.{Rose};
 ghost use Rattle.pl_desk.specs.Desk.{ShowsOnly};
 ghost use Rattle.pl_script.specs.Script.{script};
-ghost use Rattle.pl_store.specs.Ending.{StandsForNone};
+ghost use Rattle.pl_store.specs.Ending.{IsFinished, LacksGate, StandsForNone};
 ghost use Rattle.pl_store.specs.Session.{Stands};
 ghost use Rattle.places.specs.Ending.{BeginsWith, EndsScript, IfTold, IsMade, IsNew, IsRun, IsTry, LeavesAtEnd, made_text};
 ghost use Rattle.pl_store.specs.Keeper.{slot_limit};
@@ -50,12 +50,20 @@ pub fn run<S: Source, D: Desk>(alloc: Global, words: &[&str], input: &mut S, des
         → (file : List ℕ) → D.held desk.old ≡ Some file → (file ≡ []) × IsMade (D.held desk.new) (D.may_leave desk.new) }
     ensures unsaid { (result ≡ Status.DeviceFault) ⊎ (result ≡ Status.NoMemory) → IsNew (map (λ word. word.now) words.now) → D.said desk.new ≡ D.said desk.old }
     ensures unread { IsNew (map (λ word. word.now) words.now) → input.new ≡ input.old }
+    ensures new_ends { IsNew (map (λ word. word.now) words.now) → (result ≡ Status.Done) ⊎ (result ≡ Status.SayFault) ⊎ (result ≡ Status.DeviceFault) ⊎ (result ≡ Status.NoMemory) ⊎ ((n : ℕ) × (result ≡ Status.NotEmpty n)) }
+    // A file that has bytes is left as it was at each of these, and so is an empty one where memory is short.
+    ensures not_over { IsNew (map (λ word. word.now) words.now) → (file : List ℕ) → D.held desk.old ≡ Some file → 0 < length file
+        → (D.held desk.new ≡ D.held desk.old) × (D.written desk.new ≡ D.written desk.old) × ((later : List ℕ) → D.may_leave desk.new later → D.may_leave desk.old later) }
+    ensures not_made { result ≡ Status.NoMemory → IsNew (map (λ word. word.now) words.now) → (D.held desk.new ≡ D.held desk.old) × (D.written desk.new ≡ D.written desk.old) }
     ensures not_empty { (n : ℕ) → result ≡ Status.NotEmpty n → IsNew (map (λ word. word.now) words.now) × (0 < n) × IfSome (D.held desk.old) (λ file. n ≡ length file) }
     ensures not_written { (n : ℕ) → result ≡ Status.NotEmpty n → (D.held desk.new ≡ D.held desk.old) × (D.written desk.new ≡ D.written desk.old) × (D.said desk.new ≡ D.said desk.old) }
 
     // A file that stands for no store is refused by `run`, which then reads no input and says nothing, and
     // stands for none afterwards.
     ensures not_a_store { result ≡ Status.NotAStore → IsRun (map (λ word. word.now) words.now) × IfSome (D.held desk.old) StandsForNone × IfSome (D.held desk.new) StandsForNone }
+    // It is left as it was where it has no good gate, and no byte is written where no stop left a change in it.
+    ensures bad_gate { result ≡ Status.NotAStore → (file : List ℕ) → D.held desk.old ≡ Some file → LacksGate file → D.held desk.new ≡ D.held desk.old }
+    ensures finished { result ≡ Status.NotAStore → (file : List ℕ) → D.held desk.old ≡ Some file → IsFinished file → D.written desk.new ≡ D.written desk.old }
     ensures not_run { result ≡ Status.NotAStore → (input.new ≡ input.old) × (D.said desk.new ≡ D.said desk.old) }
     ensures no_store { IsRun (map (λ word. word.now) words.now) → (file : List ℕ) → D.held desk.old ≡ Some file → StandsForNone file
         → (result ≡ Status.NotAStore) ⊎ (result ≡ Status.DeviceFault) ⊎ (result ≡ Status.NoMemory) }

@@ -4,7 +4,7 @@ ghost use Rattle.pl_base.specs.Store.{Store, opening};
 ghost use Rattle.pl_desk.specs.Counts.{Rose};
 ghost use Rattle.pl_desk.specs.Desk.{ShowsOnly};
 ghost use Rattle.pl_script.specs.Script.{script};
-ghost use Rattle.pl_store.specs.Ending.{StandsForNone};
+ghost use Rattle.pl_store.specs.Ending.{IsFinished, LacksGate, StandsForNone};
 ghost use Rattle.pl_store.specs.Session.{Stands};
 ghost use Rattle.places.specs.Ending.{EndsScript, IfTold, LeavesAtEnd};
 ghost use Rattle.pl_store.specs.Keeper.{slot_limit};
@@ -54,6 +54,8 @@ pub fn run_stored<S: Source, D: Desk>(alloc: Global, input: &mut S, desk: &mut D
         → IfTold (S.left input.old) (D.said desk.old) (λ bytes before.
         LeavesAtEnd result true (D.may_leave desk.old) start bytes before (S.left input.new) (D.said desk.new) (D.held desk.new) (D.may_leave desk.new)) }
     ensures not_a_store { result ≡ Status.NotAStore → IfSome (D.held desk.old) StandsForNone × IfSome (D.held desk.new) StandsForNone }
+    ensures bad_gate { result ≡ Status.NotAStore → (file : List ℕ) → D.held desk.old ≡ Some file → LacksGate file → D.held desk.new ≡ D.held desk.old }
+    ensures finished { result ≡ Status.NotAStore → (file : List ℕ) → D.held desk.old ≡ Some file → IsFinished file → D.written desk.new ≡ D.written desk.old }
     ensures not_run { result ≡ Status.NotAStore → (input.new ≡ input.old) × (D.said desk.new ≡ D.said desk.old) }
     ensures no_store { (file : List ℕ) → D.held desk.old ≡ Some file → StandsForNone file
         → (result ≡ Status.NotAStore) ⊎ (result ≡ Status.DeviceFault) ⊎ (result ≡ Status.NoMemory) }

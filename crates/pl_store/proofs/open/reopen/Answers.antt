@@ -5,13 +5,14 @@ use Rattle.std.proofs.lemmas.Result.{IfOk-weaker}
 use Rattle.pl_base.specs.Store.{Store}
 use Rattle.pl_desk.specs.AnyMoment.{and_more, held_left, some_said, weaker}
 use Rattle.pl_desk.specs.Desk.{AtAnyMoment}
+use Rattle.pl_gate.specs.Gate.{has_gate}
 use Rattle.pl_gate.specs.Recovery.{IsSettledAs}
 use Rattle.pl_gate.specs.Recovery as gate
 use Rattle.pl_store.specs.Ending.{StandsForNone}
 use Rattle.pl_store.specs.Reading.{IsReadFrom}
 use Rattle.pl_store.specs.Session.{IsSettled, LeftAs, Stands, bytes_of, store_of}
 use Rattle.pl_store.proofs.LeftLemmas.{left_now}
-use Rattle.pl_store.proofs.OpenedFiles.{closed, if_some, later_form, settled_form, stands_later, stands_settled}
+use Rattle.pl_store.proofs.OpenedFiles.{closed, if_some, later_form, settled_form, stands_later, stands_settled, writes_none}
 use Rattle.pl_store.proofs.open.reopen.Given.{Over}
 use Rattle.pl_store.proofs.open.reopen.Goals as goal
 
@@ -115,3 +116,14 @@ returns-clause-no_memory g c ended file is =
       only = λ later left. rests.only later (c.read_session.ensures.leaves later left);
       has = stands_later file rests.file rests.has.stands;
     }
+
+pub returns-clause-bad_gate : goal.returns-clause-bad_gate
+returns-clause-bad_gate g c ended file is lacks = absurd (both_ways (has_gate file) lacks (MatchOption-at_some _ _ file is c.in_ok-settle.ensures.good))
+
+pub returns-in_err-settle-clause-finished : goal.returns-in_err-settle-clause-finished
+returns-in_err-settle-clause-finished g c file is unset = let desk = g.D.Desk in
+    writes_none file (desk.written c.args.desk.now) (desk.written c.settle.new.desk) unset c.settle.ensures.no_less (c.settle.ensures.no_more file is)
+
+pub returns-clause-finished : goal.returns-clause-finished
+returns-clause-finished g c file is unset = let desk = g.D.Desk in
+    c.read_session.ensures.written ∙ writes_none file (desk.written c.args.desk.now) (desk.written c.settle.new.desk) unset c.settle.ensures.no_less (c.settle.ensures.no_more file is)

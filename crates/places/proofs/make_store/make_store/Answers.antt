@@ -1,4 +1,4 @@
-use Rattle.std.proofs.Common.{◌≡◌, ℕ, Err, refl, sym, ap, ◌∙◌, rules}
+use Rattle.std.proofs.Common.{◌≡◌, ◌<◌, ℕ, List, [], length, arith, Err, refl, sym, ap, ◌∙◌, rules}
 use Rattle.std.proofs.lemmas.Option.{MatchOption-at_some}
 use Rattle.pl_base.specs.Store.{opening}
 use Rattle.pl_store.specs.declared.ended.Ended.{Ended}
@@ -32,3 +32,13 @@ returns-in-Err-say_all-clause-made g c done file is = let desk = g.D.Desk in (
   still_stands (File c.in_default.field-0) opening (desk.may_leave c.args.desk.now) (desk.held c.create.new.desk) (desk.held c.say_all.new.desk) (desk.may_leave c.create.new.desk) (desk.may_leave c.say_all.new.desk)
       refl c.in_default.ensures.store c.say_all.ensures.held c.say_all.ensures.leaves (c.in_default.ensures.settled file is),
 )
+
+-- a file that has bytes ends the making before this
+over_nothing : (file : List ℕ) → file ≡ [] → 0 < length file → ⊥
+over_nothing file none some = omega (arith, some, ap length none)
+
+pub returns-in-Ok-clause-not_over : goal.returns-in-Ok-clause-not_over
+returns-in-Ok-clause-not_over g c file is some = absurd (over_nothing file (MatchOption-at_some _ _ file is c.in_default.ensures.was_empty) some)
+
+pub returns-in-Err-say_all-clause-not_over : goal.returns-in-Err-say_all-clause-not_over
+returns-in-Err-say_all-clause-not_over g c file is some = absurd (over_nothing file (MatchOption-at_some _ _ file is c.in_default.ensures.was_empty) some)

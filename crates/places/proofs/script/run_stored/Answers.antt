@@ -9,7 +9,7 @@ use Rattle.pl_store.specs.Session.{store_of}
 use Rattle.places.specs.Ending.{EndsScript, LeavesAtEnd}
 use Rattle.pl_store.specs.Keeper.{slot_limit}
 use Rattle.places.specs.Stops.{ShowsAnswered}
-use Rattle.places.proofs.OpeningLemmas.{ends_without, rests_further, says_at_end, says_without, shows_opening, with_held}
+use Rattle.places.proofs.OpeningLemmas.{ends_without, no_other, rests_further, says_at_end, says_without, shows_opening, with_held}
 use Rattle.places.proofs.script.run_stored.Goals as goal
 
 pub returns-in-Ok-clause-replies : goal.returns-in-Ok-clause-replies
@@ -76,3 +76,6 @@ returns-in-Err-clause-ends g c = λ start stands bytes before told begun.
     (c.reopen.ensures.said ∙ begun)
     (λ later may. let from = c.reopen.ensures.left file is later may in from.2 start (stands from.0 from.1))
     (λ memory. rests_further file start (desk.held new) (desk.may_leave new) (stands file left) (c.reopen.ensures.no_memory (c.in-Err.is ∙ ap Err memory) file is)))
+
+pub returns-in-Ok-clause-finished : goal.returns-in-Ok-clause-finished
+returns-in-Ok-clause-finished g c = λ none. absurd ((no_other c.run_script.result c.status_of.result c.status_of.ensures).1 none)
