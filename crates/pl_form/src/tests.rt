@@ -81,3 +81,14 @@ fn refuses_each_cut(rt: HostRuntime) -> Result<(), Fail> {
     }
     Ok(())
 }
+
+#[test]
+fn refuses_a_plain_byte_more(rt: HostRuntime) -> Result<(), Fail> {
+    let alloc = rt.alloc();
+    let mut bytes = file(alloc)?;
+    assert!(rt; bytes.len() > PAGE_SIZE + 12 && bytes[PAGE_SIZE + 12] == 0x32);
+    bytes[PAGE_SIZE + 12] = 0x33;
+    let refused = read_rows(alloc, &bytes).err();
+    assert_eq!(rt; refused, Some(CheckError::NotAStore));
+    Ok(())
+}
