@@ -119,6 +119,25 @@ fn a_stop_leaves_what_was_answered(rt: HostRuntime) -> Result<(), Fail> {
     Ok(())
 }
 
+// Each read takes 40 bytes: the first has two lines and a part of the third, and the third read finds the end.
+#[test]
+fn a_read_that_fails_leaves_the_lines_before_it(rt: HostRuntime) -> Result<(), Fail> {
+    let alloc = rt.alloc();
+    let cases: [(u32, usize, &[u8]); 3] = [(0, 0, HELD[0]), (1, 42, HELD[1]), (2, 70, HELD[2])];
+    for (call, said, held) in cases {
+        let mut desk = new_store(&rt, alloc, &[])?;
+        let mut input = MemSource::over(alloc, SCRIPT, 40, &[call])?;
+        let status = run(alloc, &["run", "s"], &mut input, &mut desk);
+        assert_eq!(rt; status, Status::ReadFault, "read {call}");
+        assert_eq!(rt; Some(desk.said()), SAID.get(..said));
+        let mut again = copied(alloc, &desk, &[])?;
+        let status = run_on(alloc, &["run", "s"], ONE_MORE, &mut again)?;
+        assert_eq!(rt; status, Status::Done);
+        assert_eq!(rt; again.said(), held);
+    }
+    Ok(())
+}
+
 // How a run ends whose call of the desk with this number fails.
 fn failed(rt: &impl Abort, alloc: Global, call: u32) -> Result<Status, NoMemory> {
     let mut desk = new_store(rt, alloc, &[call])?;
