@@ -1,25 +1,64 @@
-// A store that is made and run on, twice: what the calls say together, with nothing asked of the file but that it was
-// empty, and of the source and the desk but that they tell their content.
+// A store that is made and run on twice: what the three calls say together, with nothing asked of the file but that it
+// was empty, and of the sources and the desk but that they tell their content. So no premise of `run` is one that
+// nobody meets.
 ghost use Rattle.std.specs.Prelude.{◌≡◌, ℕ, List, [], ◌++◌, Some};
-ghost use Rattle.pl_base.specs.Store.{opening};
-ghost use Rattle.pl_engine.specs.Run.{replies};
+ghost use Rattle.pl_base.specs.Store.{Store, opening};
+ghost use Rattle.pl_engine.specs.Run.{after, replies};
 ghost use Rattle.pl_script.specs.Script.{script};
-ghost use Rattle.places.specs.Ending.{made_text};
 ghost use Rattle.pl_store.specs.Keeper.{slot_limit};
+ghost use Rattle.pl_store.specs.Session.{Stands};
+ghost use Rattle.places.specs.Ending.{made_text};
 ghost use Rattle.places.specs.Said.{texts};
 
 use crate::run::run;
 use crate::status::Status;
-use pl_desk::{Desk, Source};
+use pl_desk::{Desk, MemDesk, MemSource, Source};
 use std::alloc::Global;
+use std::test::Fail;
 
-// `new` and then `run` on one desk.
-fn made_and_run<S: Source, D: Desk>(alloc: Global, input: &mut S, desk: &mut D) -> Status
-    ensures said { result ≡ Status.Done → (bytes before : List ℕ) → S.left input.old ≡ Some bytes → D.said desk.old ≡ Some before → D.held desk.old ≡ Some []
-        → D.said desk.new ≡ Some ((before ++ made_text) ++ texts (replies slot_limit opening (script bytes))) }
+// `run` on each source, one after the other.
+fn run_on<S: Source, D: Desk>(
+    alloc: Global,
+    first: &mut S,
+    second: &mut S,
+    desk: &mut D,
+) -> Status
+    ensures said { result ≡ Status.Done → (start : Store) → ((file : List ℕ) → D.may_leave desk.old file → Stands file start)
+        → (one two before : List ℕ) → S.left first.old ≡ Some one → S.left second.old ≡ Some two → D.said desk.old ≡ Some before
+        → D.said desk.new ≡ Some ((before ++ texts (replies slot_limit start (script one)))
+            ++ texts (replies slot_limit (after slot_limit start (script one)) (script two))) }
 {
-    match run(alloc, &["new", "s"], input, desk) {
-        Status::Done => run(alloc, &["run", "s"], input, desk),
+    match run(alloc, &["run", "s"], first, desk) {
+        Status::Done => run(alloc, &["run", "s"], second, desk),
         ended => ended,
     }
+}
+
+// `new`, and then `run` on each source.
+fn made_and_run<S: Source, D: Desk>(
+    alloc: Global,
+    first: &mut S,
+    second: &mut S,
+    desk: &mut D,
+) -> Status
+    ensures said { result ≡ Status.Done → (one two before : List ℕ) → S.left first.old ≡ Some one → S.left second.old ≡ Some two → D.said desk.old ≡ Some before → D.held desk.old ≡ Some []
+        → D.said desk.new ≡ Some (((before ++ made_text) ++ texts (replies slot_limit opening (script one)))
+            ++ texts (replies slot_limit (after slot_limit opening (script one)) (script two))) }
+{
+    match run(alloc, &["new", "s"], first, desk) {
+        Status::Done => run_on(alloc, first, second, desk),
+        ended => ended,
+    }
+}
+
+#[test]
+fn goes_on_where_the_last_run_ended(rt: HostRuntime) -> Result<(), Fail> {
+    let alloc = rt.alloc();
+    let mut first = MemSource::over(alloc, b"visit\thttps://a.example/\t2\t0\n", 7, &[])?;
+    let mut second = MemSource::over(alloc, b"visit\thttps://a.example/\t1\t0\n", 7, &[])?;
+    let mut desk = MemDesk::holding(alloc, &[], &[])?;
+    assert_eq!(rt; made_and_run(alloc, &mut first, &mut second, &mut desk), Status::Done);
+    let said = b"new\nvisit\t1\tpage\t1\tfrecency\t2000\nvisit\t2\tpage\t1\tfrecency\t2100\n";
+    assert_eq!(rt; desk.said(), said.as_slice());
+    Ok(())
 }
