@@ -1,5 +1,5 @@
 -- Numbers, marks and constant bytes at the beginning of bytes.
-use Rattle.std.proofs.Common.{◌≡◌, ◌≢◌, ◌∙◌, ℕ, ◌<◌, ◌^◌, List, [], ◌∷◌, ◌++◌, Bool, true, false, Ok, Err, w32, w64, length, take, drop, replicate, zero, suc, ◌==◌, ◌&&◌, sym, ap, refl}
+use Rattle.std.proofs.Common.{◌≡◌, ◌≢◌, ◌∙◌, ℕ, ◌<◌, ◌^◌, List, [], ◌∷◌, ◌++◌, true, false, Ok, Err, w32, w64, length, take, drop, replicate, zero, suc, ◌==◌, sym, ap, refl}
 use Rattle.std.specs.List.{list_all}
 use Rattle.std.proofs.lemmas.Bool.{and_parts, true≢false, eqb-true}
 use Rattle.std.proofs.lemmas.List.{length-replicate}

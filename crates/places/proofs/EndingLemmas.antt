@@ -1,5 +1,5 @@
 -- The ends of a run, from how far it has come.
-use Rattle.std.proofs.Common.{◌≡◌, ◌⊎◌, Bool, eqb, true, ◌<◌, ◌≤◌, ◌+◌, ℕ, List, [], ◌++◌, length, take, drop, Some, None, Option, refl, ap, sym, subst, ◌∙◌, append-nil, arith, inl, inr, length-append, length-drop, Result, Err}
+use Rattle.std.proofs.Common.{◌≡◌, ◌⊎◌, Bool, eqb, true, ◌<◌, ◌≤◌, ◌+◌, ℕ, List, [], ◌++◌, length, take, drop, Some, None, Option, refl, ap, sym, subst, ◌∙◌, arith, inl, inr, length-append, length-drop}
 use Rattle.std.specs.Prelude.{IfSome}
 use Rattle.std.specs.Option.{option_map}
 use Rattle.std.proofs.lemmas.List.{drop_at, length-take-le, take-append-drop, take_all, take_at}

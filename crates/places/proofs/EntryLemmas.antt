@@ -1,5 +1,5 @@
 -- What a run leaves that stops at one of its lines is what it leaves of a run with more lines.
-use Rattle.std.proofs.Common.{◌≡◌, ◌≤◌, ◌<◌, ◌+◌, Bool, ℕ, List, [], ◌∷◌, ◌++◌, length, take, drop, get_or, Some, None, Option, Result, Ok, Err, option_to_list, ap, sym, subst, refl, ◌∙◌, append_assoc, append-nil, arith}
+use Rattle.std.proofs.Common.{◌≡◌, ◌≤◌, ◌<◌, ◌+◌, Bool, ℕ, List, [], ◌∷◌, ◌++◌, length, take, drop, get_or, Some, None, Option, Result, Ok, Err, option_to_list, ap, sym, subst, ◌∙◌, append_assoc, append-nil, arith}
 use Rattle.std.specs.Prelude.{IfErr}
 use Rattle.std.specs.Str.Lines.{strip_carriage_return}
 use Rattle.pl_base.specs.Store.{Store}
@@ -10,7 +10,7 @@ use Rattle.pl_script.specs.Script.{entry, script}
 use Rattle.pl_store.specs.Keeper.{IsKept, Keeps, is_file, limit_of, slot_limit, store_of}
 use Rattle.pl_store.specs.KeeperLaws.{kept_keeps}
 use Rattle.places.specs.declared.answer_error.AnswerError.{AnswerError}
-use Rattle.places.specs.declared.answer_error.AnswerError.TheVariants.{SayFault, DeviceFault, NoMemory}
+use Rattle.places.specs.declared.answer_error.AnswerError.TheVariants.{NoMemory}
 use Rattle.places.specs.declared.script_run.ScriptRun.{ScriptRun}
 use Rattle.places.specs.Lines.{entries_in, open_line}
 use Rattle.places.specs.Progress.{IsAt, ended_entries}

@@ -1,6 +1,6 @@
 -- The ends of a run by its status, and the runs that have no store to begin with.
 use Rattle.std.proofs.Common.{◌≡◌, ◌≢◌, ◌⊎◌, ◌≤◌, ◌<◌, Bool, true, false, ℕ, List, [], ◌∷◌, ◌++◌, append_assoc, take, length, map, slice_index_or, Bor, arith, Some, None, Option, Result, Ok, Err, refl, ap, sym, subst, ◌∙◌, append-nil, inl, inr}
-use Rattle.std.specs.Prelude.{◌↔◌, IfErr, IsSome, OnOk, ⊤}
+use Rattle.std.specs.Prelude.{◌↔◌, IsSome, ⊤}
 use Rattle.std.proofs.lemmas.Bool.{both_ways}
 use Rattle.std.proofs.lemmas.List.{length-map}
 use Rattle.std.proofs.lemmas.Option.{same_Some}

@@ -1,5 +1,5 @@
 -- A run goes on by the bytes of its input.
-use Rattle.std.proofs.Common.{◌≡◌, ◌≢◌, ⊎_elim, ◌<◌, ◌≤◌, ◌+◌, ℕ, List, [], ◌∷◌, ◌++◌, length, take, drop, Some, None, Option, option_to_list, refl, ap, sym, ◌∙◌, append_assoc, append-nil, arith, length-append, get_or, add-one, drop-cons}
+use Rattle.std.proofs.Common.{◌≡◌, ◌≢◌, ⊎_elim, ◌<◌, ◌≤◌, ◌+◌, ℕ, List, [], ◌∷◌, ◌++◌, length, take, drop, Option, option_to_list, refl, ap, sym, ◌∙◌, append_assoc, append-nil, arith, length-append, get_or, add-one, drop-cons}
 use Rattle.std.specs.Str.Lines.{strip_carriage_return}
 use Rattle.std.proofs.lemmas.Grind.{flat_map-append}
 use Rattle.std.proofs.Math.Seq.{take-add}
@@ -7,12 +7,11 @@ use Rattle.std.proofs.lemmas.Bool.{cases_eq}
 use Rattle.std.proofs.lemmas.List.{length-take, take-append-drop, take-append-le, take_all}
 use Rattle.pl_base.specs.Store.{Store}
 use Rattle.pl_engine.specs.declared.command.Command.{Command}
-use Rattle.pl_engine.specs.declared.reply.Reply.{Reply}
 use Rattle.pl_engine.specs.Run.{replies, after}
 use Rattle.pl_engine.specs.Parsed.{Parsed}
 use Rattle.pl_engine.specs.Step.{step}
 use Rattle.pl_script.specs.Reply.{reply_text}
-use Rattle.pl_script.specs.Script.{entry, script}
+use Rattle.pl_script.specs.Script.{script}
 use Rattle.places.specs.declared.script_run.ScriptRun.{ScriptRun}
 use Rattle.pl_store.specs.Keeper.{limit_of, slot_limit, store_of}
 use Rattle.places.specs.Lines.{ended_lines, entries_of, entries_in, open_line}

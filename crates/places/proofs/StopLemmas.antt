@@ -1,7 +1,6 @@
 -- What a stop shows of a line is what it shows of a run with more lines.
 use Rattle.std.proofs.Common.{◌≡◌, ◌≤◌, ◌<◌, ◌+◌, Bool, ℕ, List, [], ◌∷◌, ◌++◌, length, take, drop, get_or, Some, None, Option, option_to_list, ap, sym, subst, ◌∙◌, append_assoc, append-nil, arith, inl}
 use Rattle.std.specs.Str.Lines.{strip_carriage_return}
-use Rattle.std.proofs.lemmas.List.{take-append-drop}
 use Rattle.pl_base.specs.Store.{Store}
 use Rattle.pl_desk.specs.Desk.{ShowsOnly}
 use Rattle.pl_desk.specs.Moments.{and_on, started}

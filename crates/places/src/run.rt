@@ -39,7 +39,7 @@ pub fn run<S: Source, D: Desk>(alloc: Global, words: &[&str], input: &mut S, des
     ensures ends { IsRun (map (λ word. word.now) words.now) → (start : Store) → ((file : List ℕ) → D.may_leave desk.old file → Stands file start)
         → IfTold (S.left input.old) (D.said desk.old) (λ bytes before.
         LeavesAtEnd result true (D.may_leave desk.old) start bytes before (S.left input.new) (D.said desk.new) (D.held desk.new) (D.may_leave desk.new)) }
-    // Of `try` it is one that a stop might have left before.
+    // The file of `try` is one that a stop might have left before it.
     ensures stops_in_memory { IsTry (map (λ word. word.now) words.now) → IfTold (S.left input.old) (D.said desk.old) (λ bytes before.
         ShowsOnly D.moment D.shown_since desk.old desk.new (ShowsAnswered false (D.may_leave desk.old) slot_limit opening (script bytes) before)) }
 

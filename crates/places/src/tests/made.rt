@@ -17,16 +17,11 @@ use std::alloc::Global;
 use std::test::Fail;
 
 // `run` on each source, one after the other.
-fn run_on<S: Source, D: Desk>(
-    alloc: Global,
-    first: &mut S,
-    second: &mut S,
-    desk: &mut D,
-) -> Status
+fn run_on<S: Source, D: Desk>(alloc: Global, first: &mut S, second: &mut S, desk: &mut D) -> Status
     ensures said { result ≡ Status.Done → (start : Store) → ((file : List ℕ) → D.may_leave desk.old file → Stands file start)
         → (one two before : List ℕ) → S.left first.old ≡ Some one → S.left second.old ≡ Some two → D.said desk.old ≡ Some before
         → D.said desk.new ≡ Some ((before ++ texts (replies slot_limit start (script one)))
-            ++ texts (replies slot_limit (after slot_limit start (script one)) (script two))) }
+        ++ texts (replies slot_limit (after slot_limit start (script one)) (script two))) }
 {
     match run(alloc, &["run", "s"], first, desk) {
         Status::Done => run(alloc, &["run", "s"], second, desk),
@@ -43,7 +38,7 @@ fn made_and_run<S: Source, D: Desk>(
 ) -> Status
     ensures said { result ≡ Status.Done → (one two before : List ℕ) → S.left first.old ≡ Some one → S.left second.old ≡ Some two → D.said desk.old ≡ Some before → D.held desk.old ≡ Some []
         → D.said desk.new ≡ Some (((before ++ made_text) ++ texts (replies slot_limit opening (script one)))
-            ++ texts (replies slot_limit (after slot_limit opening (script one)) (script two))) }
+        ++ texts (replies slot_limit (after slot_limit opening (script one)) (script two))) }
 {
     match run(alloc, &["new", "s"], first, desk) {
         Status::Done => run_on(alloc, first, second, desk),
@@ -57,7 +52,10 @@ fn goes_on_where_the_last_run_ended(rt: HostRuntime) -> Result<(), Fail> {
     let mut first = MemSource::over(alloc, b"visit\thttps://a.example/\t2\t0\n", 7, &[])?;
     let mut second = MemSource::over(alloc, b"visit\thttps://a.example/\t1\t0\n", 7, &[])?;
     let mut desk = MemDesk::holding(alloc, &[], &[])?;
-    assert_eq!(rt; made_and_run(alloc, &mut first, &mut second, &mut desk), Status::Done);
+    assert_eq!(rt;
+        made_and_run(alloc, &mut first, &mut second, &mut desk),
+        Status::Done
+    );
     let said = b"new\nvisit\t1\tpage\t1\tfrecency\t2000\nvisit\t2\tpage\t1\tfrecency\t2100\n";
     assert_eq!(rt; desk.said(), said.as_slice());
     Ok(())

@@ -1,8 +1,7 @@
-use Rattle.std.proofs.Common.{◌∙◌, [], ap, sym, length, arith, refl, subst, take, ℕ, List, Option, ◌≡◌, Err}
+use Rattle.std.proofs.Common.{◌∙◌, [], ap, sym, length, arith, refl, subst, take, ℕ, List, Option}
 use Rattle.std.proofs.lemmas.Result.{err_from_is_err_and}
 use Rattle.pl_store.specs.declared.keeper.Keeper.{Keeper}
-use Rattle.pl_script.specs.Script.{script}
-use Rattle.pl_store.specs.Keeper.{is_file, slot_limit, store_of}
+use Rattle.pl_store.specs.Keeper.{is_file, store_of}
 use Rattle.pl_store.specs.KeeperLaws.{kept_keeps}
 use Rattle.places.specs.Progress.{IsAt}
 use Rattle.places.proofs.EndingLemmas.{empty_piece, ends_done, ends_last, ends_piece, ends_reading, ends_too_long, goes_on_behind, shows_begun, shows_last, shows_piece, starts_behind}

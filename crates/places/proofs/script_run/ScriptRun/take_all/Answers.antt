@@ -1,4 +1,4 @@
-use Rattle.std.proofs.Common.{◌≡◌, ◌∙◌, ◌++◌, ℕ, List, Err, Some, ap, append-nil, arith, refl, subst, sym, take}
+use Rattle.std.proofs.Common.{◌∙◌, ◌++◌, ℕ, List, Some, append-nil, arith, refl, subst, take}
 use Rattle.std.proofs.lemmas.Result.{err_from_is_err_and}
 use Rattle.pl_desk.specs.Moments.{shows_less}
 use Rattle.pl_store.specs.Keeper.{is_file, slot_limit}
