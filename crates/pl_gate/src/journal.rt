@@ -1,6 +1,6 @@
 // The journal of a set gate: whether it keeps to its format, and its pages put into their places.
 ghost use Rattle.std.specs.Option.{option_map};
-ghost use Rattle.std.specs.Prelude.{◌≡◌, ◌≤◌, ◌<◌, ◌⊎◌, ◌↔◌, ◌+◌, ◌*◌, ℕ, List, [], Some, None, Err, true, false, length, slice_range, IfOk, IfSome, OnOk};
+ghost use Rattle.std.specs.Prelude.{◌≡◌, ◌≢◌, ◌≤◌, ◌<◌, ◌⊎◌, ◌↔◌, ◌+◌, ◌*◌, ℕ, List, [], Some, None, Err, true, false, length, slice_range, IfOk, IfSome, OnOk};
 ghost use Rattle.std.specs.Int.{w64, from_le_bytes};
 ghost use Rattle.pl_base.specs.Touched.{page_size};
 ghost use Rattle.pl_desk.specs.Counts.{Rose};
@@ -30,7 +30,7 @@ pub fn check_journal<D: Desk>(desk: &mut D, place: &Place, len: u64) -> Result<(
     ensures written { D.written desk.new ≡ D.written desk.old }
     ensures line { D.line_faults desk.new ≡ D.line_faults desk.old }
     ensures counted { D.device_faults desk.old ≤ D.device_faults desk.new }
-    ensures no_fault { OnOk result (D.device_faults desk.new ≡ D.device_faults desk.old) }
+    ensures no_fault { result ≢ Err GateError.DeviceFault → D.device_faults desk.new ≡ D.device_faults desk.old }
     ensures cause { result ≡ Err GateError.DeviceFault → Rose (D.device_faults desk.old) (D.device_faults desk.new) }
 {
     if !lies_behind(place, len) {
@@ -74,7 +74,7 @@ fn read_page<D: Desk>(desk: &mut D, at: u64, last: u64, after: u32) -> Result<u6
     ensures written { D.written desk.new ≡ D.written desk.old }
     ensures line { D.line_faults desk.new ≡ D.line_faults desk.old }
     ensures counted { D.device_faults desk.old ≤ D.device_faults desk.new }
-    ensures no_fault { OnOk result (D.device_faults desk.new ≡ D.device_faults desk.old) }
+    ensures no_fault { result ≢ Err GateError.DeviceFault → D.device_faults desk.new ≡ D.device_faults desk.old }
     ensures cause { result ≡ Err GateError.DeviceFault → Rose (D.device_faults desk.old) (D.device_faults desk.new) }
 {
     let page = read_u64(desk, at)?;
@@ -99,7 +99,7 @@ pub fn install_journal<D: Desk>(desk: &mut D, place: &Place) -> Result<(), GateE
     ensures no_less { D.written desk.old ≤ D.written desk.new }
     ensures line { D.line_faults desk.new ≡ D.line_faults desk.old }
     ensures counted { D.device_faults desk.old ≤ D.device_faults desk.new }
-    ensures no_fault { OnOk result (D.device_faults desk.new ≡ D.device_faults desk.old) }
+    ensures no_fault { result ≢ Err GateError.DeviceFault → D.device_faults desk.new ≡ D.device_faults desk.old }
     ensures cause { result ≡ Err GateError.DeviceFault → Rose (D.device_faults desk.old) (D.device_faults desk.new) }
     ensures good { result ≡ Err GateError.BadGate → D.held desk.old ≡ None }
 {
@@ -128,7 +128,7 @@ fn install_entry<D: Desk>(desk: &mut D, at: u64, last: u64, after: u32) -> Resul
     ensures no_less { D.written desk.old ≤ D.written desk.new }
     ensures line { D.line_faults desk.new ≡ D.line_faults desk.old }
     ensures counted { D.device_faults desk.old ≤ D.device_faults desk.new }
-    ensures no_fault { OnOk result (D.device_faults desk.new ≡ D.device_faults desk.old) }
+    ensures no_fault { result ≢ Err GateError.DeviceFault → D.device_faults desk.new ≡ D.device_faults desk.old }
     ensures cause { result ≡ Err GateError.DeviceFault → Rose (D.device_faults desk.old) (D.device_faults desk.new) }
 {
     let page = read_page(desk, at, last, after)?;

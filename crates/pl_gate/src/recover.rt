@@ -1,4 +1,4 @@
-ghost use Rattle.std.specs.Prelude.{◌≡◌, ◌≤◌, ◌⊎◌, ◌+◌, ◌*◌, ℕ, List, Some, None, Err, true, false, IfSome, OnOk};
+ghost use Rattle.std.specs.Prelude.{◌≡◌, ◌≢◌, ◌≤◌, ◌⊎◌, ◌+◌, ◌*◌, ℕ, List, Some, None, Err, true, false, IfSome, OnOk};
 ghost use Rattle.pl_base.specs.Touched.{page_size};
 ghost use Rattle.pl_desk.specs.Counts.{Rose};
 ghost use Rattle.pl_desk.specs.Desk.{AtAnyMoment, last_offset, Only, Rests};
@@ -25,6 +25,8 @@ impl<'d, D: Desk> Gate<'d, D> {
         ensures good { OnOk result (IfSome (D.held self.old.desk.now) (λ file. has_gate file ≡ true)) }
         ensures bad { result ≡ Err GateError.BadGate → IfSome (D.held self.old.desk.now) (λ file. has_gate file ≡ false) }
         ensures untouched { result ≡ Err GateError.BadGate → D.held self.new.desk.now ≡ D.held self.old.desk.now }
+        // A file whose gate is not set is left as it was.
+        ensures unset { (file : List ℕ) → D.held self.old.desk.now ≡ Some file → is_set file ≡ false → D.held self.new.desk.now ≡ D.held self.old.desk.now }
         ensures unwritten { result ≡ Err GateError.BadGate → (file : List ℕ) → D.held self.old.desk.now ≡ Some file → D.written self.new.desk.now ≡ D.written self.old.desk.now }
         ensures at_rest { result ≡ Err GateError.BadGate → (file : List ℕ) → D.held self.old.desk.now ≡ Some file → Only file (D.may_leave self.new.desk.now) }
 
@@ -42,7 +44,7 @@ impl<'d, D: Desk> Gate<'d, D> {
         ensures said { D.said self.new.desk.now ≡ D.said self.old.desk.now }
         ensures line { D.line_faults self.new.desk.now ≡ D.line_faults self.old.desk.now }
         ensures counted { D.device_faults self.old.desk.now ≤ D.device_faults self.new.desk.now }
-        ensures no_fault { OnOk result (D.device_faults self.new.desk.now ≡ D.device_faults self.old.desk.now) }
+        ensures no_fault { result ≢ Err GateError.DeviceFault → D.device_faults self.new.desk.now ≡ D.device_faults self.old.desk.now }
         ensures cause { result ≡ Err GateError.DeviceFault → Rose (D.device_faults self.old.desk.now) (D.device_faults self.new.desk.now) }
         ensures same_desk { self.new.desk.ghost_name ≡ self.old.desk.ghost_name }
     {
@@ -77,7 +79,7 @@ fn clear_gate<D: Desk>(desk: &mut D, place: &Place) -> Result<(), GateError>
     ensures said { D.said desk.new ≡ D.said desk.old }
     ensures line { D.line_faults desk.new ≡ D.line_faults desk.old }
     ensures counted { D.device_faults desk.old ≤ D.device_faults desk.new }
-    ensures no_fault { OnOk result (D.device_faults desk.new ≡ D.device_faults desk.old) }
+    ensures no_fault { result ≢ Err GateError.DeviceFault → D.device_faults desk.new ≡ D.device_faults desk.old }
     ensures cause { result ≡ Err GateError.DeviceFault → Rose (D.device_faults desk.old) (D.device_faults desk.new) }
 {
     install_journal(desk, place)?;

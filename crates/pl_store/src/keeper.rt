@@ -68,6 +68,7 @@ impl Ready {
         ensures said { D.said desk.new ≡ D.said desk.old }
         ensures line { D.line_faults desk.new ≡ D.line_faults desk.old }
         ensures counted { D.device_faults desk.old ≤ D.device_faults desk.new }
+        ensures no_fault { OnOk result (D.device_faults desk.new ≡ D.device_faults desk.old) }
         ensures cause { OnErr result (Rose (D.device_faults desk.old) (D.device_faults desk.new)) }
     {
         match self {

@@ -1,4 +1,4 @@
-ghost use Rattle.std.specs.Prelude.{◌≡◌, ◌≤◌, ◌<◌, ℕ, List, [], Err, Some, length, IfOk, IfSome, OnOk};
+ghost use Rattle.std.specs.Prelude.{◌≡◌, ◌≢◌, ◌≤◌, ◌<◌, ℕ, List, [], Err, Some, length, IfOk, IfSome, OnOk};
 ghost use Rattle.pl_base.specs.Store.{Store, opening};
 ghost use Rattle.pl_desk.specs.Counts.{Rose};
 ghost use Rattle.pl_desk.specs.Desk.{AtAnyMoment, Rests};
@@ -15,7 +15,8 @@ use pl_desk::Desk;
 use std::alloc::Global;
 
 /// Writes the store before its first command into an empty file. `NotEmpty` comes just where the file has
-/// bytes, and says how many; a file that has bytes is left as it was at each end. A stop within it may leave a file that stands for no store.
+/// bytes, and says how many; a file that has bytes is left as it was at each end. A stop within it may leave
+/// a file that stands for no store.
 pub fn create<D: Desk>(alloc: Global, desk: &mut D) -> Result<Session, Ended>
     ensures store { IfOk result (λ session. store_of session ≡ opening) }
     ensures limit { IfOk result (λ session. limit_of session ≡ 4_194_304) }
@@ -32,6 +33,7 @@ pub fn create<D: Desk>(alloc: Global, desk: &mut D) -> Result<Session, Ended>
     ensures said { D.said desk.new ≡ D.said desk.old }
     ensures line { D.line_faults desk.new ≡ D.line_faults desk.old }
     ensures counted { D.device_faults desk.old ≤ D.device_faults desk.new }
+    ensures no_fault { result ≢ Err Ended.DeviceFault → D.device_faults desk.new ≡ D.device_faults desk.old }
     ensures cause { result ≡ Err Ended.DeviceFault → Rose (D.device_faults desk.old) (D.device_faults desk.new) }
 {
     let len = desk.len()?;
@@ -55,7 +57,7 @@ pub fn reopen<D: Desk>(alloc: Global, desk: &mut D, limit: u32) -> Result<Sessio
     ensures not_a_store { result ≡ Err Ended.NotAStore → IfSome (D.held desk.old) StandsForNone }
     ensures still_none { result ≡ Err Ended.NotAStore → IfSome (D.held desk.new) StandsForNone }
     ensures bad_gate { result ≡ Err Ended.NotAStore → (file : List ℕ) → D.held desk.old ≡ Some file → LacksGate file → D.held desk.new ≡ D.held desk.old }
-    ensures finished { (file : List ℕ) → D.held desk.old ≡ Some file → IsFinished file → D.written desk.new ≡ D.written desk.old }
+    ensures finished { (file : List ℕ) → D.held desk.old ≡ Some file → IsFinished file → (D.held desk.new ≡ D.held desk.old) × (D.written desk.new ≡ D.written desk.old) }
     ensures any_moment { (file : List ℕ) → D.held desk.old ≡ Some file
         → AtAnyMoment D.moment D.shown_since D.said desk.old desk.new (LeftAs (D.may_leave desk.old)) }
     ensures left { (file : List ℕ) → D.held desk.old ≡ Some file → (later : List ℕ) → D.may_leave desk.new later → LeftAs (D.may_leave desk.old) later }
@@ -65,6 +67,7 @@ pub fn reopen<D: Desk>(alloc: Global, desk: &mut D, limit: u32) -> Result<Sessio
     ensures said { D.said desk.new ≡ D.said desk.old }
     ensures line { D.line_faults desk.new ≡ D.line_faults desk.old }
     ensures counted { D.device_faults desk.old ≤ D.device_faults desk.new }
+    ensures no_fault { result ≢ Err Ended.DeviceFault → D.device_faults desk.new ≡ D.device_faults desk.old }
     ensures cause { result ≡ Err Ended.DeviceFault → Rose (D.device_faults desk.old) (D.device_faults desk.new) }
 {
     settle(desk)?;

@@ -1,9 +1,9 @@
 // What an opening reads of a file.
-ghost use Rattle.std.specs.Prelude.{◌≡◌, ◌≤◌, ◌+◌, ℕ, List, Err, Some, true, false, drop, IfOk, IfSome, IsSome, OnOk};
+ghost use Rattle.std.specs.Prelude.{◌≡◌, ◌≢◌, ◌≤◌, ◌+◌, ℕ, List, Err, Some, true, false, drop, IfOk, IfSome, IsSome, OnOk};
 ghost use Rattle.pl_base.specs.Store.{Store};
 ghost use Rattle.pl_desk.specs.Counts.{Rose};
 ghost use Rattle.pl_desk.specs.Desk.{AtAnyMoment, Rests};
-ghost use Rattle.pl_gate.specs.Gate.{has_gate};
+ghost use Rattle.pl_gate.specs.Gate.{has_gate, is_set};
 ghost use Rattle.pl_gate.specs.Recovery.{IsSettledAs, LeftAs, written_by};
 ghost use Rattle.pl_form.specs.Form.{StandsFor};
 ghost use Rattle.pl_store.specs.Reading.{IsReadFrom};
@@ -23,6 +23,7 @@ pub(crate) fn settle<D: Desk>(desk: &mut D) -> Result<(), Ended>
     ensures good { OnOk result (IfSome (D.held desk.old) (λ file. has_gate file ≡ true)) }
     ensures bad { result ≡ Err Ended.NotAStore → IfSome (D.held desk.old) (λ file. has_gate file ≡ false) }
     ensures untouched { result ≡ Err Ended.NotAStore → D.held desk.new ≡ D.held desk.old }
+    ensures unset { (file : List ℕ) → D.held desk.old ≡ Some file → is_set file ≡ false → D.held desk.new ≡ D.held desk.old }
     ensures any_moment { (file : List ℕ) → D.held desk.old ≡ Some file
         → AtAnyMoment D.moment D.shown_since D.said desk.old desk.new (LeftAs (D.may_leave desk.old)) }
     ensures no_more { (file : List ℕ) → D.held desk.old ≡ Some file → D.written desk.new ≤ D.written desk.old + written_by file }
@@ -32,6 +33,7 @@ pub(crate) fn settle<D: Desk>(desk: &mut D) -> Result<(), Ended>
     ensures said { D.said desk.new ≡ D.said desk.old }
     ensures line { D.line_faults desk.new ≡ D.line_faults desk.old }
     ensures counted { D.device_faults desk.old ≤ D.device_faults desk.new }
+    ensures no_fault { result ≢ Err Ended.DeviceFault → D.device_faults desk.new ≡ D.device_faults desk.old }
     ensures cause { result ≡ Err Ended.DeviceFault → Rose (D.device_faults desk.old) (D.device_faults desk.new) }
 {
     let mut gate = Gate::of(desk);
@@ -51,6 +53,7 @@ fn read_all<D: Desk>(alloc: Global, desk: &mut D) -> Result<Vec<u8>, Ended>
     ensures said { D.said desk.new ≡ D.said desk.old }
     ensures line { D.line_faults desk.new ≡ D.line_faults desk.old }
     ensures counted { D.device_faults desk.old ≤ D.device_faults desk.new }
+    ensures no_fault { result ≢ Err Ended.DeviceFault → D.device_faults desk.new ≡ D.device_faults desk.old }
     ensures cause { result ≡ Err Ended.DeviceFault → Rose (D.device_faults desk.old) (D.device_faults desk.new) }
 {
     let len = desk.len()?;
@@ -92,6 +95,7 @@ pub(crate) fn read_session<D: Desk>(
     ensures said { D.said desk.new ≡ D.said desk.old }
     ensures line { D.line_faults desk.new ≡ D.line_faults desk.old }
     ensures counted { D.device_faults desk.old ≤ D.device_faults desk.new }
+    ensures no_fault { result ≢ Err Ended.DeviceFault → D.device_faults desk.new ≡ D.device_faults desk.old }
     ensures cause { result ≡ Err Ended.DeviceFault → Rose (D.device_faults desk.old) (D.device_faults desk.new) }
 {
     let bytes = read_all(alloc, desk)?;

@@ -1,5 +1,5 @@
 // The answer to one line.
-ghost use Rattle.std.specs.Prelude.{◌≡◌, ◌≤◌, ℕ, List, [], ◌∷◌, Some, Err, false, IfOk, IfErr, OnOk, OnErr};
+ghost use Rattle.std.specs.Prelude.{◌≡◌, ◌≢◌, ◌≤◌, ℕ, List, [], ◌∷◌, Some, Err, false, IfOk, IfErr, OnOk, OnErr};
 ghost use Rattle.pl_desk.specs.Counts.{Rose};
 ghost use Rattle.pl_desk.specs.Desk.{ShowsOnly};
 ghost use Rattle.pl_engine.specs.Run.{replies, after};
@@ -45,6 +45,8 @@ pub fn answer<D: Desk>(
     ensures say_cause { result ≡ Err AnswerError.SayFault → Rose (D.line_faults desk.old) (D.line_faults desk.new) }
     ensures device_counted { D.device_faults desk.old ≤ D.device_faults desk.new }
     ensures device_cause { result ≡ Err AnswerError.DeviceFault → Rose (D.device_faults desk.old) (D.device_faults desk.new) }
+    ensures no_say_fault { result ≢ Err AnswerError.SayFault → D.line_faults desk.new ≡ D.line_faults desk.old }
+    ensures no_device_fault { result ≢ Err AnswerError.DeviceFault → D.device_faults desk.new ≡ D.device_faults desk.old }
 {
     let command = match line(alloc, bytes) {
         Ok(Some(command)) => command,
@@ -78,6 +80,7 @@ fn refuse<D: Desk>(alloc: Global, refusal: Refusal, desk: &mut D) -> Result<(), 
     ensures device { D.device_faults desk.new ≡ D.device_faults desk.old }
     ensures counted { D.line_faults desk.old ≤ D.line_faults desk.new }
     ensures cause { result ≡ Err AnswerError.SayFault → Rose (D.line_faults desk.old) (D.line_faults desk.new) }
+    ensures no_say_fault { result ≢ Err AnswerError.SayFault → D.line_faults desk.new ≡ D.line_faults desk.old }
 {
     let text = reply_text(alloc, &Reply::Refused(refusal))?;
     match say_all(desk, text.as_str().as_bytes()) {

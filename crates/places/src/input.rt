@@ -1,5 +1,5 @@
 // The input in pieces.
-ghost use Rattle.std.specs.Prelude.{◌≡◌, ◌≤◌, ◌<◌, ◌⊎◌, [], ◌++◌, length, IfOk, IfErr, IfSome, OnErr};
+ghost use Rattle.std.specs.Prelude.{◌≡◌, ◌≢◌, ◌≤◌, ◌<◌, ◌⊎◌, [], ◌++◌, length, IfOk, IfErr, IfSome, OnErr};
 ghost use Rattle.std.specs.Option.{option_map};
 ghost use Rattle.pl_desk.specs.Counts.{Rose};
 
@@ -17,6 +17,7 @@ pub fn next_piece<S: Source>(alloc: Global, input: &mut S, room: usize) -> Resul
     ensures counted { S.faults input.old ≤ S.faults input.new }
     ensures errors { IfErr result (λ stop. (stop ≡ Stop.ReadFault) ⊎ (stop ≡ Stop.NoMemory)) }
     ensures cause { result ≡ Err Stop.ReadFault → Rose (S.faults input.old) (S.faults input.new) }
+    ensures no_fault { result ≢ Err Stop.ReadFault → S.faults input.new ≡ S.faults input.old }
 {
     let mut piece = vec![in alloc; 0u8; room]?;
     let Ok(count) = input.read(&mut piece) else {

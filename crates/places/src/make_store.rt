@@ -1,5 +1,5 @@
 // A new store in an empty file.
-ghost use Rattle.std.specs.Prelude.{◌≡◌, ◌⊎◌, ◌≤◌, ◌<◌, ℕ, List, [], Some, length, take, IfSome};
+ghost use Rattle.std.specs.Prelude.{◌≡◌, ◌≢◌, ◌⊎◌, ◌≤◌, ◌<◌, ℕ, List, [], Some, length, take, IfSome};
 ghost use Rattle.pl_desk.specs.Counts.{Rose};
 ghost use Rattle.places.specs.Ending.{IsMade, made_text};
 ghost use Rattle.places.specs.Said.{Says};
@@ -27,6 +27,8 @@ pub fn make_store<D: Desk>(alloc: Global, desk: &mut D) -> Status
     ensures say_cause { result ≡ Status.SayFault → Rose (D.line_faults desk.old) (D.line_faults desk.new) }
     ensures device_counted { D.device_faults desk.old ≤ D.device_faults desk.new }
     ensures device_cause { result ≡ Status.DeviceFault → Rose (D.device_faults desk.old) (D.device_faults desk.new) }
+    ensures no_say_fault { result ≢ Status.SayFault → D.line_faults desk.new ≡ D.line_faults desk.old }
+    ensures no_device_fault { result ≢ Status.DeviceFault → D.device_faults desk.new ≡ D.device_faults desk.old }
 {
     if let Err(ended) = create(alloc, desk) {
         return Status::from(ended);

@@ -1,4 +1,4 @@
-ghost use Rattle.std.specs.Prelude.{◌≡◌, ◌⊎◌, ◌↔◌, ◌≤◌, ◌<◌, ℕ, List, [], Some, true, false, length, map, take, IfSome};
+ghost use Rattle.std.specs.Prelude.{◌≡◌, ◌≢◌, ◌⊎◌, ◌↔◌, ◌≤◌, ◌<◌, ℕ, List, [], Some, true, false, length, map, take, IfSome};
 ghost use Rattle.pl_base.specs.Store.{Store, opening};
 ghost use Rattle.pl_desk.specs.Counts.{Rose};
 ghost use Rattle.pl_desk.specs.Desk.{ShowsOnly};
@@ -61,9 +61,10 @@ pub fn run<S: Source, D: Desk>(alloc: Global, words: &[&str], input: &mut S, des
     // A file that stands for no store is refused by `run`, which then reads no input and says nothing, and
     // stands for none afterwards.
     ensures not_a_store { result ≡ Status.NotAStore → IsRun (map (λ word. word.now) words.now) × IfSome (D.held desk.old) StandsForNone × IfSome (D.held desk.new) StandsForNone }
-    // It is left as it was where it has no good gate, and no byte is written where no stop left a change in it.
+    // It is left as it was where it has no good gate, and where no stop left a change in it that could be brought
+    // to its end.
     ensures bad_gate { result ≡ Status.NotAStore → (file : List ℕ) → D.held desk.old ≡ Some file → LacksGate file → D.held desk.new ≡ D.held desk.old }
-    ensures finished { result ≡ Status.NotAStore → (file : List ℕ) → D.held desk.old ≡ Some file → IsFinished file → D.written desk.new ≡ D.written desk.old }
+    ensures finished { result ≡ Status.NotAStore → (file : List ℕ) → D.held desk.old ≡ Some file → IsFinished file → (D.held desk.new ≡ D.held desk.old) × (D.written desk.new ≡ D.written desk.old) }
     ensures not_run { result ≡ Status.NotAStore → (input.new ≡ input.old) × (D.said desk.new ≡ D.said desk.old) }
     ensures no_store { IsRun (map (λ word. word.now) words.now) → (file : List ℕ) → D.held desk.old ≡ Some file → StandsForNone file
         → (result ≡ Status.NotAStore) ⊎ (result ≡ Status.DeviceFault) ⊎ (result ≡ Status.NoMemory) }
@@ -79,6 +80,10 @@ pub fn run<S: Source, D: Desk>(alloc: Global, words: &[&str], input: &mut S, des
     ensures says_counted { D.line_faults desk.old ≤ D.line_faults desk.new }
     ensures device_cause { result ≡ Status.DeviceFault → Rose (D.device_faults desk.old) (D.device_faults desk.new) }
     ensures device_counted { D.device_faults desk.old ≤ D.device_faults desk.new }
+    // And each cause has its status: no fault is passed over, nor taken for want of memory.
+    ensures no_read_fault { result ≢ Status.ReadFault → S.faults input.new ≡ S.faults input.old }
+    ensures no_say_fault { result ≢ Status.SayFault → D.line_faults desk.new ≡ D.line_faults desk.old }
+    ensures no_device_fault { result ≢ Status.DeviceFault → D.device_faults desk.new ≡ D.device_faults desk.old }
     ensures limit { (limit : ℕ) → result ≡ Status.TooLong limit → limit ≡ 2_147_483_648 }
 
     // `try` leaves the desk's file alone: what a read of it gives, and the counts of bytes written and of failed

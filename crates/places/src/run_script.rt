@@ -1,5 +1,5 @@
 // The script of the input on a store.
-ghost use Rattle.std.specs.Prelude.{◌≡◌, ◌≤◌, false, Err};
+ghost use Rattle.std.specs.Prelude.{◌≡◌, ◌≢◌, ◌≤◌, false, Err};
 ghost use Rattle.pl_desk.specs.Counts.{Rose};
 ghost use Rattle.pl_desk.specs.Desk.{ShowsOnly};
 ghost use Rattle.pl_script.specs.Script.{script};
@@ -43,6 +43,9 @@ pub fn run_script<S: Source, D: Desk>(
     ensures say_cause { result ≡ Err Stop.SayFault → Rose (D.line_faults desk.old) (D.line_faults desk.new) }
     ensures device_counted { D.device_faults desk.old ≤ D.device_faults desk.new }
     ensures device_cause { result ≡ Err Stop.DeviceFault → Rose (D.device_faults desk.old) (D.device_faults desk.new) }
+    ensures no_read_fault { result ≢ Err Stop.ReadFault → S.faults input.new ≡ S.faults input.old }
+    ensures no_say_fault { result ≢ Err Stop.SayFault → D.line_faults desk.new ≡ D.line_faults desk.old }
+    ensures no_device_fault { result ≢ Err Stop.DeviceFault → D.device_faults desk.new ≡ D.device_faults desk.old }
     ensures alone { is_file keeper ≡ false → (D.held desk.new ≡ D.held desk.old) × (D.written desk.new ≡ D.written desk.old) × (D.device_faults desk.new ≡ D.device_faults desk.old) }
 {
     let mut run = ScriptRun::new(alloc, keeper);

@@ -16,6 +16,7 @@ pub fn say_all<D: Desk>(desk: &mut D, bytes: &[u8]) -> Result<(), Failed>
     ensures leaves { (file : List ℕ) → D.may_leave desk.new file → D.may_leave desk.old file }
     ensures counted { D.line_faults desk.old ≤ D.line_faults desk.new }
     ensures cause { OnErr result (Rose (D.line_faults desk.old) (D.line_faults desk.new)) }
+    ensures no_fault { OnOk result (D.line_faults desk.new ≡ D.line_faults desk.old) }
     ensures held { D.held desk.new ≡ D.held desk.old }
     ensures written { D.written desk.new ≡ D.written desk.old }
     ensures device { D.device_faults desk.new ≡ D.device_faults desk.old }

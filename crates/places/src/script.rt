@@ -33,6 +33,9 @@ pub fn try_script<S: Source, D: Desk>(alloc: Global, input: &mut S, desk: &mut D
     ensures say_cause { result ≡ Status.SayFault → Rose (D.line_faults desk.old) (D.line_faults desk.new) }
     ensures device_counted { D.device_faults desk.old ≤ D.device_faults desk.new }
     ensures device_cause { result ≡ Status.DeviceFault → Rose (D.device_faults desk.old) (D.device_faults desk.new) }
+    ensures no_read_fault { result ≢ Status.ReadFault → S.faults input.new ≡ S.faults input.old }
+    ensures no_say_fault { result ≢ Status.SayFault → D.line_faults desk.new ≡ D.line_faults desk.old }
+    ensures no_device_fault { result ≢ Status.DeviceFault → D.device_faults desk.new ≡ D.device_faults desk.old }
     ensures limit { (limit : ℕ) → result ≡ Status.TooLong limit → limit ≡ 2_147_483_648 }
     ensures words { result ≢ Status.Usage }
     ensures no_length { (n : ℕ) → result ≢ Status.NotEmpty n }
@@ -55,7 +58,7 @@ pub fn run_stored<S: Source, D: Desk>(alloc: Global, input: &mut S, desk: &mut D
         LeavesAtEnd result true (D.may_leave desk.old) start bytes before (S.left input.new) (D.said desk.new) (D.held desk.new) (D.may_leave desk.new)) }
     ensures not_a_store { result ≡ Status.NotAStore → IfSome (D.held desk.old) StandsForNone × IfSome (D.held desk.new) StandsForNone }
     ensures bad_gate { result ≡ Status.NotAStore → (file : List ℕ) → D.held desk.old ≡ Some file → LacksGate file → D.held desk.new ≡ D.held desk.old }
-    ensures finished { result ≡ Status.NotAStore → (file : List ℕ) → D.held desk.old ≡ Some file → IsFinished file → D.written desk.new ≡ D.written desk.old }
+    ensures finished { result ≡ Status.NotAStore → (file : List ℕ) → D.held desk.old ≡ Some file → IsFinished file → (D.held desk.new ≡ D.held desk.old) × (D.written desk.new ≡ D.written desk.old) }
     ensures not_run { result ≡ Status.NotAStore → (input.new ≡ input.old) × (D.said desk.new ≡ D.said desk.old) }
     ensures no_store { (file : List ℕ) → D.held desk.old ≡ Some file → StandsForNone file
         → (result ≡ Status.NotAStore) ⊎ (result ≡ Status.DeviceFault) ⊎ (result ≡ Status.NoMemory) }
@@ -65,6 +68,9 @@ pub fn run_stored<S: Source, D: Desk>(alloc: Global, input: &mut S, desk: &mut D
     ensures say_cause { result ≡ Status.SayFault → Rose (D.line_faults desk.old) (D.line_faults desk.new) }
     ensures device_counted { D.device_faults desk.old ≤ D.device_faults desk.new }
     ensures device_cause { result ≡ Status.DeviceFault → Rose (D.device_faults desk.old) (D.device_faults desk.new) }
+    ensures no_read_fault { result ≢ Status.ReadFault → S.faults input.new ≡ S.faults input.old }
+    ensures no_say_fault { result ≢ Status.SayFault → D.line_faults desk.new ≡ D.line_faults desk.old }
+    ensures no_device_fault { result ≢ Status.DeviceFault → D.device_faults desk.new ≡ D.device_faults desk.old }
     ensures limit { (limit : ℕ) → result ≡ Status.TooLong limit → limit ≡ 2_147_483_648 }
     ensures words { result ≢ Status.Usage }
     ensures no_length { (n : ℕ) → result ≢ Status.NotEmpty n }

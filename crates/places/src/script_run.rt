@@ -62,6 +62,8 @@ impl ScriptRun {
         ensures say_cause { result ≡ Err AnswerError.SayFault → Rose (D.line_faults desk.old) (D.line_faults desk.new) }
         ensures device_counted { D.device_faults desk.old ≤ D.device_faults desk.new }
         ensures device_cause { result ≡ Err AnswerError.DeviceFault → Rose (D.device_faults desk.old) (D.device_faults desk.new) }
+        ensures no_say_fault { result ≢ Err AnswerError.SayFault → D.line_faults desk.new ≡ D.line_faults desk.old }
+        ensures no_device_fault { result ≢ Err AnswerError.DeviceFault → D.device_faults desk.new ≡ D.device_faults desk.old }
     {
         let mut run = self;
         for &byte in piece {
@@ -88,6 +90,8 @@ impl ScriptRun {
         ensures say_cause { result ≡ Err AnswerError.SayFault → Rose (D.line_faults desk.old) (D.line_faults desk.new) }
         ensures device_counted { D.device_faults desk.old ≤ D.device_faults desk.new }
         ensures device_cause { result ≡ Err AnswerError.DeviceFault → Rose (D.device_faults desk.old) (D.device_faults desk.new) }
+        ensures no_say_fault { result ≢ Err AnswerError.SayFault → D.line_faults desk.new ≡ D.line_faults desk.old }
+        ensures no_device_fault { result ≢ Err AnswerError.DeviceFault → D.device_faults desk.new ≡ D.device_faults desk.old }
     {
         if byte == b'\n' {
             self.end_line(desk)
@@ -115,6 +119,8 @@ impl ScriptRun {
         ensures say_cause { result ≡ Err AnswerError.SayFault → Rose (D.line_faults desk.old) (D.line_faults desk.new) }
         ensures device_counted { D.device_faults desk.old ≤ D.device_faults desk.new }
         ensures device_cause { result ≡ Err AnswerError.DeviceFault → Rose (D.device_faults desk.old) (D.device_faults desk.new) }
+        ensures no_say_fault { result ≢ Err AnswerError.SayFault → D.line_faults desk.new ≡ D.line_faults desk.old }
+        ensures no_device_fault { result ≢ Err AnswerError.DeviceFault → D.device_faults desk.new ≡ D.device_faults desk.old }
     {
         let ScriptRun {
             alloc,
@@ -164,6 +170,8 @@ impl ScriptRun {
         ensures say_cause { result ≡ Err AnswerError.SayFault → Rose (D.line_faults desk.old) (D.line_faults desk.new) }
         ensures device_counted { D.device_faults desk.old ≤ D.device_faults desk.new }
         ensures device_cause { result ≡ Err AnswerError.DeviceFault → Rose (D.device_faults desk.old) (D.device_faults desk.new) }
+        ensures no_say_fault { result ≢ Err AnswerError.SayFault → D.line_faults desk.new ≡ D.line_faults desk.old }
+        ensures no_device_fault { result ≢ Err AnswerError.DeviceFault → D.device_faults desk.new ≡ D.device_faults desk.old }
     {
         answer(self.alloc, self.keeper, &self.line, desk)
     }

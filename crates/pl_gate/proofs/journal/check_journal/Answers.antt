@@ -1,7 +1,8 @@
 use Rattle.std.proofs.Common.{◌≡◌, ◌+◌, ◌*◌, ℕ, List, [], ◌∷◌, Some, Err, drop, refl, sym, ◌∙◌, ap, arith}
 use Rattle.std.proofs.lemmas.List.{drop_all}
-use Rattle.std.proofs.lemmas.Option.{MatchOption-at_some}
+use Rattle.std.proofs.lemmas.Option.{MatchOption-at_some, none-some}
 use Rattle.std.proofs.lemmas.Result.{err_from_is_err_and, IfErr-at_err}
+use Rattle.std.specs.Result.{result_err}
 use Rattle.pl_base.specs.Touched.{PageImage, page_numbers}
 use Rattle.pl_gate.specs.declared.error.GateError.TheVariants.{BadGate}
 use Rattle.pl_gate.specs.Device.{TornIn}
@@ -77,7 +78,7 @@ loop-index-preserved g c =
       said = c.read_page.ensures.said ∙ c.loop-index.invariant.said;
       written = c.read_page.ensures.written ∙ c.loop-index.invariant.written;
       line = c.read_page.ensures.line ∙ c.loop-index.invariant.line;
-      no_fault = c.in_ok-last.ensures.no_fault ∙ c.loop-index.invariant.no_fault;
+      no_fault = c.in_ok-last.ensures.no_fault (λ is. none-some _ (ap result_err is)) ∙ c.loop-index.invariant.no_fault;
     }
 
 pub returns-clause-journal : goal.returns-clause-journal

@@ -3,6 +3,7 @@ use Rattle.std.proofs.lemmas.Bool.{and_from, both_ways}
 use Rattle.std.proofs.lemmas.List.{take_all}
 use Rattle.std.proofs.lemmas.Option.{MatchOption-at_some, none-some, same_Some}
 use Rattle.std.proofs.lemmas.Result.{err_from_is_err_and, IfErr-at_err}
+use Rattle.std.specs.Result.{result_err}
 use Rattle.std.specs.Option.{option_map}
 use Rattle.pl_base.specs.Touched.{PageImage, page_numbers, page_size}
 use Rattle.pl_desk.specs.Desk.{Follows, Torn, overwritten}
@@ -130,7 +131,7 @@ loop-index-preserved g c =
       said = c.install_entry.ensures.said ∙ c.loop-index.invariant.said;
       written = c.in_ok-last.ensures.written ∙ omega (arith, c.loop-index.invariant.written);
       line = c.install_entry.ensures.line ∙ c.loop-index.invariant.line;
-      no_fault = c.in_ok-last.ensures.no_fault ∙ c.loop-index.invariant.no_fault;
+      no_fault = c.in_ok-last.ensures.no_fault (λ is. none-some _ (ap result_err is)) ∙ c.loop-index.invariant.no_fault;
     }
 
 pub returns-clause-held : goal.returns-clause-held

@@ -121,9 +121,13 @@ pub returns-clause-bad_gate : goal.returns-clause-bad_gate
 returns-clause-bad_gate g c ended file is lacks = absurd (both_ways (has_gate file) lacks (MatchOption-at_some _ _ file is c.in_ok-settle.ensures.good))
 
 pub returns-in_err-settle-clause-finished : goal.returns-in_err-settle-clause-finished
-returns-in_err-settle-clause-finished g c file is unset = let desk = g.D.Desk in
-    writes_none file (desk.written c.args.desk.now) (desk.written c.settle.new.desk) unset c.settle.ensures.no_less (c.settle.ensures.no_more file is)
+returns-in_err-settle-clause-finished g c file is unset = let desk = g.D.Desk in (
+  c.settle.ensures.unset file is unset,
+  writes_none file (desk.written c.args.desk.now) (desk.written c.settle.new.desk) unset c.settle.ensures.no_less (c.settle.ensures.no_more file is),
+)
 
 pub returns-clause-finished : goal.returns-clause-finished
-returns-clause-finished g c file is unset = let desk = g.D.Desk in
-    c.read_session.ensures.written ∙ writes_none file (desk.written c.args.desk.now) (desk.written c.settle.new.desk) unset c.settle.ensures.no_less (c.settle.ensures.no_more file is)
+returns-clause-finished g c file is unset = let desk = g.D.Desk in (
+  c.read_session.ensures.held ∙ c.settle.ensures.unset file is unset,
+  c.read_session.ensures.written ∙ writes_none file (desk.written c.args.desk.now) (desk.written c.settle.new.desk) unset c.settle.ensures.no_less (c.settle.ensures.no_more file is),
+)

@@ -1,5 +1,7 @@
 use Rattle.std.proofs.Common.{◌∙◌, [], ap, sym, length, arith, refl, subst, take, ℕ, List, Option}
+use Rattle.std.proofs.lemmas.Option.{none-some}
 use Rattle.std.proofs.lemmas.Result.{err_from_is_err_and}
+use Rattle.std.specs.Result.{result_err}
 use Rattle.pl_store.specs.declared.keeper.Keeper.{Keeper}
 use Rattle.pl_store.specs.Keeper.{is_file, store_of}
 use Rattle.pl_store.specs.KeeperLaws.{kept_keeps}
@@ -22,6 +24,9 @@ loop-read-init g c = let desk = g.D.Desk in let run = c.new-run.result in let st
       reads_counted = omega arith;
       says_counted = omega arith;
       device_counted = omega arith;
+      no_read_fault = refl;
+      no_say_fault = refl;
+      no_device_fault = refl;
       alone = λ memory. (refl, refl, refl);
     }
 
@@ -65,6 +70,9 @@ loop-read-preserved g c = let desk = g.D.Desk in let is = c.loop-read.invariant 
   reads_counted = omega (arith, is.reads_counted, c.in_ok-piece.ensures.counted);
   says_counted = omega (arith, is.says_counted, did.says_counted);
   device_counted = omega (arith, is.device_counted, did.device_counted);
+  no_read_fault = c.in_ok-piece.ensures.no_fault (λ e. none-some _ (ap result_err e)) ∙ is.no_read_fault;
+  no_say_fault = did.no_say_fault (λ e. none-some _ (ap result_err e)) ∙ is.no_say_fault;
+  no_device_fault = did.no_device_fault (λ e. none-some _ (ap result_err e)) ∙ is.no_device_fault;
   alone = λ memory. let now = did.alone (is.kind ∙ memory) in let before = is.alone memory in (now.0 ∙ before.0, now.1 ∙ before.1, now.2 ∙ before.2);
 }
 

@@ -23,6 +23,9 @@ invariant-loop-read g l = let input = g.S.Source in let desk = g.D.Desk in let k
   reads_counted : input.faults l.initial.input ≤ input.faults l.input;
   says_counted : desk.line_faults l.initial.desk ≤ desk.line_faults l.desk;
   device_counted : desk.device_faults l.initial.desk ≤ desk.device_faults l.desk;
+  no_read_fault : input.faults l.input ≡ input.faults l.initial.input;
+  no_say_fault : desk.line_faults l.desk ≡ desk.line_faults l.initial.desk;
+  no_device_fault : desk.device_faults l.desk ≡ desk.device_faults l.initial.desk;
   alone : is_file keeper ≡ false → (desk.held l.desk ≡ desk.held l.initial.desk) × (desk.written l.desk ≡ desk.written l.initial.desk) × (desk.device_faults l.desk ≡ desk.device_faults l.initial.desk);
 }
 

@@ -10,6 +10,7 @@ loop-said-init g c = let desk = g.D.Desk in record {
   shows = λ before is. says_none desk.moment desk.shown_since desk.may_leave desk.said g.met.D.Desk.only_now c.args.desk.now before c.args.bytes.now is;
   leaves = search rules;
   counted = search rules;
+  no_fault = search rules;
   held = search rules;
   written = search rules;
   device = search rules;
@@ -25,6 +26,7 @@ loop-said-preserved g c = let desk = g.D.Desk in let so_far = c.loop-said.invari
       so_far.within is so_far.front so_far.leaves c.in_ok-said.ensures.leaves (so_far.shows before is) c.in_ok-said.ensures.time;
   leaves = λ file left. so_far.leaves file (c.in_ok-said.ensures.leaves file left);
   counted = search rules;
+  no_fault = c.in_ok-said.ensures.no_fault ∙ so_far.no_fault;
   held = c.in_ok-said.ensures.held ∙ so_far.held;
   written = c.in_ok-said.ensures.written ∙ so_far.written;
   device = c.in_ok-said.ensures.device ∙ so_far.device;

@@ -12,6 +12,7 @@ invariant-loop-said g l = let desk = g.D.Desk in record {
   shows : (before : List ℕ) → desk.said l.initial.desk ≡ Some before → ShowsOnly desk.moment desk.shown_since l.initial.desk l.desk (ShowsFront (desk.may_leave l.initial.desk) before l.bytes);
   leaves : (file : List ℕ) → desk.may_leave l.desk file → desk.may_leave l.initial.desk file;
   counted : desk.line_faults l.initial.desk ≤ desk.line_faults l.desk;
+  no_fault : desk.line_faults l.desk ≡ desk.line_faults l.initial.desk;
   held : desk.held l.desk ≡ desk.held l.initial.desk;
   written : desk.written l.desk ≡ desk.written l.initial.desk;
   device : desk.device_faults l.desk ≡ desk.device_faults l.initial.desk;

@@ -1,5 +1,7 @@
-use Rattle.std.proofs.Common.{◌∙◌, ◌++◌, ℕ, List, Some, append-nil, arith, refl, subst, take}
+use Rattle.std.proofs.Common.{◌∙◌, ◌++◌, ℕ, List, Some, append-nil, ap, arith, refl, subst, take}
+use Rattle.std.proofs.lemmas.Option.{none-some}
 use Rattle.std.proofs.lemmas.Result.{err_from_is_err_and}
+use Rattle.std.specs.Result.{result_err}
 use Rattle.pl_desk.specs.Moments.{shows_less}
 use Rattle.pl_store.specs.Keeper.{is_file, slot_limit}
 use Rattle.places.specs.Progress.{IsAt, ended_entries}
@@ -37,6 +39,8 @@ loop-byte-init g c = let desk = g.D.Desk in record {
   alone = λ memory. (refl, refl, refl);
   says_counted = omega arith;
   device_counted = omega arith;
+  no_say_fault = refl;
+  no_device_fault = refl;
 }
 
 pub loop-byte-preserved : goal.loop-byte-preserved
@@ -53,4 +57,6 @@ loop-byte-preserved g c = let is = c.loop-byte.invariant in let did = c.in_ok-ru
   alone = λ memory. let now = did.alone (is.kind ∙ memory) in let before = is.alone memory in (now.0 ∙ before.0, now.1 ∙ before.1, now.2 ∙ before.2);
   says_counted = omega (arith, did.says_counted, is.says_counted);
   device_counted = omega (arith, did.device_counted, is.device_counted);
+  no_say_fault = did.no_say_fault (λ e. none-some _ (ap result_err e)) ∙ is.no_say_fault;
+  no_device_fault = did.no_device_fault (λ e. none-some _ (ap result_err e)) ∙ is.no_device_fault;
 }

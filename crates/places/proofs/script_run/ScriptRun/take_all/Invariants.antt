@@ -20,4 +20,6 @@ invariant-loop-byte g l = let desk = g.D.Desk in record {
   alone : is_file l.initial.run.keeper ≡ false → (desk.held l.desk ≡ desk.held l.initial.desk) × (desk.written l.desk ≡ desk.written l.initial.desk) × (desk.device_faults l.desk ≡ desk.device_faults l.initial.desk);
   says_counted : desk.line_faults l.initial.desk ≤ desk.line_faults l.desk;
   device_counted : desk.device_faults l.initial.desk ≤ desk.device_faults l.desk;
+  no_say_fault : desk.line_faults l.desk ≡ desk.line_faults l.initial.desk;
+  no_device_fault : desk.device_faults l.desk ≡ desk.device_faults l.initial.desk;
 }
