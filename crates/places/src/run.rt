@@ -68,6 +68,8 @@ pub fn run<S: Source, D: Desk>(alloc: Global, words: &[&str], input: &mut S, des
     ensures not_run { result ≡ Status.NotAStore → (input.new ≡ input.old) × (D.said desk.new ≡ D.said desk.old) }
     ensures no_store { IsRun (map (λ word. word.now) words.now) → (file : List ℕ) → D.held desk.old ≡ Some file → StandsForNone file
         → (result ≡ Status.NotAStore) ⊎ (result ≡ Status.DeviceFault) ⊎ (result ≡ Status.NoMemory) }
+    // Whichever of these it is, no input is read and nothing is said.
+    ensures unopened { IsRun (map (λ word. word.now) words.now) → (file : List ℕ) → D.held desk.old ≡ Some file → StandsForNone file → (input.new ≡ input.old) × (D.said desk.new ≡ D.said desk.old) }
 
     // Other words are refused, and then nothing is called.
     ensures usage { (result ≡ Status.Usage) ↔ ((IsTry (map (λ word. word.now) words.now) ⊎ IsNew (map (λ word. word.now) words.now) ⊎ IsRun (map (λ word. word.now) words.now)) → ⊥) }

@@ -62,6 +62,7 @@ pub fn run_stored<S: Source, D: Desk>(alloc: Global, input: &mut S, desk: &mut D
     ensures not_run { result ≡ Status.NotAStore → (input.new ≡ input.old) × (D.said desk.new ≡ D.said desk.old) }
     ensures no_store { (file : List ℕ) → D.held desk.old ≡ Some file → StandsForNone file
         → (result ≡ Status.NotAStore) ⊎ (result ≡ Status.DeviceFault) ⊎ (result ≡ Status.NoMemory) }
+    ensures unopened { (file : List ℕ) → D.held desk.old ≡ Some file → StandsForNone file → (input.new ≡ input.old) × (D.said desk.new ≡ D.said desk.old) }
     ensures reads_counted { S.faults input.old ≤ S.faults input.new }
     ensures read_cause { result ≡ Status.ReadFault → Rose (S.faults input.old) (S.faults input.new) }
     ensures says_counted { D.line_faults desk.old ≤ D.line_faults desk.new }

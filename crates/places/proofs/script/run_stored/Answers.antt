@@ -39,6 +39,10 @@ pub returns-in-Ok-clause-no_store : goal.returns-in-Ok-clause-no_store
 returns-in-Ok-clause-no_store g c = λ file held none.
     absurd (none (store_of c.in-Ok.session) (MatchOption-at_some _ _ file held c.in-Ok.ensures.stands))
 
+pub returns-in-Ok-clause-unopened : goal.returns-in-Ok-clause-unopened
+returns-in-Ok-clause-unopened g c = λ file held none.
+    absurd (none (store_of c.in-Ok.session) (MatchOption-at_some _ _ file held c.in-Ok.ensures.stands))
+
 pub returns-in-Err-clause-replies : goal.returns-in-Err-clause-replies
 returns-in-Err-clause-replies g c = λ file start held stands bytes before told begun.
     says_without start c.in-Err.ended c.from.result bytes before _ _ c.from.ensures
