@@ -4,6 +4,7 @@ mod KnownPage
 mod Lists
 mod LiveAfter
 mod OriginParts
+mod NoSource
 mod PageScore
 mod PageWalk
 mod ReadyPage

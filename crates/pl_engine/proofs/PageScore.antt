@@ -1,21 +1,17 @@
 -- The frecency of a page where no visit has a source and no item has a page.
 use Rattle.std.proofs.Common.{◌≡◌, ◌∙◌, ◌+◌, ◌<◌, ◌≤◌, ◌==◌, ◌&&◌, ℕ, All, Bool, true, false, List, [], ◌∷◌, Option, None, ap, arith, count_by, if◌then◌else◌, length, map, refl, take}
 use Rattle.std.specs.List.{sum_by}
-use Rattle.std.specs.Option.{option_and_then}
-use Rattle.std.proofs.lemmas.Bool.{and_right}
 use Rattle.std.proofs.lemmas.List.{length-map, length-take}
-use Rattle.std.proofs.lemmas.List.Elements.{All-cons, All-filter, All-head, All-nil, All-tail, All-take, All-weaker}
-use Rattle.std.proofs.lemmas.List.Folds.{list_any_none}
+use Rattle.std.proofs.lemmas.List.Elements.{All-cons, All-head, All-nil, All-tail}
 use Rattle.std.proofs.lemmas.List.Sums.{length-filter, sum_by-cons}
 use Rattle.pl_base.specs.declared.date.Day.{Day}
 use Rattle.pl_base.specs.declared.id.PageId.{PageId}
-use Rattle.pl_base.specs.declared.id.VisitId.{VisitId}
 use Rattle.pl_base.specs.declared.transition.Transition.{Transition}
 use Rattle.pl_base.specs.declared.transition.Transition.TheVariants.{Link, Typed, Bookmark, Embed, RedirectPermanent, RedirectTemporary, Download, FramedLink, Reload}
 use Rattle.pl_base.specs.Address.{is_place_url}
 use Rattle.pl_base.specs.Frecency.{frecency_from, frecency_of, points, visit_bonus}
 use Rattle.pl_base.specs.Marks.{is_counted, is_referenced, visit_count}
-use Rattle.pl_base.specs.Redirects.{came_from, is_redirect, is_redirect_source, source_transition, transition_at}
+use Rattle.pl_base.specs.Redirects.{is_redirect_source}
 use Rattle.pl_base.specs.Rows.{IsOfVisits, Kept, page_visits, store_of}
 use Rattle.pl_base.specs.Store.{Page, Store, Visit}
 use Rattle.pl_base.specs.Tables.{bonus_of, transition_bonus}
@@ -23,6 +19,7 @@ use Rattle.pl_base.specs.Visits.{in_place, is_later, latest_first, sample_of, vi
 use Rattle.pl_score.specs.declared.sample.Sampled.{Sampled}
 use Rattle.pl_score.specs.Sample.{points_of}
 use Rattle.pl_engine.specs.Sampled.{sampled_visit}
+use Rattle.pl_engine.proofs.NoSource.{HasNoSource, no_redirect_source, no_source_transition, sample_none}
 
 -- ---- what a visit counts
 
@@ -91,26 +88,6 @@ sample_filled kept page sample count is counted some =
 
 -- ---- visits without a source
 
-abbrev HasNoSource : Visit → Type 0
-HasNoSource v = v.source ≡ None
-
-no_redirect : (v w : Visit) → HasNoSource w → (is_redirect w.transition && came_from v w.source) ≡ false
-no_redirect v w none = and_right (is_redirect w.transition) (came_from v w.source) (ap (came_from v) none)
-
-pub no_redirect_source : (store : Store) (v : Visit) → All HasNoSource store.visits → is_redirect_source store v ≡ false
-no_redirect_source store v none =
-    list_any_none (λ (w : Visit). is_redirect w.transition && came_from v w.source) store.visits
-    (All-weaker HasNoSource (λ (w : Visit). (is_redirect w.transition && came_from v w.source) ≡ false) (no_redirect v) store.visits none)
-
-if_same : {A : Type 0} (b : Bool) (x : A) → (if b then x else x) ≡ x
-if_same true x = refl
-if_same false x = refl
-
-no_source_transition : (store : Store) (v : Visit) → HasNoSource v → source_transition store v ≡ None
-no_source_transition store v none =
-    ap (λ (o : Option VisitId). if is_redirect v.transition then option_and_then (transition_at store) o else None) none
-    ∙ if_same (is_redirect v.transition) None
-
 not_referenced : (store : Store) (page : PageId) → IsOfVisits store → is_referenced store page ≡ false
 not_referenced store page few = rw few.no_item refl
 
@@ -119,25 +96,6 @@ own_bonus store v few none =
     ap (λ (o : Option Transition). bonus_of v.transition o (is_redirect_source store v) (is_referenced store v.page)) (no_source_transition store v none)
     ∙ ap (λ (b : Bool). bonus_of v.transition None b (is_referenced store v.page)) (no_redirect_source store v few.no_source)
     ∙ ap (λ (b : Bool). bonus_of v.transition None false b) (not_referenced store v.page few)
-
-in_place_none_at : (b : Bool) (v w : Visit) (ws vs : List Visit) → HasNoSource v → All HasNoSource (w ∷ ws) → All HasNoSource vs → All HasNoSource (if b then v ∷ w ∷ ws else w ∷ vs)
-in_place_none_at true v w ws vs none all rest = All-cons HasNoSource v (w ∷ ws) none all
-in_place_none_at false v w ws vs none all rest = All-cons HasNoSource w vs (All-head HasNoSource w ws all) rest
-
-in_place_none : (v : Visit) (ws : List Visit) → HasNoSource v → All HasNoSource ws → All HasNoSource (in_place v ws)
-in_place_none v [] none all = All-cons HasNoSource v [] none all
-in_place_none v (w ∷ ws) none all =
-    in_place_none_at (is_later v w) v w ws (in_place v ws) none all (in_place_none v ws none (All-tail HasNoSource w ws all))
-
-latest_none : (vs : List Visit) → All HasNoSource vs → All HasNoSource (latest_first vs)
-latest_none [] all = all
-latest_none (v ∷ vs) all =
-    in_place_none v (latest_first vs) (All-head HasNoSource v vs all) (latest_none vs (All-tail HasNoSource v vs all))
-
-sample_none : (store : Store) (page : PageId) → All HasNoSource store.visits → All HasNoSource (sample_of store page)
-sample_none store page all =
-    All-take HasNoSource 10 (latest_first (visits_of store page))
-    (latest_none (visits_of store page) (All-filter (λ (v : Visit). v.page.0 == page.0) HasNoSource store.visits all))
 
 points_of_sampled : (store : Store) (vs : List Visit) → IsOfVisits store → All HasNoSource vs → points_of store.day (map sampled_visit vs) ≡ sum_by (λ (v : Visit). points store.day v.date (visit_bonus store v)) vs
 points_of_sampled store [] few all = refl

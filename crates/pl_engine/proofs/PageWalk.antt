@@ -13,7 +13,7 @@ use Rattle.pl_base.specs.Address.{same_origin}
 use Rattle.pl_base.specs.Rows.{IsOriginOf, IsWellKept, Kept, KeptPage, has_page, origin_of, page_at, page_behind, store_of, url_of}
 use Rattle.pl_base.specs.Store.{Page}
 
-from_map : {X Y : Type 0} (P : Y → Type 0) (f : X → Y) (xs : List X) → AllByRecursion P (map f xs) → AllByRecursion (λ x. P (f x)) xs
+pub from_map : {X Y : Type 0} (P : Y → Type 0) (f : X → Y) (xs : List X) → AllByRecursion P (map f xs) → AllByRecursion (λ x. P (f x)) xs
 from_map P f [] all = tt
 from_map P f (x ∷ xs) all = (all.0, from_map P f xs all.1)
 

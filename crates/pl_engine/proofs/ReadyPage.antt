@@ -23,8 +23,8 @@ use Rattle.pl_engine.specs.declared.engine.find.Target.TheVariants.{Known, New}
 use Rattle.pl_engine.specs.Engine.{IsSound}
 use Rattle.pl_engine.specs.Target.{IsMarkBefore, IsTargetOf, WithTarget}
 use Rattle.pl_engine.proofs.KnownPage.{IsKnown, has_known, holds_known, known, mark_known, only_known}
-use Rattle.pl_engine.proofs.Lists.{All-from_map, list_any_last}
-use Rattle.pl_engine.proofs.PageScore.{no_redirect_source}
+use Rattle.pl_engine.proofs.Lists.{All-from_map, list_all-alike, list_any_last}
+use Rattle.pl_engine.proofs.NoSource.{no_redirect_source}
 use Rattle.pl_engine.proofs.RightAfter.{of_visits_page}
 
 -- what was computed of the page last is right
@@ -50,10 +50,6 @@ pub record IsReady (kept : Kept) (page : PageId) (url : List ℕ) (before : Mark
 abbrev pub hidden_by : Store → List Visit → Bool
 hidden_by store [] = false
 hidden_by store (v ∷ vs) = list_all (λ w. is_framed w.transition || is_redirect_source store w) (v ∷ vs)
-
-list_all-alike : {X : Type 0} (p q : X → Bool) (xs : List X) → ((x : X) → p x ≡ q x) → list_all p xs ≡ list_all q xs
-list_all-alike p q [] alike = refl
-list_all-alike p q (x ∷ xs) alike = rw (alike x, list_all-alike p q xs alike)
 
 or_false : (a b : Bool) → b ≡ false → (a || b) ≡ a
 or_false true b is = refl

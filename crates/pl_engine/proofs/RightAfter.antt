@@ -1,15 +1,12 @@
 -- The marks of the other pages stay right when a page is visited, and so do the facts of an engine's rows.
 use Rattle.std.proofs.Common.{◌≡◌, ◌+◌, ◌==◌, ◌&&◌, ◌||◌, ◌++◌, ◌∙◌, if◌then◌else◌, ℕ, ℤ, All, Bool, true, false, IsTrue, cond, filter, List, [], ◌∷◌, Option, None, ap, arith, count_by, get_or, length, map, pos, refl, sym, take}
 use Rattle.std.specs.List.{list_all, list_any, sum_by}
-use Rattle.std.specs.Option.{option_and_then}
-use Rattle.std.proofs.lemmas.Bool.{and_right, cond_both, eq-eqb, eqb-false, eqb-true, false≢true, ne_eqb}
+use Rattle.std.proofs.lemmas.Bool.{cond_both, eq-eqb, eqb-false, eqb-true, false≢true, ne_eqb}
 use Rattle.std.proofs.lemmas.List.{append-nil}
-use Rattle.std.proofs.lemmas.List.Elements.{All-cons, All-filter, All-head, All-map, All-push, All-tail, All-take, All-weaker, filter-append}
-use Rattle.std.proofs.lemmas.List.Folds.{list_any_none}
+use Rattle.std.proofs.lemmas.List.Elements.{All-map, All-push, All-weaker, filter-append}
 use Rattle.std.proofs.lemmas.List.Sums.{sum_by_push}
 use Rattle.pl_base.specs.declared.id.PageId.{PageId}
 use Rattle.pl_base.specs.declared.id.Slot.{Slot}
-use Rattle.pl_base.specs.declared.id.VisitId.{VisitId}
 use Rattle.pl_base.specs.declared.row.Mark.{Mark}
 use Rattle.pl_base.specs.declared.row.VisitRow.{VisitRow}
 use Rattle.pl_base.specs.declared.transition.Transition.{Transition}
@@ -18,60 +15,22 @@ use Rattle.pl_base.specs.Address.{is_place_url}
 use Rattle.pl_base.specs.Frecency.{frecency_from, frecency_of, points, visit_bonus}
 use Rattle.pl_base.specs.Good.{is_visited}
 use Rattle.pl_base.specs.Marks.{is_counted, is_framed, is_hidden, is_referenced, visit_count}
-use Rattle.pl_base.specs.Redirects.{came_from, is_redirect, is_redirect_source, source_transition, transition_at}
+use Rattle.pl_base.specs.Redirects.{is_redirect_source}
 use Rattle.pl_base.specs.Rows.{IsOfVisits, IsRight, IsWellKept, Kept, KeptPage, marked, store_of, with_mark, with_page, with_visit}
 use Rattle.pl_base.specs.Store.{Page, Store, Visit}
 use Rattle.pl_base.specs.Tables.{bonus_of}
-use Rattle.pl_base.specs.Visits.{in_place, is_later, latest_first, sample_of, visits_of}
+use Rattle.pl_base.specs.Visits.{latest_first, sample_of, visits_of}
 use Rattle.pl_engine.specs.Engine.{IsVisited}
-use Rattle.pl_engine.proofs.Lists.{All-from_map, list_any_last, list_any_push, sum_by-agree}
+use Rattle.pl_engine.proofs.Lists.{All-from_map, list_all-alike, list_any_last, list_any_push, sum_by-agree}
+use Rattle.pl_engine.proofs.NoSource.{HasNoSource, no_redirect_source, no_source_transition, sample_none}
 
 -- ---- visits without a source
-
-abbrev HasNoSource : Visit → Type 0
-HasNoSource v = v.source ≡ None
-
-no_redirect : (v w : Visit) → HasNoSource w → (is_redirect w.transition && came_from v w.source) ≡ false
-no_redirect v w none = and_right (is_redirect w.transition) (came_from v w.source) (ap (came_from v) none)
-
-no_redirect_source : (store : Store) (v : Visit) → All HasNoSource store.visits → is_redirect_source store v ≡ false
-no_redirect_source store v none =
-    list_any_none (λ (w : Visit). is_redirect w.transition && came_from v w.source) store.visits
-    (All-weaker HasNoSource (λ (w : Visit). (is_redirect w.transition && came_from v w.source) ≡ false) (no_redirect v) store.visits none)
-
-if_same : {A : Type 0} (b : Bool) (x : A) → (if b then x else x) ≡ x
-if_same true x = refl
-if_same false x = refl
-
-no_source_transition : (store : Store) (v : Visit) → HasNoSource v → source_transition store v ≡ None
-no_source_transition store v none =
-    ap (λ (o : Option VisitId). if is_redirect v.transition then option_and_then (transition_at store) o else None) none
-    ∙ if_same (is_redirect v.transition) None
 
 -- the bonus of a visit without a source, where no visit has one
 plain_bonus : (store : Store) (v : Visit) → All HasNoSource store.visits → HasNoSource v → visit_bonus store v ≡ bonus_of v.transition None false (is_referenced store v.page)
 plain_bonus store v all none =
     ap (λ (o : Option Transition). bonus_of v.transition o (is_redirect_source store v) (is_referenced store v.page)) (no_source_transition store v none)
     ∙ ap (λ (b : Bool). bonus_of v.transition None b (is_referenced store v.page)) (no_redirect_source store v all)
-
-in_place_none_at : (b : Bool) (v w : Visit) (ws vs : List Visit) → HasNoSource v → All HasNoSource (w ∷ ws) → All HasNoSource vs → All HasNoSource (if b then v ∷ w ∷ ws else w ∷ vs)
-in_place_none_at true v w ws vs none all rest = All-cons HasNoSource v (w ∷ ws) none all
-in_place_none_at false v w ws vs none all rest = All-cons HasNoSource w vs (All-head HasNoSource w ws all) rest
-
-in_place_none : (v : Visit) (ws : List Visit) → HasNoSource v → All HasNoSource ws → All HasNoSource (in_place v ws)
-in_place_none v [] none all = All-cons HasNoSource v [] none all
-in_place_none v (w ∷ ws) none all =
-    in_place_none_at (is_later v w) v w ws (in_place v ws) none all (in_place_none v ws none (All-tail HasNoSource w ws all))
-
-latest_none : (vs : List Visit) → All HasNoSource vs → All HasNoSource (latest_first vs)
-latest_none [] all = all
-latest_none (v ∷ vs) all =
-    in_place_none v (latest_first vs) (All-head HasNoSource v vs all) (latest_none vs (All-tail HasNoSource v vs all))
-
-sample_none : (store : Store) (page : PageId) → All HasNoSource store.visits → All HasNoSource (sample_of store page)
-sample_none store page all =
-    All-take HasNoSource 10 (latest_first (visits_of store page))
-    (latest_none (visits_of store page) (All-filter (λ (v : Visit). v.page.0 == page.0) HasNoSource store.visits all))
 
 -- ---- a visit to another page
 
@@ -119,10 +78,6 @@ other_frecency store v pages p all none other =
 abbrev hidden_by : Store → List Visit → Bool
 hidden_by store [] = false
 hidden_by store (v ∷ vs) = list_all (λ w. is_framed w.transition || is_redirect_source store w) (v ∷ vs)
-
-list_all-alike : {X : Type 0} (p q : X → Bool) (xs : List X) → ((x : X) → p x ≡ q x) → list_all p xs ≡ list_all q xs
-list_all-alike p q [] alike = refl
-list_all-alike p q (x ∷ xs) alike = rw (alike x, list_all-alike p q xs alike)
 
 hidden_by-alike : (store after : Store) (vs : List Visit) → ((w : Visit) → is_redirect_source after w ≡ is_redirect_source store w) → hidden_by after vs ≡ hidden_by store vs
 hidden_by-alike store after [] alike = refl

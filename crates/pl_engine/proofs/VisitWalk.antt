@@ -15,20 +15,13 @@ use Rattle.pl_base.specs.Store.{Visit}
 use Rattle.pl_base.specs.Visits.{in_place, is_later, latest_first, visits_of}
 use Rattle.pl_score.specs.declared.sample.Sampled.{Sampled}
 use Rattle.pl_engine.specs.Sampled.{sampled_row, sampled_visit}
-
-from_map : {X Y : Type 0} (P : Y → Type 0) (f : X → Y) (xs : List X) → AllByRecursion P (map f xs) → AllByRecursion (λ x. P (f x)) xs
-from_map P f [] all = tt
-from_map P f (x ∷ xs) all = (all.0, from_map P f xs all.1)
+use Rattle.pl_engine.proofs.PageWalk.{from_map, part, weaker}
 
 -- ---- no two visits have the same id
 
 abbrev Differ : List Visit → Type 0
 Differ [] = Unit {0}
 Differ (v ∷ vs) = AllByRecursion (λ (w : Visit). w.id.0 ≢ v.id.0) vs × Differ vs
-
-weaker : {X : Type 0} (P Q : X → Type 0) (xs : List X) → ((x : X) → P x → Q x) → AllByRecursion P xs → AllByRecursion Q xs
-weaker P Q [] f all = tt
-weaker P Q (x ∷ xs) f all = (f x all.0, weaker P Q xs f all.1)
 
 rising : (vs : List Visit) → AllPairs (λ m n. m < n) (map (λ (v : Visit). v.id.0) vs) → Differ vs
 rising [] pairs = tt
@@ -92,10 +85,6 @@ Differ-latest_first (v ∷ vs) differ =
 
 not_same : (m n : ℕ) → m ≢ n → eqb m n ≡ false
 not_same m n apart = grind (arith, nat_tests)
-
-part : {X : Type 0} (P : X → Type 0) (front : List X) (x : X) (rest : List X) → AllByRecursion P (front ++ x ∷ rest) → P x
-part P [] x rest all = all.0
-part P (y ∷ front) x rest all = part P front x rest all.1
 
 behind : (front : List Visit) (v : Visit) (rest : List Visit) → Differ (front ++ v ∷ rest) → id_behind v.id (front ++ v ∷ rest) ≡ first_id rest
 behind [] v rest differ = rw (eq-eqb v.id.0 v.id.0 refl) refl

@@ -1,15 +1,15 @@
 -- The sample of a page's visits, over rows of visits.
-use Rattle.std.proofs.Common.{Bor, if◌then◌else◌, ◌≡◌, ◌+◌, ◌++◌, ◌==◌, ℕ, filter, position, reverse, unwrap_or, cond, not, Bool, true, false, suc, zero, List, [], ◌∷◌, length, map, take, refl, ◌∙◌, sym, ap, arith, one-add}
-use Rattle.std.proofs.lemmas.List.{append-nil, map-append, reverse-append, reverse-reverse, take-map, take-take}
+use Rattle.std.proofs.Common.{Bor, if◌then◌else◌, ◌≡◌, ◌+◌, ◌++◌, ◌==◌, ℕ, filter, position, reverse, unwrap_or, cond, not, Bool, true, false, suc, zero, List, [], ◌∷◌, length, map, take, refl, ◌∙◌, ap, arith, one-add}
+use Rattle.std.proofs.lemmas.List.{reverse-reverse, take-map, take-take}
 use Rattle.std.proofs.lemmas.List.Sums.{prefix_len-le-length}
 use Rattle.std.proofs.lemmas.Bool.Decides.{nat_tests}
-use Rattle.std.proofs.lemmas.List.Elements.{filter-append}
 use Rattle.std.specs.List.{insert, position_or_len}
 use Rattle.pl_base.specs.declared.id.PageId.{PageId}
 use Rattle.pl_base.specs.Store.{Visit}
 use Rattle.pl_base.specs.Visits.{in_place, is_later, latest_first}
 use Rattle.pl_form.specs.declared.stored.StoredVisit.{StoredVisit}
 use Rattle.pl_form.specs.Stored.{visit_of}
+use Rattle.pl_plain.proofs.LatestVisits.{filter-reverse, walked, walked-push}
 
 -- the place before the first row that a visit is later than, and the end where there is none
 abbrev pub place_in : StoredVisit → List StoredVisit → ℕ
@@ -46,32 +46,14 @@ take-in_place zero v ws = refl
 take-in_place (suc m) v [] = refl
 take-in_place (suc m) v (w ∷ ws) = take-in_place_at (is_later v w) m v w ws (take-in_place m v ws)
 
--- the rows that were walked, in the order in which they stand
-abbrev pub walked : List (Bor StoredVisit) → List StoredVisit
-walked seen = reverse (map (λ (row : Bor StoredVisit). row.now) seen)
-
 -- the sample of these rows
 abbrev pub sample_among : List StoredVisit → List Visit
 sample_among rows = take 10 (latest_first (map visit_of rows))
-
-walked-push : (seen : List (Bor StoredVisit)) (row : Bor StoredVisit) → walked (seen ++ row ∷ []) ≡ row.now ∷ walked seen
-walked-push seen row =
-    rw (map-append (λ (row : Bor StoredVisit). row.now) seen (row ∷ []), reverse-append (map (λ (row : Bor StoredVisit). row.now) seen) (row.now ∷ []))
 
 -- one row more
 pub sample_more : (seen : List (Bor StoredVisit)) (row : Bor StoredVisit) (vs : List Visit) → vs ≡ sample_among (walked seen) → take 10 (in_place (visit_of row.now) vs) ≡ sample_among (walked (seen ++ row ∷ []))
 sample_more seen row vs so_far =
     rw (walked-push seen row, so_far) (take-in_place 10 (visit_of row.now) (latest_first (map visit_of (walked seen))))
-
-filter_end : {X : Type 0} (b : Bool) (x : X) (ys : List X) → reverse ys ++ (if b then x ∷ [] else []) ≡ reverse (if b then x ∷ ys else ys)
-filter_end true x ys = sym (reverse-append (x ∷ []) ys)
-filter_end false x ys = append-nil (reverse ys)
-
-filter-reverse : {X : Type 0} (p : X → Bool) (xs : List X) → filter p (reverse xs) ≡ reverse (filter p xs)
-filter-reverse p [] = refl
-filter-reverse p (x ∷ xs) =
-    ap (filter p) (reverse-append (x ∷ []) xs) ∙ filter-append p (reverse xs) (x ∷ [])
-    ∙ ap (λ ys. ys ++ filter p (x ∷ [])) (filter-reverse p xs) ∙ filter_end (p x) x (filter p xs)
 
 -- the rows of a page
 abbrev pub of_page : PageId → StoredVisit → Bool

@@ -19,7 +19,7 @@ first_of-in_place v (w ∷ ws) =
 abbrev pub walked : List (Bor StoredVisit) → List StoredVisit
 walked seen = reverse (map (λ (row : Bor StoredVisit). row.now) seen)
 
-walked-push : (seen : List (Bor StoredVisit)) (row : Bor StoredVisit) → walked (seen ++ row ∷ []) ≡ row.now ∷ walked seen
+pub walked-push : (seen : List (Bor StoredVisit)) (row : Bor StoredVisit) → walked (seen ++ row ∷ []) ≡ row.now ∷ walked seen
 walked-push seen row =
     rw (map-append (λ (row : Bor StoredVisit). row.now) seen (row ∷ []), reverse-append (map (λ (row : Bor StoredVisit). row.now) seen) (row.now ∷ []))
 
@@ -34,7 +34,7 @@ filter_end : {X : Type 0} (b : Bool) (x : X) (ys : List X) → reverse ys ++ (if
 filter_end true x ys = sym (reverse-append (x ∷ []) ys)
 filter_end false x ys = append-nil (reverse ys)
 
-filter-reverse : {X : Type 0} (p : X → Bool) (xs : List X) → filter p (reverse xs) ≡ reverse (filter p xs)
+pub filter-reverse : {X : Type 0} (p : X → Bool) (xs : List X) → filter p (reverse xs) ≡ reverse (filter p xs)
 filter-reverse p [] = refl
 filter-reverse p (x ∷ xs) =
     ap (filter p) (reverse-append (x ∷ []) xs) ∙ filter-append p (reverse xs) (x ∷ [])

@@ -24,7 +24,7 @@ pub if_err_both : {X E : Type 0} (result : Result X E) (P Q R : E → Type 0) �
 if_err_both (Ok x) P Q R first second both = tt
 if_err_both (Err error) P Q R first second both = both error first second
 
-one_entry : (found : Option (Parsed Command)) → length (option_to_list found) ≤ 1
+pub one_entry : (found : Option (Parsed Command)) → length (option_to_list found) ≤ 1
 one_entry None = omega arith
 one_entry (Some e) = omega arith
 

@@ -1,5 +1,5 @@
 -- What a stop shows of a line is what it shows of a run with more lines.
-use Rattle.std.proofs.Common.{◌≡◌, ◌≤◌, ◌<◌, ◌+◌, Bool, ℕ, List, [], ◌∷◌, ◌++◌, length, take, drop, get_or, Some, None, Option, option_to_list, ap, sym, subst, ◌∙◌, append_assoc, append-nil, arith, inl}
+use Rattle.std.proofs.Common.{◌≡◌, ◌<◌, ◌+◌, Bool, ℕ, List, [], ◌∷◌, ◌++◌, length, take, drop, get_or, Some, Option, option_to_list, ap, sym, subst, ◌∙◌, append_assoc, append-nil, arith, inl}
 use Rattle.std.specs.Str.Lines.{strip_carriage_return}
 use Rattle.pl_base.specs.Store.{Store}
 use Rattle.pl_desk.specs.Desk.{ShowsOnly}
@@ -17,10 +17,7 @@ use Rattle.places.specs.Stops.{ShowsAnswer, ShowsAnswered}
 use Rattle.pl_store.specs.KeeperLaws.{kept_leaves}
 use Rattle.places.proofs.LineLemmas.{script-is}
 use Rattle.places.proofs.ProgressLemmas.{around, ended_further, ended_lf, kept_open, kept_stripped}
-
-one_entry : (found : Option (Parsed Command)) → length (option_to_list found) ≤ 1
-one_entry None = omega arith
-one_entry (Some e) = omega arith
+use Rattle.places.proofs.EntryLemmas.{one_entry}
 
 module _ (kind : Bool) (first : List ℕ → Type 0) (start : Store) where
   -- a run of more entries

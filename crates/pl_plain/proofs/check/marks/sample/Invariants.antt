@@ -1,6 +1,7 @@
 use Rattle.std.proofs.Common.{◌≡◌, map}
 use Rattle.pl_form.specs.Stored.{visit_of}
-use Rattle.pl_plain.proofs.CheckSamples.{sample_among, walked}
+use Rattle.pl_plain.proofs.CheckSamples.{sample_among}
+use Rattle.pl_plain.proofs.LatestVisits.{walked}
 use Rattle.pl_plain.proofs.check.marks.sample.Given as goal
 
 abbrev pub invariant-loop-visit : goal.invariant-loop-visit
