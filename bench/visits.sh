@@ -137,7 +137,7 @@ fi
 machine
 check
 printf '%-26s %6s %6s %8s %8s %9s %13s\n' '' lines pages 'wall, s' 'user, s' 'peak, MiB' 'wall/line, us'
-measure 2500 250
 measure 5000 500
 measure 10000 1000
+measure 20000 2000
 echo 'replies agree at each size'
