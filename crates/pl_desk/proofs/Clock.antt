@@ -1,12 +1,13 @@
 -- What one call more does to the clock of a desk in memory.
-use Rattle.std.proofs.Common.{◌≡◌, ◌⊎◌, ℕ, ◌+◌, ◌-◌, ◌<◌, ◌≤◌, Some, List, [], ◌∷◌, ◌++◌, length, take, All, get_or, refl, sym, ◌∙◌, ap, subst, inl, inr, ⊎_elim, arith, length-append, append-nil}
+use Rattle.std.proofs.Common.{◌≡◌, ◌⊎◌, ℕ, ◌+◌, ◌-◌, ◌<◌, ◌≤◌, Some, List, [], ◌∷◌, ◌++◌, length, take, All, refl, sym, ◌∙◌, ap, subst, inl, inr, ⊎_elim, arith, length-append, append-nil}
 use Rattle.std.proofs.lemmas.Bool.{cases_eq, cases_lt}
-use Rattle.std.proofs.lemmas.List.{take_at, take_all, length-map, map_push, get_or_append_left, get_or_push, get_or_default, take-append-le, length_push}
+use Rattle.std.proofs.lemmas.List.{take_at, take_all, length-map, take-append-le, length_push}
 use Rattle.std.proofs.lemmas.List.Elements.{All-get_or}
 use Rattle.std.proofs.Math.Seq.{take-append-add}
 use Rattle.pl_desk.specs.Desk.{Elapses}
 use Rattle.pl_desk.specs.MemDesk.{Deed, Recorded, nothing, file_after, Takes, LeftAfter, begun_at, said_len_at, IsShown}
 use Rattle.pl_desk.specs.Replay.{said_len_past, push_reaches, counts_now}
+use Rattle.pl_desk.proofs.Inside.{said_len_push}
 
 -- what a stop from the end of the first t calls on might have shown
 abbrev pub Since : List ℕ → List Recorded → List ℕ → ℕ → List ℕ → List ℕ → Type 0
@@ -39,12 +40,7 @@ module _ (first : List ℕ) (calls : List Recorded) (said more : List ℕ) (call
 
   -- how much had been said when an earlier call began, or this one
   len_same : (said' : List ℕ) (k : ℕ) → k ≤ length calls → said_len_at calls' said' k ≡ said_len_at calls said k
-  len_same said' k le =
-      let pushed = ap (λ (l : List ℕ). get_or l k (length said')) (map_push (λ (c : Recorded). c.said_before) calls call) in
-      elim (cases_lt k (length calls)) [
-        | inl lt ↦ pushed ∙ get_or_append_left (begun_at calls) (call.said_before ∷ []) (length said') k (omega (arith, lt, sizes)) ∙ get_or_default (begun_at calls) k (length said') (length said) (omega (arith, lt, sizes))
-        | inr ge ↦ pushed ∙ get_or_push (begun_at calls) call.said_before (length said') k (omega (arith, ge, le, sizes)) ∙ begins ∙ sym (said_len_past calls said k ge)
-      ]
+  len_same said' k le = said_len_push calls call said said' k begins le
 
   len_within : (k : ℕ) → said_len_at calls said k ≤ length said
   len_within k = elim (cases_lt k (length calls)) [

@@ -3,6 +3,7 @@ use Rattle.std.proofs.Common.{◌≡◌, ◌+◌, ◌≤◌, Some, List, [], ◌
 use Rattle.pl_desk.specs.Desk.{Follows, Elapses, Shows}
 use Rattle.pl_desk.specs.MemDesk.{Deed, Recorded, DeskState, after_deed, written_by, Takes, written_in, begun_at, held_by, MayLeave, ShownSince, with_call}
 use Rattle.pl_desk.specs.Replay.{file_after_push, reaches_push}
+use Rattle.pl_desk.specs.Stopped.{IsQuiet}
 use Rattle.pl_desk.proofs.Clock.{passes}
 
 pub held_after : (desk : DeskState) (deed : Deed) → held_by (with_call desk deed) ≡ after_deed deed (held_by desk)
@@ -21,6 +22,10 @@ left_after desk deed file left = reaches_push desk.first desk.first desk.calls (
 -- each call began when no more had been said than now
 abbrev pub Begun : DeskState → Type 0
 Begun desk = All (λ n. n ≤ length desk.said) (begun_at desk.calls)
+
+-- no call that does something to the file says anything
+abbrev pub Quiet : DeskState → Type 0
+Quiet desk = IsQuiet desk.calls desk.said
 
 pub time_after : (desk : DeskState) (deed : Deed) → Begun desk → Elapses (length desk.calls) (length (with_call desk deed).calls) (ShownSince desk) (ShownSince (with_call desk deed)) (Shows (MayLeave (with_call desk deed)) (Some desk.said))
 time_after desk deed begun = passes desk.first desk.calls desk.said [] (record { said_before = length desk.said; deed = deed }) refl begun refl

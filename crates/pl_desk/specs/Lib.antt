@@ -7,4 +7,5 @@ pub mod Moments
 pub mod Overwritten
 pub mod Record
 pub mod Replay
+pub mod Settling
 pub mod Stopped

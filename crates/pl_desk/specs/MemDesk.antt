@@ -89,6 +89,10 @@ begun_at calls = map (λ call. call.said_before) calls
 abbrev pub said_len_at : List Recorded → List ℕ → ℕ → ℕ
 said_len_at calls said call = slice_index_or (begun_at calls) call (length said)
 
+-- what had been said when a call began
+abbrev pub line_at : DeskState → ℕ → List ℕ
+line_at desk call = take (said_len_at desk.calls desk.said call) desk.said
+
 -- What a stop may show when k calls are done and the next has not touched the file: a file that it may leave,
 -- and what was said with a front of what the next call says. No call begins with less said than one before.
 pub record IsShown (first : List ℕ) (calls : List Recorded) (said : List ℕ) (k : ℕ) (file line : List ℕ) : Type 0 where

@@ -1,7 +1,7 @@
 -- What a stop leaves of the file of a desk in memory, with one byte in each place that may hold anything.
-use Rattle.std.specs.Prelude.{◌⊎◌, ℕ, zero, suc, ◌+◌, List, [], ◌∷◌, length, take, replicate}
+use Rattle.std.specs.Prelude.{◌≡◌, ◌≢◌, ◌⊎◌, ℕ, zero, suc, ◌+◌, List, [], ◌∷◌, length, take, replicate}
 use Rattle.pl_desk.specs.Desk.{overwritten}
-use Rattle.pl_desk.specs.MemDesk.{Deed, nothing, wrote, tore, synced, Recorded, DeskState, after_deed, LeftAfter}
+use Rattle.pl_desk.specs.MemDesk.{Deed, nothing, wrote, tore, synced, Recorded, DeskState, after_deed, LeftAfter, said_len_at}
 
 -- what a stop within a call leaves: the filler where the call writes, and in a gap before
 abbrev pub filled_by : ℕ → Deed → List ℕ → List ℕ
@@ -28,6 +28,11 @@ abbrev pub deed_at : List Recorded → ℕ → Deed
 deed_at [] call = nothing
 deed_at (first ∷ later) zero = first.deed
 deed_at (first ∷ later) (suc call) = deed_at later call
+
+-- a call that does something to the file says nothing: as much had been said when the next one began
+abbrev pub IsQuiet : List Recorded → List ℕ → Type 0
+IsQuiet calls said =
+    (k : ℕ) → deed_at calls k ≢ nothing → said_len_at calls said (k + 1) ≡ said_len_at calls said k
 
 -- what a stop within the call with this number leaves
 abbrev pub stopped_in : DeskState → ℕ → ℕ → List ℕ

@@ -1,7 +1,7 @@
 ghost use Rattle.std.specs.Prelude.{◌≡◌, ◌↔◌, ℕ, ◌+◌, ◌<◌, ◌≤◌, List, Some, None, [], ◌++◌, length, take, slice_get, slice_range, IsTrue, IfOk, OnOk, OnErr, IsErr};
 ghost use Rattle.pl_desk.specs.Counts.{Rose};
 ghost use Rattle.pl_desk.specs.Desk.{last_offset, overwritten, Torn, Follows, Only, Shows, ShowsSaying, said_by, Elapses};
-ghost use Rattle.pl_desk.specs.MemDesk.{nothing, wrote, tore, synced, desk_holding, begun_at, held_by, written_in, MayLeave, ShownSince, after_deed, written_by, Takes, IsOfFailure, IsRefused, with_call, with_call_if_room, after_say, after_failed_call, after_failed_say};
+ghost use Rattle.pl_desk.specs.MemDesk.{nothing, wrote, tore, synced, desk_holding, begun_at, line_at, held_by, written_in, MayLeave, ShownSince, after_deed, written_by, Takes, IsOfFailure, IsRefused, with_call, with_call_if_room, after_say, after_failed_call, after_failed_say};
 ghost use Rattle.pl_desk.specs.Record.{deed_of};
 ghost use Rattle.pl_desk.specs.Replay.{told_together, counts_now, shown_now, only_now};
 ghost use Rattle.pl_desk.specs.Stopped.{stopped_in, LeftIn};
@@ -35,6 +35,7 @@ impl Model for MemDesk {
     ghost use Rattle.std.specs.Prelude.{◌≡◌, ◌≤◌, length, vec_len, vec_capacity, All};
     ghost use Rattle.pl_desk.specs.MemDesk.{DeskState, begun_at, file_after};
     ghost use Rattle.pl_desk.specs.Record.{calls_of};
+    ghost use Rattle.pl_desk.specs.Stopped.{IsQuiet};
     ghost use Rattle.pl_desk.specs.declared.mem_desk.TheConstants.{RECORD_ROOM};
 
     ghost Value = { DeskState };
@@ -52,6 +53,7 @@ impl Model for MemDesk {
       few : vec_len d.calls ≤ RECORD_ROOM;
       room : RECORD_ROOM ≤ vec_capacity d.calls;
       within : All (λ said_len. said_len ≤ length d.said.items) (begun_at (calls_of d.calls.items));
+      quiet : IsQuiet (calls_of d.calls.items) d.said.items;
       replayed : d.file.items ≡ file_after d.first.items (calls_of d.calls.items);
     } };
 }
@@ -98,6 +100,7 @@ impl MemDesk {
         requires { call < length self.now.calls }
         ensures value { slice_get (begun_at self.now.calls) call ≡ Some result }
         ensures within { result ≤ length self.now.said }
+        ensures line { result ≡ length (line_at self.now call) }
     {
         self.calls[call as usize].said_before
     }
@@ -108,7 +111,7 @@ impl MemDesk {
         requires { call < length self.now.calls }
         ensures left { IfOk result (λ desk. desk ≡ desk_holding (stopped_in self.now call filler) []) }
         ensures allowed { LeftIn self.now call (stopped_in self.now call filler) }
-        ensures shown { (line : List ℕ) × ShownSince self.now call (stopped_in self.now call filler) line }
+        ensures shown { ShownSince self.now call (stopped_in self.now call filler) (line_at self.now call) }
     {
         let call = call as usize;
         let mut image = image_of(alloc, &self.first, &self.calls[..call], filler)?;
@@ -400,6 +403,3 @@ impl Desk for MemDesk {
         Ok(bytes.len())
     }
 }
-
-#[cfg(test)]
-mod tests;

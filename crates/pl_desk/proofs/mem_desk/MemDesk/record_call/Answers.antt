@@ -1,10 +1,10 @@
-use Rattle.std.proofs.Common.{Some, length, sym, ◌∙◌, ap, subst, arith}
+use Rattle.std.proofs.Common.{Some, inr, refl, length, sym, ◌∙◌, ap, subst, arith}
 use Rattle.std.proofs.lemmas.List.{length-map}
 use Rattle.std.proofs.lemmas.Grind.{common_steps}
 use Rattle.pl_desk.specs.Desk.{Follows, Elapses, Shows}
 use Rattle.pl_desk.specs.MemDesk.{DeskState, Takes, held_by, written_in, MayLeave, ShownSince}
 use Rattle.pl_desk.specs.Record.{call_of, calls_of, deed_of}
-use Rattle.pl_desk.proofs.Inside.{calls_push, within_push, replayed_push}
+use Rattle.pl_desk.proofs.Inside.{calls_push, within_push, replayed_push, quiet_push}
 use Rattle.pl_desk.proofs.Desks.{Begun, held_after, written_after, left_after, time_after}
 use Rattle.pl_desk.proofs.mem_desk.MemDesk.record_call.Goals as goal
 
@@ -45,5 +45,6 @@ invariant_of-self c =
       few = omega (arith, c.push_reserved.ensures.len, count, few_before, mapped, c.requires.room);
       room = omega (arith, c.push_reserved.ensures.capacity, c.self.invariant.room);
       within = within_push (calls_of old.calls.items) _ call _ _ calls_is (omega arith) (omega (arith, said_len, c.len-said_before.ensures)) c.self.invariant.within;
+      quiet = quiet_push (calls_of old.calls.items) _ call old.said.items old.said.items calls_is (omega (arith, said_len, c.len-said_before.ensures)) (inr refl) c.self.invariant.quiet;
       replayed = replayed_push old.first.items old.file.items old.file.items (calls_of old.calls.items) _ call calls_is c.self.invariant.replayed (sym (c.requires.keeps old.file.items));
     }

@@ -2,9 +2,9 @@ use Rattle.std.proofs.Common.{ℕ, ◌≤◌, length, refl, sym, ◌∙◌, ap, 
 use Rattle.std.specs.Option.{option_map}
 use Rattle.std.specs.List.{slice_get}
 use Rattle.std.proofs.lemmas.Option.{slice_get-map, slice_get_read, get_or_from_slice_get}
-use Rattle.std.proofs.lemmas.List.{length-map}
+use Rattle.std.proofs.lemmas.List.{length-map, length-take}
 use Rattle.std.proofs.lemmas.List.Elements.{All-get_or}
-use Rattle.pl_desk.specs.MemDesk.{DeskState, Recorded, begun_at}
+use Rattle.pl_desk.specs.MemDesk.{DeskState, Recorded, begun_at, said_len_at}
 use Rattle.pl_desk.specs.Record.{call_of, calls_of}
 use Rattle.pl_desk.proofs.Desks.{Begun}
 use Rattle.pl_desk.proofs.mem_desk.MemDesk.said_at.Goals as goal
@@ -26,3 +26,9 @@ returns-clause-within c =
     let mapped = length-map desk.calls (λ (call : Recorded). call.said_before) in
     subst (λ (n : ℕ). n ≤ length desk.said) (get_or_from_slice_get (begun_at desk.calls) c.args.call c.index.result.now.said_before 0 (returns-clause-value c))
     (All-get_or (λ n. n ≤ length desk.said) (begun_at desk.calls) c.args.call 0 (omega (arith, mapped, c.requires)) begun)
+
+pub returns-clause-line : goal.returns-clause-line
+returns-clause-line c =
+    let desk = c.args.self.now in
+    let is = get_or_from_slice_get (begun_at desk.calls) c.args.call c.index.result.now.said_before (length desk.said) (returns-clause-value c) in
+    omega (arith, is, length-take (said_len_at desk.calls desk.said c.args.call) desk.said, returns-clause-within c)

@@ -4,6 +4,7 @@ use Rattle.pl_desk.specs.declared.record.Recorded.{Recorded as RecordedInMemory}
 use Rattle.pl_desk.specs.MemDesk.{Deed, DeskState, desk_holding}
 use Rattle.pl_desk.specs.Stopped.{stopped_in, filled_by, deed_at, image_after}
 use Rattle.pl_desk.specs.Record.{call_of, calls_of}
+use Rattle.pl_desk.proofs.Desks.{Quiet}
 use Rattle.pl_desk.proofs.Stops.{left_in, shown_in, deed_read}
 use Rattle.pl_desk.proofs.mem_desk.MemDesk.stopped.Goals as goal
 
@@ -11,19 +12,19 @@ pub returns-in_err-image-clause-allowed : goal.returns-in_err-image-clause-allow
 returns-in_err-image-clause-allowed c = left_in c.args.self.now c.args.call c.args.filler c.requires
 
 pub returns-in_err-image-clause-shown : goal.returns-in_err-image-clause-shown
-returns-in_err-image-clause-shown c = shown_in c.args.self.now c.args.call c.args.filler c.requires
+returns-in_err-image-clause-shown c = shown_in c.args.self.now c.args.call c.args.filler c.requires (subst Quiet c.self.view_is c.self.invariant.quiet)
 
 pub returns-in_err-fill-clause-allowed : goal.returns-in_err-fill-clause-allowed
 returns-in_err-fill-clause-allowed c = left_in c.args.self.now c.args.call c.args.filler c.requires
 
 pub returns-in_err-fill-clause-shown : goal.returns-in_err-fill-clause-shown
-returns-in_err-fill-clause-shown c = shown_in c.args.self.now c.args.call c.args.filler c.requires
+returns-in_err-fill-clause-shown c = shown_in c.args.self.now c.args.call c.args.filler c.requires (subst Quiet c.self.view_is c.self.invariant.quiet)
 
 pub returns-clause-allowed : goal.returns-clause-allowed
 returns-clause-allowed c = left_in c.args.self.now c.args.call c.args.filler c.requires
 
 pub returns-clause-shown : goal.returns-clause-shown
-returns-clause-shown c = shown_in c.args.self.now c.args.call c.args.filler c.requires
+returns-clause-shown c = shown_in c.args.self.now c.args.call c.args.filler c.requires (subst Quiet c.self.view_is c.self.invariant.quiet)
 
 pub returns-clause-left : goal.returns-clause-left
 returns-clause-left c =

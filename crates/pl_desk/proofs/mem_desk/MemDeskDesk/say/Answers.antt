@@ -1,10 +1,10 @@
-use Rattle.std.proofs.Common.{◌≡◌, ℕ, ◌≤◌, Some, length, List, refl, append-nil, length-append, sym, ◌∙◌, ap, subst, arith}
+use Rattle.std.proofs.Common.{◌≡◌, inl, ℕ, ◌≤◌, Some, length, List, refl, append-nil, length-append, sym, ◌∙◌, ap, subst, arith}
 use Rattle.std.proofs.lemmas.Grind.{common_steps}
 use Rattle.pl_desk.specs.Desk.{Elapses, Shows, ShowsSaying}
 use Rattle.pl_desk.specs.MemDesk.{Recorded, DeskState, nothing, held_by, written_in, MayLeave, ShownSince}
 use Rattle.pl_desk.specs.Record.{calls_of}
 use Rattle.pl_desk.proofs.Clock.{Since, says, weaker}
-use Rattle.pl_desk.proofs.Inside.{calls_push, within_push, replayed_push}
+use Rattle.pl_desk.proofs.Inside.{calls_push, within_push, replayed_push, quiet_push}
 use Rattle.pl_desk.proofs.Desks.{Begun, held_after, written_after, left_after}
 use Rattle.pl_desk.proofs.mem_desk.MemDeskDesk.say.Goals as goal
 
@@ -59,5 +59,6 @@ invariant_of-self-2 c =
       few = grind (arith, common_steps);
       room = omega (arith, c.push_reserved.ensures.capacity, c.self.invariant.room);
       within = within_push (calls_of old.calls.items) _ call _ _ calls_is longer (omega (arith, said_len, longer, c.len-said_before.ensures)) c.self.invariant.within;
+      quiet = quiet_push (calls_of old.calls.items) _ call old.said.items _ calls_is (omega (arith, said_len, c.len-said_before.ensures)) (inl refl) c.self.invariant.quiet;
       replayed = replayed_push old.first.items old.file.items old.file.items (calls_of old.calls.items) _ call calls_is c.self.invariant.replayed refl;
     }

@@ -1,9 +1,9 @@
-use Rattle.std.proofs.Common.{◌≡◌, ◌+◌, Some, length, sym, ◌∙◌, ap, subst, arith}
+use Rattle.std.proofs.Common.{◌≡◌, inr, refl, ◌+◌, Some, length, sym, ◌∙◌, ap, subst, arith}
 use Rattle.std.proofs.lemmas.Grind.{common_steps}
 use Rattle.pl_desk.specs.Desk.{Elapses, Shows}
 use Rattle.pl_desk.specs.MemDesk.{Deed, DeskState, wrote, after_deed, held_by, written_in, MayLeave, ShownSince}
 use Rattle.pl_desk.specs.Record.{call_of, calls_of}
-use Rattle.pl_desk.proofs.Inside.{calls_push, within_push, replayed_push}
+use Rattle.pl_desk.proofs.Inside.{calls_push, within_push, replayed_push, quiet_push}
 use Rattle.pl_desk.proofs.Desks.{Begun, held_after, written_after, left_after, time_after}
 use Rattle.pl_desk.proofs.mem_desk.MemDeskDesk.write_at.Goals as goal
 
@@ -47,5 +47,6 @@ invariant_of-self-2 c =
       few = grind (arith, common_steps);
       room = omega (arith, c.push_reserved.ensures.capacity, c.self.invariant.room);
       within = within_push (calls_of old.calls.items) _ call _ _ calls_is (omega arith) (omega (arith, said_len, c.len-said_before.ensures)) c.self.invariant.within;
+      quiet = quiet_push (calls_of old.calls.items) _ call old.said.items old.said.items calls_is (omega (arith, said_len, c.len-said_before.ensures)) (inr refl) c.self.invariant.quiet;
       replayed = replayed_push old.first.items old.file.items c.write.new.file.items (calls_of old.calls.items) _ call calls_is c.self.invariant.replayed (c.in-Ok.ensures.ok ∙ ap (λ (d : Deed). after_deed d old.file.items) (sym deed_is));
     }
