@@ -38,13 +38,13 @@ abbrev pub with_one_more : ℕ → List ℕ → Change → Change
 with_one_more page image change =
     record change { pages = change.pages ++ record { page = page; image = image } ∷ [] }
 
--- where a page lies in the bytes from page 1 on
-abbrev pub page_at : ℕ → ℕ
-page_at page = page_size * (page - 1)
+-- how many bytes from page 1 on lie before a page: where it lies, and the length of the pages before it
+abbrev pub bytes_before : ℕ → ℕ
+bytes_before page = page_size * (page - 1)
 
 -- the bytes from page 1 on with a page's image in its place
 abbrev pub with_page : PageImage → List ℕ → List ℕ
-with_page p bytes = take (page_at p.page) bytes ++ p.image ++ drop (page_at p.page + page_size) bytes
+with_page p bytes = take (bytes_before p.page) bytes ++ p.image ++ drop (bytes_before p.page + page_size) bytes
 
 -- the same with several images
 abbrev pub with_pages : List PageImage → List ℕ → List ℕ
@@ -53,7 +53,7 @@ with_pages (p ∷ pages) bytes = with_pages pages (with_page p bytes)
 
 -- the store's bytes from page 1 on after a change
 abbrev pub changed : Change → List ℕ → List ℕ
-changed change bytes = with_pages change.pages (take (page_at change.after) bytes)
+changed change bytes = with_pages change.pages (take (bytes_before change.after) bytes)
 
 abbrev pub has_number : ℕ → List PageImage → Bool
 has_number n pages = list_any (λ m. m == n) (page_numbers pages)

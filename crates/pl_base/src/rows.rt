@@ -7,7 +7,7 @@ ghost use Rattle.pl_base.specs.Good.{IsGood};
 ghost use Rattle.pl_base.specs.Live.{live_slots};
 ghost use Rattle.pl_base.specs.Rows.{Kept, KeptPage, IsWellKept, IsOfVisits, IsRight, store_of, has_page, has_visit, mark_of, row_of, page_at, visit_at, page_behind, page_visits, first_id, older_visit, url_of, origin_of, IsOriginOf, WithPageIn, with_day, with_mark, with_visit, live_with_page};
 ghost use Rattle.pl_base.specs.Store.{Store};
-ghost use Rattle.pl_base.specs.Touched.{changed, page_at as place_of_page, IsWithin};
+ghost use Rattle.pl_base.specs.Touched.{changed, bytes_before, IsWithin};
 
 use crate::{Day, Ids, Mark, NoMemory, PageId, Slot, Steps, Touched, Txt, VisitId, VisitRow};
 use std::sync::ledger::Ledger;
@@ -125,13 +125,16 @@ pub trait Rows {
     /// The pages of the bytes that changed since the last such call, or since the rows were made.
     fn touched<L: Ledger>(&mut self, steps: &mut Steps<L>) -> Result<Touched, NoMemory>
         ensures whole { IfOk result (λ change. (base_bytes : List ℕ) → base self.old base_bytes → changed change base_bytes ≡ bytes self.old) }
-        ensures before { IfOk result (λ change. (base_bytes : List ℕ) → base self.old base_bytes → length base_bytes ≡ place_of_page change.before) }
-        ensures after { IfOk result (λ change. length (bytes self.old) ≡ place_of_page change.after) }
+        ensures before { IfOk result (λ change. (base_bytes : List ℕ) → base self.old base_bytes → length base_bytes ≡ bytes_before change.before) }
+        ensures after { IfOk result (λ change. length (bytes self.old) ≡ bytes_before change.after) }
         ensures within { IfOk result IsWithin }
         ensures some { IfOk result (λ change. 1 ≤ change.before) }
         ensures kept { kept self.new ≡ kept self.old }
         ensures bytes { bytes self.new ≡ bytes self.old }
         ensures base { OnOk result ((base_bytes : List ℕ) → base self.new base_bytes ↔ (base_bytes ≡ bytes self.old)) };
+
+    /// There are bytes that the last `touched` may have been told of.
+    ghost based: { (rows : Self) → (base_bytes : List ℕ) × base rows base_bytes };
 
     /// What holds of all rows.
     ghost well_kept: { (rows : Self) → IsWellKept (kept rows) };

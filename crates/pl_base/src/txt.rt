@@ -44,16 +44,3 @@ impl From<String> for Txt {
         Txt { text }
     }
 }
-
-#[cfg(test)]
-mod tests {
-    use super::*;
-    use std::test::Fail;
-
-    #[test]
-    fn copies_a_text(rt: HostRuntime) -> Result<(), Fail> {
-        let text = Txt::copied(rt.alloc(), "Café")?;
-        assert_eq!(rt; text.as_str(), "Café");
-        Ok(())
-    }
-}

@@ -6,7 +6,7 @@ ghost use Rattle.std.specs.Prelude.{◌≡◌, ◌≤◌, ℕ, List, length, IfO
 ghost use Rattle.std.proofs.Props.{props};
 ghost use Rattle.pl_base.specs.Good.{IsGood};
 ghost use Rattle.pl_base.specs.Rows.{IsOfVisits, IsRight, store_of};
-ghost use Rattle.pl_base.specs.Touched.{IsWithin, changed, page_at as place_of_page};
+ghost use Rattle.pl_base.specs.Touched.{IsWithin, changed, bytes_before};
 ghost use Rattle.pl_engine.specs.Engine.{IsVisited};
 ghost use Rattle.pl_engine.specs.Step as spec;
 
@@ -84,9 +84,9 @@ impl<R: Rows + Drop> Engine<R> {
         ensures whole { IfOk result (λ change. (base : List ℕ) → R.base self.old.rows base
             → changed change base ≡ R.bytes self.new.rows) }
         ensures before { IfOk result (λ change. (base : List ℕ) → R.base self.old.rows base
-            → length base ≡ place_of_page change.before) }
+            → length base ≡ bytes_before change.before) }
         ensures some { IfOk result (λ change. 1 ≤ change.before) }
-        ensures after { IfOk result (λ change. length (R.bytes self.new.rows) ≡ place_of_page change.after) }
+        ensures after { IfOk result (λ change. length (R.bytes self.new.rows) ≡ bytes_before change.after) }
         ensures within { IfOk result IsWithin }
         ensures base { OnOk result (R.base self.new.rows (R.bytes self.new.rows)) }
         ensures kept { R.kept self.new.rows ≡ R.kept self.old.rows }

@@ -1,6 +1,9 @@
+mod ConstantRows
+pub mod FormLengths
 pub mod FormReads
 pub mod OneForm
 pub mod ReadingFile
+pub mod ReadingHeader
 pub mod ReadingLists
 pub mod ReadingNumbers
 pub mod ReadingPlain

@@ -82,10 +82,13 @@ plain_bytes rows =
 abbrev pub filled_pages : ℕ → ℕ
 filled_pages n = (n + (page_size - 1)) / page_size
 
--- the header page of so many plain bytes: the form's name, the length of the store in pages, with the gate's
--- page and this one, and that number
+-- a header page begins with the form's name and the length of the store in pages, with the gate's page and this one
+abbrev pub header_start : ℕ → List ℕ
+header_start pages = codes "PLFLAT01" ++ four pages
+
+-- the header page of so many plain bytes: its beginning, and that number
 abbrev pub header : ℕ → List ℕ
-header n = codes "PLFLAT01" ++ four (2 + filled_pages n) ++ eight n ++ replicate 1004 0
+header n = header_start (2 + filled_pages n) ++ eight n ++ replicate 1004 0
 
 -- plain bytes in whole pages, and their header before them
 abbrev pub in_pages : List ℕ → List ℕ
@@ -126,3 +129,8 @@ pub record StandsFor (bytes : List ℕ) (store : Store) : Type 0 where
   pub texts : All (λ (p : Page). IsUtf8 p.url) store.pages
   pub live : live_slots store ≤ 4_194_304
   pub begins : take (length (form_bytes (store_rows store))) bytes ≡ form_bytes (store_rows store)
+
+-- No store has more pages, with the gate's and the header's: its plain bytes are no more than 128 for each of
+-- its slots.
+abbrev pub most_pages : ℕ
+most_pages = 2 + 4_194_304 * 128 / page_size

@@ -2,14 +2,14 @@
 #![tactic(auto)]
 
 mod check_error;
+mod header;
 mod plain;
 mod read;
 mod reader;
 mod roots;
 mod stored;
-#[cfg(test)]
-mod tests;
 
 pub use check_error::CheckError;
+pub use header::named_pages;
 pub use read::{FileRows, read_rows};
 pub use stored::{StoredPage, StoredRows, StoredVisit};

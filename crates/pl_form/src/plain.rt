@@ -41,7 +41,8 @@ fn filled_pages(len: usize) -> usize
     (len + PAGE_SIZE - 1) / PAGE_SIZE
 }
 
-const NAME: &[u8; 8] = b"PLFLAT01";
+/// What a header page begins with.
+pub const NAME: &[u8; 8] = b"PLFLAT01";
 
 // The bytes of the header's page behind its numbers.
 const HEADER_REST: usize = 1004;

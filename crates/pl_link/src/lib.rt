@@ -3,8 +3,6 @@
 
 mod canon;
 mod parts;
-#[cfg(test)]
-mod tests;
 
 pub use canon::{Canon, CanonError};
 pub use parts::{Parts, split};

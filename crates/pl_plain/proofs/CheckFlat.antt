@@ -27,10 +27,10 @@ use Rattle.pl_plain.specs.FlatLaws.{rows_are_right}
 use Rattle.pl_plain.specs.FlatRows.{IsFlat, bytes_from, page_of}
 use Rattle.pl_form.specs.Form.{FormRows, StandsFor, filled_pages, form_bytes, in_pages, kept_rows, store_rows}
 use Rattle.pl_form.specs.Stored.{AreStored, HoldsRows, IsStoredPage, Stored, form_rows, page_row, stored_bytes, stored_page, stored_store, visit_of}
-use Rattle.pl_base.specs.Touched.{page_at}
+use Rattle.pl_base.specs.Touched.{bytes_before}
 use Rattle.pl_plain.proofs.CheckGood.{AllPairs-from_map}
 use Rattle.pl_plain.proofs.CheckOrigins.{same_of_key}
-use Rattle.pl_plain.proofs.Lengths.{length-in_pages}
+use Rattle.pl_form.proofs.FormLengths.{length-in_pages}
 use Rattle.pl_plain.proofs.Lists.{list_any-map, map-map}
 use Rattle.pl_plain.proofs.StoredUrls.{store_url-is}
 
@@ -105,9 +105,9 @@ rows_same rows qs origins zip =
 pub bytes-same : (rows : Stored) (qs : List FlatPage) (origins : ℕ) → AllZip (IsAssessed rows) rows.pages qs → bytes_from rows.day rows.ids qs origins rows.visits ≡ in_pages (stored_bytes rows)
 bytes-same rows qs origins zip = ap form_bytes (rows_same rows qs origins zip)
 
-pub bytes-length : (rows : Stored) (qs : List FlatPage) (origins pages : ℕ) → AllZip (IsAssessed rows) rows.pages qs → pages ≡ 2 + filled_pages (length (stored_bytes rows)) → length (bytes_from rows.day rows.ids qs origins rows.visits) ≡ page_at pages
+pub bytes-length : (rows : Stored) (qs : List FlatPage) (origins pages : ℕ) → AllZip (IsAssessed rows) rows.pages qs → pages ≡ 2 + filled_pages (length (stored_bytes rows)) → length (bytes_from rows.day rows.ids qs origins rows.visits) ≡ bytes_before pages
 bytes-length rows qs origins pages zip counted =
-    ap length (bytes-same rows qs origins zip) ∙ length-in_pages (stored_bytes rows) ∙ ap page_at (sym counted)
+    ap length (bytes-same rows qs origins zip) ∙ length-in_pages (stored_bytes rows) ∙ ap bytes_before (sym counted)
 
 -- ---- the rows are well kept
 

@@ -1,19 +1,19 @@
 -- The rows of a store that a file holds.
 use Rattle.std.proofs.Common.{◌≡◌, ◌∙◌, ◌==◌, ℕ, ℤ, ◌+◌, ◌-◌, ◌*◌, ◌<◌, ◌≤◌, ◌^◌, ◌++◌, All, Bool, true, false, List, [], ◌∷◌, Result, Err, drop, ◌&&◌, get_or, length, map, pos, negsuc, w64, zero, suc, sym, ap, refl, subst, arith, if◌then◌else◌}
 use Rattle.std.specs.Int.RustNames.{FitsSigned}
-use Rattle.std.specs.List.{flat_map, sum_by}
+use Rattle.std.specs.List.{sum_by}
 use Rattle.std.specs.Str.{IsUtf8}
 use Rattle.std.proofs.lemmas.Bool.{eqb-true}
-use Rattle.std.proofs.lemmas.List.{length-append, length-map, length-take, take-append-drop}
+use Rattle.std.proofs.lemmas.List.{length-map, length-take, take-append-drop}
 use Rattle.std.proofs.lemmas.List.Elements.{All-head, All-map, All-tail}
 use Rattle.std.proofs.lemmas.List.Folds.{Any-from_list_any}
-use Rattle.std.proofs.lemmas.List.Sums.{count_by-le-length, sum_by-cons}
+use Rattle.std.proofs.lemmas.List.Sums.{count_by-le-length}
 use Rattle.std.proofs.Math.Nat.{div-le_self, mul-le-mul}
 use Rattle.pl_base.specs.declared.id.PageId.{PageId}
 use Rattle.pl_base.specs.Address.{is_place_url}
 use Rattle.pl_base.specs.Frecency.{frecency_from, frecency_of, points, rounded_up, unvisited_frecency, visit_bonus, visited_frecency}
 use Rattle.pl_base.specs.Good.{AreIds, IsGood}
-use Rattle.pl_base.specs.Live.{chunks, live_slots, origin_count}
+use Rattle.pl_base.specs.Live.{live_slots}
 use Rattle.pl_base.specs.Marks.{is_counted, is_referenced, visit_count}
 use Rattle.pl_base.specs.Rows.{IsOfVisits}
 use Rattle.pl_base.specs.Store.{Item, Page, Store, Visit, roots}
@@ -25,12 +25,12 @@ use Rattle.pl_form.specs.declared.check_error.CheckError.TheVariants.{NoMemory, 
 use Rattle.pl_form.specs.declared.stored.StoredVisit.{StoredVisit}
 use Rattle.pl_form.specs.declared.stored.StoredPage.{StoredPage}
 use Rattle.pl_plain.specs.CheckPages.{IsFrecencyRight}
-use Rattle.pl_form.specs.Form.{FormRows, StandsFor, filled_pages, form_bytes, in_pages, item_bytes, listed, page_bytes, plain_bytes, store_rows, text, visit_bytes}
+use Rattle.pl_form.specs.Form.{FormRows, StandsFor, filled_pages, form_bytes, in_pages, plain_bytes, store_rows}
 use Rattle.pl_form.specs.Stored.{AreStored, HoldsRows, IsShort, IsStoredPage, IsStoredVisit, Stored, form_rows, stored_bytes, stored_page, stored_store, visit_of}
 use Rattle.pl_plain.proofs.CheckFlat.{store_rows-is}
 use Rattle.pl_plain.specs.CheckSample.{sampled_of}
 use Rattle.pl_plain.proofs.CheckMarks.{sampled-small}
-use Rattle.pl_plain.proofs.Lengths.{few_enough, length-listed, length-plain_bytes, length_roots, length_visits}
+use Rattle.pl_form.proofs.FormLengths.{store_within}
 use Rattle.pl_plain.proofs.Lists.{All-from_map, sum_by-map}
 
 abbrev page_from : Store → Page → StoredPage
@@ -166,30 +166,8 @@ stored-back store good h texts =
       );
     }
 
-length_page : (p : Page) (z : ℤ) → length (page_bytes (p, z)) ≤ 21 + 120 * (chunks p.url + chunks p.title)
-length_page p z = omega (arith, length-append p.url (text p.title))
-
-length_pages : (f : Page → ℤ) (ps : List Page) → length (flat_map page_bytes (map {B = Page × ℤ} (λ (p : Page). (p, f p)) ps)) ≤ 21 * length ps + 120 * sum_by (λ (p : Page). chunks p.url + chunks p.title) ps
-length_pages f [] = omega arith
-length_pages f (p ∷ ps) =
-    omega (
-      arith,
-      length-append (page_bytes (p, f p)) (flat_map page_bytes (map {B = Page × ℤ} (λ (q : Page). (q, f q)) ps)),
-      length_page p (f p),
-      length_pages f ps,
-      sum_by-cons (λ (q : Page). chunks q.url + chunks q.title) p ps,
-    )
-
 plain_short : (store : Store) → store.items ≡ roots → live_slots store ≤ 4_194_304 → length (plain_bytes (store_rows store)) < 2 ^ 40
-plain_short store items few =
-    let rows : FormRows = store_rows store in
-    let whole : length (plain_bytes rows) ≡ 16 + (4 + length (flat_map page_bytes rows.pages)) + (4 + length (flat_map visit_bytes rows.visits)) + length (listed item_bytes rows.items) =
-    rw (length-plain_bytes rows, length-listed page_bytes rows.pages, length-listed visit_bytes rows.visits) refl in
-    few_enough (length (plain_bytes rows)) (length (flat_map page_bytes rows.pages)) (length (flat_map visit_bytes rows.visits)) (length (listed item_bytes rows.items)) (length store.pages) (length store.visits)
-    (sum_by (λ (p : Page). chunks p.url + chunks p.title) store.pages) (live_slots store)
-    (origin_count (map (λ (p : Page). p.url) store.pages) + length store.items + sum_by (λ (i : Item). chunks i.title) store.items)
-    whole (length_pages (frecency_of store) store.pages) (length_visits store.visits) (ap (λ items. length (listed item_bytes items)) items ∙ length_roots)
-    (omega arith) few
+plain_short store items few = omega (arith, store_within store items)
 
 few_filled : (n : ℕ) → n < 2 ^ 40 → 2 + filled_pages n < 2 ^ 32
 few_filled n few = omega arith

@@ -7,14 +7,14 @@ use Rattle.std.proofs.lemmas.List.{append-nil, drop_all, length-take, length-tak
 use Rattle.std.proofs.lemmas.List.Folds.{list_any_at}
 use Rattle.std.proofs.lemmas.List.FromFn.{get_or-range_with_len, length-range_with_len, map-range_with_len_more}
 use Rattle.std.proofs.lemmas.Slice.{drop-append-drop}
-use Rattle.pl_base.specs.Touched.{Change, IsWithin, PageImage, ascends_above, changed, has_number, page_at, page_numbers, page_size, with_one_more, with_page, with_pages}
+use Rattle.pl_base.specs.Touched.{Change, IsWithin, PageImage, ascends_above, changed, has_number, bytes_before, page_numbers, page_size, with_one_more, with_page, with_pages}
 use Rattle.pl_form.specs.Form.{filled_pages, in_pages}
 use Rattle.pl_plain.specs.Images.{images_of, whole_change}
-use Rattle.pl_plain.proofs.Lengths.{length-in_pages}
+use Rattle.pl_form.proofs.FormLengths.{length-in_pages}
 use Rattle.pl_plain.proofs.Lists.{map-map}
 
 abbrev image_at : List ℕ → ℕ → PageImage
-image_at bytes page = record { page = page; image = take page_size (drop (page_at page) bytes) }
+image_at bytes page = record { page = page; image = take page_size (drop (bytes_before page) bytes) }
 
 -- one page more
 images_of_more : (n : ℕ) (bytes : List ℕ) → images_of (n + 1) bytes ≡ images_of n bytes ++ image_at bytes (n + 1) ∷ []
@@ -52,7 +52,7 @@ push_above before after page bytes change some is =
     rw is (subst (λ m. ascends_above 0 (page_numbers (images_of (page - 1) bytes) ++ m ∷ []) ≡ true) next (numbers_ascend (page - 1) bytes))
 
 -- one page more
-pub push_more : (before after page len at : ℕ) (bytes : List ℕ) (change new : Change) → 1 ≤ page → change ≡ so_far before after page bytes → len ≡ page_size → at ≡ page_at page → new ≡ with_one_more page (take len (drop at bytes)) change → new ≡ so_far before after (page + 1) bytes
+pub push_more : (before after page len at : ℕ) (bytes : List ℕ) (change new : Change) → 1 ≤ page → change ≡ so_far before after page bytes → len ≡ page_size → at ≡ bytes_before page → new ≡ with_one_more page (take len (drop at bytes)) change → new ≡ so_far before after (page + 1) bytes
 push_more before after page len at bytes change new some is whole place pushed =
     let next : page - 1 + 1 ≡ page = omega arith in
     let more : images_of (page + 1 - 1) bytes ≡ images_of (page - 1) bytes ++ image_at bytes page ∷ [] =
@@ -72,7 +72,7 @@ one_page n bytes base within =
     let whole : length front ≡ at = length-take-le at bytes (omega arith) in
     let before : take at (front ++ drop at base) ≡ front = take-append-le at front (drop at base) (omega arith) ∙ take-take at at bytes (omega arith) in
     let behind : drop (at + page_size) (front ++ drop at base) ≡ drop (at + page_size) base = drop-append-drop at base front (at + page_size) (omega arith) whole in
-    let place : page_at (n + 1) ≡ at = omega arith in
+    let place : bytes_before (n + 1) ≡ at = omega arith in
     rw (place, before, behind, take-add at page_size bytes) refl
 
 -- the first pages are those of the bytes, and what lies behind is as it was
@@ -87,12 +87,12 @@ with_images (suc n) bytes base within =
     ∙ ap (λ m. take m bytes ++ drop m base) (sym size))
 
 -- all pages of the bytes make them out of any others
-changed_to : (after count : ℕ) (bytes base : List ℕ) → page_size * count ≡ page_at after → length bytes ≡ page_at after → with_pages (images_of count bytes) (take (page_at after) base) ≡ bytes
+changed_to : (after count : ℕ) (bytes base : List ℕ) → page_size * count ≡ bytes_before after → length bytes ≡ bytes_before after → with_pages (images_of count bytes) (take (bytes_before after) base) ≡ bytes
 changed_to after count bytes base size whole =
-    let short : length (take (page_at after) base) ≤ page_at after = omega (arith, length-take (page_at after) base) in
-    with_images count bytes (take (page_at after) base) (omega arith)
-    ∙ ap (λ n. take n bytes ++ drop n (take (page_at after) base)) size
-    ∙ rw (take_all (page_at after) bytes (omega arith), drop_all (page_at after) (take (page_at after) base) short, append-nil bytes) refl
+    let short : length (take (bytes_before after) base) ≤ bytes_before after = omega (arith, length-take (bytes_before after) base) in
+    with_images count bytes (take (bytes_before after) base) (omega arith)
+    ∙ ap (λ n. take n bytes ++ drop n (take (bytes_before after) base)) size
+    ∙ rw (take_all (bytes_before after) bytes (omega arith), drop_all (bytes_before after) (take (bytes_before after) base) short, append-nil bytes) refl
 
 images_below : (count : ℕ) (bytes : List ℕ) → All (λ n. n < 1 + count) (page_numbers (images_of count bytes))
 images_below count bytes =
@@ -127,7 +127,7 @@ whole_change-made before filled plain bytes change counted is made =
     ∙ ap (λ n. record { before = before; after = 1 + length (in_pages plain) / page_size; pages = images_of n bytes }) count
     ∙ ap (λ bs. record { before = before; after = 1 + length (in_pages plain) / page_size; pages = images_of (length (in_pages plain) / page_size) bs }) is
 
-pub whole_change-after : (plain : List ℕ) → length (in_pages plain) ≡ page_at (1 + length (in_pages plain) / page_size)
+pub whole_change-after : (plain : List ℕ) → length (in_pages plain) ≡ bytes_before (1 + length (in_pages plain) / page_size)
 whole_change-after plain = omega (arith, length_of plain, pages_of plain)
 
 -- after the whole change a file holds the bytes
@@ -135,9 +135,9 @@ pub whole_change-is : (before : ℕ) (plain base : List ℕ) → changed (whole_
 whole_change-is before plain base =
     let bytes : List ℕ = in_pages plain in
     let count : ℕ = length bytes / page_size in
-    let whole : length bytes ≡ page_at (1 + count) = whole_change-after plain in
+    let whole : length bytes ≡ bytes_before (1 + count) = whole_change-after plain in
     let same : count ≡ 1 + count - 1 = omega arith in
-    let size : page_size * count ≡ page_at (1 + count) = ap (λ n. page_size * n) same in
+    let size : page_size * count ≡ bytes_before (1 + count) = ap (λ n. page_size * n) same in
     changed_to (1 + count) count bytes base size whole
 
 pub whole_change-within : (before : ℕ) (plain : List ℕ) → 1 ≤ before → IsWithin (whole_change before (in_pages plain))

@@ -1,7 +1,7 @@
 -- A flat store seen as what is kept of a store.
 use Rattle.std.specs.Prelude.{◌≡◌, ℕ, List, false, length}
 use Rattle.pl_base.specs.Rows.{Kept}
-use Rattle.pl_base.specs.Touched.{page_at}
+use Rattle.pl_base.specs.Touched.{bytes_before}
 use Rattle.pl_plain.specs.declared.flat.Flat.{Flat}
 use Rattle.pl_plain.specs.FlatRows.{bytes_from, kept_from}
 
@@ -14,5 +14,5 @@ bytes_of flat = bytes_from flat.day flat.ids flat.pages.items flat.origins flat.
 
 -- what the bytes may have been at the last `touched`
 pub record IsBase (flat : Flat) (bytes : List ℕ) : Type 0 where
-  pub len : length bytes ≡ page_at flat.before
+  pub len : length bytes ≡ bytes_before flat.before
   pub same : flat.is_changed ≡ false → bytes ≡ bytes_of flat

@@ -1,12 +1,12 @@
 -- The pages that bytes from page 1 on fill.
 use Rattle.std.specs.Prelude.{◌+◌, ◌/◌, ℕ, List, drop, length, map, take}
 use Rattle.std.specs.List.{range_with_len}
-use Rattle.pl_base.specs.Touched.{Change, PageImage, page_at, page_size}
+use Rattle.pl_base.specs.Touched.{Change, PageImage, bytes_before, page_size}
 
 -- the first pages of the bytes, from page 1 on
 abbrev pub images_of : ℕ → List ℕ → List PageImage
 images_of count bytes =
-    map (λ page. record { page = page; image = take page_size (drop (page_at page) bytes) }) (range_with_len 1 count)
+    map (λ page. record { page = page; image = take page_size (drop (bytes_before page) bytes) }) (range_with_len 1 count)
 
 -- the change from so many pages to these bytes, in whole pages, each of which is touched
 abbrev pub whole_change : ℕ → List ℕ → Change

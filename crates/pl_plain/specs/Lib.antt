@@ -3,6 +3,7 @@ pub mod CheckOrigins
 pub mod CheckPages
 pub mod CheckSample
 pub mod Flat
+pub mod FlatBase
 pub mod FlatLaws
 pub mod FlatRows
 pub mod Images

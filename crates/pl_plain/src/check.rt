@@ -4,8 +4,6 @@ mod live;
 mod marks;
 mod origins;
 mod pages;
-#[cfg(test)]
-mod tests;
 
 ghost use Rattle.std.specs.Prelude.{◌≡◌, ◌↔◌, ℕ, List, drop, length, take, IfOk, IsErrOf};
 ghost use Rattle.pl_base.specs.Rows.{IsRight, store_of};

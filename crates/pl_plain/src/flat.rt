@@ -4,6 +4,7 @@ mod mark;
 pub(crate) mod row;
 mod rows;
 mod search;
+// That no page has a URL yet, which an insertion asks for, only a look at the rows themselves shows.
 #[cfg(test)]
 mod tests;
 mod touched;
@@ -11,7 +12,7 @@ mod write;
 
 ghost use Rattle.std.specs.Prelude.{◌≤◌, ◌≡◌, false, length};
 ghost use Rattle.std.proofs.Props.{props};
-ghost use Rattle.pl_base.specs.Touched.{page_at};
+ghost use Rattle.pl_base.specs.Touched.{bytes_before};
 ghost use Rattle.pl_plain.specs.FlatRows.{IsFlat, kept_from, bytes_from};
 
 use crate::flat::row::FlatPage;
@@ -42,7 +43,7 @@ pub struct Flat {
     is_changed: bool,
     ghost rows: { IsFlat (kept_from day ids pages.items origins visits.items) origins live } by { Prim.hlevel props },
     ghost some_page: { 1 ≤ before },
-    ghost settled: { is_changed ≡ false → length (bytes_from day ids pages.items origins visits.items) ≡ page_at before },
+    ghost settled: { is_changed ≡ false → length (bytes_from day ids pages.items origins visits.items) ≡ bytes_before before },
 }
 
 impl Flat {
@@ -97,7 +98,7 @@ impl Flat {
     ) -> Flat
         requires rows { IsFlat (kept_from day ids pages.items origins visits.items) origins live }
         requires some_page { 1 ≤ before }
-        requires settled { length (bytes_from day ids pages.items origins visits.items) ≡ page_at before }
+        requires settled { length (bytes_from day ids pages.items origins visits.items) ≡ bytes_before before }
         ensures kept { kept_of result ≡ kept_from day ids pages.items origins visits.items }
         ensures base { (bytes : List ℕ) → IsBase result bytes ↔ (bytes ≡ bytes_of result) }
     {

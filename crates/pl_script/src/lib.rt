@@ -6,8 +6,6 @@ mod field;
 mod fields;
 mod lines;
 mod reply;
-#[cfg(test)]
-mod tests;
 mod word;
 
 pub use field::escaped;

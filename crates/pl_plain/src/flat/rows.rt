@@ -11,6 +11,7 @@ use std::sync::ledger::Ledger;
 // No steps are counted, since each call reads any number of rows.
 impl Rows for Flat {
     ghost use Rattle.pl_plain.specs.Flat.{kept_of, bytes_of, IsBase};
+    ghost use Rattle.pl_plain.specs.FlatBase.{based};
     ghost use Rattle.pl_plain.specs.FlatLaws as laws;
     ghost use Rattle.pl_form.specs.Form.{StandsFor};
 
@@ -123,6 +124,8 @@ impl Rows for Flat {
         self.is_changed = false;
         Ok(change)
     }
+
+    ghost based = { based };
 
     ghost well_kept = { λ flat. laws.well_kept flat.day flat.ids flat.pages.items flat.origins flat.visits.items flat.live flat.rows };
 

@@ -1,5 +1,5 @@
 ghost use Rattle.std.specs.Prelude.{◌≡◌, ◌+◌, ◌-◌, ◌*◌, ◌≤◌, ◌<◌, ◌^◌, ◌++◌, length, replicate, IfOk, OnOk};
-ghost use Rattle.pl_base.specs.Touched.{page_at};
+ghost use Rattle.pl_base.specs.Touched.{bytes_before};
 ghost use Rattle.pl_form.specs.Form as form;
 ghost use Rattle.pl_plain.specs.Images as spec;
 ghost use Rattle.pl_plain.specs.Images.{images_of};
@@ -52,7 +52,7 @@ fn in_pages(alloc: Global, plain: &[u8]) -> Result<Vec<u8>, NoMemory>
 /// All pages of these bytes, from page 1 on, where the store had `before` pages and has `after`.
 fn all_pages(alloc: Global, before: u32, after: u32, bytes: &[u8]) -> Result<Touched, NoMemory>
     requires some_page { 1 ≤ after }
-    requires whole { length bytes.now ≡ page_at after }
+    requires whole { length bytes.now ≡ bytes_before after }
     ensures { IfOk result (λ change. change
         ≡ record { before = before; after = after; pages = images_of (after - 1) bytes.now }) }
 {

@@ -1,5 +1,5 @@
 use Rattle.std.proofs.Common.{◌≡◌, length, subst, sym}
-use Rattle.pl_base.specs.Touched.{page_at}
+use Rattle.pl_base.specs.Touched.{bytes_before}
 use Rattle.pl_plain.specs.CheckPages.{kept_of_rows}
 use Rattle.pl_plain.specs.FlatRows.{IsFlat, bytes_from}
 use Rattle.pl_form.specs.Stored.{Stored}
@@ -13,5 +13,5 @@ from_rows-requires-clause-rows c =
 
 pub from_rows-requires-clause-settled : goal.from_rows-requires-clause-settled
 from_rows-requires-clause-settled c =
-    subst (λ (r : Stored). length (bytes_from r.day r.ids c.args.named.pages.items c.args.named.origins r.visits) ≡ page_at c.args.before) (sym c.rows.view_is)
+    subst (λ (r : Stored). length (bytes_from r.day r.ids c.args.named.pages.items c.args.named.origins r.visits) ≡ bytes_before c.args.before) (sym c.rows.view_is)
     (bytes-length c.args.rows c.args.named.pages.items c.args.named.origins c.args.before c.requires.given.1.pages c.requires.before)
