@@ -6,7 +6,7 @@ use Rattle.std.proofs.lemmas.List.Sums.{AllPass-from_list_all}
 use Rattle.std.proofs.Common.{append_assoc}
 use Rattle.std.specs.List.{list_all}
 use Rattle.std.specs.Int.{w32, w64, from_le_bytes}
-use Rattle.pl_base.specs.Touched.{Change, PageImage, page_at, page_size, page_numbers, ascends_above, with_page, with_pages}
+use Rattle.pl_base.specs.Touched.{Change, PageImage, bytes_before, page_size, page_numbers, ascends_above, with_page, with_pages}
 use Rattle.pl_desk.specs.Desk.{Torn, overwritten}
 use Rattle.pl_desk.specs.Overwritten.{overwritten_within, torn_overwritten}
 use Rattle.pl_gate.specs.Device.{TornIn, image_ranges, with_images}
@@ -80,13 +80,13 @@ module _ (file : List ℕ) (set : is_set file ≡ true) (gate : has_gate file �
         ascending = ap (λ (l : List PageImage). ascends_above 0 (page_numbers l)) journal_is ∙ has.ascending;
         below = ap (λ (l : List PageImage). list_all (λ k. nat_lt k (pages_after new)) (page_numbers l)) journal_is ∙ ap (λ (n : ℕ). list_all (λ k. nat_lt k n) (page_numbers (journal file))) after_is ∙ has.below;
       } in
-      let behind : page_size + (page_at page + page_size) ≡ at + page_size = omega (arith, range.0) in
+      let behind : page_size + (bytes_before page + page_size) ≡ at + page_size = omega (arith, range.0) in
       let torn_page : TornPage page (drop page_size file) (drop page_size new) = record {
         len = omega (arith, length-drop page_size file, length-drop page_size new, len);
-        before = inside_same file new page_size (page_at page) at (omega (arith, range.0)) front;
+        before = inside_same file new page_size (bytes_before page) at (omega (arith, range.0)) front;
         after =
-            drop-drop (page_at page + page_size) page_size new ∙ ap (λ (n : ℕ). drop n new) behind ∙ torn.after
-            ∙ ap (λ (n : ℕ). drop n file) (sym behind) ∙ sym (drop-drop (page_at page + page_size) page_size file);
+            drop-drop (bytes_before page + page_size) page_size new ∙ ap (λ (n : ℕ). drop n new) behind ∙ torn.after
+            ∙ ap (λ (n : ℕ). drop n file) (sym behind) ∙ sym (drop-drop (bytes_before page + page_size) page_size file);
       } in
       record {
         set = set_new;
@@ -132,14 +132,14 @@ torn_all (p ∷ pages) file new set gate (contains, within) (mid, torn, rest) =
 with_image : (p : PageImage) (file : List ℕ) → 1 ≤ p.page → length p.image ≡ page_size → page_size * p.page ≤ length file → drop page_size (overwritten 0 (page_size * p.page) p.image file) ≡ with_page p (drop page_size file)
 with_image p file one whole le =
     let at = page_size * p.page in
-    let place : page_size + page_at p.page ≡ at = omega (arith, one) in
-    let end : at + length p.image ≡ page_size + (page_at p.page + page_size) = omega (arith, place, whole) in
+    let place : page_size + bytes_before p.page ≡ at = omega (arith, one) in
+    let end : at + length p.image ≡ page_size + (bytes_before p.page + page_size) = omega (arith, place, whole) in
     ap (drop page_size) (overwritten_within 0 at p.image file le ∙ append_assoc (take at file) p.image (drop (at + length p.image) file))
     ∙ drop-append-le page_size (take at file) (p.image ++ drop (at + length p.image) file) (omega (arith, le, place, length-take at file))
-    ∙ ap (λ (l : List ℕ). l ++ (p.image ++ drop (at + length p.image) file)) (ap (λ (n : ℕ). drop page_size (take n file)) (sym place) ∙ drop-take page_size (page_at p.page) file)
-    ∙ ap (λ (n : ℕ). take (page_at p.page) (drop page_size file) ++ (p.image ++ drop n file)) end
-    ∙ ap (λ (l : List ℕ). take (page_at p.page) (drop page_size file) ++ (p.image ++ l)) (sym (drop-drop (page_at p.page + page_size) page_size file))
-    ∙ sym (append_assoc (take (page_at p.page) (drop page_size file)) p.image (drop (page_at p.page + page_size) (drop page_size file)))
+    ∙ ap (λ (l : List ℕ). l ++ (p.image ++ drop (at + length p.image) file)) (ap (λ (n : ℕ). drop page_size (take n file)) (sym place) ∙ drop-take page_size (bytes_before p.page) file)
+    ∙ ap (λ (n : ℕ). take (bytes_before p.page) (drop page_size file) ++ (p.image ++ drop n file)) end
+    ∙ ap (λ (l : List ℕ). take (bytes_before p.page) (drop page_size file) ++ (p.image ++ l)) (sym (drop-drop (bytes_before p.page + page_size) page_size file))
+    ∙ sym (append_assoc (take (bytes_before p.page) (drop page_size file)) p.image (drop (bytes_before p.page + page_size) (drop page_size file)))
 
 same_length : (p : PageImage) (file : List ℕ) → length p.image ≡ page_size → page_size * p.page + page_size ≤ length file → length (overwritten 0 (page_size * p.page) p.image file) ≡ length file
 same_length p file whole le =

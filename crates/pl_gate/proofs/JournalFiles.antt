@@ -4,7 +4,7 @@ use Rattle.std.proofs.lemmas.Bool.{and_cases, and_from, and_left, and_parts, and
 use Rattle.std.proofs.lemmas.List.{length-take, length-drop}
 use Rattle.std.specs.List.{list_all}
 use Rattle.std.specs.Int.{w64, from_le_bytes}
-use Rattle.pl_base.specs.Touched.{PageImage, page_at, page_size, page_numbers, ascends_above}
+use Rattle.pl_base.specs.Touched.{PageImage, bytes_before, page_size, page_numbers, ascends_above}
 use Rattle.pl_gate.specs.Gate.{entries, entry_at, entry_size, has_gate, is_journal, is_set, journal, journal_len, journal_start, pages_after}
 use Rattle.pl_gate.proofs.Bytes.{same_in_back}
 use Rattle.pl_gate.proofs.Pages.{AllFit, ascends_first}
@@ -80,7 +80,7 @@ entries_whole (suc n) at file le =
 
 -- pages of the store fit into its bytes
 pub all_fit : (pages : List PageImage) (last after n : ℕ) → AreWhole pages → ascends_above last (page_numbers pages) ≡ true
-    → list_all (λ k. nat_lt k after) (page_numbers pages) ≡ true → page_at after ≤ n → AllFit pages n
+    → list_all (λ k. nat_lt k after) (page_numbers pages) ≡ true → bytes_before after ≤ n → AllFit pages n
 all_fit [] last after n whole ascends below room = tt
 all_fit (p ∷ pages) last after n (whole, rest) ascends below room =
     let first = ascends_first last p.page (page_numbers pages) ascends in

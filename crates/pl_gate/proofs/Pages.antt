@@ -5,40 +5,40 @@ use Rattle.std.proofs.lemmas.Bool.{and_parts, cases_eq, cases_lt, cases_order, e
 use Rattle.std.proofs.lemmas.List.{take-take, drop-drop, drop-take, take-append-le, drop-append-le, length-take, length-drop, take_all, drop_all}
 use Rattle.std.proofs.lemmas.List.Folds.{Any-from_list_any}
 use Rattle.std.proofs.Math.Seq.{take-append-add, drop-append-add}
-use Rattle.pl_base.specs.Touched.{PageImage, page_at, page_size, page_numbers, ascends_above, has_number, with_page, with_pages}
+use Rattle.pl_base.specs.Touched.{PageImage, bytes_before, page_size, page_numbers, ascends_above, has_number, with_page, with_pages}
 use Rattle.pl_gate.proofs.Bytes.{drop_further}
 
 -- the page ends within the bytes, and its image is whole
 pub record Fits (p : PageImage) (n : ℕ) : Type 0 where
-  pub within : page_at p.page + page_size ≤ n
+  pub within : bytes_before p.page + page_size ≤ n
   pub whole : length p.image ≡ page_size
 
 module _ (p : PageImage) (bytes : List ℕ) (fits : Fits p (length bytes)) where
-  front : length (take (page_at p.page) bytes) ≡ page_at p.page
-  front = omega (arith, length-take (page_at p.page) bytes, fits.within)
+  front : length (take (bytes_before p.page) bytes) ≡ bytes_before p.page
+  front = omega (arith, length-take (bytes_before p.page) bytes, fits.within)
 
   pub length-with_page : length (with_page p bytes) ≡ length bytes
-  length-with_page = omega (arith, fits.within, fits.whole, front, length-append (take (page_at p.page) bytes ++ p.image) (drop (page_at p.page + page_size) bytes), length-append (take (page_at p.page) bytes) p.image, length-drop (page_at p.page + page_size) bytes)
+  length-with_page = omega (arith, fits.within, fits.whole, front, length-append (take (bytes_before p.page) bytes ++ p.image) (drop (bytes_before p.page + page_size) bytes), length-append (take (bytes_before p.page) bytes) p.image, length-drop (bytes_before p.page + page_size) bytes)
 
   -- before the page nothing changes
-  pub take_before : (m : ℕ) → m ≤ page_at p.page → take m (with_page p bytes) ≡ take m bytes
+  pub take_before : (m : ℕ) → m ≤ bytes_before p.page → take m (with_page p bytes) ≡ take m bytes
   take_before m le =
-      ap (take m) (append_assoc (take (page_at p.page) bytes) p.image (drop (page_at p.page + page_size) bytes))
-      ∙ take-append-le m (take (page_at p.page) bytes) (p.image ++ drop (page_at p.page + page_size) bytes) (omega (arith, front, le))
-      ∙ take-take m (page_at p.page) bytes le
+      ap (take m) (append_assoc (take (bytes_before p.page) bytes) p.image (drop (bytes_before p.page + page_size) bytes))
+      ∙ take-append-le m (take (bytes_before p.page) bytes) (p.image ++ drop (bytes_before p.page + page_size) bytes) (omega (arith, front, le))
+      ∙ take-take m (bytes_before p.page) bytes le
 
   -- the bytes up to the page's end
   abbrev head : List ℕ
-  head = take (page_at p.page) bytes ++ p.image
+  head = take (bytes_before p.page) bytes ++ p.image
 
   abbrev pub end : ℕ
-  end = page_at p.page + page_size
+  end = bytes_before p.page + page_size
 
   length-head : length head ≡ end
-  length-head = omega (arith, front, fits.whole, length-append (take (page_at p.page) bytes) p.image)
+  length-head = omega (arith, front, fits.whole, length-append (take (bytes_before p.page) bytes) p.image)
 
   -- nor behind it
-  pub drop_behind : (n : ℕ) → page_at p.page + page_size ≤ n → drop n (with_page p bytes) ≡ drop n bytes
+  pub drop_behind : (n : ℕ) → bytes_before p.page + page_size ≤ n → drop n (with_page p bytes) ≡ drop n bytes
   drop_behind n le =
       let more : n ≡ length head + (n - end) = omega (arith, le, length-head) in
       let again : end + (n - end) ≡ n = omega (arith, le) in
@@ -48,35 +48,35 @@ module _ (p : PageImage) (bytes : List ℕ) (fits : Fits p (length bytes)) where
       ∙ ap (λ (k : ℕ). drop k bytes) again
 
   -- up to a length behind it
-  pub take_behind : (m : ℕ) → page_at p.page + page_size ≤ m → take m (with_page p bytes) ≡ with_page p (take m bytes)
+  pub take_behind : (m : ℕ) → bytes_before p.page + page_size ≤ m → take m (with_page p bytes) ≡ with_page p (take m bytes)
   take_behind m le =
       let more : m ≡ length head + (m - end) = omega (arith, le, length-head) in
       let again : m ≡ end + (m - end) = omega (arith, le) in
       ap (λ (k : ℕ). take k (head ++ drop end bytes)) more
       ∙ take-append-add head (drop end bytes) (m - end)
       ∙ ap (λ (l : List ℕ). head ++ l) (sym (drop-take end (m - end) bytes) ∙ ap (λ (k : ℕ). drop end (take k bytes)) (sym again))
-      ∙ ap (λ (l : List ℕ). l ++ p.image ++ drop end (take m bytes)) (sym (take-take (page_at p.page) m bytes (omega (arith, le))))
+      ∙ ap (λ (l : List ℕ). l ++ p.image ++ drop end (take m bytes)) (sym (take-take (bytes_before p.page) m bytes (omega (arith, le))))
 
   -- from an offset before it on
-  pub drop_before : (n : ℕ) → n ≤ page_at p.page → drop n (with_page p bytes) ≡ take (page_at p.page - n) (drop n bytes) ++ p.image ++ drop end bytes
+  pub drop_before : (n : ℕ) → n ≤ bytes_before p.page → drop n (with_page p bytes) ≡ take (bytes_before p.page - n) (drop n bytes) ++ p.image ++ drop end bytes
   drop_before n le =
-      let more : n + (page_at p.page - n) ≡ page_at p.page = omega (arith, le) in
-      ap (drop n) (append_assoc (take (page_at p.page) bytes) p.image (drop end bytes))
-      ∙ drop-append-le n (take (page_at p.page) bytes) (p.image ++ drop end bytes) (omega (arith, le, front))
-      ∙ ap (λ (l : List ℕ). l ++ (p.image ++ drop end bytes)) (ap (λ (k : ℕ). drop n (take k bytes)) (sym more) ∙ drop-take n (page_at p.page - n) bytes)
-      ∙ sym (append_assoc (take (page_at p.page - n) (drop n bytes)) p.image (drop end bytes))
+      let more : n + (bytes_before p.page - n) ≡ bytes_before p.page = omega (arith, le) in
+      ap (drop n) (append_assoc (take (bytes_before p.page) bytes) p.image (drop end bytes))
+      ∙ drop-append-le n (take (bytes_before p.page) bytes) (p.image ++ drop end bytes) (omega (arith, le, front))
+      ∙ ap (λ (l : List ℕ). l ++ (p.image ++ drop end bytes)) (ap (λ (k : ℕ). drop n (take k bytes)) (sym more) ∙ drop-take n (bytes_before p.page - n) bytes)
+      ∙ sym (append_assoc (take (bytes_before p.page - n) (drop n bytes)) p.image (drop end bytes))
 
 -- the same but for one page
 pub record TornPage (page : ℕ) (old new : List ℕ) : Type 0 where
   pub len : length new ≡ length old
-  pub before : take (page_at page) new ≡ take (page_at page) old
-  pub after : drop (page_at page + page_size) new ≡ drop (page_at page + page_size) old
+  pub before : take (bytes_before page) new ≡ take (bytes_before page) old
+  pub after : drop (bytes_before page + page_size) new ≡ drop (bytes_before page + page_size) old
 
 -- that page's image makes them the same
 pub torn_same_page : (p : PageImage) (old new : List ℕ) → TornPage p.page old new → with_page p new ≡ with_page p old
 torn_same_page p old new torn =
-    ap (λ (l : List ℕ). l ++ p.image ++ drop (page_at p.page + page_size) new) torn.before
-    ∙ ap (λ (l : List ℕ). take (page_at p.page) old ++ p.image ++ l) torn.after
+    ap (λ (l : List ℕ). l ++ p.image ++ drop (bytes_before p.page + page_size) new) torn.before
+    ∙ ap (λ (l : List ℕ). take (bytes_before p.page) old ++ p.image ++ l) torn.after
 
 -- another page's image leaves them so
 pub torn_other_page : (p : PageImage) (page : ℕ) (old new : List ℕ) → Fits p (length old) → 1 ≤ p.page → 1 ≤ page → p.page ≢ page → TornPage page old new → TornPage page (with_page p old) (with_page p new)
@@ -88,24 +88,24 @@ torn_other_page p page old new fits one some other torn =
       | inr (inl less) ↦ record {
         len = len;
         before =
-            let le : page_at p.page + page_size ≤ page_at page = omega (arith, less, one) in
-            take_behind p new fits_new (page_at page) le ∙ ap (with_page p) torn.before ∙ sym (take_behind p old fits (page_at page) le);
+            let le : bytes_before p.page + page_size ≤ bytes_before page = omega (arith, less, one) in
+            take_behind p new fits_new (bytes_before page) le ∙ ap (with_page p) torn.before ∙ sym (take_behind p old fits (bytes_before page) le);
         after =
-            let le : page_at p.page + page_size ≤ page_at page + page_size = omega (arith, less) in
-            drop_behind p new fits_new (page_at page + page_size) le ∙ torn.after ∙ sym (drop_behind p old fits (page_at page + page_size) le);
+            let le : bytes_before p.page + page_size ≤ bytes_before page + page_size = omega (arith, less) in
+            drop_behind p new fits_new (bytes_before page + page_size) le ∙ torn.after ∙ sym (drop_behind p old fits (bytes_before page + page_size) le);
       }
       | inr (inr more) ↦ record {
         len = len;
         before =
-            let le : page_at page ≤ page_at p.page = omega (arith, more) in
-            take_before p new fits_new (page_at page) le ∙ torn.before ∙ sym (take_before p old fits (page_at page) le);
+            let le : bytes_before page ≤ bytes_before p.page = omega (arith, more) in
+            take_before p new fits_new (bytes_before page) le ∙ torn.before ∙ sym (take_before p old fits (bytes_before page) le);
         after =
-            let n = page_at page + page_size in
-            let le : n ≤ page_at p.page = omega (arith, more, some) in
-            let further : drop (page_at p.page + page_size) new ≡ drop (page_at p.page + page_size) old = drop_further old new n (page_at p.page + page_size) (omega (arith, le)) torn.after in
+            let n = bytes_before page + page_size in
+            let le : n ≤ bytes_before p.page = omega (arith, more, some) in
+            let further : drop (bytes_before p.page + page_size) new ≡ drop (bytes_before p.page + page_size) old = drop_further old new n (bytes_before p.page + page_size) (omega (arith, le)) torn.after in
             drop_before p new fits_new n le
-            ∙ ap (λ (l : List ℕ). take (page_at p.page - n) l ++ p.image ++ drop (page_at p.page + page_size) new) torn.after
-            ∙ ap (λ (l : List ℕ). take (page_at p.page - n) (drop n old) ++ p.image ++ l) further
+            ∙ ap (λ (l : List ℕ). take (bytes_before p.page - n) l ++ p.image ++ drop (bytes_before p.page + page_size) new) torn.after
+            ∙ ap (λ (l : List ℕ). take (bytes_before p.page - n) (drop n old) ++ p.image ++ l) further
             ∙ sym (drop_before p old fits n le);
       }
     ]
@@ -167,7 +167,7 @@ none_below last n (m ∷ ns) ascends le (suc k, lt, is) = let first = ascends_fi
 -- Bytes that begin with others, up to the store's length after a change, which lists each page past these: with
 -- the listed images both are the same.
 pub grown : (pages : List PageImage) (last before after : ℕ) (bytes longer : List ℕ)
-    → length bytes ≡ page_at before → length longer ≡ page_at after → 1 ≤ before → before ≤ after → take (length bytes) longer ≡ bytes
+    → length bytes ≡ bytes_before before → length longer ≡ bytes_before after → 1 ≤ before → before ≤ after → take (length bytes) longer ≡ bytes
     → ascends_above last (page_numbers pages) ≡ true → AllFit pages (length longer)
     → ((n : ℕ) → before ≤ n → n < after → Contains (page_numbers pages) n) → with_pages pages longer ≡ with_pages pages bytes
 grown [] last before after bytes longer len len_longer some le same ascends fit added = elim (cases_lt before after) [
@@ -180,18 +180,18 @@ grown (p ∷ pages) last before after bytes longer len len_longer some le same a
     let fit_more = subst (AllFit pages) (sym len_more) fit in
     elim (cases_order p.page before) [
       | inl equal ↦
-          let here : page_at p.page ≡ page_at before = ap page_at equal in
-          let end = page_at p.page + page_size in
-          let further : page_at (before + 1) ≡ page_at before + page_size = omega (arith, some) in
-          let start : take (page_at p.page) longer ≡ bytes = ap (λ (k : ℕ). take k longer) (here ∙ sym len) ∙ same in
+          let here : bytes_before p.page ≡ bytes_before before = ap bytes_before equal in
+          let end = bytes_before p.page + page_size in
+          let further : bytes_before (before + 1) ≡ bytes_before before + page_size = omega (arith, some) in
+          let start : take (bytes_before p.page) longer ≡ bytes = ap (λ (k : ℕ). take k longer) (here ∙ sym len) ∙ same in
           let rest : drop end bytes ≡ [] = drop_all end bytes (omega (arith, len, here)) in
           let rest_longer : drop end (take end longer) ≡ [] = drop_all end (take end longer) (omega (arith, length-take end longer)) in
-          let len_bytes : length (with_page p bytes) ≡ end = omega (arith, length-append (take (page_at p.page) bytes ++ p.image) (drop end bytes), length-append (take (page_at p.page) bytes) p.image, length-take (page_at p.page) bytes, length-drop end bytes, fits.whole, len, here) in
+          let len_bytes : length (with_page p bytes) ≡ end = omega (arith, length-append (take (bytes_before p.page) bytes ++ p.image) (drop end bytes), length-append (take (bytes_before p.page) bytes) p.image, length-take (bytes_before p.page) bytes, length-drop end bytes, fits.whole, len, here) in
           let begins : take (length (with_page p bytes)) (with_page p longer) ≡ with_page p bytes =
           ap (λ (k : ℕ). take k (with_page p longer)) len_bytes
           ∙ take_behind p longer fits end (omega arith)
-          ∙ ap (λ (l : List ℕ). l ++ p.image ++ drop end (take end longer)) (take-take (page_at p.page) end longer (omega arith) ∙ start ∙ sym (take_all (page_at p.page) bytes (omega (arith, len, here))))
-          ∙ ap (λ (l : List ℕ). take (page_at p.page) bytes ++ p.image ++ l) (rest_longer ∙ sym rest) in
+          ∙ ap (λ (l : List ℕ). l ++ p.image ++ drop end (take end longer)) (take-take (bytes_before p.page) end longer (omega arith) ∙ start ∙ sym (take_all (bytes_before p.page) bytes (omega (arith, len, here))))
+          ∙ ap (λ (l : List ℕ). take (bytes_before p.page) bytes ++ p.image ++ l) (rest_longer ∙ sym rest) in
           grown pages p.page (before + 1) after (with_page p bytes) (with_page p longer)
           (omega (arith, len_bytes, further, here)) (len_more ∙ len_longer) (omega arith) (omega (arith, fits.within, len_longer, here, le, some)) begins first.1 fit_more
           (λ n above below. tail_contains p pages n (λ (is : p.page ≡ n). omega (arith, is, above, equal)) (added n (omega (arith, above)) below))

@@ -6,7 +6,7 @@ use Rattle.std.proofs.lemmas.List.{take-take, drop-drop, drop-take, drop_more, l
 use Rattle.std.proofs.lemmas.Nat.{from_le_bytes-to_le_bytes_4, from_le_bytes-to_le_bytes_8}
 use Rattle.std.specs.List.{list_all}
 use Rattle.std.specs.Int.{w32, w64, from_le_bytes}
-use Rattle.pl_base.specs.Touched.{Change, IsWithin, PageImage, ascends_above, changed, page_at, page_numbers, page_size, with_pages}
+use Rattle.pl_base.specs.Touched.{Change, IsWithin, PageImage, ascends_above, changed, bytes_before, page_numbers, page_size, with_pages}
 use Rattle.pl_desk.specs.Desk.{Torn, overwritten}
 use Rattle.pl_desk.specs.Overwritten.{overwritten_within, torn_overwritten}
 use Rattle.pl_gate.specs.Device.{place_bytes, start_of, with_gate}
@@ -93,7 +93,7 @@ pub record IsTold (change : Change) : Type 0 where
   pub count : length change.pages < 2 ^ 32
   pub after : change.after < 2 ^ 32
 
-module _ (change : Change) (told : IsTold change) (pages file : List ℕ) (closed : IsClosed pages file) (len : length pages ≡ page_at change.before) (some : 1 ≤ change.before)
+module _ (change : Change) (told : IsTold change) (pages file : List ℕ) (closed : IsClosed pages file) (len : length pages ≡ bytes_before change.before) (some : 1 ≤ change.before)
     (written : entries (length change.pages) (start_of change) file ≡ change.pages) (reaches : start_of change + entry_size * length change.pages ≤ length file) where
   abbrev place : List ℕ
   place = place_bytes (start_of change) (length change.pages) change.after
@@ -158,33 +158,33 @@ module _ (change : Change) (told : IsTold change) (pages file : List ℕ) (close
   bytes = drop page_size set_file
 
   abbrev kept : List ℕ
-  kept = take (page_at change.after) bytes
+  kept = take (bytes_before change.after) bytes
 
-  len_bytes : page_at change.after ≤ length bytes
+  len_bytes : bytes_before change.after ≤ length bytes
   len_bytes = omega (arith, length-drop page_size set_file, len_set, reaches, told.within.some_page)
 
-  len_kept : length kept ≡ page_at change.after
-  len_kept = omega (arith, length-take (page_at change.after) bytes, len_bytes)
+  len_kept : length kept ≡ bytes_before change.after
+  len_kept = omega (arith, length-take (bytes_before change.after) bytes, len_bytes)
 
   begins_bytes : take (length pages) bytes ≡ pages
   begins_bytes = ap (take (length pages)) (behind_is page_size (omega arith)) ∙ begins pages file closed
 
-  fit_kept : AllFit change.pages (page_at change.after)
-  fit_kept = all_fit change.pages 0 change.after (page_at change.after) told.whole told.ascending told.below (omega arith)
+  fit_kept : AllFit change.pages (bytes_before change.after)
+  fit_kept = all_fit change.pages 0 change.after (bytes_before change.after) told.whole told.ascending told.below (omega arith)
 
   kept_is : with_pages change.pages kept ≡ changed change pages
   kept_is = elim (cases_lt change.after change.before) [
     | inl less ↦
-        let le : page_at change.after ≤ length pages = omega (arith, len, less) in
-        ap (with_pages change.pages) (sym (take-take (page_at change.after) (length pages) bytes le) ∙ ap (take (page_at change.after)) begins_bytes)
+        let le : bytes_before change.after ≤ length pages = omega (arith, len, less) in
+        ap (with_pages change.pages) (sym (take-take (bytes_before change.after) (length pages) bytes le) ∙ ap (take (bytes_before change.after)) begins_bytes)
     | inr more ↦
-        let le : length pages ≤ page_at change.after = omega (arith, len, more) in
-        grown change.pages 0 change.before change.after pages kept len len_kept some more (take-take (length pages) (page_at change.after) bytes le ∙ begins_bytes)
+        let le : length pages ≤ bytes_before change.after = omega (arith, len, more) in
+        grown change.pages 0 change.before change.after pages kept len len_kept some more (take-take (length pages) (bytes_before change.after) bytes le ∙ begins_bytes)
         told.ascending (subst (AllFit change.pages) (sym len_kept) fit_kept) (λ n above below. has_in n change.pages (told.within.added n above below))
-        ∙ ap (with_pages change.pages) (sym (take_all (page_at change.after) pages le))
+        ∙ ap (with_pages change.pages) (sym (take_all (bytes_before change.after) pages le))
   ]
 
-  len_changed : length (changed change pages) ≡ page_at change.after
+  len_changed : length (changed change pages) ≡ bytes_before change.after
   len_changed = ap length (sym kept_is) ∙ length-with_pages change.pages kept (subst (AllFit change.pages) (sym len_kept) fit_kept) ∙ len_kept
 
   armed : IsArmed change (changed change pages) set_file
@@ -196,8 +196,8 @@ module _ (change : Change) (told : IsTold change) (pages file : List ℕ) (close
       gate = gate_set set_file (omega (arith, len_set, has_long pages file closed)) refl has_journal;
       begins =
           ap (λ (n : ℕ). take n (laid set_file)) len_changed
-          ∙ ap (take (page_at change.after)) (laid_set set_file refl ∙ ap (λ (l : List PageImage). with_pages l bytes) journal_is)
-          ∙ with_pages_take change.pages bytes (page_at change.after) fit_kept len_bytes ∙ kept_is;
+          ∙ ap (take (bytes_before change.after)) (laid_set set_file refl ∙ ap (λ (l : List PageImage). with_pages l bytes) journal_is)
+          ∙ with_pages_take change.pages bytes (bytes_before change.after) fit_kept len_bytes ∙ kept_is;
     };
   }
 

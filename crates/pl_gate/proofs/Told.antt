@@ -4,7 +4,7 @@ use Rattle.std.proofs.lemmas.Bool.{and_parts, cases_lt, lt-ltb, ltb-true}
 use Rattle.std.proofs.lemmas.List.{length-map}
 use Rattle.std.proofs.lemmas.List.Sums.{list_all-from_AllPass}
 use Rattle.std.specs.List.{list_all}
-use Rattle.pl_base.specs.Touched.{AreImages, Change, IsWithin, PageImage, ascends_above, page_at, page_numbers, page_size}
+use Rattle.pl_base.specs.Touched.{AreImages, Change, IsWithin, PageImage, ascends_above, bytes_before, page_numbers, page_size}
 use Rattle.pl_desk.specs.Desk.{overwritten}
 use Rattle.pl_gate.specs.Device.{entry_bytes, place_bytes, start_of, with_entries}
 use Rattle.pl_gate.specs.Gate.{entry_size}
@@ -55,7 +55,7 @@ module _ (change : Change) (within : IsWithin change) (ascending : ascends_above
   are_entries = entries_of change.pages change.after (whole_of change.pages images) below after
 
   -- the entries reach behind the journal's start, wherever the file ends that held the pages before
-  reaches : (pages file : List ℕ) → IsClosed pages file → length pages ≡ page_at change.before → 1 ≤ change.before → start_of change + entry_size * length change.pages ≤ length (with_entries (start_of change) change.pages file)
+  reaches : (pages file : List ℕ) → IsClosed pages file → length pages ≡ bytes_before change.before → 1 ≤ change.before → start_of change + entry_size * length change.pages ≤ length (with_entries (start_of change) change.pages file)
   reaches pages file closed len some =
       entries_reach change.pages (start_of change) file are_entries (λ (none : length change.pages ≡ 0).
       elim (cases_lt change.before change.after) [
@@ -67,7 +67,7 @@ module _ (change : Change) (within : IsWithin change) (ascending : ascends_above
       lacks none (k, lt, is) = omega (arith, lt, none, length-map change.pages (λ (p : PageImage). p.page))
 
   -- a file with the journal and its place is staged
-  pub staged_file : (pages file : List ℕ) → IsClosed pages file → length pages ≡ page_at change.before → 1 ≤ change.before
+  pub staged_file : (pages file : List ℕ) → IsClosed pages file → length pages ≡ bytes_before change.before → 1 ≤ change.before
       → IsStaged change pages (overwritten 0 8 (place_bytes (start_of change) (length change.pages) change.after) (with_entries (start_of change) change.pages file))
   staged_file pages file closed len some =
       let start = start_of change in

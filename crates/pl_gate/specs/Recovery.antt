@@ -21,10 +21,6 @@ pub record IsSettledAs (file later : List ℕ) : Type 0 where
   pub closed : is_set later ≡ false
   pub stands : StandsAs file later
 
--- the later file stands for what one stood for that might have been left
-abbrev pub LeftAs : (List ℕ → Type 0) → List ℕ → Type 0
-LeftAs may_leave later = (file : List ℕ) × may_leave file × StandsAs file later
-
 -- how many bytes its recovery writes
 abbrev pub written_by : List ℕ → ℕ
 written_by file = if is_set file then page_size * journal_len file + 1 else 0

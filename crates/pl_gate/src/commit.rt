@@ -1,5 +1,5 @@
 ghost use Rattle.std.specs.Prelude.{◌≡◌, ◌≤◌, ◌<◌, ◌+◌, ◌*◌, ℕ, List, [], Some, length, OnOk, OnErr};
-ghost use Rattle.pl_base.specs.Touched.{IsWithin, changed, page_at};
+ghost use Rattle.pl_base.specs.Touched.{IsWithin, changed, bytes_before};
 ghost use Rattle.pl_desk.specs.Counts.{Rose};
 ghost use Rattle.pl_desk.specs.Desk.{AtAnyMoment, Rests};
 ghost use Rattle.pl_gate.specs.States.{HoldsEither, IsClosed};
@@ -16,11 +16,11 @@ impl<'d, D: Desk> Gate<'d, D> {
         requires within { IsWithin touched.now }
         requires some { 1 ≤ touched.now.before }
 
-        ensures closed { OnOk result ((pages : List ℕ) → Rests (D.held self.old.desk.now) (D.may_leave self.old.desk.now) (IsClosed pages) → length pages ≡ page_at touched.now.before
+        ensures closed { OnOk result ((pages : List ℕ) → Rests (D.held self.old.desk.now) (D.may_leave self.old.desk.now) (IsClosed pages) → length pages ≡ bytes_before touched.now.before
             → Rests (D.held self.new.desk.now) (D.may_leave self.new.desk.now) (IsClosed (changed touched.now pages))) }
         ensures closed_empty { OnOk result (D.held self.old.desk.now ≡ Some [] → touched.now.before ≡ 1 → 1 < touched.now.after
             → Rests (D.held self.new.desk.now) (D.may_leave self.new.desk.now) (IsClosed (changed touched.now []))) }
-        ensures any_moment { (pages : List ℕ) → Rests (D.held self.old.desk.now) (D.may_leave self.old.desk.now) (IsClosed pages) → length pages ≡ page_at touched.now.before
+        ensures any_moment { (pages : List ℕ) → Rests (D.held self.old.desk.now) (D.may_leave self.old.desk.now) (IsClosed pages) → length pages ≡ bytes_before touched.now.before
             → AtAnyMoment D.moment D.shown_since D.said self.old.desk.now self.new.desk.now (HoldsEither touched.now pages) }
 
         ensures written { OnOk result (D.written self.new.desk.now ≡ D.written self.old.desk.now + (2056 * length touched.now.pages + 18)) }

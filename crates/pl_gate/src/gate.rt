@@ -1,6 +1,6 @@
 ghost use Rattle.std.specs.Prelude.{◌≡◌, ◌≤◌, ◌<◌, ◌+◌, ◌*◌, ℕ, List, [], Some, length, IfOk, OnOk, OnErr};
 ghost use Rattle.std.specs.Option.{option_map};
-ghost use Rattle.pl_base.specs.Touched.{IsWithin, changed, page_at, page_size};
+ghost use Rattle.pl_base.specs.Touched.{IsWithin, changed, bytes_before, page_size};
 ghost use Rattle.pl_desk.specs.Counts.{Rose};
 ghost use Rattle.pl_gate.specs.Device.{with_gate, with_images};
 ghost use Rattle.pl_gate.specs.Gate.{Holds, entry_size};
@@ -41,11 +41,11 @@ impl<'d, D: Desk> Gate<'d, D> {
         requires some { 1 ≤ touched.now.before }
 
         ensures change { IfOk result (λ staged. staged ≡ touched.now) }
-        ensures staged { OnOk result ((pages : List ℕ) → Rests (D.held self.old.desk.now) (D.may_leave self.old.desk.now) (IsClosed pages) → length pages ≡ page_at touched.now.before
+        ensures staged { OnOk result ((pages : List ℕ) → Rests (D.held self.old.desk.now) (D.may_leave self.old.desk.now) (IsClosed pages) → length pages ≡ bytes_before touched.now.before
             → Rests (D.held self.new.desk.now) (D.may_leave self.new.desk.now) (IsStaged touched.now pages)) }
         ensures staged_empty { OnOk result (D.held self.old.desk.now ≡ Some [] → touched.now.before ≡ 1 → 1 < touched.now.after
             → Rests (D.held self.new.desk.now) (D.may_leave self.new.desk.now) (IsStaged touched.now [])) }
-        ensures any_moment { (pages : List ℕ) → Rests (D.held self.old.desk.now) (D.may_leave self.old.desk.now) (IsClosed pages) → length pages ≡ page_at touched.now.before
+        ensures any_moment { (pages : List ℕ) → Rests (D.held self.old.desk.now) (D.may_leave self.old.desk.now) (IsClosed pages) → length pages ≡ bytes_before touched.now.before
             → AtAnyMoment D.moment D.shown_since D.said self.old.desk.now self.new.desk.now (Holds pages) }
 
         ensures written { OnOk result (D.written self.new.desk.now ≡ D.written self.old.desk.now + (entry_size * length touched.now.pages + 16)) }

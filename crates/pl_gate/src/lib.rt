@@ -17,6 +17,3 @@ mod states;
 pub use error::GateError;
 pub use gate::Gate;
 pub use states::{Armed, Closed, Installed, Staged};
-
-#[cfg(test)]
-mod tests;

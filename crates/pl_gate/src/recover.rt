@@ -1,9 +1,10 @@
-ghost use Rattle.std.specs.Prelude.{◌≡◌, ◌≢◌, ◌≤◌, ◌⊎◌, ◌+◌, ◌*◌, ℕ, List, Some, None, Err, true, false, IfSome, OnOk};
+ghost use Rattle.std.specs.Prelude.{◌≡◌, ◌≢◌, ◌≤◌, ◌+◌, ◌*◌, ℕ, List, Some, None, Err, true, false, IfSome, OnOk};
 ghost use Rattle.pl_base.specs.Touched.{page_size};
 ghost use Rattle.pl_desk.specs.Counts.{Rose};
 ghost use Rattle.pl_desk.specs.Desk.{AtAnyMoment, last_offset, Only, Rests};
+ghost use Rattle.pl_desk.specs.Settling.{Settles};
 ghost use Rattle.pl_gate.specs.Gate.{entry_size, has_gate, is_set};
-ghost use Rattle.pl_gate.specs.Recovery.{IsPlaceOf, IsSettledAs, LeftAs, StandsAs, written_by};
+ghost use Rattle.pl_gate.specs.Recovery.{IsPlaceOf, IsSettledAs, StandsAs, written_by};
 
 use crate::device::write_gate;
 use crate::error::GateError;
@@ -30,13 +31,10 @@ impl<'d, D: Desk> Gate<'d, D> {
         ensures unwritten { result ≡ Err GateError.BadGate → (file : List ℕ) → D.held self.old.desk.now ≡ Some file → D.written self.new.desk.now ≡ D.written self.old.desk.now }
         ensures at_rest { result ≡ Err GateError.BadGate → (file : List ℕ) → D.held self.old.desk.now ≡ Some file → Only file (D.may_leave self.new.desk.now) }
 
-        // A stop at any moment shows a file that stands for what one stood for that might have been left before;
-        // and once the file was synced for what was read then.
+        // Before the first sync ends, a stop shows a file that it might have left at first; from then on each file
+        // that it shows stands for the one that a read gave.
         ensures any_moment { (file : List ℕ) → D.held self.old.desk.now ≡ Some file
-            → AtAnyMoment D.moment D.shown_since D.said self.old.desk.now self.new.desk.now (LeftAs (D.may_leave self.old.desk.now)) }
-        ensures one_store { (file : List ℕ) → D.held self.old.desk.now ≡ Some file
-            → ((later : List ℕ) → D.may_leave self.new.desk.now later → D.may_leave self.old.desk.now later)
-            ⊎ ((later : List ℕ) → D.may_leave self.new.desk.now later → StandsAs file later) }
+            → Settles D.moment D.shown_since D.may_leave D.said self.old.desk.now self.new.desk.now (StandsAs file) }
 
         ensures written { OnOk result ((file : List ℕ) → D.held self.old.desk.now ≡ Some file → D.written self.new.desk.now ≡ D.written self.old.desk.now + written_by file) }
         ensures no_more { (file : List ℕ) → D.held self.old.desk.now ≡ Some file → D.written self.new.desk.now ≤ D.written self.old.desk.now + written_by file }

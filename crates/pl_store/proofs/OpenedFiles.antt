@@ -5,19 +5,19 @@ use Rattle.pl_gate.specs.Gate.{has_gate, is_set, laid}
 use Rattle.pl_gate.specs.Recovery.{IsSettledAs, StandsAs, written_by}
 use Rattle.pl_gate.specs.States.{IsClosed}
 use Rattle.pl_form.specs.Form.{StandsFor}
-use Rattle.pl_store.specs.Session.{Stands}
+use Rattle.pl_store.specs.Session.{Stands, StandsAlike}
 
 -- what holds of each value that there may be
 pub if_some : {X : Type 0} (o : Option X) (P : X → Type 0) → ((x : X) → o ≡ Some x → P x) → IfSome o P
 if_some None P holds = tt
 if_some (Some x) P holds = holds x refl
 
--- a file that stands for what another one stands for, stands for its store
-pub stands_later : (file later : List ℕ) → StandsAs file later → (store : Store) → Stands file store → Stands later store
-stands_later file later as_file store stands = record {
-  gate = as_file.gate ∙ stands.gate;
-  form = subst (λ (bytes : List ℕ). StandsFor bytes store) (sym as_file.laid) stands.form;
-}
+-- files that stand for the same pages stand for the same store
+pub stands_alike : (file later : List ℕ) → StandsAs file later → StandsAlike file later
+stands_alike file later as_file store = (
+  λ stands. record { gate = as_file.gate ∙ stands.gate; form = subst (λ (bytes : List ℕ). StandsFor bytes store) (sym as_file.laid) stands.form },
+  λ stands. record { gate = sym as_file.gate ∙ stands.gate; form = subst (λ (bytes : List ℕ). StandsFor bytes store) as_file.laid stands.form },
+)
 
 module _ (file later : List ℕ) (settled : IsSettledAs file later) where
   lies : laid later ≡ drop 1024 later

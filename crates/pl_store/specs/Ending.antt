@@ -8,7 +8,7 @@ use Rattle.pl_store.specs.Session.{Stands}
 abbrev pub StandsForNone : List ℕ → Type 0
 StandsForNone file = (store : Store) → Stands file store → ⊥
 
--- the file is too short for a gate, or a stop left a journal in it that breaks the format
+-- the file is too short for a gate, or its gate is set over a journal that breaks the format; no stop leaves either
 abbrev pub LacksGate : List ℕ → Type 0
 LacksGate file = has_gate file ≡ false
 

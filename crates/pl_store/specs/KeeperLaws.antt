@@ -1,5 +1,5 @@
 -- Which files a stop may leave beside a keeper.
-use Rattle.std.proofs.Common.{◌≡◌, ℕ, Bool, true, false, List, Option, refl, ◌∙◌, subst}
+use Rattle.std.proofs.Common.{◌≡◌, ℕ, Bool, true, false, List, Option, refl, ◌∙◌}
 use Rattle.std.proofs.lemmas.Bool.{both_ways}
 use Rattle.pl_base.specs.Store.{Store}
 use Rattle.pl_desk.specs.Desk.{Rests}
@@ -34,13 +34,6 @@ still_kept (File session) first held held_now may_leave may_leave_now same leave
   rests = record { file = kept.rests.file; is_held = same ∙ kept.rests.is_held; only = λ file left. kept.rests.only file (leaves file left); has = kept.rests.has };
   stands = kept.stands;
 }
-
--- the same of the file of a keeper of this store
-pub still_stands : (keeper : Keeper) (store : Store) (first : List ℕ → Type 0) (held held_now : Option (List ℕ)) (may_leave may_leave_now : List ℕ → Type 0) → is_file keeper ≡ true → store_of keeper ≡ store
-    → held_now ≡ held → ((file : List ℕ) → may_leave_now file → may_leave file) → IsKept keeper first held may_leave → Rests held_now may_leave_now (λ file. Stands file store)
-still_stands keeper store first held held_now may_leave may_leave_now kind is same leaves kept =
-    subst (λ (s : Store). Rests held_now may_leave_now (λ file. Stands file s)) is
-    (kept_stands keeper first held_now may_leave_now kind (still_kept keeper first held held_now may_leave may_leave_now same leaves kept))
 
 -- the same for a keeper of either kind
 pub kept_keeps : (keeper : Keeper) (first : List ℕ → Type 0) (held : Option (List ℕ)) (may_leave : List ℕ → Type 0) → IsKept keeper first held may_leave → Keeps (is_file keeper) first (store_of keeper) held may_leave

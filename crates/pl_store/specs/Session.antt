@@ -1,8 +1,8 @@
 -- Which files stand for a store, and what a session and a prepared command are to a file.
-use Rattle.std.specs.Prelude.{◌≡◌, ◌⊎◌, ℕ, ◌+◌, ◌*◌, true, List, length, Option, None, Some}
+use Rattle.std.specs.Prelude.{◌≡◌, ◌⊎◌, ◌↔◌, ℕ, ◌+◌, ◌*◌, true, List, length, Option, None, Some}
 use Rattle.pl_base.specs.Rows as rows
 use Rattle.pl_base.specs.Store.{Store}
-use Rattle.pl_base.specs.Touched.{changed, page_at}
+use Rattle.pl_base.specs.Touched.{changed, bytes_before}
 use Rattle.pl_desk.specs.Desk.{Rests}
 use Rattle.pl_gate.specs.Gate.{has_gate, laid}
 use Rattle.pl_gate.specs.States.{IsClosed}
@@ -24,13 +24,9 @@ pub record Stands (file : List ℕ) (store : Store) : Type 0 where
 abbrev pub StandsForEither : Store → Store → List ℕ → Type 0
 StandsForEither before after file = Stands file before ⊎ Stands file after
 
--- the later file stands for each store that this one stands for
-abbrev pub StandsFurther : List ℕ → List ℕ → Type 0
-StandsFurther file later = (store : Store) → Stands file store → Stands later store
-
--- the file stands for each store that one stood for that might have been left
-abbrev pub LeftAs : (List ℕ → Type 0) → List ℕ → Type 0
-LeftAs may_leave file = (from : List ℕ) × may_leave from × StandsFurther from file
+-- two files that stand for the same store, or for none
+abbrev pub StandsAlike : List ℕ → List ℕ → Type 0
+StandsAlike file later = (store : Store) → Stands file store ↔ Stands later store
 
 -- ---- a store in memory
 
@@ -85,7 +81,7 @@ bytes_to_write prepared = bytes_of_change prepared.change
 -- the change makes of the bytes before it the ones after it
 abbrev LeadsTo : List ℕ → Option Pending → List ℕ → Type 0
 LeadsTo before None after = after ≡ before
-LeadsTo before (Some pending) after = (changed pending.touched before ≡ after) × (length before ≡ page_at pending.touched.before)
+LeadsTo before (Some pending) after = (changed pending.touched before ≡ after) × (length before ≡ bytes_before pending.touched.before)
 
 -- the command was prepared in this session
 pub record IsPreparedFrom (session : Session) (prepared : Prepared) : Type 0 where

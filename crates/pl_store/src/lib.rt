@@ -19,6 +19,3 @@ pub use keeper::{Keeper, Ready};
 pub use memory::{Memory, SLOT_LIMIT};
 pub use open::{create, reopen};
 pub use session::{Prepared, Session};
-
-#[cfg(test)]
-mod tests;

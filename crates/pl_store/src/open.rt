@@ -1,9 +1,10 @@
 ghost use Rattle.std.specs.Prelude.{◌≡◌, ◌≢◌, ◌≤◌, ◌<◌, ℕ, List, [], Err, Some, length, IfOk, IfSome, OnOk};
 ghost use Rattle.pl_base.specs.Store.{Store, opening};
 ghost use Rattle.pl_desk.specs.Counts.{Rose};
-ghost use Rattle.pl_desk.specs.Desk.{AtAnyMoment, Rests};
+ghost use Rattle.pl_desk.specs.Desk.{Rests};
+ghost use Rattle.pl_desk.specs.Settling.{Settles};
 ghost use Rattle.pl_store.specs.Ending.{IsFinished, LacksGate, StandsForNone};
-ghost use Rattle.pl_store.specs.Session.{IsSettled, LeftAs, Stands, StandsFurther, limit_of, store_of};
+ghost use Rattle.pl_store.specs.Session.{IsSettled, Stands, StandsAlike, limit_of, store_of};
 
 use crate::ended::Ended;
 use crate::memory::SLOT_LIMIT;
@@ -45,8 +46,9 @@ pub fn create<D: Desk>(alloc: Global, desk: &mut D) -> Result<Session, Ended>
     Ok(session)
 }
 
-/// Settles the gate of a store's file, reads it once, and opens it for commands, with a limit to the slots
-/// of 128 bytes that its store may take. `NotAStore` comes just where the bytes stand for no store.
+/// Settles the gate of a store's file, reads its store, and opens it for commands, with a limit to the slots
+/// of 128 bytes that the store may take. What lies behind the store's pages is not read. `NotAStore` comes
+/// just where the bytes stand for no store.
 pub fn reopen<D: Desk>(alloc: Global, desk: &mut D, limit: u32) -> Result<Session, Ended>
     requires { limit ≤ 4_194_304 }
     ensures stands { IfOk result (λ session. IfSome (D.held desk.old) (λ file. Stands file (store_of session))) }
@@ -58,10 +60,11 @@ pub fn reopen<D: Desk>(alloc: Global, desk: &mut D, limit: u32) -> Result<Sessio
     ensures still_none { result ≡ Err Ended.NotAStore → IfSome (D.held desk.new) StandsForNone }
     ensures bad_gate { result ≡ Err Ended.NotAStore → (file : List ℕ) → D.held desk.old ≡ Some file → LacksGate file → D.held desk.new ≡ D.held desk.old }
     ensures finished { (file : List ℕ) → D.held desk.old ≡ Some file → IsFinished file → (D.held desk.new ≡ D.held desk.old) × (D.written desk.new ≡ D.written desk.old) }
+    // Until the file is settled a stop shows one that it might have left at first; from then on each file that it
+    // shows stands for what the one stood for that a read gave.
     ensures any_moment { (file : List ℕ) → D.held desk.old ≡ Some file
-        → AtAnyMoment D.moment D.shown_since D.said desk.old desk.new (LeftAs (D.may_leave desk.old)) }
-    ensures left { (file : List ℕ) → D.held desk.old ≡ Some file → (later : List ℕ) → D.may_leave desk.new later → LeftAs (D.may_leave desk.old) later }
-    ensures no_memory { result ≡ Err Ended.NoMemory → (file : List ℕ) → D.held desk.old ≡ Some file → Rests (D.held desk.new) (D.may_leave desk.new) (StandsFurther file) }
+        → Settles D.moment D.shown_since D.may_leave D.said desk.old desk.new (StandsAlike file) }
+    ensures no_memory { result ≡ Err Ended.NoMemory → (file : List ℕ) → D.held desk.old ≡ Some file → Rests (D.held desk.new) (D.may_leave desk.new) (StandsAlike file) }
     ensures no_length { (n : ℕ) → result ≡ Err (Ended.NotEmpty n) → ⊥ }
     ensures no_less { D.written desk.old ≤ D.written desk.new }
     ensures said { D.said desk.new ≡ D.said desk.old }

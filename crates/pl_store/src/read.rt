@@ -1,18 +1,21 @@
 // What an opening reads of a file.
-ghost use Rattle.std.specs.Prelude.{◌≡◌, ◌≢◌, ◌≤◌, ◌+◌, ℕ, List, Err, Some, true, false, drop, IfOk, IfSome, IsSome, OnOk};
-ghost use Rattle.pl_base.specs.Store.{Store};
+ghost use Rattle.std.specs.Prelude.{◌≡◌, ◌≢◌, ◌≤◌, ◌+◌, ◌*◌, ℕ, List, Err, Some, true, false, drop, length, IfOk, IfSome, IsSome, OnOk};
+ghost use Rattle.pl_base.specs.Touched.{page_size};
 ghost use Rattle.pl_desk.specs.Counts.{Rose};
 ghost use Rattle.pl_desk.specs.Desk.{AtAnyMoment, Rests};
+ghost use Rattle.pl_desk.specs.Settling.{Settles};
 ghost use Rattle.pl_gate.specs.Gate.{has_gate, is_set};
-ghost use Rattle.pl_gate.specs.Recovery.{IsSettledAs, LeftAs, written_by};
-ghost use Rattle.pl_form.specs.Form.{StandsFor};
-ghost use Rattle.pl_store.specs.Reading.{IsReadFrom};
+ghost use Rattle.pl_gate.specs.Recovery.{IsSettledAs, StandsAs, written_by};
+ghost use Rattle.pl_form.specs.Form.{most_pages};
+ghost use Rattle.pl_store.specs.Reading.{HoldNone, HoldPages, IsReadFrom, IsStoreOf};
 ghost use Rattle.pl_store.specs.Session.{limit_of};
 
 use crate::ended::Ended;
 use crate::session::Session;
+use pl_base::PAGE_SIZE;
 use pl_desk::Desk;
 use pl_engine::Engine;
+use pl_form::named_pages;
 use pl_gate::Gate;
 use pl_plain::Flat;
 use std::alloc::Global;
@@ -25,7 +28,7 @@ pub(crate) fn settle<D: Desk>(desk: &mut D) -> Result<(), Ended>
     ensures untouched { result ≡ Err Ended.NotAStore → D.held desk.new ≡ D.held desk.old }
     ensures unset { (file : List ℕ) → D.held desk.old ≡ Some file → is_set file ≡ false → D.held desk.new ≡ D.held desk.old }
     ensures any_moment { (file : List ℕ) → D.held desk.old ≡ Some file
-        → AtAnyMoment D.moment D.shown_since D.said desk.old desk.new (LeftAs (D.may_leave desk.old)) }
+        → Settles D.moment D.shown_since D.may_leave D.said desk.old desk.new (StandsAs file) }
     ensures no_more { (file : List ℕ) → D.held desk.old ≡ Some file → D.written desk.new ≤ D.written desk.old + written_by file }
     ensures no_memory { result ≡ Err Ended.NoMemory → ⊥ }
     ensures no_length { (n : ℕ) → result ≡ Err (Ended.NotEmpty n) → ⊥ }
@@ -41,24 +44,70 @@ pub(crate) fn settle<D: Desk>(desk: &mut D) -> Result<(), Ended>
     Ok(())
 }
 
-/// All bytes of the file, read at once.
-fn read_all<D: Desk>(alloc: Global, desk: &mut D) -> Result<Vec<u8>, Ended>
-    ensures bytes { IfOk result (λ bytes. IfSome (D.held desk.old) (λ file. bytes.items ≡ file)) }
-    ensures any_moment { IsSome (D.said desk.old) → AtAnyMoment D.moment D.shown_since D.said desk.old desk.new (D.may_leave desk.old) }
+/// How many pages of the file are its store's, with the gate's and the header's, as the header tells.
+fn store_pages<D: Desk>(desk: &mut D) -> Result<u32, Ended>
+    ensures some { IfOk result (λ pages. 2 ≤ pages) }
+    ensures most { IfOk result (λ pages. pages ≤ most_pages) }
+    ensures within { IfOk result (λ pages. IfSome (D.held desk.old)
+        (λ file. page_size * pages ≤ length file)) }
+    ensures whole { IfOk result (λ pages. IfSome (D.held desk.old)
+        (λ file. HoldPages pages (drop page_size file))) }
+    ensures not_a_store { result ≡ Err Ended.NotAStore → IfSome (D.held desk.old)
+        (λ file. HoldNone (drop page_size file)) }
+    ensures any_moment { IsSome (D.said desk.old)
+        → AtAnyMoment D.moment D.shown_since D.said desk.old desk.new (D.may_leave desk.old) }
     ensures leaves { (file : List ℕ) → D.may_leave desk.new file → D.may_leave desk.old file }
     ensures held { D.held desk.new ≡ D.held desk.old }
-    ensures no_check { result ≡ Err Ended.NotAStore → ⊥ }
+    ensures no_memory { result ≡ Err Ended.NoMemory → ⊥ }
     ensures no_length { (n : ℕ) → result ≡ Err (Ended.NotEmpty n) → ⊥ }
     ensures written { D.written desk.new ≡ D.written desk.old }
     ensures said { D.said desk.new ≡ D.said desk.old }
     ensures line { D.line_faults desk.new ≡ D.line_faults desk.old }
     ensures counted { D.device_faults desk.old ≤ D.device_faults desk.new }
-    ensures no_fault { result ≢ Err Ended.DeviceFault → D.device_faults desk.new ≡ D.device_faults desk.old }
-    ensures cause { result ≡ Err Ended.DeviceFault → Rose (D.device_faults desk.old) (D.device_faults desk.new) }
+    ensures no_fault { result ≢ Err Ended.DeviceFault
+        → D.device_faults desk.new ≡ D.device_faults desk.old }
+    ensures cause { result ≡ Err Ended.DeviceFault
+        → Rose (D.device_faults desk.old) (D.device_faults desk.new) }
 {
     let len = desk.len()?;
+    if len < 2 * PAGE_SIZE as u64 {
+        return Err(Ended::NotAStore);
+    }
+    let mut header = [0; PAGE_SIZE];
+    desk.read_at(PAGE_SIZE as u64, &mut header)?;
+    let Some(pages) = named_pages(&header) else {
+        return Err(Ended::NotAStore);
+    };
+    if len < PAGE_SIZE as u64 * u64::from(pages) {
+        return Err(Ended::NotAStore);
+    }
+    Ok(pages)
+}
+
+/// The pages of the file that are its store's, the gate's and the header's among them. What lies behind
+/// them is not read.
+fn read_pages<D: Desk>(alloc: Global, desk: &mut D) -> Result<Vec<u8>, Ended>
+    ensures store { IfOk result (λ bytes. IfSome (D.held desk.old)
+        (λ file. IsStoreOf (drop page_size file) (drop page_size bytes.items))) }
+    ensures not_a_store { result ≡ Err Ended.NotAStore → IfSome (D.held desk.old)
+        (λ file. HoldNone (drop page_size file)) }
+    ensures any_moment { IsSome (D.said desk.old)
+        → AtAnyMoment D.moment D.shown_since D.said desk.old desk.new (D.may_leave desk.old) }
+    ensures leaves { (file : List ℕ) → D.may_leave desk.new file → D.may_leave desk.old file }
+    ensures held { D.held desk.new ≡ D.held desk.old }
+    ensures no_length { (n : ℕ) → result ≡ Err (Ended.NotEmpty n) → ⊥ }
+    ensures written { D.written desk.new ≡ D.written desk.old }
+    ensures said { D.said desk.new ≡ D.said desk.old }
+    ensures line { D.line_faults desk.new ≡ D.line_faults desk.old }
+    ensures counted { D.device_faults desk.old ≤ D.device_faults desk.new }
+    ensures no_fault { result ≢ Err Ended.DeviceFault
+        → D.device_faults desk.new ≡ D.device_faults desk.old }
+    ensures cause { result ≡ Err Ended.DeviceFault
+        → Rose (D.device_faults desk.old) (D.device_faults desk.new) }
+{
+    let pages = store_pages(desk)?;
     let mut bytes = Vec::new(alloc);
-    bytes.resize(len as usize, 0)?;
+    bytes.resize(PAGE_SIZE * pages as usize, 0)?;
     desk.read_at(0, &mut bytes)?;
     Ok(bytes)
 }
@@ -66,9 +115,9 @@ fn read_all<D: Desk>(alloc: Global, desk: &mut D) -> Result<Vec<u8>, Ended>
 /// A session of the store that the bytes of a file stand for where its gate is not set.
 fn session_of(alloc: Global, bytes: &[u8], limit: u32) -> Result<Session, Ended>
     requires { limit ≤ 4_194_304 }
-    ensures read { IfOk result (λ session. IsReadFrom session (drop 1024 bytes.now)) }
+    ensures read { IfOk result (λ session. IsReadFrom session (drop page_size bytes.now)) }
     ensures limit { IfOk result (λ session. limit_of session ≡ limit) }
-    ensures not_a_store { result ≡ Err Ended.NotAStore → (store : Store) → StandsFor (drop 1024 bytes.now) store → ⊥ }
+    ensures not_a_store { result ≡ Err Ended.NotAStore → HoldNone (drop page_size bytes.now) }
     ensures no_length { (n : ℕ) → result ≡ Err (Ended.NotEmpty n) → ⊥ }
     ensures no_fault { result ≡ Err Ended.DeviceFault → ⊥ }
 {
@@ -77,16 +126,19 @@ fn session_of(alloc: Global, bytes: &[u8], limit: u32) -> Result<Session, Ended>
     Ok(Session { engine })
 }
 
-/// A session of the store that a file stands for where its gate is not set. The file is read once.
+/// A session of the store that a file stands for where its gate is not set. The header's page is read, and
+/// then the store's pages; what lies behind them is not.
 pub(crate) fn read_session<D: Desk>(
     alloc: Global,
     desk: &mut D,
     limit: u32,
 ) -> Result<Session, Ended>
     requires { limit ≤ 4_194_304 }
-    ensures read { IfOk result (λ session. IfSome (D.held desk.old) (λ file. IsReadFrom session (drop 1024 file))) }
+    ensures read { IfOk result (λ session. IfSome (D.held desk.old)
+        (λ file. IsReadFrom session (drop page_size file))) }
     ensures limit { IfOk result (λ session. limit_of session ≡ limit) }
-    ensures not_a_store { result ≡ Err Ended.NotAStore → IfSome (D.held desk.old) (λ file. (store : Store) → StandsFor (drop 1024 file) store → ⊥) }
+    ensures not_a_store { result ≡ Err Ended.NotAStore → IfSome (D.held desk.old)
+        (λ file. HoldNone (drop page_size file)) }
     ensures any_moment { IsSome (D.said desk.old) → AtAnyMoment D.moment D.shown_since D.said desk.old desk.new (D.may_leave desk.old) }
     ensures leaves { (file : List ℕ) → D.may_leave desk.new file → D.may_leave desk.old file }
     ensures held { D.held desk.new ≡ D.held desk.old }
@@ -98,6 +150,6 @@ pub(crate) fn read_session<D: Desk>(
     ensures no_fault { result ≢ Err Ended.DeviceFault → D.device_faults desk.new ≡ D.device_faults desk.old }
     ensures cause { result ≡ Err Ended.DeviceFault → Rose (D.device_faults desk.old) (D.device_faults desk.new) }
 {
-    let bytes = read_all(alloc, desk)?;
+    let bytes = read_pages(alloc, desk)?;
     session_of(alloc, &bytes, limit)
 }

@@ -1,7 +1,7 @@
 // The engine's calls where nothing is counted.
 ghost use Rattle.std.specs.Prelude.{◌≡◌, ◌≤◌, ◌<◌, ℕ, List, length, IfOk, OnOk};
 ghost use Rattle.pl_base.specs.Rows.{store_of};
-ghost use Rattle.pl_base.specs.Touched.{IsWithin, changed, page_at};
+ghost use Rattle.pl_base.specs.Touched.{IsWithin, changed, bytes_before};
 ghost use Rattle.pl_engine.specs.Step.{HasDates, perform};
 ghost use Rattle.pl_plain.specs.Flat.{IsBase, bytes_of, kept_of};
 ghost use Rattle.pl_form.specs.Form.{StandsFor};
@@ -48,9 +48,9 @@ fn apply_with<L: Ledger>(
 /// The pages of the store's bytes that changed since the last such call, or since the rows were made.
 pub(crate) fn touched(engine: &mut Engine<Flat>) -> Result<Touched, NoMemory>
     ensures whole { IfOk result (λ change. (base : List ℕ) → IsBase engine.old.rows base → changed change base ≡ bytes_of engine.new.rows) }
-    ensures before { IfOk result (λ change. (base : List ℕ) → IsBase engine.old.rows base → length base ≡ page_at change.before) }
+    ensures before { IfOk result (λ change. (base : List ℕ) → IsBase engine.old.rows base → length base ≡ bytes_before change.before) }
     ensures some { IfOk result (λ change. 1 ≤ change.before) }
-    ensures after { IfOk result (λ change. length (bytes_of engine.new.rows) ≡ page_at change.after) }
+    ensures after { IfOk result (λ change. length (bytes_of engine.new.rows) ≡ bytes_before change.after) }
     ensures within { IfOk result IsWithin }
     ensures base { OnOk result (IsBase engine.new.rows (bytes_of engine.new.rows)) }
     ensures kept { kept_of engine.new.rows ≡ kept_of engine.old.rows }
@@ -65,9 +65,9 @@ fn touched_with<L: Ledger>(blank: Blank, engine: &mut Engine<Flat>) -> Result<To
     requires parts { blank.parts ≡ L.parts }
     requires some { 0 < blank.parts }
     ensures whole { IfOk result (λ change. (base : List ℕ) → IsBase engine.old.rows base → changed change base ≡ bytes_of engine.new.rows) }
-    ensures before { IfOk result (λ change. (base : List ℕ) → IsBase engine.old.rows base → length base ≡ page_at change.before) }
+    ensures before { IfOk result (λ change. (base : List ℕ) → IsBase engine.old.rows base → length base ≡ bytes_before change.before) }
     ensures some { IfOk result (λ change. 1 ≤ change.before) }
-    ensures after { IfOk result (λ change. length (bytes_of engine.new.rows) ≡ page_at change.after) }
+    ensures after { IfOk result (λ change. length (bytes_of engine.new.rows) ≡ bytes_before change.after) }
     ensures within { IfOk result IsWithin }
     ensures base { OnOk result (IsBase engine.new.rows (bytes_of engine.new.rows)) }
     ensures kept { kept_of engine.new.rows ≡ kept_of engine.old.rows }

@@ -1,5 +1,5 @@
 ghost use Rattle.std.specs.Prelude.{◌≡◌, ◌≤◌, ◌<◌, ◌+◌, ◌*◌, ℕ, List, [], Some, length, OnOk, OnErr};
-ghost use Rattle.pl_base.specs.Touched.{IsWithin, changed, page_at};
+ghost use Rattle.pl_base.specs.Touched.{IsWithin, changed, bytes_before};
 ghost use Rattle.pl_desk.specs.Counts.{Rose};
 ghost use Rattle.pl_desk.specs.Desk.{AtAnyMoment, Rests};
 ghost use Rattle.pl_gate.specs.States.{HoldsEither, IsClosed};
@@ -13,11 +13,11 @@ pub(crate) fn write_change<D: Desk>(desk: &mut D, touched: &Touched) -> Result<(
     requires within { IsWithin touched.now }
     requires some { 1 ≤ touched.now.before }
 
-    ensures closed { OnOk result ((pages : List ℕ) → Rests (D.held desk.old) (D.may_leave desk.old) (IsClosed pages) → length pages ≡ page_at touched.now.before
+    ensures closed { OnOk result ((pages : List ℕ) → Rests (D.held desk.old) (D.may_leave desk.old) (IsClosed pages) → length pages ≡ bytes_before touched.now.before
         → Rests (D.held desk.new) (D.may_leave desk.new) (IsClosed (changed touched.now pages))) }
     ensures closed_empty { OnOk result (D.held desk.old ≡ Some [] → touched.now.before ≡ 1 → 1 < touched.now.after
         → Rests (D.held desk.new) (D.may_leave desk.new) (IsClosed (changed touched.now []))) }
-    ensures any_moment { (pages : List ℕ) → Rests (D.held desk.old) (D.may_leave desk.old) (IsClosed pages) → length pages ≡ page_at touched.now.before
+    ensures any_moment { (pages : List ℕ) → Rests (D.held desk.old) (D.may_leave desk.old) (IsClosed pages) → length pages ≡ bytes_before touched.now.before
         → AtAnyMoment D.moment D.shown_since D.said desk.old desk.new (HoldsEither touched.now pages) }
 
     ensures written { OnOk result (D.written desk.new ≡ D.written desk.old + (2056 * length touched.now.pages + 18)) }

@@ -3,16 +3,15 @@ use Rattle.std.proofs.lemmas.Bool.{both_ways}
 use Rattle.std.proofs.lemmas.Option.{MatchOption-at_some, same_Some}
 use Rattle.std.proofs.lemmas.Result.{IfOk-weaker}
 use Rattle.pl_base.specs.Store.{Store}
-use Rattle.pl_desk.specs.AnyMoment.{and_more, held_left, some_said, weaker}
-use Rattle.pl_desk.specs.Desk.{AtAnyMoment}
+use Rattle.pl_desk.specs.AnyMoment.{some_said}
+use Rattle.pl_desk.specs.Moments.{shows_less}
+use Rattle.pl_desk.specs.Settling.{Settles, Unsaid, settles_less, settles_on}
 use Rattle.pl_gate.specs.Gate.{has_gate}
-use Rattle.pl_gate.specs.Recovery.{IsSettledAs}
-use Rattle.pl_gate.specs.Recovery as gate
+use Rattle.pl_gate.specs.Recovery.{IsSettledAs, StandsAs}
 use Rattle.pl_store.specs.Ending.{StandsForNone}
 use Rattle.pl_store.specs.Reading.{IsReadFrom}
-use Rattle.pl_store.specs.Session.{IsSettled, LeftAs, Stands, bytes_of, store_of}
-use Rattle.pl_store.proofs.LeftLemmas.{left_now}
-use Rattle.pl_store.proofs.OpenedFiles.{closed, if_some, later_form, settled_form, stands_later, stands_settled, writes_none}
+use Rattle.pl_store.specs.Session.{IsSettled, Stands, StandsAlike, bytes_of, store_of}
+use Rattle.pl_store.proofs.OpenedFiles.{closed, if_some, later_form, settled_form, stands_alike, stands_settled, writes_none}
 use Rattle.pl_store.proofs.open.reopen.Given.{Over}
 use Rattle.pl_store.proofs.open.reopen.Goals as goal
 
@@ -75,38 +74,26 @@ returns-clause-still_none g c ended =
     (MatchOption-at_some _ _ later is_mid none) store (later_form first.0 later settled store stands))
 
 -- what a stop within the settling shows
-settle_shown : (g : Over) (old mid : g.row.D.Denot) → AtAnyMoment g.D.Desk.moment g.D.Desk.shown_since g.D.Desk.said old mid (gate.LeftAs (g.D.Desk.may_leave old))
-    → AtAnyMoment g.D.Desk.moment g.D.Desk.shown_since g.D.Desk.said old mid (LeftAs (g.D.Desk.may_leave old))
-settle_shown g old mid shows =
+settle_shown : (g : Over) (old mid : g.row.D.Denot) (file : List ℕ) → Settles g.D.Desk.moment g.D.Desk.shown_since g.D.Desk.may_leave g.D.Desk.said old mid (StandsAs file)
+    → Settles g.D.Desk.moment g.D.Desk.shown_since g.D.Desk.may_leave g.D.Desk.said old mid (StandsAlike file)
+settle_shown g old mid file settles =
     let desk = g.D.Desk in
-    weaker desk.moment desk.shown_since desk.may_leave desk.said desk.held old mid (gate.LeftAs (desk.may_leave old)) (LeftAs (desk.may_leave old)) shows
-    (λ later left. (left.0, left.1, stands_later left.0 later left.2))
+    settles_less desk.moment desk.shown_since desk.may_leave desk.said desk.held old mid (StandsAs file) (StandsAlike file) settles (λ later as_file. stands_alike file later as_file)
 
-opened_shown : goal.returns-clause-any_moment
-opened_shown g c file is =
-    let desk = g.D.Desk in let old = c.args.desk.now in let mid = c.settle.new.desk in
-    let rests = c.in_ok-settle.ensures.settled file is in
-    let some = some_said desk.moment desk.shown_since desk.may_leave desk.said desk.held old file (g.met.D.Desk.told_together old) is in
-    let left = held_left desk.moment desk.shown_since desk.may_leave desk.said desk.held g.met.D.Desk.only_now g.met.D.Desk.shown_now old file some is in
-    and_more desk.moment desk.shown_since desk.may_leave desk.said desk.held old mid c.read_session.new.desk (LeftAs (desk.may_leave old)) (desk.may_leave mid) c.settle.ensures.said
-    (settle_shown g old mid (c.settle.ensures.any_moment file is)) (c.read_session.ensures.any_moment (subst IsSome (sym c.settle.ensures.said) some))
-    (λ later may. (file, left, subst (λ (l : List ℕ). (store : Store) → Stands file store → Stands l store) (sym (rests.only later may)) (stands_later file rests.file rests.has.stands)))
+pub returns-in_err-settle-clause-any_moment : goal.returns-in_err-settle-clause-any_moment
+returns-in_err-settle-clause-any_moment g c file is = settle_shown g c.args.desk.now c.settle.new.desk file (c.settle.ensures.any_moment file is)
 
 pub returns-clause-any_moment : goal.returns-clause-any_moment
-returns-clause-any_moment g c = opened_shown g c
-
-pub returns-clause-left : goal.returns-clause-left
-returns-clause-left g c file is =
-    let desk = g.D.Desk in let old = c.args.desk.now in let new = c.read_session.new.desk in
+returns-clause-any_moment g c file is =
+    let desk = g.D.Desk in let old = c.args.desk.now in let mid = c.settle.new.desk in let new = c.read_session.new.desk in
+    let rests = c.in_ok-settle.ensures.settled file is in
     let some = some_said desk.moment desk.shown_since desk.may_leave desk.said desk.held old file (g.met.D.Desk.told_together old) is in
-    left_now desk.moment desk.shown_since desk.may_leave desk.said g.met.D.Desk.counts_now old new (LeftAs (desk.may_leave old)) (subst IsSome (sym (c.read_session.ensures.said ∙ c.settle.ensures.said)) some) (opened_shown g c file is)
-
-pub returns-in_err-settle-clause-left : goal.returns-in_err-settle-clause-left
-returns-in_err-settle-clause-left g c file is =
-    let desk = g.D.Desk in let old = c.args.desk.now in let new = c.settle.new.desk in
-    let some = some_said desk.moment desk.shown_since desk.may_leave desk.said desk.held old file (g.met.D.Desk.told_together old) is in
-    left_now desk.moment desk.shown_since desk.may_leave desk.said g.met.D.Desk.counts_now old new (LeftAs (desk.may_leave old)) (subst IsSome (sym c.settle.ensures.said) some)
-    (settle_shown g old new (c.settle.ensures.any_moment file is))
+    let alike : (later : List ℕ) → desk.may_leave mid later → StandsAlike file later = λ later may. subst (StandsAlike file) (sym (rests.only later may)) (stands_alike file rests.file rests.has.stands) in
+    settles_on desk.moment desk.shown_since desk.may_leave desk.said desk.held old mid new (Unsaid (desk.said old) (desk.may_leave old)) (Unsaid (desk.said old) (StandsAlike file))
+    (settle_shown g old mid file (c.settle.ensures.any_moment file is))
+    (shows_less desk.moment desk.shown_since mid new (Unsaid (desk.said mid) (desk.may_leave mid)) (Unsaid (desk.said old) (StandsAlike file))
+    (c.read_session.ensures.any_moment (subst IsSome (sym c.settle.ensures.said) some))
+    (λ later line shows. (alike later shows.0, sym c.settle.ensures.said ∙ shows.1)))
 
 pub returns-clause-no_memory : goal.returns-clause-no_memory
 returns-clause-no_memory g c ended file is =
@@ -114,7 +101,7 @@ returns-clause-no_memory g c ended file is =
       file = rests.file;
       is_held = c.read_session.ensures.held ∙ rests.is_held;
       only = λ later left. rests.only later (c.read_session.ensures.leaves later left);
-      has = stands_later file rests.file rests.has.stands;
+      has = stands_alike file rests.file rests.has.stands;
     }
 
 pub returns-clause-bad_gate : goal.returns-clause-bad_gate

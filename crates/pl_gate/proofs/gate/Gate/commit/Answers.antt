@@ -1,6 +1,6 @@
 use Rattle.std.proofs.Common.{◌≡◌, ℕ, List, [], length, inl, inr, sym, ◌∙◌, subst}
 use Rattle.std.proofs.lemmas.Result.{on_ok_weaker}
-use Rattle.pl_base.specs.Touched.{Change, changed, page_at}
+use Rattle.pl_base.specs.Touched.{Change, changed, bytes_before}
 use Rattle.pl_gate.specs.Gate.{Holds}
 use Rattle.pl_desk.specs.Desk.{AtAnyMoment, Rests}
 use Rattle.pl_gate.specs.States.{HoldsEither, IsArmed, IsClosed, IsInstalled, IsStaged}
@@ -10,7 +10,7 @@ use Rattle.pl_gate.proofs.gate.Gate.commit.Goals.{After-arm, After-install, Afte
 use Rattle.pl_gate.proofs.gate.Gate.commit.Goals as goal
 
 abbrev Before : (g : Over) → After-arm g → List ℕ → Type 0
-Before g c pages = Rests (g.D.Desk.held c.args.self.now.desk.now) (g.D.Desk.may_leave c.args.self.now.desk.now) (IsClosed pages) × (length pages ≡ page_at c.args.touched.now.before)
+Before g c pages = Rests (g.D.Desk.held c.args.self.now.desk.now) (g.D.Desk.may_leave c.args.self.now.desk.now) (IsClosed pages) × (length pages ≡ bytes_before c.args.touched.now.before)
 
 is_staged : (g : Over) (c : After-arm g) (pages : List ℕ) → Before g c pages → Rests (g.D.Desk.held c.stage.new.self.desk.now) (g.D.Desk.may_leave c.stage.new.self.desk.now) (IsStaged c.in_ok-staged.staged pages)
 is_staged g c pages (rests, len) =

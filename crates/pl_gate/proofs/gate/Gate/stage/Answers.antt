@@ -1,6 +1,6 @@
 use Rattle.std.proofs.Common.{◌≡◌, ◌<◌, ◌*◌, ◌^◌, List, ℕ, [], Some, length, sym, ◌∙◌, ap, subst, arith}
 use Rattle.std.specs.Option.{option_map}
-use Rattle.pl_base.specs.Touched.{page_at, page_size}
+use Rattle.pl_base.specs.Touched.{bytes_before, page_size}
 use Rattle.pl_desk.specs.Desk.{AtAnyMoment, overwritten, Rests, Torn}
 use Rattle.pl_gate.specs.Device.{TornIn, entry_ranges, place_bytes, start_of, with_entries}
 use Rattle.pl_gate.specs.Gate.{Holds}
@@ -33,7 +33,7 @@ write_entries-requires g c = record { range = omega (arith, few g c.before, c.ma
 
 -- the desk stood for these pages before the call
 abbrev Before : (g : Over) → After-count-count g → List ℕ → Type 0
-Before g c pages = Rests (g.D.Desk.held c.args.self.now.desk.now) (g.D.Desk.may_leave c.args.self.now.desk.now) (IsClosed pages) × (length pages ≡ page_at c.args.touched.now.before)
+Before g c pages = Rests (g.D.Desk.held c.args.self.now.desk.now) (g.D.Desk.may_leave c.args.self.now.desk.now) (IsClosed pages) × (length pages ≡ bytes_before c.args.touched.now.before)
 
 entered : (g : Over) (c : After-count-count g) (pages : List ℕ) → Before g c pages
     → (file : List ℕ) → g.D.Desk.may_leave c.args.self.now.desk.now file → (next : List ℕ) → TornIn (entry_ranges (page_size * c.max.result) c.args.touched.now.pages) file next → IsClosed pages next

@@ -1,5 +1,5 @@
 use Rattle.std.proofs.Common.{◌≡◌, ℕ, IsSome, List, Some, length, inl, sym, subst}
-use Rattle.pl_base.specs.Touched.{page_at}
+use Rattle.pl_base.specs.Touched.{bytes_before}
 use Rattle.pl_desk.specs.AnyMoment.{begun, some_said, weaker}
 use Rattle.pl_desk.specs.Desk.{AtAnyMoment, Rests}
 use Rattle.pl_gate.specs.States.{HoldsEither, IsClosed}
@@ -14,7 +14,7 @@ use Rattle.pl_store.proofs.session.Prepared.commit.Goals as goal
 
 -- what a stop within the write of the change shows
 write_shown : (g : Over) (old new : g.row.D.Denot) (prepared : Prepared) (pending : Pending) → prepared.change ≡ Some pending
-    → ((pages : List ℕ) → Rests (g.D.Desk.held old) (g.D.Desk.may_leave old) (IsClosed pages) → length pages ≡ page_at pending.touched.before
+    → ((pages : List ℕ) → Rests (g.D.Desk.held old) (g.D.Desk.may_leave old) (IsClosed pages) → length pages ≡ bytes_before pending.touched.before
     → AtAnyMoment g.D.Desk.moment g.D.Desk.shown_since g.D.Desk.said old new (HoldsEither pending.touched pages))
     → (before : Session) → IsPreparedFrom before prepared → IsSettled before (g.D.Desk.held old) (g.D.Desk.may_leave old)
     → AtAnyMoment g.D.Desk.moment g.D.Desk.shown_since g.D.Desk.said old new (StandsForEither (store_of before) (next_store prepared))
