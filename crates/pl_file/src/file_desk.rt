@@ -13,8 +13,8 @@ use std::fs::{File, Files};
 use std::io::{self, ErrorKind, Write};
 use std::marker::Model;
 
-/// A store's file, and standard output. It tells nothing of its content. After a sync that failed each
-/// later one fails too.
+/// A store's file, which no other desk holds meanwhile, and standard output. It tells nothing of its
+/// content. After a sync that failed each later one fails too.
 #[derive(Drop)]
 pub struct FileDesk<'a, R> {
     rt: &'a R,
@@ -31,7 +31,8 @@ impl<'a, R> Model for FileDesk<'a, R> {
 }
 
 impl<'a, R: AllocGlobal> FileDesk<'a, R> {
-    /// The file is opened at first need. A missing file reads as empty, and the first write makes it.
+    /// The file is opened and locked at first need, before a byte of it is read or written. A missing file
+    /// reads as empty, and the first write makes it.
     pub fn at(rt: &'a R, path: &str) -> Result<FileDesk<'a, R>, NoMemory>
         ensures { IfOk result (λ desk. desk ≡ new_file) }
     {
@@ -43,7 +44,14 @@ impl<'a, R: AllocGlobal> FileDesk<'a, R> {
     }
 }
 
-impl<R: Files<File = File> + Print> Desk for FileDesk<'_, R> {
+impl<R: Files> FileDesk<'_, R> {
+    /// Whether what is told on standard error lands in the file, as far as the system tells.
+    pub fn is_standard_error(&self) -> bool {
+        self.file.is_standard_error(self.rt)
+    }
+}
+
+impl<R: Files<File = File> + Print + AllocGlobal> Desk for FileDesk<'_, R> {
     ghost held = { untold };
 
     ghost said = { untold };

@@ -6,9 +6,11 @@
 
 mod calls;
 mod file_desk;
+mod held_file;
+mod place;
+mod standard_streams;
 mod store_file;
 mod stream_source;
-mod tests;
 
 pub use file_desk::FileDesk;
 pub use stream_source::StreamSource;

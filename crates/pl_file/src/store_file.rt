@@ -1,21 +1,25 @@
-// The file at a path, opened at first need.
+// The file at a path, opened and locked at first need.
 ghost use Rattle.std.specs.Prelude.{◌≡◌, ◌≤◌, ◌↔◌, false, IfOk, IsErr, IsTrue};
 ghost use Rattle.pl_desk.specs.Desk.{last_offset};
 
-use std::fs::{self, File, Files, OpenOptions};
+use crate::held_file::HeldFile;
+use crate::place::Place;
+use crate::standard_streams::is_standard_error;
+use std::fs::{self, File, Files};
 use std::io::{self, ErrorKind};
 use std::marker::Model;
-use std::os::fd::AsRawFd;
 use std::os::unix::fs::FileExt;
-use std::path::Path;
 
 const LAST_OFFSET: u64 = (1 << 63) - 1;
 
-/// A file that is opened at first need, and made by the first write where it is missing.
+/// A file that is opened at first need, and made by the first write where it was missing then. It is held
+/// while it is open.
 #[derive(Drop)]
 pub struct StoreFile {
     path: String,
-    file: Option<File>,
+    // where the path led when the file was first needed
+    place: Option<Place>,
+    file: Option<HeldFile>,
     // the file's name in its folder was synced
     is_named: bool,
     // a sync failed: the system may count as written what the disk doesn't have
@@ -37,20 +41,29 @@ impl StoreFile {
     {
         StoreFile {
             path,
+            place: None,
             file: None,
             is_named: false,
             is_in_doubt: false,
         }
     }
 
+    /// Whether standard error is the file, as far as the system tells.
+    pub fn is_standard_error(&self, rt: &impl Files) -> bool {
+        match fs::metadata(rt, &self.path) {
+            Ok(found) => is_standard_error(rt, &found),
+            Err(_) => false,
+        }
+    }
+
     /// In bytes. A file that is missing in a folder that is there has none.
-    pub fn len(&mut self, rt: &impl Files<File = File>) -> io::Result<u64>
+    pub fn len(&mut self, rt: &(impl Files<File = File> + AllocGlobal)) -> io::Result<u64>
         ensures most { IfOk result (λ n. n ≤ last_offset) }
         ensures doubt { self.new ≡ self.old }
     {
         self.open(rt)?;
         let len = match &self.file {
-            Some(file) => file.metadata()?.len(),
+            Some(file) => file.as_file().metadata()?.len(),
             None => 0,
         };
         if len > LAST_OFFSET {
@@ -62,7 +75,7 @@ impl StoreFile {
     /// Fills `out` from the offset on. A range past the end is an error.
     pub fn read_at(
         &mut self,
-        rt: &impl Files<File = File>,
+        rt: &(impl Files<File = File> + AllocGlobal),
         at: u64,
         out: &mut [u8],
     ) -> io::Result<()>
@@ -73,7 +86,7 @@ impl StoreFile {
             return Err(ErrorKind::UnexpectedEof.into());
         }
         match &self.file {
-            Some(file) => file.read_exact_at(out, at),
+            Some(file) => file.as_file().read_exact_at(out, at),
             None => Ok(()),
         }
     }
@@ -82,7 +95,7 @@ impl StoreFile {
     /// the end make it longer too.
     pub fn write_at(
         &mut self,
-        rt: &impl Files<File = File>,
+        rt: &(impl Files<File = File> + AllocGlobal),
         at: u64,
         bytes: &[u8],
     ) -> io::Result<()>
@@ -91,15 +104,15 @@ impl StoreFile {
         let len = self.len(rt)?;
         self.make(rt)?;
         match &self.file {
-            Some(file) if bytes.is_empty() && at > len => file.set_len(at),
-            Some(file) => file.write_all_at(bytes, at),
+            Some(file) if bytes.is_empty() && at > len => file.as_file().set_len(at),
+            Some(file) => file.as_file().write_all_at(bytes, at),
             None => Err(ErrorKind::NotFound.into()),
         }
     }
 
     /// Syncs the content and the length, and the first time the file's name in its folder. After a sync
     /// that failed each later one fails too: the system then keeps no record of what it didn't write.
-    pub fn sync(&mut self, rt: &impl Files<File = File>) -> io::Result<()>
+    pub fn sync(&mut self, rt: &(impl Files<File = File> + AllocGlobal)) -> io::Result<()>
         ensures refused { IsTrue self.old → IsErr result }
         ensures doubt { IsTrue self.new ↔ IsErr result }
     {
@@ -112,40 +125,37 @@ impl StoreFile {
         Ok(())
     }
 
-    fn sync_file(&mut self, rt: &impl Files<File = File>) -> io::Result<()>
+    fn sync_file(&mut self, rt: &(impl Files<File = File> + AllocGlobal)) -> io::Result<()>
         ensures doubt { self.new ≡ self.old }
     {
         self.open(rt)?;
         let Some(file) = &self.file else {
             return Ok(());
         };
-        file.sync_all()?;
-        if !self.is_named {
-            File::open(rt, folder_of(&self.path)?)?.sync_all()?;
+        file.as_file().sync_all()?;
+        if let Some(place) = &self.place
+            && !self.is_named
+        {
+            place.sync_name()?;
             self.is_named = true;
         }
         Ok(())
     }
 
-    // Opens the file, if it is there and isn't open yet.
-    fn open(&mut self, rt: &impl Files<File = File>) -> io::Result<()>
+    // Opens the file, if it is there and wasn't asked for yet. One that was missing stays so until it is
+    // made: what was made meanwhile is another's.
+    fn open(&mut self, rt: &(impl Files<File = File> + AllocGlobal)) -> io::Result<()>
         ensures doubt { self.new ≡ self.old }
     {
-        if self.file.is_some() {
+        if self.place.is_some() {
             return Ok(());
         }
-        match OpenOptions::new()
-            .read(true)
-            .write(true)
-            .open(rt, self.path.as_str())
-        {
-            Ok(file) => {
-                self.file = Some(above_streams(file)?);
-                Ok(())
-            }
-            Err(error) if error.kind() == ErrorKind::NotFound => check_folder(rt, &self.path),
-            Err(error) => Err(error),
+        let place = Place::at(rt, &self.path)?;
+        if place.has_file() {
+            self.file = Some(HeldFile::hold(rt, &self.path, place.open(rt)?)?);
         }
+        self.place = Some(place);
+        Ok(())
     }
 
     // Makes the file, if it was missing.
@@ -155,37 +165,10 @@ impl StoreFile {
         if self.file.is_some() {
             return Ok(());
         }
-        let file = OpenOptions::new()
-            .read(true)
-            .write(true)
-            .create_new(true)
-            .open(rt, self.path.as_str())?;
-        self.file = Some(above_streams(file)?);
+        let Some(place) = &self.place else {
+            return Err(ErrorKind::NotFound.into());
+        };
+        self.file = Some(HeldFile::hold(rt, &self.path, place.make(rt)?)?);
         Ok(())
-    }
-}
-
-// What is meant for a standard stream that was closed must not land in the store.
-fn above_streams(file: File) -> io::Result<File> {
-    if file.as_raw_fd() > 2 {
-        return Ok(file);
-    }
-    file.try_clone()
-}
-
-// A file is missing only in a folder that is there.
-fn check_folder(rt: &impl Files, path: &str) -> io::Result<()> {
-    if fs::metadata(rt, folder_of(path)?)?.is_dir() {
-        Ok(())
-    } else {
-        Err(ErrorKind::NotADirectory.into())
-    }
-}
-
-fn folder_of(path: &str) -> io::Result<&str> {
-    match Path::new(path).parent() {
-        Some(folder) if folder.as_str().is_empty() => Ok("."),
-        Some(folder) => Ok(folder.as_str()),
-        None => Err(ErrorKind::InvalidInput.into()),
     }
 }
