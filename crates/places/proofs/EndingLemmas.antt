@@ -1,5 +1,5 @@
 -- The ends of a run, from how far it has come.
-use Rattle.std.proofs.Common.{◌≡◌, ◌⊎◌, Bool, eqb, true, ◌<◌, ◌≤◌, ◌+◌, ℕ, List, [], ◌++◌, length, take, drop, Some, None, Option, refl, ap, sym, subst, ◌∙◌, arith, inl, inr, length-append, length-drop}
+use Rattle.std.proofs.Common.{◌≡◌, ◌⊎◌, Bool, eqb, true, ◌<◌, ◌≤◌, ◌+◌, ℕ, List, [], ◌∷◌, ◌++◌, append-nil, length, take, drop, Some, None, Option, refl, ap, sym, subst, ◌∙◌, arith, inl, inr, length-append, length-drop}
 use Rattle.std.specs.Prelude.{IfSome}
 use Rattle.std.specs.Option.{option_map}
 use Rattle.std.proofs.lemmas.List.{drop_at, length-take-le, take-append-drop, take_all, take_at}
@@ -18,10 +18,10 @@ use Rattle.places.specs.declared.status.Status.{Status}
 use Rattle.places.specs.declared.status.Status.TheVariants as status
 use Rattle.places.specs.declared.stop.Stop.{Stop}
 use Rattle.places.specs.declared.stop.Stop.TheVariants as stop
-use Rattle.places.specs.Ending.{Becomes, LeavesAtEnd, SaysAll, SaysEnded}
+use Rattle.places.specs.Ending.{Becomes, LeavesAtEnd, LeavesWithin, SaysAll, SaysEnded}
 use Rattle.pl_store.specs.Keeper.{IsKept, Keeps, is_file, slot_limit}
 use Rattle.places.specs.Status.{EndsIn}
-use Rattle.places.specs.Progress.{IsAt, ended_entries}
+use Rattle.places.specs.Progress.{HasRead, IsAt, ended_entries, entries_read}
 use Rattle.places.specs.Said.{Says, texts}
 use Rattle.places.specs.Stops.{LeavesAtEntry, ShowsAnswered}
 use Rattle.places.proofs.EntryLemmas.{keeps_here, leaves_here, leaves_script}
@@ -80,13 +80,18 @@ at_end : (start : Store) (read : ℕ) (bytes before piece : List ℕ) (left said
 at_end start read bytes before piece left said run behind ended =
     all_read read bytes behind.in_input (subst (λ l. IfSome l (λ rest. rest ≡ [])) behind.rest_left ended)
 
+-- nothing is left behind the last piece, which is empty
+none_left : (start : Store) (read : ℕ) (bytes before piece : List ℕ) (left left' said : Option (List ℕ)) (run : ScriptRun) → IsBehind start read bytes before left run said → length piece ≡ 0 → left ≡ option_map (λ rest. piece ++ rest) left' → IfSome left (λ rest. rest ≡ []) → left' ≡ Some []
+none_left start read bytes before piece left left' said run behind empty taken ended =
+    let is = piece_of read bytes piece left' behind.in_input (sym behind.rest_left ∙ taken) in
+    let none : drop read bytes ≡ [] = subst (λ l. IfSome l (λ rest. rest ≡ [])) behind.rest_left ended in
+    is.rest_left ∙ ap (λ n. Some (drop n bytes)) (omega arith) ∙ ap Some none
+
 says_all : (start : Store) (read : ℕ) (bytes before piece : List ℕ) (left left' said said' : Option (List ℕ)) (run : ScriptRun) → IsBehind start read bytes before left run said → read < 2_147_483_648 → length piece ≡ 0 → left ≡ option_map (λ rest. piece ++ rest) left' → IfSome left (λ rest. rest ≡ []) → ((b : List ℕ) (begun : Option (List ℕ)) → IsAt start b begun run said → Says begun (texts (replies slot_limit start (script b))) said') → SaysAll start bytes before left' said'
 says_all start read bytes before piece left left' said said' run behind short empty taken ended answered =
     let whole = at_end start read bytes before piece left said run behind ended in
-    let is = piece_of read bytes piece left' behind.in_input (sym behind.rest_left ∙ taken) in
-    let none : drop read bytes ≡ [] = subst (λ l. IfSome l (λ rest. rest ≡ [])) behind.rest_left ended in
     record {
-      nothing_left = is.rest_left ∙ ap (λ n. Some (drop n bytes)) (omega arith) ∙ ap Some none;
+      nothing_left = none_left start read bytes before piece left left' said run behind empty taken ended;
       all_said = rw whole.0 at (answered (take read bytes) (Some before) behind.at);
       in_limit = omega (arith, whole.1);
     }
@@ -95,12 +100,19 @@ says_all start read bytes before piece left left' said said' run behind short em
 halves : (read : ℕ) (bytes : List ℕ) → take read bytes ++ drop read bytes ≡ bytes
 halves read bytes = take-append-drop read bytes
 
-ended_so_far : (start : Store) (read : ℕ) (bytes before : List ℕ) (left left' said : Option (List ℕ)) (run : ScriptRun) → IsBehind start read bytes before left run said → left' ≡ left → SaysEnded start bytes before left' said
-ended_so_far start read bytes before left left' said run behind kept = record {
-  read = take read bytes;
-  rest = drop read bytes;
+-- what was read so far
+read_so_far : (start : Store) (read : ℕ) (bytes before : List ℕ) (left left' said : Option (List ℕ)) (run : ScriptRun) → IsBehind start read bytes before left run said → left' ≡ left → read ≤ 2_147_483_648 → HasRead bytes (take read bytes) (drop read bytes) left'
+read_so_far start read bytes before left left' said run behind kept few = record {
   order = sym (halves read bytes);
   rest_left = kept ∙ behind.rest_left;
+  in_limit = omega (arith, length-take-le read bytes behind.in_input, few);
+}
+
+ended_so_far : (start : Store) (read : ℕ) (bytes before : List ℕ) (left left' said : Option (List ℕ)) (run : ScriptRun) → IsBehind start read bytes before left run said → left' ≡ left → read ≤ 2_147_483_648 → SaysEnded start bytes before left' said
+ended_so_far start read bytes before left left' said run behind kept few = record {
+  read = take read bytes;
+  rest = drop read bytes;
+  has_read = read_so_far start read bytes before left left' said run behind kept few;
   ended_said = behind.at.text;
 }
 
@@ -165,13 +177,19 @@ module _ {D : Type 0} (moment : D → ℕ) (shown_since : D → ℕ → List ℕ
 
 -- by the status that comes of the error
 ends_at : (error : AnswerError) (e : Stop) (s : Status) (kind : Bool) (first : List ℕ → Type 0) (start : Store) (bytes before : List ℕ) (left said held : Option (List ℕ)) (may_leave : List ℕ → Type 0) → Becomes error e → EndsIn e s
-    → LeavesAtEntry error kind first slot_limit start (script bytes) before said held may_leave → LeavesAtEnd s kind first start bytes before left said held may_leave
+    → LeavesWithin error kind first start bytes before left said held may_leave → LeavesAtEnd s kind first start bytes before left said held may_leave
 ends_at answer.SayFault e s kind first start bytes before left said held may_leave is ends leaves =
     subst (λ (t : Status). LeavesAtEnd t kind first start bytes before left said held may_leave) (sym (rw is at ends)) leaves
 ends_at answer.DeviceFault e s kind first start bytes before left said held may_leave is ends leaves =
-    subst (λ (t : Status). LeavesAtEnd t kind first start bytes before left said held may_leave) (sym (rw is at ends)) leaves
+    subst (λ (t : Status). LeavesAtEnd t kind first start bytes before left said held may_leave) (sym (rw is at ends)) (inr leaves)
 ends_at answer.NoMemory e s kind first start bytes before left said held may_leave is ends leaves =
     subst (λ (t : Status). LeavesAtEnd t kind first start bytes before left said held may_leave) (sym (rw is at ends)) leaves
+
+-- the lines that ended are among those that were read
+leaves_read : (error : AnswerError) (kind : Bool) (first : List ℕ → Type 0) (start : Store) (before : List ℕ) (said held : Option (List ℕ)) (may_leave : List ℕ → Type 0) (read rest : List ℕ)
+    → LeavesAtEntry error kind first slot_limit start (ended_entries read) before said held may_leave → LeavesAtEntry error kind first slot_limit start (entries_read read rest) before said held may_leave
+leaves_read error kind first start before said held may_leave read [] leaves = rw append-nil at (leaves_script error kind first start before said held may_leave read [] leaves)
+leaves_read error kind first start before said held may_leave read (b ∷ rest) leaves = leaves
 
 module _ (kind : Bool) (first : List ℕ → Type 0) (start : Store) (read : ℕ) (bytes before piece : List ℕ) (left left_now : Option (List ℕ)) (run : ScriptRun) (was said held : Option (List ℕ)) (may_leave : List ℕ → Type 0) where
   -- at the end of the input
@@ -185,39 +203,63 @@ module _ (kind : Bool) (first : List ℕ → Type 0) (start : Store) (read : ℕ
         rw (at_end start read bytes before piece left was run behind ended).0 at (rw (stepped (take read bytes) (Some before) behind.at) at keeps),
       )
 
-  pub ends_last : (error : AnswerError) (e : Stop) (s : Status) → Becomes error e → EndsIn e s → IsBehind start read bytes before left run was → is_file run.keeper ≡ kind → IfSome left (λ rest. rest ≡ [])
+  pub ends_last : (error : AnswerError) (e : Stop) (s : Status) → Becomes error e → EndsIn e s → IsBehind start read bytes before left run was → is_file run.keeper ≡ kind → read < 2_147_483_648 → length piece ≡ 0 → left ≡ option_map (λ rest. piece ++ rest) left_now → IfSome left (λ rest. rest ≡ [])
       → LeavesAtEntry error (is_file run.keeper) first slot_limit start (script (take read bytes)) before said held may_leave → LeavesAtEnd s kind first start bytes before left_now said held may_leave
-  ends_last error e s becomes ends behind is ended leaves =
-      ends_at error e s kind first start bytes before left_now said held may_leave becomes ends
-      (rw (at_end start read bytes before piece left was run behind ended).0 at (rw is at leaves))
+  ends_last error e s becomes ends behind is below none taken ended leaves =
+      let whole = at_end start read bytes before piece left was run behind ended in
+      ends_at error e s kind first start bytes before left_now said held may_leave becomes ends (record {
+        read = bytes;
+        rest = [];
+        has_read = record {
+          order = sym (append-nil bytes);
+          rest_left = none_left start read bytes before piece left left_now was run behind none taken ended;
+          in_limit = omega (arith, whole.1, below);
+        };
+        leaves = rw whole.0 at (rw is at leaves);
+      })
 
   -- in a piece
-  pub ends_piece : (error : AnswerError) (e : Stop) (s : Status) → Becomes error e → EndsIn e s → IsBehind start read bytes before left run was → is_file run.keeper ≡ kind → left ≡ option_map (λ rest. piece ++ rest) left_now
+  pub ends_piece : (error : AnswerError) (e : Stop) (s : Status) → Becomes error e → EndsIn e s → IsBehind start read bytes before left run was → is_file run.keeper ≡ kind → read + length piece ≤ 2_147_483_648 → left ≡ option_map (λ rest. piece ++ rest) left_now
       → LeavesAtEntry error (is_file run.keeper) first slot_limit start (ended_entries (take read bytes ++ piece)) before said held may_leave → LeavesAtEnd s kind first start bytes before left_now said held may_leave
-  ends_piece error e s becomes ends behind is taken leaves =
+  ends_piece error e s becomes ends behind is few taken leaves =
       let part = piece_of read bytes piece left_now behind.in_input (sym behind.rest_left ∙ taken) in
       let order : (take read bytes ++ piece) ++ drop (read + length piece) bytes ≡ bytes = ap (λ front. front ++ drop (read + length piece) bytes) (sym part.front) ∙ halves (read + length piece) bytes in
-      ends_at error e s kind first start bytes before left_now said held may_leave becomes ends
-      (rw order at (leaves_script error kind first start before said held may_leave (take read bytes ++ piece) (drop (read + length piece) bytes) (rw is at leaves)))
+      ends_at error e s kind first start bytes before left_now said held may_leave becomes ends (record {
+        read = take read bytes ++ piece;
+        rest = drop (read + length piece) bytes;
+        has_read = record {
+          order = sym order;
+          rest_left = part.rest_left;
+          in_limit = omega (arith, length-append (take read bytes) piece, length-take-le read bytes behind.in_input, few);
+        };
+        leaves = leaves_read error kind first start before said held may_leave (take read bytes ++ piece) (drop (read + length piece) bytes) (rw is at leaves);
+      })
 
   -- between two pieces
   keeps_behind : IsBehind start read bytes before left run said → is_file run.keeper ≡ kind → IsKept run.keeper first held may_leave → Keeps kind first (after slot_limit start (ended_entries (take read bytes))) held may_leave
   keeps_behind behind is kept = rw is at (keeps_here first start (take read bytes) (Some before) run said held may_leave behind.at kept)
 
-  pub ends_reading : (e : Stop) (s : Status) → (e ≡ stop.ReadFault) ⊎ (e ≡ stop.NoMemory) → EndsIn e s → IsBehind start read bytes before left run said → is_file run.keeper ≡ kind → IsKept run.keeper first held may_leave → left_now ≡ left
+  pub ends_reading : (e : Stop) (s : Status) → (e ≡ stop.ReadFault) ⊎ (e ≡ stop.NoMemory) → EndsIn e s → IsBehind start read bytes before left run said → is_file run.keeper ≡ kind → IsKept run.keeper first held may_leave → read < 2_147_483_648 → left_now ≡ left
       → LeavesAtEnd s kind first start bytes before left_now said held may_leave
   unfolding ended_so_far
-  ends_reading e s (inl fault) ends behind is kept same =
-      subst (λ (t : Status). LeavesAtEnd t kind first start bytes before left_now said held may_leave) (sym (rw fault at ends))
-      (ended_so_far start read bytes before left left_now said run behind same, keeps_behind behind is kept)
-  ends_reading e s (inr memory) ends behind is kept same =
+  ends_reading e s (inl fault) ends behind is kept below same =
+      subst (λ (t : Status). LeavesAtEnd t kind first start bytes before left_now said held may_leave) (sym (rw fault at ends)) (
+        ended_so_far start read bytes before left left_now said run behind same (omega (arith, below)),
+        omega (arith, length-take-le read bytes behind.in_input, below),
+        keeps_behind behind is kept,
+      )
+  ends_reading e s (inr memory) ends behind is kept below same =
       let here = leaves_here first start (take read bytes) before run said held may_leave behind.at kept in
-      let all = leaves_script answer.NoMemory kind first start before said held may_leave (take read bytes) (drop read bytes) (rw is at here) in
-      ends_at answer.NoMemory e s kind first start bytes before left_now said held may_leave memory ends (rw (halves read bytes) at all)
+      ends_at answer.NoMemory e s kind first start bytes before left_now said held may_leave memory ends (record {
+        read = take read bytes;
+        rest = drop read bytes;
+        has_read = read_so_far start read bytes before left left_now said run behind same (omega (arith, below));
+        leaves = leaves_read answer.NoMemory kind first start before said held may_leave (take read bytes) (drop read bytes) (rw is at here);
+      })
 
   pub ends_too_long : (s : Status) → s ≡ status.TooLong 2_147_483_648 → IsBehind start read bytes before left run said → is_file run.keeper ≡ kind → IsKept run.keeper first held may_leave → read ≡ 2_147_483_648
       → LeavesAtEnd s kind first start bytes before left said held may_leave
   unfolding ended_so_far
   ends_too_long s ends behind is kept limit =
       subst (λ (t : Status). LeavesAtEnd t kind first start bytes before left said held may_leave) (sym ends)
-      (ended_so_far start read bytes before left left said run behind refl, length-take-le read bytes behind.in_input ∙ limit, keeps_behind behind is kept)
+      (ended_so_far start read bytes before left left said run behind refl (omega (arith, limit)), length-take-le read bytes behind.in_input ∙ limit, keeps_behind behind is kept)

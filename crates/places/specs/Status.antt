@@ -6,6 +6,7 @@ use Rattle.places.specs.declared.status.Status.{Status}
 use Rattle.places.specs.declared.status.Status.TheVariants.{Done, Usage, ReadFault, SayFault, DeviceFault, NoMemory, NotAStore, NotEmpty, TooLong}
 use Rattle.places.specs.declared.stop.Stop.{Stop}
 use Rattle.places.specs.declared.stop.Stop.TheVariants as stop
+use Rattle.places.specs.Limits.{script_limit}
 
 abbrev pub status_number : Status → ℕ
 status_number Done = 0
@@ -36,7 +37,7 @@ EndsIn stop.ReadFault status = status ≡ ReadFault
 EndsIn stop.SayFault status = status ≡ SayFault
 EndsIn stop.DeviceFault status = status ≡ DeviceFault
 EndsIn stop.NoMemory status = status ≡ NoMemory
-EndsIn stop.TooLong status = status ≡ TooLong 2_147_483_648
+EndsIn stop.TooLong status = status ≡ TooLong script_limit
 
 -- the status of a run
 abbrev pub EndsAs : Result ⊤ Stop → Status → Type 0

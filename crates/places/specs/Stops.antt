@@ -14,8 +14,13 @@ use Rattle.places.specs.Said.{SaysOfAnswer, texts}
 abbrev pub ShowsFront : (List ℕ → Type 0) → List ℕ → List ℕ → List ℕ → List ℕ → Type 0
 ShowsFront may_leave before text file line = may_leave file × ((n : ℕ) × (line ≡ before ++ take n text))
 
+-- Before the store's file is settled: nothing was said, and the file is one that a stop might have left at first.
+abbrev pub ShowsUnopened : (List ℕ → Type 0) → List ℕ → List ℕ → List ℕ → Type 0
+ShowsUnopened first before file line = first file × (line ≡ before)
+
 -- While a line is answered that has an entry, or none: a front of its reply was said behind what was said
--- before. The file is that of the store after it, or, where no byte of the reply was said, of the one before.
+-- before; a part past the reply's end is all of it. The file is that of the store after it, or, where no byte of
+-- the reply was said, of the one before.
 pub record ShowsAnswer (is_file : Bool) (first : List ℕ → Type 0) (limit : ℕ) (store : Store) (entries : List (Parsed Command)) (before file line : List ℕ) : Type 0 where
   pub part : ℕ
   pub said : line ≡ before ++ take part (texts (replies limit store entries))

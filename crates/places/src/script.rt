@@ -2,14 +2,15 @@
 ghost use Rattle.std.specs.Prelude.{◌≡◌, ◌≢◌, ◌⊎◌, ◌≤◌, ℕ, List, Some, true, false, IfSome, IsSome};
 ghost use Rattle.pl_base.specs.Store.{Store, opening};
 ghost use Rattle.pl_desk.specs.Counts.{Rose};
-ghost use Rattle.pl_desk.specs.Desk.{ShowsOnly};
+ghost use Rattle.pl_desk.specs.Settling.{ShowsThen};
 ghost use Rattle.pl_script.specs.Script.{script};
 ghost use Rattle.pl_store.specs.Ending.{IsFinished, LacksGate, StandsForNone};
 ghost use Rattle.pl_store.specs.Session.{Stands};
-ghost use Rattle.places.specs.Ending.{EndsScript, IfTold, LeavesAtEnd};
+ghost use Rattle.places.specs.Ending.{IfTold, LeavesAtEnd};
+ghost use Rattle.places.specs.Limits.{script_limit};
 ghost use Rattle.pl_store.specs.Keeper.{slot_limit};
 ghost use Rattle.places.specs.Status.{EndsAs};
-ghost use Rattle.places.specs.Stops.{ShowsAnswered};
+ghost use Rattle.places.specs.Stops.{ShowsAnswered, ShowsUnopened};
 
 use crate::run_script::run_script;
 use crate::status::Status;
@@ -20,9 +21,12 @@ use std::alloc::Global;
 
 /// Runs the script of the input on a store in memory, from the one before its first command on.
 pub fn try_script<S: Source, D: Desk>(alloc: Global, input: &mut S, desk: &mut D) -> Status
-    ensures replies { IfTold (S.left input.old) (D.said desk.old) (λ bytes before. EndsScript result opening bytes before (S.left input.new) (D.said desk.new)) }
+    ensures ends { IfTold (S.left input.old) (D.said desk.old) (λ bytes before.
+        LeavesAtEnd result false (D.may_leave desk.old) opening bytes before (S.left input.new)
+        (D.said desk.new) (D.held desk.new) (D.may_leave desk.new)) }
     ensures stops { IfTold (S.left input.old) (D.said desk.old) (λ bytes before.
-        ShowsOnly D.moment D.shown_since desk.old desk.new (ShowsAnswered false (D.may_leave desk.old) slot_limit opening (script bytes) before)) }
+        ShowsThen D.moment D.shown_since desk.old desk.new (ShowsUnopened (D.may_leave desk.old) before)
+        (ShowsAnswered false (D.may_leave desk.old) slot_limit opening (script bytes) before)) }
     ensures held { D.held desk.new ≡ D.held desk.old }
     ensures written { D.written desk.new ≡ D.written desk.old }
     ensures device { D.device_faults desk.new ≡ D.device_faults desk.old }
@@ -36,7 +40,7 @@ pub fn try_script<S: Source, D: Desk>(alloc: Global, input: &mut S, desk: &mut D
     ensures no_read_fault { result ≢ Status.ReadFault → S.faults input.new ≡ S.faults input.old }
     ensures no_say_fault { result ≢ Status.SayFault → D.line_faults desk.new ≡ D.line_faults desk.old }
     ensures no_device_fault { result ≢ Status.DeviceFault → D.device_faults desk.new ≡ D.device_faults desk.old }
-    ensures limit { (limit : ℕ) → result ≡ Status.TooLong limit → limit ≡ 2_147_483_648 }
+    ensures limit { (limit : ℕ) → result ≡ Status.TooLong limit → limit ≡ script_limit }
     ensures words { result ≢ Status.Usage }
     ensures no_length { (n : ℕ) → result ≢ Status.NotEmpty n }
 {
@@ -48,14 +52,14 @@ pub fn try_script<S: Source, D: Desk>(alloc: Global, input: &mut S, desk: &mut D
 
 /// Runs the script of the input on the store that the desk's file stands for.
 pub fn run_stored<S: Source, D: Desk>(alloc: Global, input: &mut S, desk: &mut D) -> Status
-    ensures replies { (file : List ℕ) (start : Store) → D.held desk.old ≡ Some file → Stands file start
-        → IfTold (S.left input.old) (D.said desk.old) (λ bytes before. EndsScript result start bytes before (S.left input.new) (D.said desk.new)) }
-    ensures stops { (start : Store) → ((file : List ℕ) → D.may_leave desk.old file → Stands file start)
+    ensures ends { (file : List ℕ) (start : Store) → D.held desk.old ≡ Some file → Stands file start
         → IfTold (S.left input.old) (D.said desk.old) (λ bytes before.
-        ShowsOnly D.moment D.shown_since desk.old desk.new (ShowsAnswered true (D.may_leave desk.old) slot_limit start (script bytes) before)) }
-    ensures ends { (start : Store) → ((file : List ℕ) → D.may_leave desk.old file → Stands file start)
+        LeavesAtEnd result true (D.may_leave desk.old) start bytes before (S.left input.new)
+        (D.said desk.new) (D.held desk.new) (D.may_leave desk.new)) }
+    ensures stops { (file : List ℕ) (start : Store) → D.held desk.old ≡ Some file → Stands file start
         → IfTold (S.left input.old) (D.said desk.old) (λ bytes before.
-        LeavesAtEnd result true (D.may_leave desk.old) start bytes before (S.left input.new) (D.said desk.new) (D.held desk.new) (D.may_leave desk.new)) }
+        ShowsThen D.moment D.shown_since desk.old desk.new (ShowsUnopened (D.may_leave desk.old) before)
+        (ShowsAnswered true (D.may_leave desk.old) slot_limit start (script bytes) before)) }
     ensures not_a_store { result ≡ Status.NotAStore → IfSome (D.held desk.old) StandsForNone × IfSome (D.held desk.new) StandsForNone }
     ensures bad_gate { result ≡ Status.NotAStore → (file : List ℕ) → D.held desk.old ≡ Some file → LacksGate file → D.held desk.new ≡ D.held desk.old }
     ensures finished { result ≡ Status.NotAStore → (file : List ℕ) → D.held desk.old ≡ Some file → IsFinished file → (D.held desk.new ≡ D.held desk.old) × (D.written desk.new ≡ D.written desk.old) }
@@ -72,7 +76,7 @@ pub fn run_stored<S: Source, D: Desk>(alloc: Global, input: &mut S, desk: &mut D
     ensures no_read_fault { result ≢ Status.ReadFault → S.faults input.new ≡ S.faults input.old }
     ensures no_say_fault { result ≢ Status.SayFault → D.line_faults desk.new ≡ D.line_faults desk.old }
     ensures no_device_fault { result ≢ Status.DeviceFault → D.device_faults desk.new ≡ D.device_faults desk.old }
-    ensures limit { (limit : ℕ) → result ≡ Status.TooLong limit → limit ≡ 2_147_483_648 }
+    ensures limit { (limit : ℕ) → result ≡ Status.TooLong limit → limit ≡ script_limit }
     ensures words { result ≢ Status.Usage }
     ensures no_length { (n : ℕ) → result ≢ Status.NotEmpty n }
 {

@@ -87,7 +87,7 @@ returns-in_err-piece-clause-ends g c =
     rw (p.1, p.2, ← c.new-run.ensures.keeper) (λ status ends bytes before all begun first kept. let desk = g.D.Desk in let is = c.loop-read.invariant in let start = store_of c.new-run.result.keeper in let kind = is_file c.new-run.result.keeper in let left = g.S.Source.left in let read = c.loop-read.read in
     let now = c.loop-read.desk in
     ends_reading kind (desk.may_leave first) start read bytes before [] (left c.loop-read.input) (left c.next_piece.new.input) c.loop-read.run (desk.said now) (desk.said now) (desk.held now) (desk.may_leave now)
-    _ status c.in_err-piece.ensures.errors ends (is.told bytes before all begun) is.kind (is.kept first kept) c.in_err-piece.ensures.kept)
+    _ status c.in_err-piece.ensures.errors ends (is.told bytes before all begun) is.kind (is.kept first kept) c.loop-read-test.true c.in_err-piece.ensures.kept)
 
 pub returns-in_err-finish-clause-ends : goal.returns-in_err-finish-clause-ends
 returns-in_err-finish-clause-ends g c =
@@ -95,7 +95,8 @@ returns-in_err-finish-clause-ends g c =
     rw (p.1, ← c.new-run.ensures.keeper) (λ status ends bytes before all begun first kept. let desk = g.D.Desk in let is = c.loop-read.invariant in let start = store_of c.new-run.result.keeper in let kind = is_file c.new-run.result.keeper in let left = g.S.Source.left in let read = c.loop-read.read in
     let now = c.loop-read.desk in let new = c.finish.new.desk in let behind = is.told bytes before all begun in
     ends_last kind (desk.may_leave first) start read bytes before c.in_ok-piece.piece.items (left c.loop-read.input) (left c.next_piece.new.input) c.loop-read.run (desk.said now) (desk.said new) (desk.held new) (desk.may_leave new)
-    _ _ status p.2 ends behind is.kind (c.in_ok-piece.ensures.ended (empty_piece _ c.in_ok-piece.piece.ok.0 (sym c.if-is_empty.ensures)))
+    _ _ status p.2 ends behind is.kind c.loop-read-test.true (empty_piece _ c.in_ok-piece.piece.ok.0 (sym c.if-is_empty.ensures)) c.in_ok-piece.ensures.taken
+    (c.in_ok-piece.ensures.ended (empty_piece _ c.in_ok-piece.piece.ok.0 (sym c.if-is_empty.ensures)))
     (c.in_err-finish.ensures.ends start (take read bytes) before first behind.at (is.kept first kept)))
 
 pub returns-in_err-run-clause-ends : goal.returns-in_err-run-clause-ends
@@ -104,7 +105,7 @@ returns-in_err-run-clause-ends g c =
     rw (p.1, ← c.new-run.ensures.keeper) (λ status ends bytes before all begun first kept. let desk = g.D.Desk in let is = c.loop-read.invariant in let start = store_of c.new-run.result.keeper in let kind = is_file c.new-run.result.keeper in let left = g.S.Source.left in let read = c.loop-read.read in
     let now = c.loop-read.desk in let new = c.take_all.new.desk in let behind = is.told bytes before all begun in
     ends_piece kind (desk.may_leave first) start read bytes before c.deref.result.now (left c.loop-read.input) (left c.next_piece.new.input) c.loop-read.run (desk.said now) (desk.said new) (desk.held new) (desk.may_leave new)
-    _ _ status p.2 ends behind is.kind (rw c.deref.ensures.value c.in_ok-piece.ensures.taken)
+    _ _ status p.2 ends behind is.kind (omega (arith, c.in_ok-piece.ensures.within, c.deref.ensures.len, ap length c.deref.ensures.value)) (rw c.deref.ensures.value c.in_ok-piece.ensures.taken)
     (c.in_err-run.ensures.ends start (take read bytes) before first behind.at (is.kept first kept)))
 
 pub returns-then-is_empty-clause-ends : goal.returns-then-is_empty-clause-ends

@@ -1,19 +1,37 @@
-ghost use Rattle.std.specs.Prelude.{◌≡◌, ◌≢◌, ◌⊎◌, ◌↔◌, ◌≤◌, ◌<◌, ℕ, List, [], Some, true, false, length, map, take, IfSome};
-ghost use Rattle.pl_base.specs.Store.{Store, opening};
+//! The run of a store of history: what the words ask for, on a source of input and a desk with the store's
+//! file and the line that replies are said to.
+//!
+//! `run` is the one call. The program `places_main` hands it the streams and the file of a process; tests hand
+//! it bytes in memory.
+#![tactic(auto)]
+
+mod answer;
+mod answer_error;
+mod input;
+mod make_store;
+mod run_script;
+mod say;
+mod script;
+mod script_run;
+mod status;
+mod stop;
+
+ghost use Rattle.std.specs.Prelude.{◌≡◌, ◌≢◌, ◌⊎◌, ◌↔◌, ◌≤◌, ◌<◌, ℕ, Bool, List, [], Some, length, map, take, IfSome};
+ghost use Rattle.pl_base.specs.Store.{Store};
 ghost use Rattle.pl_desk.specs.Counts.{Rose};
-ghost use Rattle.pl_desk.specs.Desk.{ShowsOnly};
+ghost use Rattle.pl_desk.specs.Settling.{ShowsThen};
 ghost use Rattle.pl_script.specs.Script.{script};
 ghost use Rattle.pl_store.specs.Ending.{IsFinished, LacksGate, StandsForNone};
-ghost use Rattle.pl_store.specs.Session.{Stands};
 ghost use Rattle.places.specs.Ending.{BeginsWith, EndsScript, IfTold, IsMade, IsNew, IsRun, IsTry, LeavesAtEnd, made_text};
+ghost use Rattle.places.specs.Limits.{script_limit};
 ghost use Rattle.pl_store.specs.Keeper.{slot_limit};
 ghost use Rattle.places.specs.Said.{Says};
-ghost use Rattle.places.specs.Stops.{ShowsAnswered};
+ghost use Rattle.places.specs.Stops.{ShowsAnswered, ShowsUnopened};
 
 use crate::make_store::make_store;
 use crate::script::{run_stored, try_script};
-use crate::status::Status;
 use pl_desk::{Desk, Source};
+pub use status::Status;
 use std::alloc::Global;
 
 /// Runs what the words ask for. `new` writes the store before its first command into the desk's file, and
@@ -25,23 +43,28 @@ pub fn run<S: Source, D: Desk>(alloc: Global, words: &[&str], input: &mut S, des
     // Where the source and the desk tell their content: at Done everything was read, and what was said is the
     // text of the replies of the plain machine to the script. A read that fails, and the limit of a script, leave
     // the lines answered that ended within what was read. A line that fails leaves the texts of the first replies
-    // said, and a front of the next; a file that fails and want of memory leave whole texts.
-    ensures replies { (start : Store) → BeginsWith (map (λ word. word.now) words.now) (D.held desk.old) start
-        → IfTold (S.left input.old) (D.said desk.old) (λ bytes before. EndsScript result start bytes before (S.left input.new) (D.said desk.new)) }
-
-    // A stop at any moment, within each call of the desk and within a recovery of the file too, shows the texts
-    // of the first replies and a front of the next. The file stands then for the store after as many commands,
-    // or after one more, and after that one where a byte of its reply was said.
-    ensures stops { IsRun (map (λ word. word.now) words.now) → (start : Store) → ((file : List ℕ) → D.may_leave desk.old file → Stands file start)
+    // to what was read said, and a front of the next; a file that fails and want of memory leave whole texts.
+    ensures replies { (is_file : Bool) (start : Store)
+        → BeginsWith (map (λ word. word.now) words.now) (D.held desk.old) is_file start
         → IfTold (S.left input.old) (D.said desk.old) (λ bytes before.
-        ShowsOnly D.moment D.shown_since desk.old desk.new (ShowsAnswered true (D.may_leave desk.old) slot_limit start (script bytes) before)) }
-    // What the file of `run` holds at each status, beside what was said then.
-    ensures ends { IsRun (map (λ word. word.now) words.now) → (start : Store) → ((file : List ℕ) → D.may_leave desk.old file → Stands file start)
+        EndsScript result start bytes before (S.left input.new) (D.said desk.new)) }
+    // What the file holds at each status, beside what was said then. The store is the one that a read of the file
+    // gives at the start, whichever others a stop might have left: the first sync settles the file. The file of
+    // `try` is one that a stop might have left before it.
+    ensures ends { (is_file : Bool) (start : Store)
+        → BeginsWith (map (λ word. word.now) words.now) (D.held desk.old) is_file start
         → IfTold (S.left input.old) (D.said desk.old) (λ bytes before.
-        LeavesAtEnd result true (D.may_leave desk.old) start bytes before (S.left input.new) (D.said desk.new) (D.held desk.new) (D.may_leave desk.new)) }
-    // The file of `try` is one that a stop might have left before it.
-    ensures stops_in_memory { IsTry (map (λ word. word.now) words.now) → IfTold (S.left input.old) (D.said desk.old) (λ bytes before.
-        ShowsOnly D.moment D.shown_since desk.old desk.new (ShowsAnswered false (D.may_leave desk.old) slot_limit opening (script bytes) before)) }
+        LeavesAtEnd result is_file (D.may_leave desk.old) start bytes before (S.left input.new)
+        (D.said desk.new) (D.held desk.new) (D.may_leave desk.new)) }
+    // A stop before the file is settled shows nothing said, and a file that a stop might have left at the start.
+    // From then on a stop at any moment, within each call of the desk and within a recovery of the file too, shows
+    // the texts of the first replies and a front of the next. The file stands then for the store after as many
+    // commands, or after one more, and after that one where a byte of its reply was said.
+    ensures stops { (is_file : Bool) (start : Store)
+        → BeginsWith (map (λ word. word.now) words.now) (D.held desk.old) is_file start
+        → IfTold (S.left input.old) (D.said desk.old) (λ bytes before.
+        ShowsThen D.moment D.shown_since desk.old desk.new (ShowsUnopened (D.may_leave desk.old) before)
+        (ShowsAnswered is_file (D.may_leave desk.old) slot_limit start (script bytes) before)) }
 
     // `new` says its word once the file holds the new store and a stop leaves nothing else; it reads no input.
     ensures made { result ≡ Status.Done → IsNew (map (λ word. word.now) words.now) → Says (D.said desk.old) made_text (D.said desk.new) }
@@ -86,7 +109,7 @@ pub fn run<S: Source, D: Desk>(alloc: Global, words: &[&str], input: &mut S, des
     ensures no_read_fault { result ≢ Status.ReadFault → S.faults input.new ≡ S.faults input.old }
     ensures no_say_fault { result ≢ Status.SayFault → D.line_faults desk.new ≡ D.line_faults desk.old }
     ensures no_device_fault { result ≢ Status.DeviceFault → D.device_faults desk.new ≡ D.device_faults desk.old }
-    ensures limit { (limit : ℕ) → result ≡ Status.TooLong limit → limit ≡ 2_147_483_648 }
+    ensures limit { (limit : ℕ) → result ≡ Status.TooLong limit → limit ≡ script_limit }
 
     // `try` leaves the desk's file alone: what a read of it gives, and the counts of bytes written and of failed
     // calls.

@@ -4,23 +4,8 @@
 //! line, on the store that the file holds. `places try` does so on a store in memory.
 #![tactic(auto)]
 
-mod answer;
-mod answer_error;
-mod input;
-mod make_store;
-mod run;
-mod run_script;
-mod say;
-mod script;
-mod script_run;
-mod status;
-mod stop;
-#[cfg(test)]
-mod tests;
-
 use pl_file::{FileDesk, StreamSource};
-use run::run;
-use status::Status;
+use places::{Status, run};
 use std::alloc::Global;
 use std::env::Env;
 use std::process::ExitCode;
@@ -29,10 +14,8 @@ use std::{env, io};
 fn main(rt: HostRuntime) -> ExitCode {
     let status = match words(&rt) {
         Ok(words) => run_words(&rt, &words),
-        Err(status) => status,
+        Err(status) => told(&rt, status),
     };
-    // A status that cannot be told here is told by the exit status still.
-    let _ = tell(&rt, &status);
     ExitCode::from(status.number())
 }
 
@@ -52,13 +35,24 @@ fn run_words(rt: &HostRuntime, words: &[String]) -> Status {
     let alloc = rt.alloc();
     let texts: Result<Vec<&str>, _> = words.iter().map(|word| word.as_str()).collect(alloc);
     let Ok(texts) = texts else {
-        return Status::NoMemory;
+        return told(rt, Status::NoMemory);
     };
     let path = texts.get(1).copied().unwrap_or("");
     let Ok(mut desk) = FileDesk::at(rt, path) else {
-        return Status::NoMemory;
+        return told(rt, Status::NoMemory);
     };
-    run(alloc, &texts, &mut StreamSource::new(rt), &mut desk)
+    let status = run(alloc, &texts, &mut StreamSource::new(rt), &mut desk);
+    if desk.is_standard_error() {
+        // The line would land in the store.
+        return status;
+    }
+    told(rt, status)
+}
+
+// Tells it on standard error. One that cannot be told there is told by the exit status still.
+fn told(rt: &impl Eprint, status: Status) -> Status {
+    let _ = tell(rt, &status);
+    status
 }
 
 // The line on standard error of a status other than Done.
