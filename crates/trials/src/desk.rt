@@ -1,0 +1,111 @@
+// A desk in memory: what its calls do, and what a stop within each of them leaves.
+
+use pl_base::NoMemory;
+use pl_desk::{Desk, Failed, MemDesk};
+use std::alloc::Global;
+use std::process::Abort;
+use std::test::Fail;
+
+// A call, through the bound.
+enum Step<'a> {
+    Len,
+    Write(u64, &'a [u8]),
+    Sync,
+    Say(&'a [u8]),
+}
+
+// Whether the call succeeded.
+fn perform<D: Desk>(rt: &impl Abort, desk: &mut D, step: &Step) -> bool {
+    match step {
+        Step::Len => desk.len().is_ok(),
+        Step::Write(at, bytes) => {
+            assert!(rt; *at < 100 && bytes.len() < 100);
+            desk.write_at(*at, bytes).is_ok()
+        }
+        Step::Sync => desk.sync().is_ok(),
+        Step::Say(bytes) => {
+            assert!(rt; !bytes.is_empty());
+            desk.say(bytes).is_ok()
+        }
+    }
+}
+
+// The stops within a call, for each of three fillers, leave these bytes, where `?` stands for the filler.
+fn expect_stops(
+    rt: &impl Abort,
+    alloc: Global,
+    desk: &MemDesk,
+    call: u32,
+    pattern: &[u8],
+) -> Result<(), NoMemory> {
+    for filler in [0, 1, 255] {
+        assert!(rt; call < desk.calls());
+        let stopped = desk.stopped(alloc, call, filler)?;
+        let mut expected = Vec::from_slice(alloc, pattern)?;
+        for byte in expected.iter_mut() {
+            if *byte == b'?' {
+                *byte = filler;
+            }
+        }
+        assert_eq!(rt; stopped.bytes(), expected.as_slice());
+        assert_eq!(rt; stopped.said(), b"".as_slice());
+        assert_eq!(rt; stopped.calls(), 0);
+    }
+    Ok(())
+}
+
+// Each call: whether it succeeds, the bytes of the file after it, how many bytes had been said when it
+// began, and what a stop within it leaves.
+const RUN: [(Step, bool, &[u8], usize, &[u8]); 12] = [
+    (Step::Write(1, b"XY"), true, b"aXYd", 0, b"a??d"),
+    (Step::Say(b"hi"), true, b"aXYd", 0, b"a??d"),
+    (Step::Write(6, b"Z"), true, b"aXYd\0\0Z", 2, b"a??d???"),
+    (Step::Sync, true, b"aXYd\0\0Z", 2, b"a??d???"),
+    (Step::Len, true, b"aXYd\0\0Z", 2, b"aXYd\0\0Z"),
+    (Step::Write(0, b"Q"), true, b"QXYd\0\0Z", 2, b"?XYd\0\0Z"),
+    (Step::Write(3, b"RS"), false, b"QXYd\0\0Z", 2, b"?XY??\0Z"),
+    (Step::Sync, false, b"QXYd\0\0Z", 2, b"?XY??\0Z"),
+    (Step::Say(b"no"), false, b"QXYd\0\0Z", 2, b"?XY??\0Z"),
+    (
+        Step::Write(8, b"T"),
+        true,
+        b"QXYd\0\0Z\0T",
+        2,
+        b"?XY??\0Z??",
+    ),
+    (Step::Sync, true, b"QXYd\0\0Z\0T", 2, b"?XY??\0Z??"),
+    (Step::Say(b"!"), true, b"QXYd\0\0Z\0T", 2, b"QXYd\0\0Z\0T"),
+];
+
+#[test]
+fn a_stop_leaves_what_the_disk_may_hold(rt: HostRuntime) -> Result<(), Fail> {
+    let mut desk = MemDesk::holding(rt.alloc(), b"abcd", &[6, 7, 8])?;
+    for (step, succeeds, bytes, said_len, _) in &RUN {
+        assert_eq!(rt; desk.said().len(), *said_len);
+        assert_eq!(rt; perform(&rt, &mut desk, step), *succeeds);
+        assert_eq!(rt; desk.bytes(), *bytes);
+    }
+    assert_eq!(rt; desk.said(), b"hi!".as_slice());
+    assert_eq!(rt; desk.calls(), 12);
+    for (call, (_, _, _, said_len, pattern)) in RUN.iter().enumerate() {
+        let call = call as u32;
+        assert!(rt; call < desk.calls());
+        assert_eq!(rt; desk.said_at(call), *said_len);
+        expect_stops(&rt, rt.alloc(), &desk, call, pattern)?;
+    }
+    Ok(())
+}
+
+#[test]
+fn a_read_gives_the_bytes_in_its_range(rt: HostRuntime) -> Result<(), Fail> {
+    let mut desk = MemDesk::holding(rt.alloc(), b"abcd", &[1])?;
+    let mut out = [0; 2];
+    assert!(rt; desk.bytes().len() == 4);
+    assert_eq!(rt; desk.read_at(1, &mut out), Ok(()));
+    assert_eq!(rt; out, *b"bc");
+    assert!(rt; desk.bytes().len() == 4);
+    assert_eq!(rt; desk.read_at(2, &mut out), Err(Failed));
+    assert_eq!(rt; out, *b"bc");
+    assert_eq!(rt; desk.len(), Ok(4));
+    Ok(())
+}

@@ -1,0 +1,66 @@
+// The ends of lines, and lines that are too long.
+use super::{expect_said, tried};
+use std::alloc::{AllocError, Global};
+use std::test::Fail;
+
+const VISITED: &[u8] = b"visit\t1\tpage\t1\tfrecency\t100\n";
+
+const LINES: [(&[u8], &[u8]); 14] = [
+    (b"\n", b""),
+    (b"\r\n", b""),
+    (b"#\n", b""),
+    (b"\r", b"refused\t14\t1\n"),
+    (b"visit\r\r\n", b"refused\t14\t1\n"),
+    (b"visit\n", b"refused\t14\t6\n"),
+    (b"visit", b"refused\t14\t6\n"),
+    (b"visit\thttps://a.example/\t1\r\n", b"refused\t14\t27\n"),
+    (b"visit\thttps://a.example/\t1\t0\r", b"refused\t14\t28\n"),
+    (b"visit\thttps://a.example/\t1\t0\n", VISITED),
+    (b"visit\thttps://a.example/\t1\t0\r\n", VISITED),
+    (b"visit\thttps://a.example/\t1\t0", VISITED),
+    // The address is one whose visits are not recorded.
+    (b"visit\tabout:blank\t1\t0\n", b"refused\t2\n"),
+    (b"visit\tJavaScript:void(0)\t1\t0\n", b"refused\t2\n"),
+];
+
+#[test]
+fn ends_lines(rt: HostRuntime) {
+    for (script, said) in LINES {
+        expect_said(&rt, tried(rt.alloc(), script, 4096), said);
+    }
+}
+
+// A start, one byte so many times, and an end.
+fn line(alloc: Global, start: &[u8], len: usize, end: &[u8]) -> Result<Vec<u8>, AllocError> {
+    let mut bytes = vec![in alloc; b'x'; len]?;
+    let mut line = start.to_vec(alloc)?;
+    line.extend_from_slice(&bytes)?;
+    line.extend_from_slice(end)?;
+    bytes.clear();
+    Ok(line)
+}
+
+#[test]
+fn refuses_long_lines_and_goes_on(rt: HostRuntime) -> Result<(), Fail> {
+    let cases: [(&[u8], usize, &[u8], &[u8]); 9] = [
+        (b"", 262_144, b"\n", b"refused\t14\t1\n"),
+        (b"", 262_144, b"\r\n", b"refused\t14\t1\n"),
+        (b"", 262_145, b"\n", b"refused\t14\t262145\n"),
+        (b"", 262_145, b"\r\n", b"refused\t14\t262145\n"),
+        (b"", 262_144, b"\r", b"refused\t14\t262145\n"),
+        (b"", 600_000, b"", b"refused\t14\t262145\n"),
+        (b"visit\t", 262_138, b"\n", b"refused\t14\t262145\n"),
+        (
+            b"visit\tdata:",
+            262_132,
+            b"\t1\t0\n",
+            b"refused\t14\t262145\n",
+        ),
+        (b"#", 600_000, b"\nfrob", b"refused\t14\t1\n"),
+    ];
+    for (start, len, end, said) in cases {
+        let script = line(rt.alloc(), start, len, end)?;
+        expect_said(&rt, tried(rt.alloc(), &script, 65_536), said);
+    }
+    Ok(())
+}

@@ -1,0 +1,101 @@
+// Worked rows of whole scripts.
+use super::{expect_said, tried};
+use pl_desk::{MemDesk, MemSource};
+use places::{Status, run};
+use std::test::Fail;
+
+const ROWS: [(&[u8], &[u8]); 14] = [
+    (b"", b""),
+    (
+        b"visit\thttps://www.mozilla.org/\t1\t0\n",
+        b"visit\t1\tpage\t1\tfrecency\t100\n",
+    ),
+    // Two visits to one page.
+    (
+        b"visit\thttps://a.example/\t1\t0\nvisit\thttps://a.example/\t1\t0\n",
+        b"visit\t1\tpage\t1\tfrecency\t100\nvisit\t2\tpage\t1\tfrecency\t200\n",
+    ),
+    // One that was typed.
+    (
+        b"visit\thttps://a.example/\t2\t0\n",
+        b"visit\t1\tpage\t1\tfrecency\t2000\n",
+    ),
+    // A download is no visit that counts.
+    (
+        b"visit\thttps://a.example/\t7\t0\n",
+        b"visit\t1\tpage\t1\tfrecency\t0\n",
+    ),
+    // A reload takes part in the mean and does not count.
+    (
+        b"visit\thttps://a.example/\t1\t0\nvisit\thttps://a.example/\t9\t1\n",
+        b"visit\t1\tpage\t1\tfrecency\t100\nvisit\t2\tpage\t1\tfrecency\t50\n",
+    ),
+    // Two pages, the second under two spellings of one address.
+    (
+        b"visit\thttps://a.example/\t2\t0\nvisit\tHTTPS://B.example\t1\t1\nvisit\thttps://b.example/\t1\t1\n",
+        b"visit\t1\tpage\t1\tfrecency\t2000\nvisit\t2\tpage\t2\tfrecency\t100\nvisit\t3\tpage\t2\tfrecency\t200\n",
+    ),
+    // A refused line changes nothing, and the run goes on.
+    (
+        b"visit\tabout:blank\t1\t0\nvisit\tno url\t1\t0\nfrob\nvisit\thttps://a.example/\t1\t0",
+        b"refused\t2\nrefused\t1\nrefused\t14\t1\nvisit\t1\tpage\t1\tfrecency\t100\n",
+    ),
+    (
+        b"visit\thttps://a.example/\t10\t0\nvisit\thttps://a.example/\t1\t0\t9\n# x\n\n",
+        b"refused\t14\t26\nrefused\t14\t30\n",
+    ),
+    (
+        b"day\t1\nvisit\thttps://a.example/\t1\t253402300800000000\n",
+        b"refused\t14\t1\nrefused\t14\t28\n",
+    ),
+    // The last moment of 9999, far ahead of the store's day.
+    (
+        b"visit\thttps://a.example/\t1\t253402300799999999\n",
+        b"visit\t1\tpage\t1\tfrecency\t100\n",
+    ),
+    // Ten visits of 100 each are the latest, of 11 and then 12 that count.
+    (
+        b"visit\thttps://a.example/\t2\t0\nvisit\thttps://a.example/\t1\t1\nvisit\thttps://a.example/\t1\t2\nvisit\thttps://a.example/\t1\t3\nvisit\thttps://a.example/\t1\t4\nvisit\thttps://a.example/\t1\t5\nvisit\thttps://a.example/\t1\t6\nvisit\thttps://a.example/\t1\t7\nvisit\thttps://a.example/\t1\t8\nvisit\thttps://a.example/\t1\t9\nvisit\thttps://a.example/\t1\t10\nvisit\thttps://a.example/\t2\t0\n",
+        b"visit\t1\tpage\t1\tfrecency\t2000\nvisit\t2\tpage\t1\tfrecency\t2100\nvisit\t3\tpage\t1\tfrecency\t2200\nvisit\t4\tpage\t1\tfrecency\t2300\nvisit\t5\tpage\t1\tfrecency\t2400\nvisit\t6\tpage\t1\tfrecency\t2500\nvisit\t7\tpage\t1\tfrecency\t2600\nvisit\t8\tpage\t1\tfrecency\t2700\nvisit\t9\tpage\t1\tfrecency\t2800\nvisit\t10\tpage\t1\tfrecency\t2900\nvisit\t11\tpage\t1\tfrecency\t1100\nvisit\t12\tpage\t1\tfrecency\t1200\n",
+    ),
+    // 100 over 3, 4, .., 10 is rounded up, and then the latest ten add nothing.
+    (
+        b"visit\thttps://a.example/\t1\t0\nvisit\thttps://a.example/\t9\t1\nvisit\thttps://a.example/\t9\t2\nvisit\thttps://a.example/\t9\t3\nvisit\thttps://a.example/\t9\t4\nvisit\thttps://a.example/\t9\t5\nvisit\thttps://a.example/\t9\t6\nvisit\thttps://a.example/\t9\t7\nvisit\thttps://a.example/\t9\t8\nvisit\thttps://a.example/\t9\t9\nvisit\thttps://a.example/\t9\t10\n",
+        b"visit\t1\tpage\t1\tfrecency\t100\nvisit\t2\tpage\t1\tfrecency\t50\nvisit\t3\tpage\t1\tfrecency\t34\nvisit\t4\tpage\t1\tfrecency\t25\nvisit\t5\tpage\t1\tfrecency\t20\nvisit\t6\tpage\t1\tfrecency\t17\nvisit\t7\tpage\t1\tfrecency\t15\nvisit\t8\tpage\t1\tfrecency\t13\nvisit\t9\tpage\t1\tfrecency\t12\nvisit\t10\tpage\t1\tfrecency\t10\nvisit\t11\tpage\t1\tfrecency\t-1\n",
+    ),
+    // Embedded visits alone add nothing.
+    (
+        b"visit\thttps://a.example/\t4\t0\nvisit\thttps://a.example/\t8\t0\n",
+        b"visit\t1\tpage\t1\tfrecency\t0\nvisit\t2\tpage\t1\tfrecency\t0\n",
+    ),
+];
+
+#[test]
+fn says_the_rows_in_any_pieces(rt: HostRuntime) {
+    for (script, said) in ROWS {
+        expect_said(&rt, tried(rt.alloc(), script, 1_000_000), said);
+        expect_said(&rt, tried(rt.alloc(), script, 1), said);
+        expect_said(&rt, tried(rt.alloc(), script, 7), said);
+    }
+}
+
+#[test]
+fn refuses_other_words(rt: HostRuntime) -> Result<(), Fail> {
+    let alloc = rt.alloc();
+    let forms: [&[&str]; 7] = [
+        &[],
+        &["run"],
+        &["new"],
+        &["try", "s"],
+        &["run", "s", "s"],
+        &["Try"],
+        &["old", "s"],
+    ];
+    for words in forms {
+        let mut input = MemSource::over(alloc, b"visit", 1, &[])?;
+        let mut desk = MemDesk::holding(alloc, &[], &[])?;
+        assert_eq!(rt; run(alloc, words, &mut input, &mut desk), Status::Usage);
+        assert_eq!(rt; desk.calls(), 0);
+    }
+    Ok(())
+}

@@ -1,0 +1,118 @@
+// Sessions over files in memory, and stores without a file.
+ghost use Rattle.std.specs.Prelude.{◌≡◌, ◌<◌, IfOk};
+ghost use Rattle.pl_base.specs.Date.{IsDate};
+ghost use Rattle.pl_engine.specs.Step.{HasDates};
+
+mod openings;
+mod stops;
+
+use pl_base::{
+    IdKind, Ids, Micros, NoMemory, PAGE_SIZE, PageId, Refusal, Steps, Transition, VisitId,
+};
+use pl_desk::MemDesk;
+use pl_engine::{Command, Engine, Reply};
+use pl_link::Canon;
+use pl_plain::Flat;
+use pl_store::{Ended, Memory, SLOT_LIMIT, Session, create, reopen};
+use std::alloc::Global;
+use std::marker::Brand;
+use std::process::Abort;
+use std::sync::ledger::{Blank, Ledger};
+use std::test::Fail;
+
+fn visit(alloc: Global, url: &str, transition: Transition, date: Micros) -> Result<Command, Fail>
+    requires { IsDate date }
+    ensures { IfOk result HasDates }
+{
+    let url = Canon::read(alloc, url)?;
+    Ok(Command::Visit {
+        url,
+        transition,
+        date,
+    })
+}
+
+fn first(alloc: Global) -> Result<Command, Fail>
+    ensures { IfOk result HasDates }
+{
+    visit(alloc, "https://a.example/", Transition::Typed, Micros(0))
+}
+
+fn second(alloc: Global) -> Result<Command, Fail>
+    ensures { IfOk result HasDates }
+{
+    visit(alloc, "https://b.example/", Transition::Link, Micros(1))
+}
+
+const FIRST_REPLY: Reply = Reply::Visit {
+    visit: VisitId(1),
+    page: PageId(1),
+    frecency: 2000,
+};
+
+const SECOND_REPLY: Reply = Reply::Visit {
+    visit: VisitId(2),
+    page: PageId(2),
+    frecency: 100,
+};
+
+// Performs a command and commits it.
+fn perform(
+    session: Session,
+    command: &Command,
+    desk: &mut MemDesk,
+) -> Result<(Session, Reply), Fail>
+    requires { HasDates command.now }
+{
+    let (prepared, reply) = session.prepare(command)?;
+    let session = prepared.commit(desk)?;
+    Ok((session, reply))
+}
+
+// What an engine answers to the first visit over rows that have given all ids of pages.
+fn without_page_ids<L: Ledger>(alloc: Global, blank: Blank) -> Result<Reply, Fail>
+    requires name { blank.name ≡ L.name }
+    requires parts { blank.parts ≡ L.parts }
+    requires some { 0 < blank.parts }
+{
+    let ids = Ids {
+        page: Ids::END,
+        ..Ids::OPENING
+    };
+    let engine = Engine::over(alloc, Flat::with_ids(alloc, ids)?, SLOT_LIMIT)?;
+    let (_, reply) = engine.apply(&first(alloc)?, &mut Steps::<L>::none(blank))?;
+    Ok(reply)
+}
+
+// A new store takes 6 slots. The visit adds an origin, a page, a slot for its URL and itself.
+#[test]
+fn a_store_in_memory_answers(rt: HostRuntime) -> Result<(), Fail> {
+    let alloc = rt.alloc();
+    let full = Memory::opening(alloc, 8)?;
+    let (_, reply) = full.step(&first(alloc)?)?;
+    assert_eq!(rt; reply, Reply::Refused(Refusal::Full(10)));
+    let (_, reply) = Memory::opening(alloc, 10)?.step(&first(alloc)?)?;
+    assert_eq!(rt; reply, FIRST_REPLY);
+    let reply = without_page_ids::<Brand>(alloc, Blank::new(1))?;
+    assert_eq!(rt; reply, Reply::Refused(Refusal::NoIds(IdKind::Page)));
+    let memory = Memory::opening(alloc, SLOT_LIMIT)?;
+    let (memory, reply) = memory.step(&first(alloc)?)?;
+    assert_eq!(rt; reply, FIRST_REPLY);
+    let (_, reply) = memory.step(&second(alloc)?)?;
+    assert_eq!(rt; reply, SECOND_REPLY);
+    Ok(())
+}
+
+// A refused command leaves nothing to commit.
+#[test]
+fn a_refusal_makes_no_call(rt: HostRuntime) -> Result<(), Fail> {
+    let alloc = rt.alloc();
+    let mut desk = MemDesk::holding(alloc, &[], &[])?;
+    let _ = create(alloc, &mut desk)?;
+    let session = reopen(alloc, &mut desk, 8)?;
+    let calls = desk.calls();
+    let (_, reply) = perform(session, &first(alloc)?, &mut desk)?;
+    assert_eq!(rt; reply, Reply::Refused(Refusal::Full(10)));
+    assert_eq!(rt; desk.calls(), calls);
+    Ok(())
+}

@@ -1,0 +1,70 @@
+// A stop of the machine within each call of two commits.
+ghost use Rattle.pl_engine.specs.Step.{HasDates};
+
+use super::*;
+
+// What a stop leaves in the bytes that may hold anything.
+const FILLERS: [u8; 3] = [0, 1, 255];
+
+// How many commands the file holds, by the id of the visit that a session over it answers next.
+fn commands_in(alloc: Global, desk: &mut MemDesk) -> Result<u32, Fail> {
+    let session = reopen(alloc, desk, SLOT_LIMIT)?;
+    let (_, reply) = session.prepare(&first(alloc)?)?;
+    let next = match reply {
+        Reply::Visit { visit, .. } => Ok(visit),
+        Reply::Refused(_) => Err("a refusal"),
+    };
+    Ok(next?.0.saturating_sub(1))
+}
+
+// A stop within this call leaves as many commands as were committed, or one more.
+fn expect_committed(
+    rt: &impl Abort,
+    alloc: Global,
+    desk: &MemDesk,
+    call: u32,
+    committed: u32,
+) -> Result<(), Fail> {
+    assert!(rt; call < desk.calls());
+    for filler in FILLERS {
+        let mut stopped = desk.stopped(alloc, call, filler)?;
+        let held = commands_in(alloc, &mut stopped)?;
+        let is_whole = held == committed || held == committed.saturating_add(1);
+        assert!(rt; is_whole, "call {call}, filler {filler}: {held}");
+    }
+    Ok(())
+}
+
+// The session performs a command, and a stop within each call of its commit leaves the commands before it
+// or that one too.
+fn expect_whole(
+    rt: &impl Abort,
+    alloc: Global,
+    session: Session,
+    command: &Command,
+    desk: &mut MemDesk,
+    committed: u32,
+) -> Result<(Session, Reply), Fail>
+    requires { HasDates command.now }
+{
+    let before = desk.calls();
+    let done = perform(session, command, desk)?;
+    assert!(rt; before < desk.calls());
+    for call in before..desk.calls() {
+        expect_committed(rt, alloc, desk, call, committed)?;
+    }
+    Ok(done)
+}
+
+#[test]
+fn a_stop_leaves_a_command_or_not(rt: HostRuntime) -> Result<(), Fail> {
+    let alloc = rt.alloc();
+    let mut desk = MemDesk::holding(alloc, &[], &[])?;
+    let session = create(alloc, &mut desk)?;
+    let (session, reply) = expect_whole(&rt, alloc, session, &first(alloc)?, &mut desk, 0)?;
+    assert_eq!(rt; reply, FIRST_REPLY);
+    let (_, reply) = expect_whole(&rt, alloc, session, &second(alloc)?, &mut desk, 1)?;
+    assert_eq!(rt; reply, SECOND_REPLY);
+    assert_eq!(rt; commands_in(alloc, &mut desk)?, 2);
+    Ok(())
+}
