@@ -10,7 +10,7 @@ def program():
     if len(sys.argv) > 1:
         return sys.argv[1]
     subprocess.run([HOME / "places", "try"], stdin=subprocess.DEVNULL, check=True)
-    return str(HOME / "crates/places/out/places")
+    return str(HOME / "out/places")
 
 
 def new_store(places, store):

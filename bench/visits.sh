@@ -132,7 +132,7 @@ if [ $# -gt 0 ]; then
     program=$1
 else
     build_places
-    program=$home/crates/places/out/places
+    program=$home/out/places
 fi
 machine
 check
