@@ -147,17 +147,17 @@ fn failed(rt: &impl Abort, alloc: Global, call: u32) -> Result<Status, NoMemory>
     Ok(status)
 }
 
-// Of the 33 calls of the script's run the opening makes the first eight, and each commit eleven. These say a
+// Of the 34 calls of the script's run the opening makes the first nine, and each commit eleven. These say a
 // reply.
-const SAYS: [u32; 3] = [19, 20, 32];
+const SAYS: [u32; 3] = [20, 21, 33];
 
 #[test]
 fn stops_at_a_call_of_the_desk_that_fails(rt: HostRuntime) -> Result<(), Fail> {
     let alloc = rt.alloc();
-    for call in 0..34 {
+    for call in 0..35 {
         let ends = if SAYS.contains(&call) {
             Status::SayFault
-        } else if call < 33 {
+        } else if call < 34 {
             Status::DeviceFault
         } else {
             Status::Done
