@@ -50,22 +50,3 @@ pub record Elapses (before now : ℕ) (past since : ℕ → List ℕ → List �
   pub later : before ≤ now
   pub nothing_else : (t : ℕ) (file line : List ℕ) → t ≤ before → since t file line → past t file line ⊎ shows file line
   pub keeps : (t : ℕ) (file line : List ℕ) → t ≤ before → past t file line → since t file line
-
--- A stop at any moment from old to new shows a file and a line that have P.
-pub record ShowsOnly {D : Type 0} (moment : D → ℕ) (shown_since : D → ℕ → List ℕ → List ℕ → Type 0) (old new : D) (P : List ℕ → List ℕ → Type 0) : Type 0 where
-  pub later : moment old ≤ moment new
-  pub each : (file line : List ℕ) → shown_since new (moment old) file line → P file line
-  -- for a run that began earlier
-  pub before : (t : ℕ) (file line : List ℕ) → t ≤ moment old → shown_since new t file line → shown_since old t file line ⊎ P file line
-
--- A stop at any moment from old to new shows a file that has P, and the line as it was.
-abbrev pub AtAnyMoment : {D : Type 0} → (D → ℕ) → (D → ℕ → List ℕ → List ℕ → Type 0) → (D → Option (List ℕ)) → D → D → (List ℕ → Type 0) → Type 0
-AtAnyMoment moment shown_since said old new P =
-    ShowsOnly moment shown_since old new (λ file line. P file × (said old ≡ Some line))
-
--- a read gives a file that has P, and a stop leaves it and no other
-pub record Rests (held : Option (List ℕ)) (may_leave : List ℕ → Type 0) (P : List ℕ → Type 0) : Type 0 where
-  pub file : List ℕ
-  pub is_held : held ≡ Some file
-  pub only : Only file may_leave
-  pub has : P file

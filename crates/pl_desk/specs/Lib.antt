@@ -1,4 +1,5 @@
 pub mod AnyMoment
+pub mod Calls
 pub mod Counts
 pub mod Desk
 pub mod MemDesk
@@ -8,4 +9,5 @@ pub mod Overwritten
 pub mod Record
 pub mod Replay
 pub mod Settling
+pub mod Shown
 pub mod Stopped

@@ -1,7 +1,7 @@
 ghost use Rattle.std.specs.Prelude.{◌≡◌, ℕ, ◌+◌, ◌<◌, ◌≤◌, List, Option, Some, None, ◌++◌, length, take, slice_range, IfOk, OnOk, OnErr, IfSome, IsSome, MatchOption, ◌↔◌};
 ghost use Rattle.std.specs.Option.{option_map};
-ghost use Rattle.pl_desk.specs.Counts.{Rose};
 ghost use Rattle.pl_desk.specs.Desk.{last_offset, overwritten, Torn, Follows, Only, Shows, ShowsSaying, said_by, Elapses};
+ghost use Rattle.pl_desk.specs.Counts.{Counts, Writes};
 
 use crate::Failed;
 
@@ -45,9 +45,7 @@ pub trait Desk {
         ensures said { said self.new ≡ said self.old }
         ensures written { written self.new ≡ written self.old }
         ensures line { line_faults self.new ≡ line_faults self.old }
-        ensures counted { device_faults self.old ≤ device_faults self.new }
-        ensures no_fault { OnOk result (device_faults self.new ≡ device_faults self.old) }
-        ensures cause { OnErr result (Rose (device_faults self.old) (device_faults self.new)) }
+        ensures counted { Counts result (device_faults self.old) (device_faults self.new) }
 
         ensures leaves { (file : List ℕ) → may_leave self.new file → may_leave self.old file }
         ensures time { Elapses (moment self.old) (moment self.new) (shown_since self.old) (shown_since self.new)
@@ -65,9 +63,7 @@ pub trait Desk {
         ensures said { said self.new ≡ said self.old }
         ensures written { written self.new ≡ written self.old }
         ensures line { line_faults self.new ≡ line_faults self.old }
-        ensures counted { device_faults self.old ≤ device_faults self.new }
-        ensures no_fault { OnOk result (device_faults self.new ≡ device_faults self.old) }
-        ensures cause { OnErr result (Rose (device_faults self.old) (device_faults self.new)) }
+        ensures counted { Counts result (device_faults self.old) (device_faults self.new) }
 
         ensures leaves { (file : List ℕ) → may_leave self.new file → may_leave self.old file }
         ensures time { Elapses (moment self.old) (moment self.new) (shown_since self.old) (shown_since self.new)
@@ -82,15 +78,11 @@ pub trait Desk {
         ensures torn { OnErr result (MatchOption (held self.old) (held self.new ≡ None) (λ old.
             (new : List ℕ) × (held self.new ≡ Some new) × Torn at (length bytes.now) old new)) }
 
-        ensures written { OnOk result (written self.new ≡ written self.old + length bytes.now) }
-        ensures no_less { written self.old ≤ written self.new }
-        ensures no_more { written self.new ≤ written self.old + length bytes.now }
+        ensures written { Writes result (length bytes.now) (written self.old) (written self.new) }
 
         ensures said { said self.new ≡ said self.old }
         ensures line { line_faults self.new ≡ line_faults self.old }
-        ensures counted { device_faults self.old ≤ device_faults self.new }
-        ensures no_fault { OnOk result (device_faults self.new ≡ device_faults self.old) }
-        ensures cause { OnErr result (Rose (device_faults self.old) (device_faults self.new)) }
+        ensures counted { Counts result (device_faults self.old) (device_faults self.new) }
 
         ensures leaves { Follows (Torn at (length bytes.now)) (may_leave self.old) (may_leave self.new) }
         ensures time { Elapses (moment self.old) (moment self.new) (shown_since self.old) (shown_since self.new)
@@ -104,9 +96,7 @@ pub trait Desk {
         ensures said { said self.new ≡ said self.old }
         ensures written { written self.new ≡ written self.old }
         ensures line { line_faults self.new ≡ line_faults self.old }
-        ensures counted { device_faults self.old ≤ device_faults self.new }
-        ensures no_fault { OnOk result (device_faults self.new ≡ device_faults self.old) }
-        ensures cause { OnErr result (Rose (device_faults self.old) (device_faults self.new)) }
+        ensures counted { Counts result (device_faults self.old) (device_faults self.new) }
 
         ensures leaves { (file : List ℕ) → may_leave self.new file → may_leave self.old file }
         ensures time { Elapses (moment self.old) (moment self.new) (shown_since self.old) (shown_since self.new)
@@ -124,9 +114,7 @@ pub trait Desk {
         ensures held { held self.new ≡ held self.old }
         ensures written { written self.new ≡ written self.old }
         ensures device { device_faults self.new ≡ device_faults self.old }
-        ensures counted { line_faults self.old ≤ line_faults self.new }
-        ensures no_fault { OnOk result (line_faults self.new ≡ line_faults self.old) }
-        ensures cause { OnErr result (Rose (line_faults self.old) (line_faults self.new)) }
+        ensures counted { Counts result (line_faults self.old) (line_faults self.new) }
 
         ensures leaves { (file : List ℕ) → may_leave self.new file → may_leave self.old file }
         ensures time { Elapses (moment self.old) (moment self.new) (shown_since self.old) (shown_since self.new)

@@ -1,5 +1,5 @@
-ghost use Rattle.std.specs.Prelude.{◌≡◌, ◌↔◌, ℕ, ◌+◌, ◌<◌, ◌≤◌, List, Some, None, [], ◌++◌, length, take, slice_get, slice_range, IsTrue, IfOk, OnOk, OnErr, IsErr};
-ghost use Rattle.pl_desk.specs.Counts.{Rose};
+ghost use Rattle.std.specs.Prelude.{◌≡◌, ◌↔◌, ℕ, ◌+◌, ◌<◌, ◌≤◌, List, Some, [], ◌++◌, length, take, slice_get, slice_range, IsTrue, IfOk, OnOk, OnErr, IsErr};
+ghost use Rattle.pl_desk.specs.Counts.{Counts, Rose, Writes};
 ghost use Rattle.pl_desk.specs.Desk.{last_offset, overwritten, Torn, Follows, Only, Shows, ShowsSaying, said_by, Elapses};
 ghost use Rattle.pl_desk.specs.MemDesk.{nothing, wrote, tore, synced, desk_holding, begun_at, line_at, held_by, written_in, MayLeave, ShownSince, after_deed, written_by, Takes, IsOfFailure, IsRefused, with_call, with_call_if_room, after_say, after_failed_call, after_failed_say};
 ghost use Rattle.pl_desk.specs.Record.{deed_of};
@@ -252,9 +252,7 @@ impl Desk for MemDesk {
         ensures said { self.new.said ≡ self.old.said }
         ensures written { written_in self.new.calls ≡ written_in self.old.calls }
         ensures line { self.new.line_faults ≡ self.old.line_faults }
-        ensures counted { self.old.device_faults ≤ self.new.device_faults }
-        ensures no_fault { OnOk result (self.new.device_faults ≡ self.old.device_faults) }
-        ensures cause { OnErr result (Rose self.old.device_faults self.new.device_faults) }
+        ensures counted { Counts result self.old.device_faults self.new.device_faults }
         ensures leaves { (file : List ℕ) → MayLeave self.new file → MayLeave self.old file }
         ensures time { Elapses (length self.old.calls) (length self.new.calls) (ShownSince self.old) (ShownSince self.new)
             (Shows (MayLeave self.new) (Some self.old.said)) }
@@ -283,9 +281,7 @@ impl Desk for MemDesk {
         ensures said { self.new.said ≡ self.old.said }
         ensures written { written_in self.new.calls ≡ written_in self.old.calls }
         ensures line { self.new.line_faults ≡ self.old.line_faults }
-        ensures counted { self.old.device_faults ≤ self.new.device_faults }
-        ensures no_fault { OnOk result (self.new.device_faults ≡ self.old.device_faults) }
-        ensures cause { OnErr result (Rose self.old.device_faults self.new.device_faults) }
+        ensures counted { Counts result self.old.device_faults self.new.device_faults }
         ensures leaves { (file : List ℕ) → MayLeave self.new file → MayLeave self.old file }
         ensures time { Elapses (length self.old.calls) (length self.new.calls) (ShownSince self.old) (ShownSince self.new)
             (Shows (MayLeave self.new) (Some self.old.said)) }
@@ -311,14 +307,10 @@ impl Desk for MemDesk {
         // What each desk promises.
         ensures held { OnOk result (held_by self.new ≡ overwritten 0 at bytes.now (held_by self.old)) }
         ensures torn { OnErr result ((new : List ℕ) × (Some (held_by self.new) ≡ Some new) × Torn at (length bytes.now) (held_by self.old) new) }
-        ensures written { OnOk result (written_in self.new.calls ≡ written_in self.old.calls + length bytes.now) }
-        ensures no_less { written_in self.old.calls ≤ written_in self.new.calls }
-        ensures no_more { written_in self.new.calls ≤ written_in self.old.calls + length bytes.now }
+        ensures written { Writes result (length bytes.now) (written_in self.old.calls) (written_in self.new.calls) }
         ensures said { self.new.said ≡ self.old.said }
         ensures line { self.new.line_faults ≡ self.old.line_faults }
-        ensures counted { self.old.device_faults ≤ self.new.device_faults }
-        ensures no_fault { OnOk result (self.new.device_faults ≡ self.old.device_faults) }
-        ensures cause { OnErr result (Rose self.old.device_faults self.new.device_faults) }
+        ensures counted { Counts result self.old.device_faults self.new.device_faults }
         ensures leaves { Follows (Torn at (length bytes.now)) (MayLeave self.old) (MayLeave self.new) }
         ensures time { Elapses (length self.old.calls) (length self.new.calls) (ShownSince self.old) (ShownSince self.new)
             (Shows (MayLeave self.new) (Some self.old.said)) }
@@ -353,9 +345,7 @@ impl Desk for MemDesk {
         ensures said { self.new.said ≡ self.old.said }
         ensures written { written_in self.new.calls ≡ written_in self.old.calls }
         ensures line { self.new.line_faults ≡ self.old.line_faults }
-        ensures counted { self.old.device_faults ≤ self.new.device_faults }
-        ensures no_fault { OnOk result (self.new.device_faults ≡ self.old.device_faults) }
-        ensures cause { OnErr result (Rose self.old.device_faults self.new.device_faults) }
+        ensures counted { Counts result self.old.device_faults self.new.device_faults }
         ensures leaves { (file : List ℕ) → MayLeave self.new file → MayLeave self.old file }
         ensures time { Elapses (length self.old.calls) (length self.new.calls) (ShownSince self.old) (ShownSince self.new)
             (Shows (MayLeave self.new) (Some self.old.said)) }
@@ -384,9 +374,7 @@ impl Desk for MemDesk {
         ensures held { held_by self.new ≡ held_by self.old }
         ensures written { written_in self.new.calls ≡ written_in self.old.calls }
         ensures device { self.new.device_faults ≡ self.old.device_faults }
-        ensures counted { self.old.line_faults ≤ self.new.line_faults }
-        ensures no_fault { OnOk result (self.new.line_faults ≡ self.old.line_faults) }
-        ensures cause { OnErr result (Rose self.old.line_faults self.new.line_faults) }
+        ensures counted { Counts result self.old.line_faults self.new.line_faults }
         ensures leaves { (file : List ℕ) → MayLeave self.new file → MayLeave self.old file }
         ensures time { Elapses (length self.old.calls) (length self.new.calls) (ShownSince self.old) (ShownSince self.new)
             (ShowsSaying (MayLeave self.new) (Some self.old.said) bytes.now (said_by result)) }

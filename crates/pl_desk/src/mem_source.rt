@@ -1,6 +1,6 @@
-ghost use Rattle.std.specs.Prelude.{◌≡◌, ◌↔◌, ◌<◌, ◌≤◌, Some, [], ◌++◌, length, take, drop, min, IfOk, OnOk, OnErr, IsErr, Contains};
-ghost use Rattle.pl_desk.specs.Counts.{Rose};
+ghost use Rattle.std.specs.Prelude.{◌≡◌, ◌↔◌, ◌<◌, ◌≤◌, Some, [], ◌++◌, length, take, drop, min, IfOk, OnErr, IsErr, Contains};
 ghost use Rattle.pl_desk.specs.MemSource.{source_over, after_read, after_failed_read};
+ghost use Rattle.pl_desk.specs.Counts.{Counts};
 
 use crate::fails::is_to_fail;
 use crate::{Failed, Source};
@@ -92,9 +92,7 @@ impl Source for MemSource {
         ensures taken { IfOk result (λ n. self.old.left ≡ take n out.new ++ self.new.left) }
         ensures ended { IfOk result (λ n. n ≡ 0 → self.old.left ≡ []) }
         ensures kept { OnErr result (self.new.left ≡ self.old.left) }
-        ensures counted { self.old.faults ≤ self.new.faults }
-        ensures no_fault { OnOk result (self.new.faults ≡ self.old.faults) }
-        ensures cause { OnErr result (Rose self.old.faults self.new.faults) }
+        ensures counted { Counts result self.old.faults self.new.faults }
     {
         let call = self.calls;
         self.calls = call.saturating_add(1);

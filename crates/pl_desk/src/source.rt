@@ -1,6 +1,6 @@
-ghost use Rattle.std.specs.Prelude.{◌≡◌, ℕ, ◌<◌, ◌≤◌, List, Option, [], ◌++◌, length, take, IfOk, IfSome, OnOk, OnErr};
+ghost use Rattle.std.specs.Prelude.{◌≡◌, ℕ, ◌<◌, ◌≤◌, List, Option, [], ◌++◌, length, take, IfOk, IfSome, OnErr};
 ghost use Rattle.std.specs.Option.{option_map};
-ghost use Rattle.pl_desk.specs.Counts.{Rose};
+ghost use Rattle.pl_desk.specs.Counts.{Counts};
 
 use crate::Failed;
 
@@ -21,7 +21,5 @@ pub trait Source {
             left self.old ≡ option_map (λ rest. take n out.new ++ rest) (left self.new)) }
         ensures ended { IfOk result (λ n. n ≡ 0 → IfSome (left self.old) (λ rest. rest ≡ [])) }
         ensures kept { OnErr result (left self.new ≡ left self.old) }
-        ensures counted { faults self.old ≤ faults self.new }
-        ensures no_fault { OnOk result (faults self.new ≡ faults self.old) }
-        ensures cause { OnErr result (Rose (faults self.old) (faults self.new)) };
+        ensures counted { Counts result (faults self.old) (faults self.new) };
 }

@@ -1,9 +1,9 @@
 ghost use Rattle.std.specs.Prelude.{◌≡◌, ◌↔◌, ℕ, ◌≤◌, ◌<◌, ◌+◌, List, Some, None, ◌++◌, length, take, slice_range, IsTrue, IsErr, IfOk, IfSome, OnOk, OnErr, MatchOption};
 ghost use Rattle.std.specs.Option.{option_map};
 ghost use Rattle.std.proofs.lemmas.Option.{none-some};
-ghost use Rattle.pl_desk.specs.Counts.{Rose};
 ghost use Rattle.pl_desk.specs.Desk.{last_offset, overwritten, Torn, Follows, Only, Shows, ShowsSaying, said_by, Elapses};
 ghost use Rattle.pl_file.specs.Calls.{new_file, after_write, after_failed_call, after_failed_say, after_failed_access, untold, AnyFile, AnyShown};
+ghost use Rattle.pl_desk.specs.Counts.{Counts, Writes};
 
 use crate::calls::Calls;
 use crate::store_file::StoreFile;
@@ -85,9 +85,7 @@ impl<R: Files<File = File> + Print + AllocGlobal> Desk for FileDesk<'_, R> {
         ensures most { IfOk result (λ n. n ≤ last_offset) }
         ensures written { self.new.counts.written ≡ self.old.counts.written }
         ensures line { self.new.counts.line_faults ≡ self.old.counts.line_faults }
-        ensures counted { self.old.counts.device_faults ≤ self.new.counts.device_faults }
-        ensures no_fault { OnOk result (self.new.counts.device_faults ≡ self.old.counts.device_faults) }
-        ensures cause { OnErr result (Rose self.old.counts.device_faults self.new.counts.device_faults) }
+        ensures counted { Counts result self.old.counts.device_faults self.new.counts.device_faults }
         ensures time { Elapses 0 0 (AnyShown self.old) (AnyShown self.new) (Shows (AnyFile self.new) (untold self.old)) }
     {
         let answer = self.file.len(self.rt);
@@ -102,9 +100,7 @@ impl<R: Files<File = File> + Print + AllocGlobal> Desk for FileDesk<'_, R> {
         ensures read { OnOk result (IfSome (untold self.old) (λ file. out.new ≡ slice_range file at (at + length out.old))) }
         ensures written { self.new.counts.written ≡ self.old.counts.written }
         ensures line { self.new.counts.line_faults ≡ self.old.counts.line_faults }
-        ensures counted { self.old.counts.device_faults ≤ self.new.counts.device_faults }
-        ensures no_fault { OnOk result (self.new.counts.device_faults ≡ self.old.counts.device_faults) }
-        ensures cause { OnErr result (Rose self.old.counts.device_faults self.new.counts.device_faults) }
+        ensures counted { Counts result self.old.counts.device_faults self.new.counts.device_faults }
         ensures time { Elapses 0 0 (AnyShown self.old) (AnyShown self.new) (Shows (AnyFile self.new) (untold self.old)) }
     {
         let answer = self.file.read_at(self.rt, at, out);
@@ -120,13 +116,9 @@ impl<R: Files<File = File> + Print + AllocGlobal> Desk for FileDesk<'_, R> {
         // What each desk promises.
         ensures held { OnOk result (untold self.new ≡ option_map (overwritten 0 at bytes.now) (untold self.old)) }
         ensures torn { OnErr result (MatchOption (untold self.old) (untold self.new ≡ None) (λ old. (new : List ℕ) × (untold self.new ≡ Some new) × Torn at (length bytes.now) old new)) }
-        ensures written { OnOk result (self.new.counts.written ≡ self.old.counts.written + length bytes.now) }
-        ensures no_less { self.old.counts.written ≤ self.new.counts.written }
-        ensures no_more { self.new.counts.written ≤ self.old.counts.written + length bytes.now }
+        ensures written { Writes result (length bytes.now) self.old.counts.written self.new.counts.written }
         ensures line { self.new.counts.line_faults ≡ self.old.counts.line_faults }
-        ensures counted { self.old.counts.device_faults ≤ self.new.counts.device_faults }
-        ensures no_fault { OnOk result (self.new.counts.device_faults ≡ self.old.counts.device_faults) }
-        ensures cause { OnErr result (Rose self.old.counts.device_faults self.new.counts.device_faults) }
+        ensures counted { Counts result self.old.counts.device_faults self.new.counts.device_faults }
         ensures leaves { Follows (Torn at (length bytes.now)) (AnyFile self.old) (AnyFile self.new) }
         ensures time { Elapses 0 0 (AnyShown self.old) (AnyShown self.new) (Shows (AnyFile self.new) (untold self.old)) }
     {
@@ -147,9 +139,7 @@ impl<R: Files<File = File> + Print + AllocGlobal> Desk for FileDesk<'_, R> {
         ensures durable { OnOk result (IfSome (untold self.old) (λ file. Only file (AnyFile self.new))) }
         ensures written { self.new.counts.written ≡ self.old.counts.written }
         ensures line { self.new.counts.line_faults ≡ self.old.counts.line_faults }
-        ensures counted { self.old.counts.device_faults ≤ self.new.counts.device_faults }
-        ensures no_fault { OnOk result (self.new.counts.device_faults ≡ self.old.counts.device_faults) }
-        ensures cause { OnErr result (Rose self.old.counts.device_faults self.new.counts.device_faults) }
+        ensures counted { Counts result self.old.counts.device_faults self.new.counts.device_faults }
         ensures time { Elapses 0 0 (AnyShown self.old) (AnyShown self.new) (Shows (AnyFile self.new) (untold self.old)) }
     {
         let answer = self.file.sync(self.rt);
@@ -167,9 +157,7 @@ impl<R: Files<File = File> + Print + AllocGlobal> Desk for FileDesk<'_, R> {
         ensures within { IfOk result (λ n. (0 < n) × (n ≤ length bytes.now)) }
         ensures written { self.new.counts.written ≡ self.old.counts.written }
         ensures device { self.new.counts.device_faults ≡ self.old.counts.device_faults }
-        ensures counted { self.old.counts.line_faults ≤ self.new.counts.line_faults }
-        ensures no_fault { OnOk result (self.new.counts.line_faults ≡ self.old.counts.line_faults) }
-        ensures cause { OnErr result (Rose self.old.counts.line_faults self.new.counts.line_faults) }
+        ensures counted { Counts result self.old.counts.line_faults self.new.counts.line_faults }
         ensures time { Elapses 0 0 (AnyShown self.old) (AnyShown self.new) (ShowsSaying (AnyFile self.new) (untold self.old) bytes.now (said_by result)) }
     {
         let answer = io::writer(self.rt).write(bytes);

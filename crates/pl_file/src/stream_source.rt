@@ -1,6 +1,6 @@
-ghost use Rattle.std.specs.Prelude.{◌≡◌, ◌≤◌, None, length, IfOk, OnOk, OnErr};
+ghost use Rattle.std.specs.Prelude.{◌≡◌, ◌≤◌, None, length, IfOk, OnErr};
 ghost use Rattle.std.specs.Io.KnownBytes.{ReadConsumes};
-ghost use Rattle.pl_desk.specs.Counts.{Rose, next_count};
+ghost use Rattle.pl_desk.specs.Counts.{Counts, next_count};
 
 use pl_desk::{Failed, Source};
 use std::io::Read;
@@ -44,9 +44,7 @@ impl<R: Input> Source for StreamSource<R> {
 
         // What each source promises.
         ensures within { IfOk result (λ n. n ≤ length out.old) }
-        ensures counted { self.old.faults ≤ self.new.faults }
-        ensures no_fault { OnOk result (self.new.faults ≡ self.old.faults) }
-        ensures cause { OnErr result (Rose self.old.faults self.new.faults) }
+        ensures counted { Counts result self.old.faults self.new.faults }
     {
         match self.reader.read(out) {
             Ok(count) => Ok(count),

@@ -2,7 +2,6 @@ mod ArmedFiles
 mod Bytes
 mod ClosedFiles
 mod Entries
-mod FromRest
 mod JournalFiles
 mod Moments
 mod Pages

@@ -1,62 +1,62 @@
 -- Calls of a desk's file, one after another, and what a stop within them shows.
-use Rattle.std.proofs.Common.{◌≡◌, ℕ, List, [], Option, Some, None, IfSome, inr, ⊎_elim, refl, sym, ◌∙◌, subst, arith}
-use Rattle.std.proofs.lemmas.Option.{none-some, same_Some}
-use Rattle.pl_desk.specs.Desk.{Elapses, Shows, ShowsOnly}
-use Rattle.pl_desk.specs.Moments.{started, goes_on}
-use Rattle.pl_gate.specs.Device.{LeftBy, LeftUnsaid, ShowsUnsaid, TornIn}
+use Rattle.std.proofs.Common.{◌≡◌, ◌↔◌, ℕ, List, IsSome, sym, subst}
+use Rattle.pl_desk.specs.AnyMoment.{OnlyNow, and_call, and_more, begun, some_said, weaker}
+use Rattle.pl_desk.specs.Calls.{OnlyReads}
+use Rattle.pl_desk.specs.Desk.{Elapses, Shows}
+use Rattle.pl_desk.specs.Shown.{AtAnyMoment, LeftBy, Rests, ShowsStep}
+use Rattle.pl_desk.specs.declared.desk.Desk.{Ghosts}
 
-module _ {D : Type 0} (moment : D → ℕ) (shown_since : D → ℕ → List ℕ → List ℕ → Type 0) (may_leave : D → List ℕ → Type 0) (said : D → Option (List ℕ)) where
-  abbrev pub OnlyNow : Type 0
-  OnlyNow = (desk : D) (line_now file line : List ℕ) → said desk ≡ Some line_now → shown_since desk (moment desk) file line → may_leave desk file × (line ≡ line_now)
-
+module _ {D : Type 0} (desk : Ghosts D) where
   -- before the first call
-  pub began : OnlyNow → (old : D) (step : List ℕ → List ℕ → Type 0) → ((file : List ℕ) → step file file) → ShowsUnsaid moment shown_since may_leave said old old step
-  began only_now old step same = at (said old) refl
-    where
-      at : (line : Option (List ℕ)) → said old ≡ line → IfSome line (λ before. ShowsOnly moment shown_since old old (LeftUnsaid step (may_leave old) before))
-      at None is = tt
-      at (Some before) is = started moment shown_since old (LeftUnsaid step (may_leave old) before)
-          (λ file line shown. let now = only_now old before file line is shown in ((file, now.0, same file), now.1))
+  pub began : OnlyNow desk → (old : D) (step : List ℕ → List ℕ → Type 0) → ((file : List ℕ) → step file file)
+      → ShowsStep desk old old step
+  began only_now old step same = λ some.
+      begun desk only_now old (LeftBy step (desk.may_leave old)) some (λ file left. (file, left, same file))
 
   -- one call more
-  pub went : (old mid new : D) (step : List ℕ → List ℕ → Type 0) → ShowsUnsaid moment shown_since may_leave said old mid step → said mid ≡ said old
-      → Elapses (moment mid) (moment new) (shown_since mid) (shown_since new) (Shows (may_leave new) (said mid))
-      → ((file : List ℕ) → may_leave new file → LeftBy step (may_leave old) file) → ShowsUnsaid moment shown_since may_leave said old new step
-  went old mid new step so_far unsaid time leaves = at (said old) refl so_far
-    where
-      at : (line : Option (List ℕ)) → said old ≡ line → IfSome line (λ before. ShowsOnly moment shown_since old mid (LeftUnsaid step (may_leave old) before)) → IfSome line (λ before. ShowsOnly moment shown_since old new (LeftUnsaid step (may_leave old) before))
-      at None is so_far = tt
-      at (Some before) is so_far = goes_on moment shown_since old mid new (LeftUnsaid step (may_leave old) before) (Shows (may_leave new) (said mid)) so_far time
-          (λ file line shows. (leaves file shows.0, same_Some line before (sym shows.1 ∙ unsaid ∙ is)))
+  pub went : (old mid new : D) (step : List ℕ → List ℕ → Type 0) → ShowsStep desk old mid step
+      → desk.said mid ≡ desk.said old
+      → Elapses (desk.moment mid) (desk.moment new) (desk.shown_since mid) (desk.shown_since new)
+      (Shows (desk.may_leave new) (desk.said mid))
+      → ((file : List ℕ) → desk.may_leave new file → LeftBy step (desk.may_leave old) file)
+      → ShowsStep desk old new step
+  went old mid new step so_far unsaid time leaves = λ some.
+      and_call desk old mid new (LeftBy step (desk.may_leave old)) unsaid (so_far some) time leaves
 
   -- several calls more
-  pub went_on : (old mid new : D) (step more : List ℕ → List ℕ → Type 0) → ShowsUnsaid moment shown_since may_leave said old mid step → said mid ≡ said old
-      → ShowsUnsaid moment shown_since may_leave said mid new more
-      → ((file : List ℕ) → may_leave mid file → (next : List ℕ) → more file next → LeftBy step (may_leave old) next) → ShowsUnsaid moment shown_since may_leave said old new step
-  went_on old mid new step more so_far unsaid further leaves = at (said old) refl (said mid) refl so_far further
-    where
-      at : (line : Option (List ℕ)) → said old ≡ line → (line_mid : Option (List ℕ)) → said mid ≡ line_mid
-          → IfSome line (λ before. ShowsOnly moment shown_since old mid (LeftUnsaid step (may_leave old) before))
-          → IfSome line_mid (λ before. ShowsOnly moment shown_since mid new (LeftUnsaid more (may_leave mid) before))
-          → IfSome line (λ before. ShowsOnly moment shown_since old new (LeftUnsaid step (may_leave old) before))
-      at None is line_mid is_mid so_far further = tt
-      at (Some before) is None is_mid so_far further = absurd (none-some before (sym is_mid ∙ unsaid ∙ is))
-      at (Some before) is (Some before_mid) is_mid so_far further = record {
-        later = omega (arith, so_far.later, further.later);
-        each = λ file line shown. ⊎_elim (so_far.each file line) (has file line) (further.before (moment old) file line so_far.later shown);
-        before = λ t file line le shown. ⊎_elim (so_far.before t file line le) (λ left. inr (has file line left)) (further.before t file line (omega (arith, le, so_far.later)) shown);
-      }
-        where
-          has : (file line : List ℕ) → LeftUnsaid more (may_leave mid) before_mid file line → LeftUnsaid step (may_leave old) before file line
-          has file line ((from, left, stepped), same) = (leaves from left file stepped, same ∙ same_Some before_mid before (sym is_mid ∙ unsaid ∙ is))
+  pub went_on : (old mid new : D) (step more : List ℕ → List ℕ → Type 0) → ShowsStep desk old mid step
+      → desk.said mid ≡ desk.said old → ShowsStep desk mid new more
+      → ((file : List ℕ) → desk.may_leave mid file → (next : List ℕ) → more file next
+      → LeftBy step (desk.may_leave old) next)
+      → ShowsStep desk old new step
+  went_on old mid new step more so_far unsaid further leaves = λ some.
+      and_more desk old mid new (LeftBy step (desk.may_leave old)) (LeftBy more (desk.may_leave mid)) unsaid (so_far some)
+      (further (subst IsSome (sym unsaid) some)) (λ file by. leaves by.0 by.1 file by.2)
 
-  -- calls that change nothing
-  pub read_on : (old mid new : D) → ShowsUnsaid moment shown_since may_leave said old mid (TornIn []) → said mid ≡ said old
-      → ((file : List ℕ) → may_leave mid file → may_leave old file) → ShowsUnsaid moment shown_since may_leave said mid new (TornIn []) → ShowsUnsaid moment shown_since may_leave said old new (TornIn [])
-  read_on old mid new so_far unsaid leaves further =
-      went_on old mid new (TornIn []) (TornIn []) so_far unsaid further (λ file left next same. (file, leaves file left, same))
+  -- reads show what a step shows that a stop may cut short at once
+  pub read_as : (old new : D) (step : List ℕ → List ℕ → Type 0) → ((file : List ℕ) → step file file)
+      → OnlyReads desk old new → ShowsStep desk old new step
+  read_as old new step same reads = λ some.
+      weaker desk old new (desk.may_leave old) (LeftBy step (desk.may_leave old)) (reads.shows some)
+      (λ file left. (file, left, same file))
 
-  -- calls that change nothing, before a write that a stop may cut short at once
-  pub read_as : OnlyNow → (old new : D) (step : List ℕ → List ℕ → Type 0) → ((file : List ℕ) → step file file) → ShowsUnsaid moment shown_since may_leave said old new (TornIn []) → ShowsUnsaid moment shown_since may_leave said old new step
-  read_as only_now old new step same further =
-      went_on old old new step (TornIn []) (began only_now old step same) refl further (λ file left next is. (file, left, subst (step file) (sym is) (same file)))
+  -- ---- on a desk that tells its content
+
+  -- the first calls of a desk at rest
+  pub from_rest : (old new : D) (P Q : List ℕ → Type 0) (step : List ℕ → List ℕ → Type 0)
+      → IsSome (desk.held old) ↔ IsSome (desk.said old) → Rests desk old P → ShowsStep desk old new step
+      → ((file : List ℕ) → desk.may_leave old file → (next : List ℕ) → step file next → Q next)
+      → AtAnyMoment desk old new Q
+  from_rest old new P Q step told rests shows to =
+      weaker desk old new (LeftBy step (desk.may_leave old)) Q (shows (some_said desk old rests.file told rests.is_held))
+      (λ file by. to by.0 by.1 file by.2)
+
+  -- further calls
+  pub and_then : (old mid new : D) (Q : List ℕ → Type 0) (step : List ℕ → List ℕ → Type 0)
+      → desk.said mid ≡ desk.said old → IsSome (desk.said old) → AtAnyMoment desk old mid Q
+      → ShowsStep desk mid new step
+      → ((file : List ℕ) → desk.may_leave mid file → (next : List ℕ) → step file next → Q next)
+      → AtAnyMoment desk old new Q
+  and_then old mid new Q step unsaid some so_far shows to =
+      and_more desk old mid new Q (LeftBy step (desk.may_leave mid)) unsaid so_far (shows (subst IsSome (sym unsaid) some))
+      (λ file by. to by.0 by.1 file by.2)

@@ -1,8 +1,8 @@
 -- What the calls of a commit and of a recovery make of a file, and what a stop within them may leave.
-use Rattle.std.specs.Prelude.{◌≡◌, ℕ, ◌+◌, ◌*◌, max, List, [], ◌∷◌, ◌++◌, map, Option, IfSome}
+use Rattle.std.specs.Prelude.{◌≡◌, ℕ, ◌+◌, ◌*◌, max, List, [], ◌∷◌, ◌++◌, map}
 use Rattle.std.specs.Int.{w32, w64, to_le_bytes}
 use Rattle.pl_base.specs.Touched.{Change, PageImage, page_size}
-use Rattle.pl_desk.specs.Desk.{overwritten, ShowsOnly, Torn}
+use Rattle.pl_desk.specs.Desk.{overwritten, Torn}
 use Rattle.pl_gate.specs.Gate.{entry_size}
 
 abbrev pub entry_bytes : PageImage → List ℕ
@@ -46,16 +46,3 @@ image_ranges pages = map (λ (p : PageImage). (page_size * p.page, page_size)) p
 abbrev pub TornIn : List Range → List ℕ → List ℕ → Type 0
 TornIn [] old new = new ≡ old
 TornIn (range ∷ ranges) old new = (mid : List ℕ) × Torn range.0 range.1 old mid × TornIn ranges mid new
-
--- a file that is left by a step from one that might have been left before
-abbrev pub LeftBy : (List ℕ → List ℕ → Type 0) → (List ℕ → Type 0) → List ℕ → Type 0
-LeftBy step may_leave file = (before : List ℕ) × may_leave before × step before file
-
--- the same, and what was said is as it was
-abbrev pub LeftUnsaid : (List ℕ → List ℕ → Type 0) → (List ℕ → Type 0) → List ℕ → List ℕ → List ℕ → Type 0
-LeftUnsaid step may_leave before file line = LeftBy step may_leave file × (line ≡ before)
-
--- a stop at any moment from old to new shows a file that is left by the step, and the line as it was
-abbrev pub ShowsUnsaid : {D : Type 0} → (D → ℕ) → (D → ℕ → List ℕ → List ℕ → Type 0) → (D → List ℕ → Type 0) → (D → Option (List ℕ)) → D → D → (List ℕ → List ℕ → Type 0) → Type 0
-ShowsUnsaid moment shown_since may_leave said old new step =
-    IfSome (said old) (λ before. ShowsOnly moment shown_since old new (LeftUnsaid step (may_leave old) before))

@@ -1,12 +1,14 @@
 // The calls of the device that a commit and a recovery are made of.
-ghost use Rattle.std.specs.Prelude.{◌≡◌, ◌≤◌, ◌<◌, ◌+◌, ◌*◌, ℕ, [], ◌∷◌, ◌++◌, length, IfSome, OnOk, OnErr};
+ghost use Rattle.std.specs.Prelude.{◌≡◌, ◌≤◌, ◌<◌, ◌+◌, ◌*◌, ◌++◌, length, IfSome, OnOk};
 ghost use Rattle.std.specs.Int.{w64, to_le_bytes};
 ghost use Rattle.std.specs.Option.{option_map};
 ghost use Rattle.pl_base.specs.Touched.{page_size};
-ghost use Rattle.pl_desk.specs.Counts.{Rose};
 ghost use Rattle.pl_desk.specs.Desk.{last_offset, overwritten, Follows, Torn, Only};
 ghost use Rattle.pl_gate.specs.Gate.{entry_size};
-ghost use Rattle.pl_gate.specs.Device.{entry_ranges, image_ranges, place_bytes, with_entries, with_gate, with_images, ShowsUnsaid, TornIn};
+ghost use Rattle.pl_gate.specs.Device.{entry_ranges, image_ranges, place_bytes, with_entries, with_gate, with_images, TornIn};
+ghost use Rattle.pl_desk.specs.Shown.{ShowsStep};
+ghost use Rattle.pl_desk.specs.Counts.{Counts, Writes};
+ghost use Rattle.pl_desk.specs.Calls.{KeepsLine};
 
 use pl_base::{PAGE_SIZE, Touched};
 use pl_desk::{Desk, Failed};
@@ -22,15 +24,10 @@ pub fn write_entries<D: Desk>(desk: &mut D, start: u64, touched: &Touched) -> Re
     requires range { start + entry_size * length touched.now.pages ≤ last_offset }
     ensures held { OnOk result (D.held desk.new ≡ option_map (with_entries start touched.now.pages) (D.held desk.old)) }
     ensures leaves { Follows (TornIn (entry_ranges start touched.now.pages)) (D.may_leave desk.old) (D.may_leave desk.new) }
-    ensures moments { ShowsUnsaid D.moment D.shown_since D.may_leave D.said desk.old desk.new (TornIn (entry_ranges start touched.now.pages)) }
-    ensures said { D.said desk.new ≡ D.said desk.old }
-    ensures written { OnOk result (D.written desk.new ≡ D.written desk.old + entry_size * length touched.now.pages) }
-    ensures no_more { D.written desk.new ≤ D.written desk.old + entry_size * length touched.now.pages }
-    ensures no_less { D.written desk.old ≤ D.written desk.new }
-    ensures line { D.line_faults desk.new ≡ D.line_faults desk.old }
-    ensures counted { D.device_faults desk.old ≤ D.device_faults desk.new }
-    ensures no_fault { OnOk result (D.device_faults desk.new ≡ D.device_faults desk.old) }
-    ensures cause { OnErr result (Rose (D.device_faults desk.old) (D.device_faults desk.new)) }
+    ensures moments { ShowsStep D.Desk desk.old desk.new (TornIn (entry_ranges start touched.now.pages)) }
+    ensures line { KeepsLine D.Desk desk.old desk.new }
+    ensures written { Writes result (entry_size * length touched.now.pages) (D.written desk.old) (D.written desk.new) }
+    ensures counted { Counts result (D.device_faults desk.old) (D.device_faults desk.new) }
 {
     let mut index = 0;
     while index < touched.count() {
@@ -56,15 +53,10 @@ fn entry_bytes(page: u32, image: &[u8]) -> [u8; ENTRY_SIZE]
 pub fn write_place<D: Desk>(desk: &mut D, start: u64, count: u32, after: u32) -> Result<(), Failed>
     ensures held { OnOk result (D.held desk.new ≡ option_map (overwritten 0 8 (place_bytes start count after)) (D.held desk.old)) }
     ensures leaves { Follows (Torn 8 16) (D.may_leave desk.old) (D.may_leave desk.new) }
-    ensures moments { ShowsUnsaid D.moment D.shown_since D.may_leave D.said desk.old desk.new (Torn 8 16) }
-    ensures said { D.said desk.new ≡ D.said desk.old }
-    ensures written { OnOk result (D.written desk.new ≡ D.written desk.old + 16) }
-    ensures no_more { D.written desk.new ≤ D.written desk.old + 16 }
-    ensures no_less { D.written desk.old ≤ D.written desk.new }
-    ensures line { D.line_faults desk.new ≡ D.line_faults desk.old }
-    ensures counted { D.device_faults desk.old ≤ D.device_faults desk.new }
-    ensures no_fault { OnOk result (D.device_faults desk.new ≡ D.device_faults desk.old) }
-    ensures cause { OnErr result (Rose (D.device_faults desk.old) (D.device_faults desk.new)) }
+    ensures moments { ShowsStep D.Desk desk.old desk.new (Torn 8 16) }
+    ensures line { KeepsLine D.Desk desk.old desk.new }
+    ensures written { Writes result 16 (D.written desk.old) (D.written desk.new) }
+    ensures counted { Counts result (D.device_faults desk.old) (D.device_faults desk.new) }
 {
     desk.write_at(PLACE, &place_bytes(start, count, after))
 }
@@ -83,15 +75,10 @@ fn place_bytes(start: u64, count: u32, after: u32) -> [u8; 16]
 pub fn write_images<D: Desk>(desk: &mut D, touched: &Touched) -> Result<(), Failed>
     ensures held { OnOk result (D.held desk.new ≡ option_map (with_images touched.now.pages) (D.held desk.old)) }
     ensures leaves { Follows (TornIn (image_ranges touched.now.pages)) (D.may_leave desk.old) (D.may_leave desk.new) }
-    ensures moments { ShowsUnsaid D.moment D.shown_since D.may_leave D.said desk.old desk.new (TornIn (image_ranges touched.now.pages)) }
-    ensures said { D.said desk.new ≡ D.said desk.old }
-    ensures written { OnOk result (D.written desk.new ≡ D.written desk.old + page_size * length touched.now.pages) }
-    ensures no_more { D.written desk.new ≤ D.written desk.old + page_size * length touched.now.pages }
-    ensures no_less { D.written desk.old ≤ D.written desk.new }
-    ensures line { D.line_faults desk.new ≡ D.line_faults desk.old }
-    ensures counted { D.device_faults desk.old ≤ D.device_faults desk.new }
-    ensures no_fault { OnOk result (D.device_faults desk.new ≡ D.device_faults desk.old) }
-    ensures cause { OnErr result (Rose (D.device_faults desk.old) (D.device_faults desk.new)) }
+    ensures moments { ShowsStep D.Desk desk.old desk.new (TornIn (image_ranges touched.now.pages)) }
+    ensures line { KeepsLine D.Desk desk.old desk.new }
+    ensures written { Writes result (page_size * length touched.now.pages) (D.written desk.old) (D.written desk.new) }
+    ensures counted { Counts result (D.device_faults desk.old) (D.device_faults desk.new) }
 {
     let mut index = 0;
     while index < touched.count() {
@@ -107,15 +94,10 @@ pub fn write_gate<D: Desk>(desk: &mut D, byte: u8) -> Result<(), Failed>
     ensures held { OnOk result (D.held desk.new ≡ option_map (with_gate byte) (D.held desk.old)) }
     ensures durable { OnOk result (IfSome (D.held desk.new) (λ file. Only file (D.may_leave desk.new))) }
     ensures leaves { Follows (Torn 0 1) (D.may_leave desk.old) (D.may_leave desk.new) }
-    ensures moments { ShowsUnsaid D.moment D.shown_since D.may_leave D.said desk.old desk.new (Torn 0 1) }
-    ensures said { D.said desk.new ≡ D.said desk.old }
-    ensures written { OnOk result (D.written desk.new ≡ D.written desk.old + 1) }
-    ensures no_more { D.written desk.new ≤ D.written desk.old + 1 }
-    ensures no_less { D.written desk.old ≤ D.written desk.new }
-    ensures line { D.line_faults desk.new ≡ D.line_faults desk.old }
-    ensures counted { D.device_faults desk.old ≤ D.device_faults desk.new }
-    ensures no_fault { OnOk result (D.device_faults desk.new ≡ D.device_faults desk.old) }
-    ensures cause { OnErr result (Rose (D.device_faults desk.old) (D.device_faults desk.new)) }
+    ensures moments { ShowsStep D.Desk desk.old desk.new (Torn 0 1) }
+    ensures line { KeepsLine D.Desk desk.old desk.new }
+    ensures written { Writes result 1 (D.written desk.old) (D.written desk.new) }
+    ensures counted { Counts result (D.device_faults desk.old) (D.device_faults desk.new) }
 {
     desk.write_at(0, &[byte])?;
     desk.sync()

@@ -1,11 +1,12 @@
-ghost use Rattle.std.specs.Prelude.{◌≡◌, ◌≤◌, ◌<◌, ◌+◌, ◌*◌, ℕ, List, [], Some, length, IfOk, OnOk, OnErr};
+ghost use Rattle.std.specs.Prelude.{◌≡◌, ◌≤◌, ◌<◌, ◌+◌, ◌*◌, ℕ, List, [], Some, length, IfOk, OnOk};
 ghost use Rattle.std.specs.Option.{option_map};
 ghost use Rattle.pl_base.specs.Touched.{IsWithin, changed, bytes_before, page_size};
-ghost use Rattle.pl_desk.specs.Counts.{Rose};
 ghost use Rattle.pl_gate.specs.Device.{with_gate, with_images};
 ghost use Rattle.pl_gate.specs.Gate.{Holds, entry_size};
-ghost use Rattle.pl_desk.specs.Desk.{AtAnyMoment, Rests};
 ghost use Rattle.pl_gate.specs.States.{HoldsEither, IsArmed, IsClosed, IsInstalled, IsStaged};
+ghost use Rattle.pl_desk.specs.Shown.{AtAnyMoment, Rests};
+ghost use Rattle.pl_desk.specs.Counts.{Counts, Writes};
+ghost use Rattle.pl_desk.specs.Calls.{KeepsLine};
 
 use crate::device::{write_entries, write_gate, write_images, write_place};
 use crate::states::{Armed, Closed, Installed, Staged};
@@ -41,21 +42,16 @@ impl<'d, D: Desk> Gate<'d, D> {
         requires some { 1 ≤ touched.now.before }
 
         ensures change { IfOk result (λ staged. staged ≡ touched.now) }
-        ensures staged { OnOk result ((pages : List ℕ) → Rests (D.held self.old.desk.now) (D.may_leave self.old.desk.now) (IsClosed pages) → length pages ≡ bytes_before touched.now.before
-            → Rests (D.held self.new.desk.now) (D.may_leave self.new.desk.now) (IsStaged touched.now pages)) }
+        ensures staged { OnOk result ((pages : List ℕ) → Rests D.Desk self.old.desk.now (IsClosed pages) → length pages ≡ bytes_before touched.now.before
+            → Rests D.Desk self.new.desk.now (IsStaged touched.now pages)) }
         ensures staged_empty { OnOk result (D.held self.old.desk.now ≡ Some [] → touched.now.before ≡ 1 → 1 < touched.now.after
-            → Rests (D.held self.new.desk.now) (D.may_leave self.new.desk.now) (IsStaged touched.now [])) }
-        ensures any_moment { (pages : List ℕ) → Rests (D.held self.old.desk.now) (D.may_leave self.old.desk.now) (IsClosed pages) → length pages ≡ bytes_before touched.now.before
-            → AtAnyMoment D.moment D.shown_since D.said self.old.desk.now self.new.desk.now (Holds pages) }
+            → Rests D.Desk self.new.desk.now (IsStaged touched.now [])) }
+        ensures any_moment { (pages : List ℕ) → Rests D.Desk self.old.desk.now (IsClosed pages) → length pages ≡ bytes_before touched.now.before
+            → AtAnyMoment D.Desk self.old.desk.now self.new.desk.now (Holds pages) }
 
-        ensures written { OnOk result (D.written self.new.desk.now ≡ D.written self.old.desk.now + (entry_size * length touched.now.pages + 16)) }
-        ensures no_more { D.written self.new.desk.now ≤ D.written self.old.desk.now + (entry_size * length touched.now.pages + 16) }
-        ensures no_less { D.written self.old.desk.now ≤ D.written self.new.desk.now }
-        ensures said { D.said self.new.desk.now ≡ D.said self.old.desk.now }
-        ensures line { D.line_faults self.new.desk.now ≡ D.line_faults self.old.desk.now }
-        ensures counted { D.device_faults self.old.desk.now ≤ D.device_faults self.new.desk.now }
-        ensures no_fault { OnOk result (D.device_faults self.new.desk.now ≡ D.device_faults self.old.desk.now) }
-        ensures cause { OnErr result (Rose (D.device_faults self.old.desk.now) (D.device_faults self.new.desk.now)) }
+        ensures written { Writes result (entry_size * length touched.now.pages + 16) (D.written self.old.desk.now) (D.written self.new.desk.now) }
+        ensures line { KeepsLine D.Desk self.old.desk.now self.new.desk.now }
+        ensures counted { Counts result (D.device_faults self.old.desk.now) (D.device_faults self.new.desk.now) }
         ensures same_desk { self.new.desk.ghost_name ≡ self.old.desk.ghost_name }
     {
         let after = touched.after();
@@ -70,20 +66,15 @@ impl<'d, D: Desk> Gate<'d, D> {
     /// Sets the gate and syncs.
     pub fn arm<'t>(&mut self, staged: Staged<'t>) -> Result<Armed<'t>, DeviceFault>
         ensures change { IfOk result (λ armed. armed ≡ staged.entry) }
-        ensures armed { OnOk result ((pages : List ℕ) → Rests (D.held self.old.desk.now) (D.may_leave self.old.desk.now) (IsStaged staged.entry pages)
-            → Rests (D.held self.new.desk.now) (D.may_leave self.new.desk.now) (IsArmed staged.entry (changed staged.entry pages))) }
+        ensures armed { OnOk result ((pages : List ℕ) → Rests D.Desk self.old.desk.now (IsStaged staged.entry pages)
+            → Rests D.Desk self.new.desk.now (IsArmed staged.entry (changed staged.entry pages))) }
         ensures set { OnOk result (D.held self.new.desk.now ≡ option_map (with_gate 1) (D.held self.old.desk.now)) }
-        ensures any_moment { (pages : List ℕ) → Rests (D.held self.old.desk.now) (D.may_leave self.old.desk.now) (IsStaged staged.entry pages)
-            → AtAnyMoment D.moment D.shown_since D.said self.old.desk.now self.new.desk.now (HoldsEither staged.entry pages) }
+        ensures any_moment { (pages : List ℕ) → Rests D.Desk self.old.desk.now (IsStaged staged.entry pages)
+            → AtAnyMoment D.Desk self.old.desk.now self.new.desk.now (HoldsEither staged.entry pages) }
 
-        ensures written { OnOk result (D.written self.new.desk.now ≡ D.written self.old.desk.now + 1) }
-        ensures no_more { D.written self.new.desk.now ≤ D.written self.old.desk.now + 1 }
-        ensures no_less { D.written self.old.desk.now ≤ D.written self.new.desk.now }
-        ensures said { D.said self.new.desk.now ≡ D.said self.old.desk.now }
-        ensures line { D.line_faults self.new.desk.now ≡ D.line_faults self.old.desk.now }
-        ensures counted { D.device_faults self.old.desk.now ≤ D.device_faults self.new.desk.now }
-        ensures no_fault { OnOk result (D.device_faults self.new.desk.now ≡ D.device_faults self.old.desk.now) }
-        ensures cause { OnErr result (Rose (D.device_faults self.old.desk.now) (D.device_faults self.new.desk.now)) }
+        ensures written { Writes result 1 (D.written self.old.desk.now) (D.written self.new.desk.now) }
+        ensures line { KeepsLine D.Desk self.old.desk.now self.new.desk.now }
+        ensures counted { Counts result (D.device_faults self.old.desk.now) (D.device_faults self.new.desk.now) }
         ensures same_desk { self.new.desk.ghost_name ≡ self.old.desk.ghost_name }
     {
         write_gate(self.desk, 1)?;
@@ -95,20 +86,15 @@ impl<'d, D: Desk> Gate<'d, D> {
     /// Writes each image in its page's place and syncs.
     pub fn install<'t>(&mut self, armed: Armed<'t>) -> Result<Installed<'t>, DeviceFault>
         ensures change { IfOk result (λ installed. installed ≡ armed.entry) }
-        ensures installed { OnOk result ((pages : List ℕ) → Rests (D.held self.old.desk.now) (D.may_leave self.old.desk.now) (IsArmed armed.entry pages)
-            → Rests (D.held self.new.desk.now) (D.may_leave self.new.desk.now) (IsInstalled armed.entry pages)) }
+        ensures installed { OnOk result ((pages : List ℕ) → Rests D.Desk self.old.desk.now (IsArmed armed.entry pages)
+            → Rests D.Desk self.new.desk.now (IsInstalled armed.entry pages)) }
         ensures placed { OnOk result (D.held self.new.desk.now ≡ option_map (with_images armed.entry.pages) (D.held self.old.desk.now)) }
-        ensures any_moment { (pages : List ℕ) → Rests (D.held self.old.desk.now) (D.may_leave self.old.desk.now) (IsArmed armed.entry pages)
-            → AtAnyMoment D.moment D.shown_since D.said self.old.desk.now self.new.desk.now (Holds pages) }
+        ensures any_moment { (pages : List ℕ) → Rests D.Desk self.old.desk.now (IsArmed armed.entry pages)
+            → AtAnyMoment D.Desk self.old.desk.now self.new.desk.now (Holds pages) }
 
-        ensures written { OnOk result (D.written self.new.desk.now ≡ D.written self.old.desk.now + page_size * length armed.entry.pages) }
-        ensures no_more { D.written self.new.desk.now ≤ D.written self.old.desk.now + page_size * length armed.entry.pages }
-        ensures no_less { D.written self.old.desk.now ≤ D.written self.new.desk.now }
-        ensures said { D.said self.new.desk.now ≡ D.said self.old.desk.now }
-        ensures line { D.line_faults self.new.desk.now ≡ D.line_faults self.old.desk.now }
-        ensures counted { D.device_faults self.old.desk.now ≤ D.device_faults self.new.desk.now }
-        ensures no_fault { OnOk result (D.device_faults self.new.desk.now ≡ D.device_faults self.old.desk.now) }
-        ensures cause { OnErr result (Rose (D.device_faults self.old.desk.now) (D.device_faults self.new.desk.now)) }
+        ensures written { Writes result (page_size * length armed.entry.pages) (D.written self.old.desk.now) (D.written self.new.desk.now) }
+        ensures line { KeepsLine D.Desk self.old.desk.now self.new.desk.now }
+        ensures counted { Counts result (D.device_faults self.old.desk.now) (D.device_faults self.new.desk.now) }
         ensures same_desk { self.new.desk.ghost_name ≡ self.old.desk.ghost_name }
     {
         write_images(self.desk, armed.touched)?;
@@ -120,20 +106,15 @@ impl<'d, D: Desk> Gate<'d, D> {
 
     /// Clears the gate and syncs.
     pub fn disarm(&mut self, installed: Installed<'_>) -> Result<Closed, DeviceFault>
-        ensures closed { OnOk result ((pages : List ℕ) → Rests (D.held self.old.desk.now) (D.may_leave self.old.desk.now) (IsInstalled installed.entry pages)
-            → Rests (D.held self.new.desk.now) (D.may_leave self.new.desk.now) (IsClosed pages)) }
+        ensures closed { OnOk result ((pages : List ℕ) → Rests D.Desk self.old.desk.now (IsInstalled installed.entry pages)
+            → Rests D.Desk self.new.desk.now (IsClosed pages)) }
         ensures cleared { OnOk result (D.held self.new.desk.now ≡ option_map (with_gate 0) (D.held self.old.desk.now)) }
-        ensures any_moment { (pages : List ℕ) → Rests (D.held self.old.desk.now) (D.may_leave self.old.desk.now) (IsInstalled installed.entry pages)
-            → AtAnyMoment D.moment D.shown_since D.said self.old.desk.now self.new.desk.now (Holds pages) }
+        ensures any_moment { (pages : List ℕ) → Rests D.Desk self.old.desk.now (IsInstalled installed.entry pages)
+            → AtAnyMoment D.Desk self.old.desk.now self.new.desk.now (Holds pages) }
 
-        ensures written { OnOk result (D.written self.new.desk.now ≡ D.written self.old.desk.now + 1) }
-        ensures no_more { D.written self.new.desk.now ≤ D.written self.old.desk.now + 1 }
-        ensures no_less { D.written self.old.desk.now ≤ D.written self.new.desk.now }
-        ensures said { D.said self.new.desk.now ≡ D.said self.old.desk.now }
-        ensures line { D.line_faults self.new.desk.now ≡ D.line_faults self.old.desk.now }
-        ensures counted { D.device_faults self.old.desk.now ≤ D.device_faults self.new.desk.now }
-        ensures no_fault { OnOk result (D.device_faults self.new.desk.now ≡ D.device_faults self.old.desk.now) }
-        ensures cause { OnErr result (Rose (D.device_faults self.old.desk.now) (D.device_faults self.new.desk.now)) }
+        ensures written { Writes result 1 (D.written self.old.desk.now) (D.written self.new.desk.now) }
+        ensures line { KeepsLine D.Desk self.old.desk.now self.new.desk.now }
+        ensures counted { Counts result (D.device_faults self.old.desk.now) (D.device_faults self.new.desk.now) }
         ensures same_desk { self.new.desk.ghost_name ≡ self.old.desk.ghost_name }
     {
         write_gate(self.desk, 0)?;

@@ -1,13 +1,14 @@
 // The journal of a set gate: whether it keeps to its format, and its pages put into their places.
 ghost use Rattle.std.specs.Option.{option_map};
-ghost use Rattle.std.specs.Prelude.{◌≡◌, ◌≢◌, ◌≤◌, ◌<◌, ◌⊎◌, ◌↔◌, ◌+◌, ◌*◌, ℕ, List, [], Some, None, Err, true, false, length, slice_range, IfOk, IfSome, OnOk};
-ghost use Rattle.std.specs.Int.{w64, from_le_bytes};
+ghost use Rattle.std.specs.Prelude.{◌≡◌, ◌≤◌, ◌<◌, ◌⊎◌, ◌↔◌, ◌+◌, ◌*◌, ℕ, List, Some, None, Err, true, false, length, IfOk, IfSome, OnOk};
 ghost use Rattle.pl_base.specs.Touched.{page_size};
-ghost use Rattle.pl_desk.specs.Counts.{Rose};
 ghost use Rattle.pl_desk.specs.Desk.{last_offset, overwritten, Follows, Torn};
-ghost use Rattle.pl_gate.specs.Device.{image_ranges, with_images, ShowsUnsaid, TornIn};
+ghost use Rattle.pl_gate.specs.Device.{image_ranges, with_images, TornIn};
 ghost use Rattle.pl_gate.specs.Gate.{entry_at, entry_size, has_gate, is_journal, is_set, journal};
 ghost use Rattle.pl_gate.specs.Recovery.{IsPlaceOf};
+ghost use Rattle.pl_desk.specs.Shown.{ShowsStep};
+ghost use Rattle.pl_desk.specs.Counts.{CountsAt, Writes};
+ghost use Rattle.pl_desk.specs.Calls.{KeepsLine, OnlyReads};
 
 use crate::device::ENTRY_SIZE;
 use crate::error::GateError;
@@ -23,15 +24,8 @@ pub fn check_journal<D: Desk>(desk: &mut D, place: &Place, len: u64) -> Result<(
     ensures journal { OnOk result (IfSome (D.held desk.old) (λ file. is_journal file ≡ true)) }
     ensures bad { result ≡ Err GateError.BadGate → IfSome (D.held desk.old) (λ file. is_journal file ≡ false) }
     ensures bound { OnOk result (place.now.start + entry_size * place.now.count ≤ len) }
-    ensures held { D.held desk.new ≡ D.held desk.old }
-    ensures leaves { (file : List ℕ) → D.may_leave desk.new file → D.may_leave desk.old file }
-    ensures moments { ShowsUnsaid D.moment D.shown_since D.may_leave D.said desk.old desk.new (TornIn []) }
-    ensures said { D.said desk.new ≡ D.said desk.old }
-    ensures written { D.written desk.new ≡ D.written desk.old }
-    ensures line { D.line_faults desk.new ≡ D.line_faults desk.old }
-    ensures counted { D.device_faults desk.old ≤ D.device_faults desk.new }
-    ensures no_fault { result ≢ Err GateError.DeviceFault → D.device_faults desk.new ≡ D.device_faults desk.old }
-    ensures cause { result ≡ Err GateError.DeviceFault → Rose (D.device_faults desk.old) (D.device_faults desk.new) }
+    ensures reads { OnlyReads D.Desk desk.old desk.new }
+    ensures counted { CountsAt (result ≡ Err GateError.DeviceFault) (D.device_faults desk.old) (D.device_faults desk.new) }
 {
     if !lies_behind(place, len) {
         return Err(GateError::BadGate);
@@ -67,15 +61,8 @@ fn read_page<D: Desk>(desk: &mut D, at: u64, last: u64, after: u32) -> Result<u6
     ensures above { IfOk result (λ page. last < page) }
     ensures below { IfOk result (λ page. page < after) }
     ensures bad { result ≡ Err GateError.BadGate → IfSome (D.held desk.old) (λ file. ((entry_at at file).page ≤ last) ⊎ (after ≤ (entry_at at file).page)) }
-    ensures held { D.held desk.new ≡ D.held desk.old }
-    ensures leaves { (file : List ℕ) → D.may_leave desk.new file → D.may_leave desk.old file }
-    ensures moments { ShowsUnsaid D.moment D.shown_since D.may_leave D.said desk.old desk.new (TornIn []) }
-    ensures said { D.said desk.new ≡ D.said desk.old }
-    ensures written { D.written desk.new ≡ D.written desk.old }
-    ensures line { D.line_faults desk.new ≡ D.line_faults desk.old }
-    ensures counted { D.device_faults desk.old ≤ D.device_faults desk.new }
-    ensures no_fault { result ≢ Err GateError.DeviceFault → D.device_faults desk.new ≡ D.device_faults desk.old }
-    ensures cause { result ≡ Err GateError.DeviceFault → Rose (D.device_faults desk.old) (D.device_faults desk.new) }
+    ensures reads { OnlyReads D.Desk desk.old desk.new }
+    ensures counted { CountsAt (result ≡ Err GateError.DeviceFault) (D.device_faults desk.old) (D.device_faults desk.new) }
 {
     let page = read_u64(desk, at)?;
     if page <= last || page >= after as u64 {
@@ -92,15 +79,10 @@ pub fn install_journal<D: Desk>(desk: &mut D, place: &Place) -> Result<(), GateE
     requires gate { IfSome (D.held desk.old) (λ file. has_gate file ≡ true) }
     ensures held { OnOk result (D.held desk.new ≡ option_map (λ file. with_images (journal file) file) (D.held desk.old)) }
     ensures leaves { (file : List ℕ) → D.held desk.old ≡ Some file → Follows (TornIn (image_ranges (journal file))) (D.may_leave desk.old) (D.may_leave desk.new) }
-    ensures moments { (file : List ℕ) → D.held desk.old ≡ Some file → ShowsUnsaid D.moment D.shown_since D.may_leave D.said desk.old desk.new (TornIn (image_ranges (journal file))) }
-    ensures said { D.said desk.new ≡ D.said desk.old }
-    ensures written { OnOk result (D.written desk.new ≡ D.written desk.old + page_size * place.now.count) }
-    ensures no_more { D.written desk.new ≤ D.written desk.old + page_size * place.now.count }
-    ensures no_less { D.written desk.old ≤ D.written desk.new }
-    ensures line { D.line_faults desk.new ≡ D.line_faults desk.old }
-    ensures counted { D.device_faults desk.old ≤ D.device_faults desk.new }
-    ensures no_fault { result ≢ Err GateError.DeviceFault → D.device_faults desk.new ≡ D.device_faults desk.old }
-    ensures cause { result ≡ Err GateError.DeviceFault → Rose (D.device_faults desk.old) (D.device_faults desk.new) }
+    ensures moments { (file : List ℕ) → D.held desk.old ≡ Some file → ShowsStep D.Desk desk.old desk.new (TornIn (image_ranges (journal file))) }
+    ensures line { KeepsLine D.Desk desk.old desk.new }
+    ensures written { Writes result (page_size * place.now.count) (D.written desk.old) (D.written desk.new) }
+    ensures counted { CountsAt (result ≡ Err GateError.DeviceFault) (D.device_faults desk.old) (D.device_faults desk.new) }
     ensures good { result ≡ Err GateError.BadGate → D.held desk.old ≡ None }
 {
     let mut last = 0;
@@ -121,15 +103,10 @@ fn install_entry<D: Desk>(desk: &mut D, at: u64, last: u64, after: u32) -> Resul
     ensures held { OnOk result (D.held desk.new ≡ option_map (λ file. overwritten 0 (page_size * (entry_at at file).page) (entry_at at file).image file) (D.held desk.old)) }
     ensures bad { result ≡ Err GateError.BadGate → IfSome (D.held desk.old) (λ file. ((entry_at at file).page ≤ last) ⊎ (after ≤ (entry_at at file).page)) }
     ensures leaves { (file : List ℕ) → D.held desk.old ≡ Some file → Follows (Torn (page_size * (entry_at at file).page) page_size) (D.may_leave desk.old) (D.may_leave desk.new) }
-    ensures moments { (file : List ℕ) → D.held desk.old ≡ Some file → ShowsUnsaid D.moment D.shown_since D.may_leave D.said desk.old desk.new (Torn (page_size * (entry_at at file).page) page_size) }
-    ensures said { D.said desk.new ≡ D.said desk.old }
-    ensures written { OnOk result (D.written desk.new ≡ D.written desk.old + page_size) }
-    ensures no_more { D.written desk.new ≤ D.written desk.old + page_size }
-    ensures no_less { D.written desk.old ≤ D.written desk.new }
-    ensures line { D.line_faults desk.new ≡ D.line_faults desk.old }
-    ensures counted { D.device_faults desk.old ≤ D.device_faults desk.new }
-    ensures no_fault { result ≢ Err GateError.DeviceFault → D.device_faults desk.new ≡ D.device_faults desk.old }
-    ensures cause { result ≡ Err GateError.DeviceFault → Rose (D.device_faults desk.old) (D.device_faults desk.new) }
+    ensures moments { (file : List ℕ) → D.held desk.old ≡ Some file → ShowsStep D.Desk desk.old desk.new (Torn (page_size * (entry_at at file).page) page_size) }
+    ensures line { KeepsLine D.Desk desk.old desk.new }
+    ensures written { Writes result page_size (D.written desk.old) (D.written desk.new) }
+    ensures counted { CountsAt (result ≡ Err GateError.DeviceFault) (D.device_faults desk.old) (D.device_faults desk.new) }
 {
     let page = read_page(desk, at, last, after)?;
     let mut image = [0; PAGE_SIZE];

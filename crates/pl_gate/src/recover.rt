@@ -1,10 +1,12 @@
-ghost use Rattle.std.specs.Prelude.{◌≡◌, ◌≢◌, ◌≤◌, ◌+◌, ◌*◌, ℕ, List, Some, None, Err, true, false, IfSome, OnOk};
+ghost use Rattle.std.specs.Prelude.{◌≡◌, ◌≤◌, ◌+◌, ◌*◌, ℕ, List, Some, None, Err, true, false, IfSome, OnOk};
 ghost use Rattle.pl_base.specs.Touched.{page_size};
-ghost use Rattle.pl_desk.specs.Counts.{Rose};
-ghost use Rattle.pl_desk.specs.Desk.{AtAnyMoment, last_offset, Only, Rests};
+ghost use Rattle.pl_desk.specs.Desk.{last_offset, Only};
 ghost use Rattle.pl_desk.specs.Settling.{Settles};
 ghost use Rattle.pl_gate.specs.Gate.{entry_size, has_gate, is_set};
 ghost use Rattle.pl_gate.specs.Recovery.{IsPlaceOf, IsSettledAs, StandsAs, written_by};
+ghost use Rattle.pl_desk.specs.Shown.{AtAnyMoment, Rests};
+ghost use Rattle.pl_desk.specs.Counts.{CountsAt, Writes};
+ghost use Rattle.pl_desk.specs.Calls.{KeepsLine};
 
 use crate::device::write_gate;
 use crate::error::GateError;
@@ -22,7 +24,7 @@ impl<'d, D: Desk> Gate<'d, D> {
     pub fn recover(&mut self) -> Result<Closed, GateError>
         // Where the desk tells its content, the file is at rest then, and stands for what it stood for.
         ensures settled { OnOk result ((file : List ℕ) → D.held self.old.desk.now ≡ Some file
-            → Rests (D.held self.new.desk.now) (D.may_leave self.new.desk.now) (IsSettledAs file)) }
+            → Rests D.Desk self.new.desk.now (IsSettledAs file)) }
         ensures good { OnOk result (IfSome (D.held self.old.desk.now) (λ file. has_gate file ≡ true)) }
         ensures bad { result ≡ Err GateError.BadGate → IfSome (D.held self.old.desk.now) (λ file. has_gate file ≡ false) }
         ensures untouched { result ≡ Err GateError.BadGate → D.held self.new.desk.now ≡ D.held self.old.desk.now }
@@ -34,16 +36,13 @@ impl<'d, D: Desk> Gate<'d, D> {
         // Before the first sync ends, a stop shows a file that it might have left at first; from then on each file
         // that it shows stands for the one that a read gave.
         ensures any_moment { (file : List ℕ) → D.held self.old.desk.now ≡ Some file
-            → Settles D.moment D.shown_since D.may_leave D.said self.old.desk.now self.new.desk.now (StandsAs file) }
+            → Settles D.Desk self.old.desk.now self.new.desk.now (StandsAs file) }
 
         ensures written { OnOk result ((file : List ℕ) → D.held self.old.desk.now ≡ Some file → D.written self.new.desk.now ≡ D.written self.old.desk.now + written_by file) }
         ensures no_more { (file : List ℕ) → D.held self.old.desk.now ≡ Some file → D.written self.new.desk.now ≤ D.written self.old.desk.now + written_by file }
         ensures no_less { D.written self.old.desk.now ≤ D.written self.new.desk.now }
-        ensures said { D.said self.new.desk.now ≡ D.said self.old.desk.now }
-        ensures line { D.line_faults self.new.desk.now ≡ D.line_faults self.old.desk.now }
-        ensures counted { D.device_faults self.old.desk.now ≤ D.device_faults self.new.desk.now }
-        ensures no_fault { result ≢ Err GateError.DeviceFault → D.device_faults self.new.desk.now ≡ D.device_faults self.old.desk.now }
-        ensures cause { result ≡ Err GateError.DeviceFault → Rose (D.device_faults self.old.desk.now) (D.device_faults self.new.desk.now) }
+        ensures line { KeepsLine D.Desk self.old.desk.now self.new.desk.now }
+        ensures counted { CountsAt (result ≡ Err GateError.DeviceFault) (D.device_faults self.old.desk.now) (D.device_faults self.new.desk.now) }
         ensures same_desk { self.new.desk.ghost_name ≡ self.old.desk.ghost_name }
     {
         self.desk.sync()?;
@@ -67,18 +66,13 @@ fn clear_gate<D: Desk>(desk: &mut D, place: &Place) -> Result<(), GateError>
     requires set { IfSome (D.held desk.old) (λ file. is_set file ≡ true) }
     requires gate { IfSome (D.held desk.old) (λ file. has_gate file ≡ true) }
     requires only { IfSome (D.held desk.old) (λ file. Only file (D.may_leave desk.old)) }
-    ensures settled { OnOk result ((file : List ℕ) → D.held desk.old ≡ Some file → Rests (D.held desk.new) (D.may_leave desk.new) (IsSettledAs file)) }
-    ensures any_moment { (file : List ℕ) → D.held desk.old ≡ Some file → AtAnyMoment D.moment D.shown_since D.said desk.old desk.new (StandsAs file) }
+    ensures settled { OnOk result ((file : List ℕ) → D.held desk.old ≡ Some file → Rests D.Desk desk.new (IsSettledAs file)) }
+    ensures any_moment { (file : List ℕ) → D.held desk.old ≡ Some file → AtAnyMoment D.Desk desk.old desk.new (StandsAs file) }
     ensures left { (file : List ℕ) → D.held desk.old ≡ Some file → (later : List ℕ) → D.may_leave desk.new later → StandsAs file later }
     ensures good { result ≡ Err GateError.BadGate → D.held desk.old ≡ None }
-    ensures written { OnOk result (D.written desk.new ≡ D.written desk.old + (page_size * place.now.count + 1)) }
-    ensures no_more { D.written desk.new ≤ D.written desk.old + (page_size * place.now.count + 1) }
-    ensures no_less { D.written desk.old ≤ D.written desk.new }
-    ensures said { D.said desk.new ≡ D.said desk.old }
-    ensures line { D.line_faults desk.new ≡ D.line_faults desk.old }
-    ensures counted { D.device_faults desk.old ≤ D.device_faults desk.new }
-    ensures no_fault { result ≢ Err GateError.DeviceFault → D.device_faults desk.new ≡ D.device_faults desk.old }
-    ensures cause { result ≡ Err GateError.DeviceFault → Rose (D.device_faults desk.old) (D.device_faults desk.new) }
+    ensures written { Writes result (page_size * place.now.count + 1) (D.written desk.old) (D.written desk.new) }
+    ensures line { KeepsLine D.Desk desk.old desk.new }
+    ensures counted { CountsAt (result ≡ Err GateError.DeviceFault) (D.device_faults desk.old) (D.device_faults desk.new) }
 {
     install_journal(desk, place)?;
     desk.sync()?;

@@ -1,7 +1,8 @@
-ghost use Rattle.std.specs.Prelude.{◌≡◌, ◌≤◌, ◌+◌, ℕ, List, IfOk, IsOk, OnOk, OnErr};
-ghost use Rattle.pl_desk.specs.Counts.{Rose};
-ghost use Rattle.pl_desk.specs.Desk.{AtAnyMoment};
+ghost use Rattle.std.specs.Prelude.{◌≡◌, ℕ, List, IfOk, IsOk};
 ghost use Rattle.pl_store.specs.Session.{IsPreparedFrom, IsSettled, StandsForEither, bytes_to_write, limit_of, next_limit, next_store, store_of, writes_nothing};
+ghost use Rattle.pl_desk.specs.Shown.{AtAnyMoment};
+ghost use Rattle.pl_desk.specs.Counts.{Counts, Writes};
+ghost use Rattle.pl_desk.specs.Calls.{KeepsLine};
 
 use crate::session::{Prepared, Session};
 use crate::write::write_change;
@@ -18,19 +19,14 @@ impl Prepared {
         ensures settled { IfOk result (λ session. (before : Session) → IsPreparedFrom before self
             → IsSettled before (D.held desk.old) (D.may_leave desk.old) → IsSettled session (D.held desk.new) (D.may_leave desk.new)) }
         ensures any_moment { (before : Session) → IsPreparedFrom before self → IsSettled before (D.held desk.old) (D.may_leave desk.old)
-            → AtAnyMoment D.moment D.shown_since D.said desk.old desk.new (StandsForEither (store_of before) (next_store self)) }
+            → AtAnyMoment D.Desk desk.old desk.new (StandsForEither (store_of before) (next_store self)) }
         ensures left { (before : Session) → IsPreparedFrom before self → IsSettled before (D.held desk.old) (D.may_leave desk.old)
             → (file : List ℕ) → D.may_leave desk.new file → StandsForEither (store_of before) (next_store self) file }
         ensures unasked { writes_nothing self → desk.new ≡ desk.old }
         ensures unasked_ok { writes_nothing self → IsOk result }
-        ensures written { OnOk result (D.written desk.new ≡ D.written desk.old + bytes_to_write self) }
-        ensures no_more { D.written desk.new ≤ D.written desk.old + bytes_to_write self }
-        ensures no_less { D.written desk.old ≤ D.written desk.new }
-        ensures said { D.said desk.new ≡ D.said desk.old }
-        ensures line { D.line_faults desk.new ≡ D.line_faults desk.old }
-        ensures counted { D.device_faults desk.old ≤ D.device_faults desk.new }
-        ensures no_fault { OnOk result (D.device_faults desk.new ≡ D.device_faults desk.old) }
-        ensures cause { OnErr result (Rose (D.device_faults desk.old) (D.device_faults desk.new)) }
+        ensures written { Writes result (bytes_to_write self) (D.written desk.old) (D.written desk.new) }
+        ensures line { KeepsLine D.Desk desk.old desk.new }
+        ensures counted { Counts result (D.device_faults desk.old) (D.device_faults desk.new) }
     {
         let Prepared { engine, change } = self;
         let Some(pending) = change else {

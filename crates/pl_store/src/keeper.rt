@@ -1,9 +1,10 @@
 // A store in memory alone, or in a file too.
-ghost use Rattle.std.specs.Prelude.{◌≡◌, ◌≤◌, List, ℕ, Some, true, false, IfOk, OnOk, OnErr};
-ghost use Rattle.pl_desk.specs.Counts.{Rose};
-ghost use Rattle.pl_desk.specs.Desk.{AtAnyMoment};
+ghost use Rattle.std.specs.Prelude.{◌≡◌, ◌≤◌, List, ℕ, Some, false, IfOk, OnErr};
 ghost use Rattle.pl_engine.specs.Step.{HasDates, perform};
 ghost use Rattle.pl_store.specs.Keeper.{IsKept, IsReadyFrom, LeavesEither, is_file, limit_of, ready_limit, ready_store, store_of};
+ghost use Rattle.pl_desk.specs.Shown.{AtAnyMoment};
+ghost use Rattle.pl_desk.specs.Counts.{Counts};
+ghost use Rattle.pl_desk.specs.Calls.{KeepsLine};
 
 use crate::memory::Memory;
 use crate::session::{Prepared, Session};
@@ -58,18 +59,15 @@ impl Ready {
         ensures kind { IfOk result (λ keeper. (before : Keeper) → IsReadyFrom before self → is_file keeper ≡ is_file before) }
         ensures any_moment { (before : Keeper) (first : D) (line : List ℕ) → IsReadyFrom before self
             → IsKept before (D.may_leave first) (D.held desk.old) (D.may_leave desk.old) → D.said desk.old ≡ Some line
-            → AtAnyMoment D.moment D.shown_since D.said desk.old desk.new
+            → AtAnyMoment D.Desk desk.old desk.new
             (LeavesEither (is_file before) (D.may_leave first) (store_of before) (ready_store self)) }
         ensures left { OnErr result ((before : Keeper) (first : D) (file : List ℕ) → IsReadyFrom before self
             → IsKept before (D.may_leave first) (D.held desk.old) (D.may_leave desk.old) → D.may_leave desk.new file
             → LeavesEither (is_file before) (D.may_leave first) (store_of before) (ready_store self) file) }
         ensures alone { (before : Keeper) → IsReadyFrom before self → is_file before ≡ false → desk.new ≡ desk.old }
         ensures no_less { D.written desk.old ≤ D.written desk.new }
-        ensures said { D.said desk.new ≡ D.said desk.old }
-        ensures line { D.line_faults desk.new ≡ D.line_faults desk.old }
-        ensures counted { D.device_faults desk.old ≤ D.device_faults desk.new }
-        ensures no_fault { OnOk result (D.device_faults desk.new ≡ D.device_faults desk.old) }
-        ensures cause { OnErr result (Rose (D.device_faults desk.old) (D.device_faults desk.new)) }
+        ensures line { KeepsLine D.Desk desk.old desk.new }
+        ensures counted { Counts result (D.device_faults desk.old) (D.device_faults desk.new) }
     {
         match self {
             Ready::Memory(memory) => Ok(Keeper::Memory(memory)),

@@ -1,10 +1,11 @@
-ghost use Rattle.std.specs.Prelude.{◌≡◌, ◌≢◌, ◌≤◌, ◌<◌, ℕ, List, [], Err, Some, length, IfOk, IfSome, OnOk};
+ghost use Rattle.std.specs.Prelude.{◌≡◌, ◌≤◌, ◌<◌, ℕ, List, [], Err, Some, length, IfOk, IfSome, OnOk};
 ghost use Rattle.pl_base.specs.Store.{Store, opening};
-ghost use Rattle.pl_desk.specs.Counts.{Rose};
-ghost use Rattle.pl_desk.specs.Desk.{Rests};
 ghost use Rattle.pl_desk.specs.Settling.{Settles};
 ghost use Rattle.pl_store.specs.Ending.{IsFinished, LacksGate, StandsForNone};
 ghost use Rattle.pl_store.specs.Session.{IsSettled, Stands, StandsAlike, limit_of, store_of};
+ghost use Rattle.pl_desk.specs.Shown.{Rests};
+ghost use Rattle.pl_desk.specs.Counts.{CountsAt};
+ghost use Rattle.pl_desk.specs.Calls.{KeepsLine};
 
 use crate::ended::Ended;
 use crate::memory::SLOT_LIMIT;
@@ -31,11 +32,8 @@ pub fn create<D: Desk>(alloc: Global, desk: &mut D) -> Result<Session, Ended>
     ensures not_made { result ≡ Err Ended.NoMemory → (D.held desk.new ≡ D.held desk.old) × (D.written desk.new ≡ D.written desk.old) }
     ensures no_check { result ≡ Err Ended.NotAStore → ⊥ }
     ensures no_less { D.written desk.old ≤ D.written desk.new }
-    ensures said { D.said desk.new ≡ D.said desk.old }
-    ensures line { D.line_faults desk.new ≡ D.line_faults desk.old }
-    ensures counted { D.device_faults desk.old ≤ D.device_faults desk.new }
-    ensures no_fault { result ≢ Err Ended.DeviceFault → D.device_faults desk.new ≡ D.device_faults desk.old }
-    ensures cause { result ≡ Err Ended.DeviceFault → Rose (D.device_faults desk.old) (D.device_faults desk.new) }
+    ensures line { KeepsLine D.Desk desk.old desk.new }
+    ensures counted { CountsAt (result ≡ Err Ended.DeviceFault) (D.device_faults desk.old) (D.device_faults desk.new) }
 {
     let len = desk.len()?;
     if len > 0 {
@@ -63,15 +61,12 @@ pub fn reopen<D: Desk>(alloc: Global, desk: &mut D, limit: u32) -> Result<Sessio
     // Until the file is settled a stop shows one that it might have left at first; from then on each file that it
     // shows stands for what the one stood for that a read gave.
     ensures any_moment { (file : List ℕ) → D.held desk.old ≡ Some file
-        → Settles D.moment D.shown_since D.may_leave D.said desk.old desk.new (StandsAlike file) }
-    ensures no_memory { result ≡ Err Ended.NoMemory → (file : List ℕ) → D.held desk.old ≡ Some file → Rests (D.held desk.new) (D.may_leave desk.new) (StandsAlike file) }
+        → Settles D.Desk desk.old desk.new (StandsAlike file) }
+    ensures no_memory { result ≡ Err Ended.NoMemory → (file : List ℕ) → D.held desk.old ≡ Some file → Rests D.Desk desk.new (StandsAlike file) }
     ensures no_length { (n : ℕ) → result ≡ Err (Ended.NotEmpty n) → ⊥ }
     ensures no_less { D.written desk.old ≤ D.written desk.new }
-    ensures said { D.said desk.new ≡ D.said desk.old }
-    ensures line { D.line_faults desk.new ≡ D.line_faults desk.old }
-    ensures counted { D.device_faults desk.old ≤ D.device_faults desk.new }
-    ensures no_fault { result ≢ Err Ended.DeviceFault → D.device_faults desk.new ≡ D.device_faults desk.old }
-    ensures cause { result ≡ Err Ended.DeviceFault → Rose (D.device_faults desk.old) (D.device_faults desk.new) }
+    ensures line { KeepsLine D.Desk desk.old desk.new }
+    ensures counted { CountsAt (result ≡ Err Ended.DeviceFault) (D.device_faults desk.old) (D.device_faults desk.new) }
 {
     settle(desk)?;
     read_session(alloc, desk, limit)

@@ -1,14 +1,15 @@
 // What an opening reads of a file.
-ghost use Rattle.std.specs.Prelude.{◌≡◌, ◌≢◌, ◌≤◌, ◌+◌, ◌*◌, ℕ, List, Err, Some, true, false, drop, length, IfOk, IfSome, IsSome, OnOk};
+ghost use Rattle.std.specs.Prelude.{◌≡◌, ◌≤◌, ◌+◌, ◌*◌, ℕ, List, Err, Some, true, false, drop, length, IfOk, IfSome, OnOk};
 ghost use Rattle.pl_base.specs.Touched.{page_size};
-ghost use Rattle.pl_desk.specs.Counts.{Rose};
-ghost use Rattle.pl_desk.specs.Desk.{AtAnyMoment, Rests};
 ghost use Rattle.pl_desk.specs.Settling.{Settles};
 ghost use Rattle.pl_gate.specs.Gate.{has_gate, is_set};
 ghost use Rattle.pl_gate.specs.Recovery.{IsSettledAs, StandsAs, written_by};
 ghost use Rattle.pl_form.specs.Form.{most_pages};
 ghost use Rattle.pl_store.specs.Reading.{HoldNone, HoldPages, IsReadFrom, IsStoreOf};
 ghost use Rattle.pl_store.specs.Session.{limit_of};
+ghost use Rattle.pl_desk.specs.Shown.{Rests};
+ghost use Rattle.pl_desk.specs.Counts.{CountsAt};
+ghost use Rattle.pl_desk.specs.Calls.{KeepsLine, OnlyReads};
 
 use crate::ended::Ended;
 use crate::session::Session;
@@ -22,22 +23,19 @@ use std::alloc::Global;
 
 /// Settles the gate of a file that a stop may have left.
 pub(crate) fn settle<D: Desk>(desk: &mut D) -> Result<(), Ended>
-    ensures settled { OnOk result ((file : List ℕ) → D.held desk.old ≡ Some file → Rests (D.held desk.new) (D.may_leave desk.new) (IsSettledAs file)) }
+    ensures settled { OnOk result ((file : List ℕ) → D.held desk.old ≡ Some file → Rests D.Desk desk.new (IsSettledAs file)) }
     ensures good { OnOk result (IfSome (D.held desk.old) (λ file. has_gate file ≡ true)) }
     ensures bad { result ≡ Err Ended.NotAStore → IfSome (D.held desk.old) (λ file. has_gate file ≡ false) }
     ensures untouched { result ≡ Err Ended.NotAStore → D.held desk.new ≡ D.held desk.old }
     ensures unset { (file : List ℕ) → D.held desk.old ≡ Some file → is_set file ≡ false → D.held desk.new ≡ D.held desk.old }
     ensures any_moment { (file : List ℕ) → D.held desk.old ≡ Some file
-        → Settles D.moment D.shown_since D.may_leave D.said desk.old desk.new (StandsAs file) }
+        → Settles D.Desk desk.old desk.new (StandsAs file) }
     ensures no_more { (file : List ℕ) → D.held desk.old ≡ Some file → D.written desk.new ≤ D.written desk.old + written_by file }
     ensures no_memory { result ≡ Err Ended.NoMemory → ⊥ }
     ensures no_length { (n : ℕ) → result ≡ Err (Ended.NotEmpty n) → ⊥ }
     ensures no_less { D.written desk.old ≤ D.written desk.new }
-    ensures said { D.said desk.new ≡ D.said desk.old }
-    ensures line { D.line_faults desk.new ≡ D.line_faults desk.old }
-    ensures counted { D.device_faults desk.old ≤ D.device_faults desk.new }
-    ensures no_fault { result ≢ Err Ended.DeviceFault → D.device_faults desk.new ≡ D.device_faults desk.old }
-    ensures cause { result ≡ Err Ended.DeviceFault → Rose (D.device_faults desk.old) (D.device_faults desk.new) }
+    ensures line { KeepsLine D.Desk desk.old desk.new }
+    ensures counted { CountsAt (result ≡ Err Ended.DeviceFault) (D.device_faults desk.old) (D.device_faults desk.new) }
 {
     let mut gate = Gate::of(desk);
     gate.recover()?;
@@ -54,20 +52,10 @@ fn store_pages<D: Desk>(desk: &mut D) -> Result<u32, Ended>
         (λ file. HoldPages pages (drop page_size file))) }
     ensures not_a_store { result ≡ Err Ended.NotAStore → IfSome (D.held desk.old)
         (λ file. HoldNone (drop page_size file)) }
-    ensures any_moment { IsSome (D.said desk.old)
-        → AtAnyMoment D.moment D.shown_since D.said desk.old desk.new (D.may_leave desk.old) }
-    ensures leaves { (file : List ℕ) → D.may_leave desk.new file → D.may_leave desk.old file }
-    ensures held { D.held desk.new ≡ D.held desk.old }
+    ensures reads { OnlyReads D.Desk desk.old desk.new }
     ensures no_memory { result ≡ Err Ended.NoMemory → ⊥ }
     ensures no_length { (n : ℕ) → result ≡ Err (Ended.NotEmpty n) → ⊥ }
-    ensures written { D.written desk.new ≡ D.written desk.old }
-    ensures said { D.said desk.new ≡ D.said desk.old }
-    ensures line { D.line_faults desk.new ≡ D.line_faults desk.old }
-    ensures counted { D.device_faults desk.old ≤ D.device_faults desk.new }
-    ensures no_fault { result ≢ Err Ended.DeviceFault
-        → D.device_faults desk.new ≡ D.device_faults desk.old }
-    ensures cause { result ≡ Err Ended.DeviceFault
-        → Rose (D.device_faults desk.old) (D.device_faults desk.new) }
+    ensures counted { CountsAt (result ≡ Err Ended.DeviceFault) (D.device_faults desk.old) (D.device_faults desk.new) }
 {
     let len = desk.len()?;
     if len < 2 * PAGE_SIZE as u64 {
@@ -91,19 +79,9 @@ fn read_pages<D: Desk>(alloc: Global, desk: &mut D) -> Result<Vec<u8>, Ended>
         (λ file. IsStoreOf (drop page_size file) (drop page_size bytes.items))) }
     ensures not_a_store { result ≡ Err Ended.NotAStore → IfSome (D.held desk.old)
         (λ file. HoldNone (drop page_size file)) }
-    ensures any_moment { IsSome (D.said desk.old)
-        → AtAnyMoment D.moment D.shown_since D.said desk.old desk.new (D.may_leave desk.old) }
-    ensures leaves { (file : List ℕ) → D.may_leave desk.new file → D.may_leave desk.old file }
-    ensures held { D.held desk.new ≡ D.held desk.old }
+    ensures reads { OnlyReads D.Desk desk.old desk.new }
     ensures no_length { (n : ℕ) → result ≡ Err (Ended.NotEmpty n) → ⊥ }
-    ensures written { D.written desk.new ≡ D.written desk.old }
-    ensures said { D.said desk.new ≡ D.said desk.old }
-    ensures line { D.line_faults desk.new ≡ D.line_faults desk.old }
-    ensures counted { D.device_faults desk.old ≤ D.device_faults desk.new }
-    ensures no_fault { result ≢ Err Ended.DeviceFault
-        → D.device_faults desk.new ≡ D.device_faults desk.old }
-    ensures cause { result ≡ Err Ended.DeviceFault
-        → Rose (D.device_faults desk.old) (D.device_faults desk.new) }
+    ensures counted { CountsAt (result ≡ Err Ended.DeviceFault) (D.device_faults desk.old) (D.device_faults desk.new) }
 {
     let pages = store_pages(desk)?;
     let mut bytes = Vec::new(alloc);
@@ -139,16 +117,9 @@ pub(crate) fn read_session<D: Desk>(
     ensures limit { IfOk result (λ session. limit_of session ≡ limit) }
     ensures not_a_store { result ≡ Err Ended.NotAStore → IfSome (D.held desk.old)
         (λ file. HoldNone (drop page_size file)) }
-    ensures any_moment { IsSome (D.said desk.old) → AtAnyMoment D.moment D.shown_since D.said desk.old desk.new (D.may_leave desk.old) }
-    ensures leaves { (file : List ℕ) → D.may_leave desk.new file → D.may_leave desk.old file }
-    ensures held { D.held desk.new ≡ D.held desk.old }
+    ensures reads { OnlyReads D.Desk desk.old desk.new }
     ensures no_length { (n : ℕ) → result ≡ Err (Ended.NotEmpty n) → ⊥ }
-    ensures written { D.written desk.new ≡ D.written desk.old }
-    ensures said { D.said desk.new ≡ D.said desk.old }
-    ensures line { D.line_faults desk.new ≡ D.line_faults desk.old }
-    ensures counted { D.device_faults desk.old ≤ D.device_faults desk.new }
-    ensures no_fault { result ≢ Err Ended.DeviceFault → D.device_faults desk.new ≡ D.device_faults desk.old }
-    ensures cause { result ≡ Err Ended.DeviceFault → Rose (D.device_faults desk.old) (D.device_faults desk.new) }
+    ensures counted { CountsAt (result ≡ Err Ended.DeviceFault) (D.device_faults desk.old) (D.device_faults desk.new) }
 {
     let bytes = read_pages(alloc, desk)?;
     session_of(alloc, &bytes, limit)

@@ -37,16 +37,12 @@ pub fn answer<D: Desk>(
         → LeavesOfAnswer error (is_file keeper) (D.may_leave first) (store_of keeper) (after (limit_of keeper) (store_of keeper) (entries_in bytes.now)) (D.held desk.new) (D.may_leave desk.new)) }
     ensures shows { (first : D) (before : List ℕ) → D.said desk.old ≡ Some before
         → IsKept keeper (D.may_leave first) (D.held desk.old) (D.may_leave desk.old)
-        → ShowsOnly D.moment D.shown_since desk.old desk.new
+        → ShowsOnly D.Desk desk.old desk.new
         (ShowsAnswer (is_file keeper) (D.may_leave first) (limit_of keeper) (store_of keeper) (entries_in bytes.now) before) }
     ensures alone { is_file keeper ≡ false → (D.held desk.new ≡ D.held desk.old) × (D.written desk.new ≡ D.written desk.old) × (D.device_faults desk.new ≡ D.device_faults desk.old) }
     ensures no_memory { result ≡ Err AnswerError.NoMemory → desk.new ≡ desk.old }
-    ensures says_counted { D.line_faults desk.old ≤ D.line_faults desk.new }
-    ensures say_cause { result ≡ Err AnswerError.SayFault → Rose (D.line_faults desk.old) (D.line_faults desk.new) }
-    ensures device_counted { D.device_faults desk.old ≤ D.device_faults desk.new }
-    ensures device_cause { result ≡ Err AnswerError.DeviceFault → Rose (D.device_faults desk.old) (D.device_faults desk.new) }
-    ensures no_say_fault { result ≢ Err AnswerError.SayFault → D.line_faults desk.new ≡ D.line_faults desk.old }
-    ensures no_device_fault { result ≢ Err AnswerError.DeviceFault → D.device_faults desk.new ≡ D.device_faults desk.old }
+    ensures says_counted { CountsAt (result ≡ Err AnswerError.SayFault) (D.line_faults desk.old) (D.line_faults desk.new) }
+    ensures device_counted { CountsAt (result ≡ Err AnswerError.DeviceFault) (D.device_faults desk.old) (D.device_faults desk.new) }
 {
     let command = match line(alloc, bytes) {
         Ok(Some(command)) => command,
@@ -71,16 +67,11 @@ fn refuse<D: Desk>(alloc: Global, refusal: Refusal, desk: &mut D) -> Result<(), 
     ensures said { OnOk result (Says (D.said desk.old) (text_of_reply (Reply.Refused refusal)) (D.said desk.new)) }
     ensures stopped { IfErr result (λ error. SaysOfAnswer error (Reply.Refused refusal ∷ []) (D.said desk.old) (D.said desk.new)) }
     ensures shows { (before : List ℕ) → D.said desk.old ≡ Some before
-        → ShowsOnly D.moment D.shown_since desk.old desk.new (ShowsFront (D.may_leave desk.old) before (text_of_reply (Reply.Refused refusal))) }
-    ensures leaves { (file : List ℕ) → D.may_leave desk.new file → D.may_leave desk.old file }
+        → ShowsOnly D.Desk desk.old desk.new (ShowsFront (D.may_leave desk.old) before (text_of_reply (Reply.Refused refusal))) }
     ensures no_fault { result ≡ Err AnswerError.DeviceFault → ⊥ }
     ensures no_memory { result ≡ Err AnswerError.NoMemory → desk.new ≡ desk.old }
-    ensures held { D.held desk.new ≡ D.held desk.old }
-    ensures written { D.written desk.new ≡ D.written desk.old }
-    ensures device { D.device_faults desk.new ≡ D.device_faults desk.old }
-    ensures counted { D.line_faults desk.old ≤ D.line_faults desk.new }
-    ensures cause { result ≡ Err AnswerError.SayFault → Rose (D.line_faults desk.old) (D.line_faults desk.new) }
-    ensures no_say_fault { result ≢ Err AnswerError.SayFault → D.line_faults desk.new ≡ D.line_faults desk.old }
+    ensures file { LeavesFile D.Desk desk.old desk.new }
+    ensures counted { CountsAt (result ≡ Err AnswerError.SayFault) (D.line_faults desk.old) (D.line_faults desk.new) }
 {
     let text = reply_text(alloc, &Reply::Refused(refusal))?;
     match say_all(desk, text.as_str().as_bytes()) {

@@ -14,10 +14,8 @@ pub fn next_piece<S: Source>(alloc: Global, input: &mut S, room: usize) -> Resul
     ensures within { IfOk result (λ piece. length piece.items ≤ room) }
     ensures ended { IfOk result (λ piece. length piece.items ≡ 0 → IfSome (S.left input.old) (λ rest. rest ≡ [])) }
     ensures kept { OnErr result (S.left input.new ≡ S.left input.old) }
-    ensures counted { S.faults input.old ≤ S.faults input.new }
+    ensures counted { CountsAt (result ≡ Err Stop.ReadFault) (S.faults input.old) (S.faults input.new) }
     ensures errors { IfErr result (λ stop. (stop ≡ Stop.ReadFault) ⊎ (stop ≡ Stop.NoMemory)) }
-    ensures cause { result ≡ Err Stop.ReadFault → Rose (S.faults input.old) (S.faults input.new) }
-    ensures no_fault { result ≢ Err Stop.ReadFault → S.faults input.new ≡ S.faults input.old }
 {
     let mut piece = vec![in alloc; 0u8; room]?;
     let Ok(count) = input.read(&mut piece) else {

@@ -63,7 +63,7 @@ pub fn run<S: Source, D: Desk>(alloc: Global, words: &[&str], input: &mut S, des
     ensures stops { (is_file : Bool) (start : Store)
         → BeginsWith (map (λ word. word.now) words.now) (D.held desk.old) is_file start
         → IfTold (S.left input.old) (D.said desk.old) (λ bytes before.
-        ShowsThen D.moment D.shown_since desk.old desk.new (ShowsUnopened (D.may_leave desk.old) before)
+        ShowsThen D.Desk desk.old desk.new (ShowsUnopened (D.may_leave desk.old) before)
         (ShowsAnswered is_file (D.may_leave desk.old) slot_limit start (script bytes) before)) }
 
     // `new` says its word once the file holds the new store and a stop leaves nothing else; it reads no input.
@@ -99,16 +99,10 @@ pub fn run<S: Source, D: Desk>(alloc: Global, words: &[&str], input: &mut S, des
     ensures untouched { result ≡ Status.Usage → (input.new ≡ input.old) × (desk.new ≡ desk.old) }
 
     // Each other status has its cause outside the program.
-    ensures read_cause { result ≡ Status.ReadFault → Rose (S.faults input.old) (S.faults input.new) }
-    ensures reads_counted { S.faults input.old ≤ S.faults input.new }
-    ensures say_cause { result ≡ Status.SayFault → Rose (D.line_faults desk.old) (D.line_faults desk.new) }
-    ensures says_counted { D.line_faults desk.old ≤ D.line_faults desk.new }
-    ensures device_cause { result ≡ Status.DeviceFault → Rose (D.device_faults desk.old) (D.device_faults desk.new) }
-    ensures device_counted { D.device_faults desk.old ≤ D.device_faults desk.new }
+    ensures reads_counted { CountsAt (result ≡ Status.ReadFault) (S.faults input.old) (S.faults input.new) }
+    ensures says_counted { CountsAt (result ≡ Status.SayFault) (D.line_faults desk.old) (D.line_faults desk.new) }
+    ensures device_counted { CountsAt (result ≡ Status.DeviceFault) (D.device_faults desk.old) (D.device_faults desk.new) }
     // And each cause has its status: no fault is passed over, nor taken for want of memory.
-    ensures no_read_fault { result ≢ Status.ReadFault → S.faults input.new ≡ S.faults input.old }
-    ensures no_say_fault { result ≢ Status.SayFault → D.line_faults desk.new ≡ D.line_faults desk.old }
-    ensures no_device_fault { result ≢ Status.DeviceFault → D.device_faults desk.new ≡ D.device_faults desk.old }
     ensures limit { (limit : ℕ) → result ≡ Status.TooLong limit → limit ≡ script_limit }
 
     // `try` leaves the desk's file alone: what a read of it gives, and the counts of bytes written and of failed

@@ -23,12 +23,8 @@ pub fn make_store<D: Desk>(alloc: Global, desk: &mut D) -> Status
     ensures not_over { (file : List ℕ) → D.held desk.old ≡ Some file → 0 < length file
         → (D.held desk.new ≡ D.held desk.old) × (D.written desk.new ≡ D.written desk.old) × ((later : List ℕ) → D.may_leave desk.new later → D.may_leave desk.old later) }
     ensures not_made { result ≡ Status.NoMemory → (D.held desk.new ≡ D.held desk.old) × (D.written desk.new ≡ D.written desk.old) }
-    ensures says_counted { D.line_faults desk.old ≤ D.line_faults desk.new }
-    ensures say_cause { result ≡ Status.SayFault → Rose (D.line_faults desk.old) (D.line_faults desk.new) }
-    ensures device_counted { D.device_faults desk.old ≤ D.device_faults desk.new }
-    ensures device_cause { result ≡ Status.DeviceFault → Rose (D.device_faults desk.old) (D.device_faults desk.new) }
-    ensures no_say_fault { result ≢ Status.SayFault → D.line_faults desk.new ≡ D.line_faults desk.old }
-    ensures no_device_fault { result ≢ Status.DeviceFault → D.device_faults desk.new ≡ D.device_faults desk.old }
+    ensures says_counted { CountsAt (result ≡ Status.SayFault) (D.line_faults desk.old) (D.line_faults desk.new) }
+    ensures device_counted { CountsAt (result ≡ Status.DeviceFault) (D.device_faults desk.old) (D.device_faults desk.new) }
 {
     if let Err(ended) = create(alloc, desk) {
         return Status::from(ended);

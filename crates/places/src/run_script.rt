@@ -35,17 +35,11 @@ pub fn run_script<S: Source, D: Desk>(
         → LeavesAtEnd status (is_file keeper) (D.may_leave first) (store_of keeper) bytes before (S.left input.new) (D.said desk.new) (D.held desk.new) (D.may_leave desk.new)) }
     ensures shows { IfTold (S.left input.old) (D.said desk.old) (λ bytes before. (first : D)
         → IsKept keeper (D.may_leave first) (D.held desk.old) (D.may_leave desk.old)
-        → ShowsOnly D.moment D.shown_since desk.old desk.new
+        → ShowsOnly D.Desk desk.old desk.new
         (ShowsAnswered (is_file keeper) (D.may_leave first) slot_limit (store_of keeper) (script bytes) before)) }
-    ensures reads_counted { S.faults input.old ≤ S.faults input.new }
-    ensures read_cause { result ≡ Err Stop.ReadFault → Rose (S.faults input.old) (S.faults input.new) }
-    ensures says_counted { D.line_faults desk.old ≤ D.line_faults desk.new }
-    ensures say_cause { result ≡ Err Stop.SayFault → Rose (D.line_faults desk.old) (D.line_faults desk.new) }
-    ensures device_counted { D.device_faults desk.old ≤ D.device_faults desk.new }
-    ensures device_cause { result ≡ Err Stop.DeviceFault → Rose (D.device_faults desk.old) (D.device_faults desk.new) }
-    ensures no_read_fault { result ≢ Err Stop.ReadFault → S.faults input.new ≡ S.faults input.old }
-    ensures no_say_fault { result ≢ Err Stop.SayFault → D.line_faults desk.new ≡ D.line_faults desk.old }
-    ensures no_device_fault { result ≢ Err Stop.DeviceFault → D.device_faults desk.new ≡ D.device_faults desk.old }
+    ensures reads_counted { CountsAt (result ≡ Err Stop.ReadFault) (S.faults input.old) (S.faults input.new) }
+    ensures says_counted { CountsAt (result ≡ Err Stop.SayFault) (D.line_faults desk.old) (D.line_faults desk.new) }
+    ensures device_counted { CountsAt (result ≡ Err Stop.DeviceFault) (D.device_faults desk.old) (D.device_faults desk.new) }
     ensures alone { is_file keeper ≡ false → (D.held desk.new ≡ D.held desk.old) × (D.written desk.new ≡ D.written desk.old) × (D.device_faults desk.new ≡ D.device_faults desk.old) }
 {
     let mut run = ScriptRun::new(alloc, keeper);

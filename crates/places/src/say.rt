@@ -12,14 +12,9 @@ pub fn say_all<D: Desk>(desk: &mut D, bytes: &[u8]) -> Result<(), Failed>
     ensures whole { OnOk result (Says (D.said desk.old) bytes.now (D.said desk.new)) }
     ensures front { OnErr result ((n : ℕ) × (n < length bytes.now) × Says (D.said desk.old) (take n bytes.now) (D.said desk.new)) }
     ensures shows { (before : List ℕ) → D.said desk.old ≡ Some before
-        → ShowsOnly D.moment D.shown_since desk.old desk.new (ShowsFront (D.may_leave desk.old) before bytes.now) }
-    ensures leaves { (file : List ℕ) → D.may_leave desk.new file → D.may_leave desk.old file }
-    ensures counted { D.line_faults desk.old ≤ D.line_faults desk.new }
-    ensures cause { OnErr result (Rose (D.line_faults desk.old) (D.line_faults desk.new)) }
-    ensures no_fault { OnOk result (D.line_faults desk.new ≡ D.line_faults desk.old) }
-    ensures held { D.held desk.new ≡ D.held desk.old }
-    ensures written { D.written desk.new ≡ D.written desk.old }
-    ensures device { D.device_faults desk.new ≡ D.device_faults desk.old }
+        → ShowsOnly D.Desk desk.old desk.new (ShowsFront (D.may_leave desk.old) before bytes.now) }
+    ensures counted { Counts result (D.line_faults desk.old) (D.line_faults desk.new) }
+    ensures file { LeavesFile D.Desk desk.old desk.new }
 {
     let mut said = 0;
     while said < bytes.len() {

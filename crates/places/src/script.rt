@@ -25,21 +25,15 @@ pub fn try_script<S: Source, D: Desk>(alloc: Global, input: &mut S, desk: &mut D
         LeavesAtEnd result false (D.may_leave desk.old) opening bytes before (S.left input.new)
         (D.said desk.new) (D.held desk.new) (D.may_leave desk.new)) }
     ensures stops { IfTold (S.left input.old) (D.said desk.old) (λ bytes before.
-        ShowsThen D.moment D.shown_since desk.old desk.new (ShowsUnopened (D.may_leave desk.old) before)
+        ShowsThen D.Desk desk.old desk.new (ShowsUnopened (D.may_leave desk.old) before)
         (ShowsAnswered false (D.may_leave desk.old) slot_limit opening (script bytes) before)) }
     ensures held { D.held desk.new ≡ D.held desk.old }
     ensures written { D.written desk.new ≡ D.written desk.old }
     ensures device { D.device_faults desk.new ≡ D.device_faults desk.old }
     ensures no_check { result ≢ Status.NotAStore }
-    ensures reads_counted { S.faults input.old ≤ S.faults input.new }
-    ensures read_cause { result ≡ Status.ReadFault → Rose (S.faults input.old) (S.faults input.new) }
-    ensures says_counted { D.line_faults desk.old ≤ D.line_faults desk.new }
-    ensures say_cause { result ≡ Status.SayFault → Rose (D.line_faults desk.old) (D.line_faults desk.new) }
-    ensures device_counted { D.device_faults desk.old ≤ D.device_faults desk.new }
-    ensures device_cause { result ≡ Status.DeviceFault → Rose (D.device_faults desk.old) (D.device_faults desk.new) }
-    ensures no_read_fault { result ≢ Status.ReadFault → S.faults input.new ≡ S.faults input.old }
-    ensures no_say_fault { result ≢ Status.SayFault → D.line_faults desk.new ≡ D.line_faults desk.old }
-    ensures no_device_fault { result ≢ Status.DeviceFault → D.device_faults desk.new ≡ D.device_faults desk.old }
+    ensures reads_counted { CountsAt (result ≡ Status.ReadFault) (S.faults input.old) (S.faults input.new) }
+    ensures says_counted { CountsAt (result ≡ Status.SayFault) (D.line_faults desk.old) (D.line_faults desk.new) }
+    ensures device_counted { CountsAt (result ≡ Status.DeviceFault) (D.device_faults desk.old) (D.device_faults desk.new) }
     ensures limit { (limit : ℕ) → result ≡ Status.TooLong limit → limit ≡ script_limit }
     ensures words { result ≢ Status.Usage }
     ensures no_length { (n : ℕ) → result ≢ Status.NotEmpty n }
@@ -58,7 +52,7 @@ pub fn run_stored<S: Source, D: Desk>(alloc: Global, input: &mut S, desk: &mut D
         (D.said desk.new) (D.held desk.new) (D.may_leave desk.new)) }
     ensures stops { (file : List ℕ) (start : Store) → D.held desk.old ≡ Some file → Stands file start
         → IfTold (S.left input.old) (D.said desk.old) (λ bytes before.
-        ShowsThen D.moment D.shown_since desk.old desk.new (ShowsUnopened (D.may_leave desk.old) before)
+        ShowsThen D.Desk desk.old desk.new (ShowsUnopened (D.may_leave desk.old) before)
         (ShowsAnswered true (D.may_leave desk.old) slot_limit start (script bytes) before)) }
     ensures not_a_store { result ≡ Status.NotAStore → IfSome (D.held desk.old) StandsForNone × IfSome (D.held desk.new) StandsForNone }
     ensures bad_gate { result ≡ Status.NotAStore → (file : List ℕ) → D.held desk.old ≡ Some file → LacksGate file → D.held desk.new ≡ D.held desk.old }
@@ -67,15 +61,9 @@ pub fn run_stored<S: Source, D: Desk>(alloc: Global, input: &mut S, desk: &mut D
     ensures no_store { (file : List ℕ) → D.held desk.old ≡ Some file → StandsForNone file
         → (result ≡ Status.NotAStore) ⊎ (result ≡ Status.DeviceFault) ⊎ (result ≡ Status.NoMemory) }
     ensures unopened { (file : List ℕ) → D.held desk.old ≡ Some file → StandsForNone file → (input.new ≡ input.old) × (D.said desk.new ≡ D.said desk.old) }
-    ensures reads_counted { S.faults input.old ≤ S.faults input.new }
-    ensures read_cause { result ≡ Status.ReadFault → Rose (S.faults input.old) (S.faults input.new) }
-    ensures says_counted { D.line_faults desk.old ≤ D.line_faults desk.new }
-    ensures say_cause { result ≡ Status.SayFault → Rose (D.line_faults desk.old) (D.line_faults desk.new) }
-    ensures device_counted { D.device_faults desk.old ≤ D.device_faults desk.new }
-    ensures device_cause { result ≡ Status.DeviceFault → Rose (D.device_faults desk.old) (D.device_faults desk.new) }
-    ensures no_read_fault { result ≢ Status.ReadFault → S.faults input.new ≡ S.faults input.old }
-    ensures no_say_fault { result ≢ Status.SayFault → D.line_faults desk.new ≡ D.line_faults desk.old }
-    ensures no_device_fault { result ≢ Status.DeviceFault → D.device_faults desk.new ≡ D.device_faults desk.old }
+    ensures reads_counted { CountsAt (result ≡ Status.ReadFault) (S.faults input.old) (S.faults input.new) }
+    ensures says_counted { CountsAt (result ≡ Status.SayFault) (D.line_faults desk.old) (D.line_faults desk.new) }
+    ensures device_counted { CountsAt (result ≡ Status.DeviceFault) (D.device_faults desk.old) (D.device_faults desk.new) }
     ensures limit { (limit : ℕ) → result ≡ Status.TooLong limit → limit ≡ script_limit }
     ensures words { result ≢ Status.Usage }
     ensures no_length { (n : ℕ) → result ≢ Status.NotEmpty n }

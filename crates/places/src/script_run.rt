@@ -55,15 +55,11 @@ impl ScriptRun {
             → LeavesAtEntry error (is_file self.keeper) (D.may_leave first) slot_limit start (ended_entries (bytes ++ piece.now)) begun (D.said desk.new) (D.held desk.new) (D.may_leave desk.new)) }
         ensures shows { (start : Store) (bytes begun : List ℕ) (first : D) → IsAt start bytes (Some begun) self (D.said desk.old)
             → IsKept self.keeper (D.may_leave first) (D.held desk.old) (D.may_leave desk.old)
-            → ShowsOnly D.moment D.shown_since desk.old desk.new
+            → ShowsOnly D.Desk desk.old desk.new
             (ShowsAnswered (is_file self.keeper) (D.may_leave first) slot_limit start (ended_entries (bytes ++ piece.now)) begun) }
         ensures alone { is_file self.keeper ≡ false → (D.held desk.new ≡ D.held desk.old) × (D.written desk.new ≡ D.written desk.old) × (D.device_faults desk.new ≡ D.device_faults desk.old) }
-        ensures says_counted { D.line_faults desk.old ≤ D.line_faults desk.new }
-        ensures say_cause { result ≡ Err AnswerError.SayFault → Rose (D.line_faults desk.old) (D.line_faults desk.new) }
-        ensures device_counted { D.device_faults desk.old ≤ D.device_faults desk.new }
-        ensures device_cause { result ≡ Err AnswerError.DeviceFault → Rose (D.device_faults desk.old) (D.device_faults desk.new) }
-        ensures no_say_fault { result ≢ Err AnswerError.SayFault → D.line_faults desk.new ≡ D.line_faults desk.old }
-        ensures no_device_fault { result ≢ Err AnswerError.DeviceFault → D.device_faults desk.new ≡ D.device_faults desk.old }
+        ensures says_counted { CountsAt (result ≡ Err AnswerError.SayFault) (D.line_faults desk.old) (D.line_faults desk.new) }
+        ensures device_counted { CountsAt (result ≡ Err AnswerError.DeviceFault) (D.device_faults desk.old) (D.device_faults desk.new) }
     {
         let mut run = self;
         for &byte in piece {
@@ -83,15 +79,11 @@ impl ScriptRun {
             → LeavesAtEntry error (is_file self.keeper) (D.may_leave first) slot_limit start (ended_entries (bytes ++ byte ∷ [])) begun (D.said desk.new) (D.held desk.new) (D.may_leave desk.new)) }
         ensures shows { (start : Store) (bytes begun : List ℕ) (first : D) → IsAt start bytes (Some begun) self (D.said desk.old)
             → IsKept self.keeper (D.may_leave first) (D.held desk.old) (D.may_leave desk.old)
-            → ShowsOnly D.moment D.shown_since desk.old desk.new
+            → ShowsOnly D.Desk desk.old desk.new
             (ShowsAnswered (is_file self.keeper) (D.may_leave first) slot_limit start (ended_entries (bytes ++ byte ∷ [])) begun) }
         ensures alone { is_file self.keeper ≡ false → (D.held desk.new ≡ D.held desk.old) × (D.written desk.new ≡ D.written desk.old) × (D.device_faults desk.new ≡ D.device_faults desk.old) }
-        ensures says_counted { D.line_faults desk.old ≤ D.line_faults desk.new }
-        ensures say_cause { result ≡ Err AnswerError.SayFault → Rose (D.line_faults desk.old) (D.line_faults desk.new) }
-        ensures device_counted { D.device_faults desk.old ≤ D.device_faults desk.new }
-        ensures device_cause { result ≡ Err AnswerError.DeviceFault → Rose (D.device_faults desk.old) (D.device_faults desk.new) }
-        ensures no_say_fault { result ≢ Err AnswerError.SayFault → D.line_faults desk.new ≡ D.line_faults desk.old }
-        ensures no_device_fault { result ≢ Err AnswerError.DeviceFault → D.device_faults desk.new ≡ D.device_faults desk.old }
+        ensures says_counted { CountsAt (result ≡ Err AnswerError.SayFault) (D.line_faults desk.old) (D.line_faults desk.new) }
+        ensures device_counted { CountsAt (result ≡ Err AnswerError.DeviceFault) (D.device_faults desk.old) (D.device_faults desk.new) }
     {
         if byte == b'\n' {
             self.end_line(desk)
@@ -112,15 +104,11 @@ impl ScriptRun {
             → LeavesAtEntry error (is_file self.keeper) (D.may_leave first) slot_limit start (ended_entries (bytes ++ 10 ∷ [])) begun (D.said desk.new) (D.held desk.new) (D.may_leave desk.new)) }
         ensures shows { (start : Store) (bytes begun : List ℕ) (first : D) → IsAt start bytes (Some begun) self (D.said desk.old)
             → IsKept self.keeper (D.may_leave first) (D.held desk.old) (D.may_leave desk.old)
-            → ShowsOnly D.moment D.shown_since desk.old desk.new
+            → ShowsOnly D.Desk desk.old desk.new
             (ShowsAnswered (is_file self.keeper) (D.may_leave first) slot_limit start (ended_entries (bytes ++ 10 ∷ [])) begun) }
         ensures alone { is_file self.keeper ≡ false → (D.held desk.new ≡ D.held desk.old) × (D.written desk.new ≡ D.written desk.old) × (D.device_faults desk.new ≡ D.device_faults desk.old) }
-        ensures says_counted { D.line_faults desk.old ≤ D.line_faults desk.new }
-        ensures say_cause { result ≡ Err AnswerError.SayFault → Rose (D.line_faults desk.old) (D.line_faults desk.new) }
-        ensures device_counted { D.device_faults desk.old ≤ D.device_faults desk.new }
-        ensures device_cause { result ≡ Err AnswerError.DeviceFault → Rose (D.device_faults desk.old) (D.device_faults desk.new) }
-        ensures no_say_fault { result ≢ Err AnswerError.SayFault → D.line_faults desk.new ≡ D.line_faults desk.old }
-        ensures no_device_fault { result ≢ Err AnswerError.DeviceFault → D.device_faults desk.new ≡ D.device_faults desk.old }
+        ensures says_counted { CountsAt (result ≡ Err AnswerError.SayFault) (D.line_faults desk.old) (D.line_faults desk.new) }
+        ensures device_counted { CountsAt (result ≡ Err AnswerError.DeviceFault) (D.device_faults desk.old) (D.device_faults desk.new) }
     {
         let ScriptRun {
             alloc,
@@ -163,15 +151,11 @@ impl ScriptRun {
             → LeavesAtEntry error (is_file self.keeper) (D.may_leave first) slot_limit start (script bytes) begun (D.said desk.new) (D.held desk.new) (D.may_leave desk.new)) }
         ensures shows { (start : Store) (bytes begun : List ℕ) (first : D) → IsAt start bytes (Some begun) self (D.said desk.old)
             → IsKept self.keeper (D.may_leave first) (D.held desk.old) (D.may_leave desk.old)
-            → ShowsOnly D.moment D.shown_since desk.old desk.new
+            → ShowsOnly D.Desk desk.old desk.new
             (ShowsAnswered (is_file self.keeper) (D.may_leave first) slot_limit start (script bytes) begun) }
         ensures alone { is_file self.keeper ≡ false → (D.held desk.new ≡ D.held desk.old) × (D.written desk.new ≡ D.written desk.old) × (D.device_faults desk.new ≡ D.device_faults desk.old) }
-        ensures says_counted { D.line_faults desk.old ≤ D.line_faults desk.new }
-        ensures say_cause { result ≡ Err AnswerError.SayFault → Rose (D.line_faults desk.old) (D.line_faults desk.new) }
-        ensures device_counted { D.device_faults desk.old ≤ D.device_faults desk.new }
-        ensures device_cause { result ≡ Err AnswerError.DeviceFault → Rose (D.device_faults desk.old) (D.device_faults desk.new) }
-        ensures no_say_fault { result ≢ Err AnswerError.SayFault → D.line_faults desk.new ≡ D.line_faults desk.old }
-        ensures no_device_fault { result ≢ Err AnswerError.DeviceFault → D.device_faults desk.new ≡ D.device_faults desk.old }
+        ensures says_counted { CountsAt (result ≡ Err AnswerError.SayFault) (D.line_faults desk.old) (D.line_faults desk.new) }
+        ensures device_counted { CountsAt (result ≡ Err AnswerError.DeviceFault) (D.device_faults desk.old) (D.device_faults desk.new) }
     {
         answer(self.alloc, self.keeper, &self.line, desk)
     }

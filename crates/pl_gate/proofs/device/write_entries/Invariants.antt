@@ -2,8 +2,10 @@ use Rattle.std.proofs.Common.{◌≡◌, ◌≤◌, ◌+◌, ◌*◌, ◌-◌, l
 use Rattle.std.specs.Option.{option_map}
 use Rattle.pl_desk.specs.Desk.{Follows}
 use Rattle.pl_gate.specs.Gate.{entry_size}
-use Rattle.pl_gate.specs.Device.{entry_ranges, with_entries, ShowsUnsaid, TornIn}
+use Rattle.pl_gate.specs.Device.{entry_ranges, with_entries, TornIn}
 use Rattle.pl_gate.proofs.device.write_entries.Given as goal
+use Rattle.pl_desk.specs.Shown.{ShowsStep}
+use Rattle.pl_desk.specs.Calls.{KeepsLine}
 
 -- the first entries are written
 abbrev pub invariant-loop-index : goal.invariant-loop-index
@@ -13,10 +15,9 @@ invariant-loop-index g l =
       within : l.index ≤ length pages;
       held : desk.held l.desk ≡ option_map (with_entries l.start (take l.index pages)) (desk.held old);
       leaves : Follows (TornIn (entry_ranges l.start (take l.index pages))) (desk.may_leave old) (desk.may_leave l.desk);
-      moments : ShowsUnsaid desk.moment desk.shown_since desk.may_leave desk.said old l.desk (TornIn ranges);
-      said : desk.said l.desk ≡ desk.said old;
+      moments : ShowsStep desk old l.desk (TornIn ranges);
+      line : KeepsLine desk old l.desk;
       written : desk.written l.desk ≡ desk.written old + entry_size * l.index;
-      line : desk.line_faults l.desk ≡ desk.line_faults old;
       no_fault : desk.device_faults l.desk ≡ desk.device_faults old;
     }
 

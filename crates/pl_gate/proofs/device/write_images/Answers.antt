@@ -2,12 +2,13 @@ use Rattle.std.proofs.Common.{◌≡◌, ◌<◌, ℕ, ◌+◌, ◌*◌, List, l
 use Rattle.std.specs.Option.{option_map}
 use Rattle.pl_desk.specs.Desk.{Follows, Torn, overwritten}
 use Rattle.pl_base.specs.Touched.{page_size}
-use Rattle.pl_gate.specs.Device.{Range, ShowsUnsaid, TornIn, image_ranges}
+use Rattle.pl_gate.specs.Device.{Range, TornIn, image_ranges}
 use Rattle.pl_gate.proofs.Moments.{began, went}
 use Rattle.pl_gate.proofs.Ranges.{torn_in_same, follows_more, follows_front, images_more, images_all, held_images, map_none, nth}
 use Rattle.pl_gate.proofs.device.write_images.Given.{Over}
 use Rattle.pl_gate.proofs.device.write_images.Goals.{After-write_at}
 use Rattle.pl_gate.proofs.device.write_images.Goals as goal
+use Rattle.pl_desk.specs.Shown.{ShowsStep}
 
 pub loop-index-init : goal.loop-index-init
 loop-index-init g c =
@@ -16,10 +17,9 @@ loop-index-init g c =
       within = omega arith;
       held = map_none (desk.held old);
       leaves = λ file left. (file, left, refl);
-      moments = began desk.moment desk.shown_since desk.may_leave desk.said g.met.D.Desk.only_now old (TornIn ranges) (torn_in_same ranges);
-      said = refl;
+      moments = began desk g.met.D.Desk.only_now old (TornIn ranges) (torn_in_same ranges);
+      line = record { said = refl; faults = refl };
       written = omega arith;
-      line = refl;
       no_fault = refl;
     }
 
@@ -49,11 +49,11 @@ left g c =
     subst (λ (l : List Range). Follows (TornIn l) (desk.may_leave c.args.desk.now) (desk.may_leave c.write_at.new.self)) (images_all pages k)
     (follows_front (image_ranges (take k pages)) (image_ranges (drop k pages)) (desk.may_leave c.args.desk.now) (desk.may_leave c.write_at.new.self) (begun g c))
 
-shown : (g : Over) (c : After-write_at g) → ShowsUnsaid g.D.Desk.moment g.D.Desk.shown_since g.D.Desk.may_leave g.D.Desk.said c.args.desk.now c.write_at.new.self (TornIn (image_ranges c.args.touched.now.pages))
+shown : (g : Over) (c : After-write_at g) → ShowsStep g.D.Desk c.args.desk.now c.write_at.new.self (TornIn (image_ranges c.args.touched.now.pages))
 shown g c =
     let desk = g.D.Desk in
-    went desk.moment desk.shown_since desk.may_leave desk.said c.args.desk.now c.loop-index.desk c.write_at.new.self (TornIn (image_ranges c.args.touched.now.pages))
-    c.loop-index.invariant.moments c.loop-index.invariant.said c.write_at.ensures.time (left g c)
+    went desk c.args.desk.now c.loop-index.desk c.write_at.new.self (TornIn (image_ranges c.args.touched.now.pages))
+    c.loop-index.invariant.moments c.loop-index.invariant.line.said c.write_at.ensures.time (left g c)
 
 pub returns-in_err-write_at-clause-leaves : goal.returns-in_err-write_at-clause-leaves
 returns-in_err-write_at-clause-leaves g c = left g c.before.before.before
@@ -69,8 +69,10 @@ loop-index-preserved g c =
       held = held_images pages k (desk.held c.args.desk.now) (desk.held c.loop-index.desk) (desk.held c.write_at.new.self) (less g c.before.before) c.loop-index.invariant.held (held_is g c.before.before c.in_ok-write_at.ensures.held);
       leaves = begun g c.before.before;
       moments = shown g c.before.before;
-      said = c.write_at.ensures.said ∙ c.loop-index.invariant.said;
+      line = record {
+        said = c.write_at.ensures.said ∙ c.loop-index.invariant.line.said;
+        faults = c.write_at.ensures.line ∙ c.loop-index.invariant.line.faults;
+      };
       written = c.in_ok-write_at.ensures.written ∙ omega (arith, c.loop-index.invariant.written, c.image.ensures.whole);
-      line = c.write_at.ensures.line ∙ c.loop-index.invariant.line;
-      no_fault = c.in_ok-write_at.ensures.no_fault ∙ c.loop-index.invariant.no_fault;
+      no_fault = c.in_ok-write_at.ensures.counted ∙ c.loop-index.invariant.no_fault;
     }

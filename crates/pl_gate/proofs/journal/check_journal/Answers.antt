@@ -5,11 +5,10 @@ use Rattle.std.proofs.lemmas.Result.{err_from_is_err_and, IfErr-at_err}
 use Rattle.std.specs.Result.{result_err}
 use Rattle.pl_base.specs.Touched.{PageImage, page_numbers}
 use Rattle.pl_gate.specs.declared.error.GateError.TheVariants.{BadGate}
-use Rattle.pl_gate.specs.Device.{TornIn}
 use Rattle.pl_gate.specs.Gate.{entry_at, entry_size, journal, journal_len, journal_start}
 use Rattle.pl_gate.specs.Recovery.{IsPlaceOf}
 use Rattle.pl_gate.proofs.JournalFiles.{entries_at, if_some, is_no_journal, journal_fits, length-entries, numbers_fit, numbers_next, numbers_stop}
-use Rattle.pl_gate.proofs.Moments.{began, read_on}
+use Rattle.pl_desk.specs.AnyMoment.{read_on, reads_none}
 use Rattle.pl_gate.proofs.journal.check_journal.Given.{Over}
 use Rattle.pl_gate.proofs.journal.check_journal.Goals.{After-read_page}
 use Rattle.pl_gate.proofs.journal.check_journal.Goals as goal
@@ -20,12 +19,7 @@ loop-index-init g c =
     record {
       within = omega arith;
       numbers = if_some (desk.held old) _ (λ file is. refl);
-      held = refl;
-      leaves = λ file left. left;
-      moments = began desk.moment desk.shown_since desk.may_leave desk.said g.met.D.Desk.only_now old (TornIn []) (λ file. refl);
-      said = refl;
-      written = refl;
-      line = refl;
+      reads = reads_none desk g.met.D.Desk.only_now old;
       no_fault = refl;
     }
 
@@ -49,7 +43,7 @@ numbers_is g c file is =
     ∙ ap (λ (l : List PageImage). numbers_fit c.loop-index.last c.args.place.now.after (page_numbers l)) (next_is g c file is)
 
 held_is : (g : Over) (c : After-read_page g) (file : List ℕ) → g.D.Desk.held c.args.desk.now ≡ Some file → g.D.Desk.held c.loop-index.desk ≡ Some file
-held_is g c file is = c.loop-index.invariant.held ∙ is
+held_is g c file is = c.loop-index.invariant.reads.file.held ∙ is
 
 pub returns-in_err-last-clause-bad : goal.returns-in_err-last-clause-bad
 returns-in_err-last-clause-bad g c is =
@@ -72,13 +66,9 @@ loop-index-preserved g c =
           numbers_is g first file held
           ∙ ap (λ (n : ℕ). numbers_fit c.loop-index.last c.args.place.now.after (n ∷ page_numbers (drop (c.loop-index.index + 1) (journal file)))) (sym page)
           ∙ numbers_next c.loop-index.last c.args.place.now.after c.in_ok-last.last (page_numbers (drop (c.loop-index.index + 1) (journal file))) c.in_ok-last.ensures.above c.in_ok-last.ensures.below);
-      held = c.read_page.ensures.held ∙ c.loop-index.invariant.held;
-      leaves = λ file left. c.loop-index.invariant.leaves file (c.read_page.ensures.leaves file left);
-      moments = read_on desk.moment desk.shown_since desk.may_leave desk.said c.args.desk.now c.loop-index.desk c.read_page.new.desk c.loop-index.invariant.moments c.loop-index.invariant.said c.loop-index.invariant.leaves c.read_page.ensures.moments;
-      said = c.read_page.ensures.said ∙ c.loop-index.invariant.said;
-      written = c.read_page.ensures.written ∙ c.loop-index.invariant.written;
-      line = c.read_page.ensures.line ∙ c.loop-index.invariant.line;
-      no_fault = c.in_ok-last.ensures.no_fault (λ is. none-some _ (ap result_err is)) ∙ c.loop-index.invariant.no_fault;
+      reads = read_on desk c.args.desk.now c.loop-index.desk c.read_page.new.desk c.loop-index.invariant.reads
+          c.read_page.ensures.reads;
+      no_fault = c.in_ok-last.ensures.counted.stands (λ is. none-some _ (ap result_err is)) ∙ c.loop-index.invariant.no_fault;
     }
 
 pub returns-clause-journal : goal.returns-clause-journal

@@ -8,7 +8,7 @@ use Rattle.std.specs.Option.{option_map}
 use Rattle.pl_base.specs.Touched.{PageImage, page_numbers, page_size}
 use Rattle.pl_desk.specs.Desk.{Follows, Torn, overwritten}
 use Rattle.pl_gate.specs.declared.error.GateError.TheVariants.{BadGate}
-use Rattle.pl_gate.specs.Device.{Range, ShowsUnsaid, TornIn, image_ranges, with_images}
+use Rattle.pl_gate.specs.Device.{Range, TornIn, image_ranges, with_images}
 use Rattle.pl_gate.specs.Gate.{entry_at, entry_size, journal, journal_len, journal_start}
 use Rattle.pl_gate.proofs.ArmedFiles.{next_entry, stays_front}
 use Rattle.pl_gate.proofs.JournalFiles.{gate_journal, if_some, length-entries, none_of, numbers_fit, numbers_stop, numbers_true}
@@ -17,6 +17,7 @@ use Rattle.pl_gate.proofs.Ranges.{follows_more, images_all, next_image, next_ran
 use Rattle.pl_gate.proofs.journal.install_journal.Given.{Over}
 use Rattle.pl_gate.proofs.journal.install_journal.Goals.{After-install_entry, In-loop-index}
 use Rattle.pl_gate.proofs.journal.install_journal.Goals as goal
+use Rattle.pl_desk.specs.Shown.{ShowsStep}
 
 pub loop-index-init : goal.loop-index-init
 loop-index-init g c =
@@ -30,10 +31,9 @@ loop-index-init g c =
           let has = gate_journal file (MatchOption-at_some _ _ file is c.requires.gate) (MatchOption-at_some _ _ file is c.requires.set) in
           ap (λ (n : ℕ). numbers_fit 0 n (page_numbers (journal file))) place.after ∙ and_from _ _ has.ascending has.below;
       leaves = λ file is later left. (later, left, refl);
-      moments = λ file is. began desk.moment desk.shown_since desk.may_leave desk.said g.met.D.Desk.only_now old (TornIn (image_ranges (journal file))) (torn_in_same (image_ranges (journal file)));
-      said = refl;
+      moments = λ file is. began desk g.met.D.Desk.only_now old (TornIn (image_ranges (journal file))) (torn_in_same (image_ranges (journal file)));
+      line = record { said = refl; faults = refl };
       written = omega arith;
-      line = refl;
       no_fault = refl;
     }
 
@@ -86,11 +86,11 @@ left g c file is later may =
     let so_far = c.loop-index.invariant.leaves file is torn.0 torn.1 in
     (so_far.0, so_far.1, among g c file is so_far.0 torn.0 later so_far.2 torn.2)
 
-shown : (g : Over) (c : After-install_entry g) (file : List ℕ) → g.D.Desk.held c.args.desk.now ≡ Some file → ShowsUnsaid g.D.Desk.moment g.D.Desk.shown_since g.D.Desk.may_leave g.D.Desk.said c.args.desk.now c.install_entry.new.desk (TornIn (image_ranges (journal file)))
+shown : (g : Over) (c : After-install_entry g) (file : List ℕ) → g.D.Desk.held c.args.desk.now ≡ Some file → ShowsStep g.D.Desk c.args.desk.now c.install_entry.new.desk (TornIn (image_ranges (journal file)))
 shown g c file is =
     let desk = g.D.Desk in let k = c.loop-index.index in
-    went_on desk.moment desk.shown_since desk.may_leave desk.said c.args.desk.now c.loop-index.desk c.install_entry.new.desk (TornIn (image_ranges (journal file))) (Torn (page_size * (entry g c.before.before file).page) page_size)
-    (c.loop-index.invariant.moments file is) c.loop-index.invariant.said (c.install_entry.ensures.moments (with_images (take k (journal file)) file) (held_is g c.before.before file is))
+    went_on desk c.args.desk.now c.loop-index.desk c.install_entry.new.desk (TornIn (image_ranges (journal file))) (Torn (page_size * (entry g c.before.before file).page) page_size)
+    (c.loop-index.invariant.moments file is) c.loop-index.invariant.line.said (c.install_entry.ensures.moments (with_images (take k (journal file)) file) (held_is g c.before.before file is))
     (λ mid may next torn. let so_far = c.loop-index.invariant.leaves file is mid may in (so_far.0, so_far.1, among g c file is so_far.0 mid next so_far.2 torn))
 
 -- the numbers that are left, with the next one apart
@@ -128,10 +128,12 @@ loop-index-preserved g c =
           ∙ (numbers_true c.loop-index.last c.args.place.now.after (entry g first.before.before file).page (page_numbers (drop (k + 1) (journal file))) (numbers_is g first file is)).2;
       leaves = λ file is. begun g first file is;
       moments = λ file is. shown g first file is;
-      said = c.install_entry.ensures.said ∙ c.loop-index.invariant.said;
+      line = record {
+        said = c.install_entry.ensures.line.said ∙ c.loop-index.invariant.line.said;
+        faults = c.install_entry.ensures.line.faults ∙ c.loop-index.invariant.line.faults;
+      };
       written = c.in_ok-last.ensures.written ∙ omega (arith, c.loop-index.invariant.written);
-      line = c.install_entry.ensures.line ∙ c.loop-index.invariant.line;
-      no_fault = c.in_ok-last.ensures.no_fault (λ is. none-some _ (ap result_err is)) ∙ c.loop-index.invariant.no_fault;
+      no_fault = c.in_ok-last.ensures.counted.stands (λ is. none-some _ (ap result_err is)) ∙ c.loop-index.invariant.no_fault;
     }
 
 pub returns-clause-held : goal.returns-clause-held

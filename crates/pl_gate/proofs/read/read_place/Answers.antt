@@ -1,41 +1,41 @@
-use Rattle.std.proofs.Common.{[], refl, ◌∙◌}
-use Rattle.pl_gate.specs.Device.{ShowsUnsaid, TornIn}
-use Rattle.pl_gate.proofs.Moments.{began, read_on, went}
+use Rattle.pl_desk.specs.AnyMoment.{read_call, read_on, reads_none}
+use Rattle.pl_desk.specs.Calls.{OnlyReads}
 use Rattle.pl_gate.proofs.read.read_place.Given.{Over}
 use Rattle.pl_gate.proofs.read.read_place.Goals.{After-read_at, After-read_u64, After-read_u32, After-read_u32-2}
 use Rattle.pl_gate.proofs.read.read_place.Goals as goal
 
-gate_shown : (g : Over) (c : After-read_at g) → ShowsUnsaid g.D.Desk.moment g.D.Desk.shown_since g.D.Desk.may_leave g.D.Desk.said c.args.desk.now c.read_at.new.self (TornIn [])
-gate_shown g c =
-    let desk = g.D.Desk in let old = c.args.desk.now in
-    went desk.moment desk.shown_since desk.may_leave desk.said old old c.read_at.new.self (TornIn [])
-    (began desk.moment desk.shown_since desk.may_leave desk.said g.met.D.Desk.only_now old (TornIn []) (λ file. refl)) refl c.read_at.ensures.time (λ file left. (file, c.read_at.ensures.leaves file left, refl))
+gate_read : (g : Over) (c : After-read_at g) → OnlyReads g.D.Desk c.args.desk.now c.read_at.new.self
+gate_read g c =
+    let desk = g.D.Desk in let old = c.args.desk.now in let read = c.read_at.ensures in
+    read_call desk old old c.read_at.new.self (reads_none desk g.met.D.Desk.only_now old) read.held read.said read.written
+    read.line read.leaves read.time
 
-start_shown : (g : Over) (c : After-read_u64 g) → ShowsUnsaid g.D.Desk.moment g.D.Desk.shown_since g.D.Desk.may_leave g.D.Desk.said c.args.desk.now c.read_u64.new.desk (TornIn [])
-start_shown g c =
-    let desk = g.D.Desk in
-    read_on desk.moment desk.shown_since desk.may_leave desk.said c.args.desk.now c.read_at.new.self c.read_u64.new.desk (gate_shown g c.before.before.before.before.before) c.read_at.ensures.said c.read_at.ensures.leaves c.read_u64.ensures.moments
+start_read : (g : Over) (c : After-read_u64 g) → OnlyReads g.D.Desk c.args.desk.now c.read_u64.new.desk
+start_read g c =
+    let first = gate_read g c.before.before.before.before.before in
+    read_on g.D.Desk c.args.desk.now c.read_at.new.self c.read_u64.new.desk first c.read_u64.ensures.reads
 
-count_shown : (g : Over) (c : After-read_u32 g) → ShowsUnsaid g.D.Desk.moment g.D.Desk.shown_since g.D.Desk.may_leave g.D.Desk.said c.args.desk.now c.read_u32.new.desk (TornIn [])
-count_shown g c =
-    let desk = g.D.Desk in
-    read_on desk.moment desk.shown_since desk.may_leave desk.said c.args.desk.now c.read_u64.new.desk c.read_u32.new.desk (start_shown g c.before.before.before.before) (c.read_u64.ensures.said ∙ c.read_at.ensures.said)
-    (λ file left. c.read_at.ensures.leaves file (c.read_u64.ensures.leaves file left)) c.read_u32.ensures.moments
+count_read : (g : Over) (c : After-read_u32 g) → OnlyReads g.D.Desk c.args.desk.now c.read_u32.new.desk
+count_read g c =
+    let first = start_read g c.before.before.before.before in
+    read_on g.D.Desk c.args.desk.now c.read_u64.new.desk c.read_u32.new.desk first c.read_u32.ensures.reads
 
-after_shown : (g : Over) (c : After-read_u32-2 g) → ShowsUnsaid g.D.Desk.moment g.D.Desk.shown_since g.D.Desk.may_leave g.D.Desk.said c.args.desk.now c.read_u32-2.new.desk (TornIn [])
-after_shown g c =
-    let desk = g.D.Desk in
-    read_on desk.moment desk.shown_since desk.may_leave desk.said c.args.desk.now c.read_u32.new.desk c.read_u32-2.new.desk (count_shown g c.before.before.before.before) (c.read_u32.ensures.said ∙ c.read_u64.ensures.said ∙ c.read_at.ensures.said)
-    (λ file left. c.read_at.ensures.leaves file (c.read_u64.ensures.leaves file (c.read_u32.ensures.leaves file left))) c.read_u32-2.ensures.moments
+after_read : (g : Over) (c : After-read_u32-2 g) → OnlyReads g.D.Desk c.args.desk.now c.read_u32-2.new.desk
+after_read g c =
+    let first = count_read g c.before.before.before.before in
+    read_on g.D.Desk c.args.desk.now c.read_u32.new.desk c.read_u32-2.new.desk first c.read_u32-2.ensures.reads
 
-pub returns-in_err-start-clause-moments : goal.returns-in_err-start-clause-moments
-returns-in_err-start-clause-moments g c = start_shown g c.before.before.before
+pub returns-in_err-read_at-clause-reads : goal.returns-in_err-read_at-clause-reads
+returns-in_err-read_at-clause-reads g c = gate_read g c.before.before.before.before
 
-pub returns-in_err-count-clause-moments : goal.returns-in_err-count-clause-moments
-returns-in_err-count-clause-moments g c = count_shown g c.before.before.before
+pub returns-in_err-start-clause-reads : goal.returns-in_err-start-clause-reads
+returns-in_err-start-clause-reads g c = start_read g c.before.before.before
 
-pub returns-in_err-after-clause-moments : goal.returns-in_err-after-clause-moments
-returns-in_err-after-clause-moments g c = after_shown g c.before.before.before
+pub returns-in_err-count-clause-reads : goal.returns-in_err-count-clause-reads
+returns-in_err-count-clause-reads g c = count_read g c.before.before.before
 
-pub returns-clause-moments : goal.returns-clause-moments
-returns-clause-moments g c = after_shown g c.before.before
+pub returns-in_err-after-clause-reads : goal.returns-in_err-after-clause-reads
+returns-in_err-after-clause-reads g c = after_read g c.before.before.before
+
+pub returns-clause-reads : goal.returns-clause-reads
+returns-clause-reads g c = after_read g c.before.before

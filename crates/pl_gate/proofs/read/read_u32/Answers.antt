@@ -1,16 +1,14 @@
-use Rattle.std.proofs.Common.{[], refl}
-use Rattle.pl_gate.specs.Device.{TornIn}
-use Rattle.pl_gate.proofs.Moments.{began, went}
+use Rattle.pl_desk.specs.AnyMoment.{read_call, reads_none}
 use Rattle.pl_gate.proofs.read.read_u32.Goals as goal
 
-pub returns-in_err-read_at-clause-moments : goal.returns-in_err-read_at-clause-moments
-returns-in_err-read_at-clause-moments g c =
-    let desk = g.D.Desk in let old = c.args.desk.now in
-    went desk.moment desk.shown_since desk.may_leave desk.said old old _ (TornIn [])
-    (began desk.moment desk.shown_since desk.may_leave desk.said g.met.D.Desk.only_now old (TornIn []) (λ file. refl)) refl c.read_at.ensures.time (λ file left. (file, c.read_at.ensures.leaves file left, refl))
+pub returns-in_err-read_at-clause-reads : goal.returns-in_err-read_at-clause-reads
+returns-in_err-read_at-clause-reads g c =
+    let desk = g.D.Desk in let old = c.args.desk.now in let read = c.read_at.ensures in
+    read_call desk old old c.read_at.new.self (reads_none desk g.met.D.Desk.only_now old) read.held read.said read.written
+    read.line read.leaves read.time
 
-pub returns-clause-moments : goal.returns-clause-moments
-returns-clause-moments g c =
-    let desk = g.D.Desk in let old = c.args.desk.now in
-    went desk.moment desk.shown_since desk.may_leave desk.said old old _ (TornIn [])
-    (began desk.moment desk.shown_since desk.may_leave desk.said g.met.D.Desk.only_now old (TornIn []) (λ file. refl)) refl c.read_at.ensures.time (λ file left. (file, c.read_at.ensures.leaves file left, refl))
+pub returns-clause-reads : goal.returns-clause-reads
+returns-clause-reads g c =
+    let desk = g.D.Desk in let old = c.args.desk.now in let read = c.read_at.ensures in
+    read_call desk old old c.read_at.new.self (reads_none desk g.met.D.Desk.only_now old) read.held read.said read.written
+    read.line read.leaves read.time

@@ -19,12 +19,6 @@ total c = ap (Î» (d : DeskState). written_in d.calls) (returns-clause-after c) â
 pub returns-clause-written : goal.returns-clause-written
 returns-clause-written c = total c
 
-pub returns-clause-no_less : goal.returns-clause-no_less
-returns-clause-no_less c = omega (arith, total c)
-
-pub returns-clause-no_more : goal.returns-clause-no_more
-returns-clause-no_more c = omega (arith, total c)
-
 pub returns-clause-leaves : goal.returns-clause-leaves
 returns-clause-leaves c file left =
     let desk = c.args.self.now in
