@@ -13,6 +13,11 @@ use Rattle.pl_base.specs.Touched.{PageImage, page_size, page_numbers, ascends_ab
 abbrev pub entry_size : ℕ
 entry_size = 1032
 
+-- how many bytes a commit of so many pages writes: an entry and an image for each, the journal's place, and the gate
+-- set and cleared
+abbrev pub commit_bytes : ℕ → ℕ
+commit_bytes pages = (entry_size + page_size) * pages + 18
+
 abbrev pub is_set : List ℕ → Bool
 is_set file = slice_index file 0 == 1
 

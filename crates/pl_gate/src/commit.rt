@@ -1,5 +1,6 @@
 ghost use Rattle.std.specs.Prelude.{◌≡◌, ◌≤◌, ◌<◌, ◌+◌, ◌*◌, ℕ, List, [], Some, length, OnOk};
 ghost use Rattle.pl_base.specs.Touched.{IsWithin, changed, bytes_before};
+ghost use Rattle.pl_gate.specs.Gate.{commit_bytes};
 ghost use Rattle.pl_gate.specs.States.{HoldsEither, IsClosed};
 ghost use Rattle.pl_desk.specs.Shown.{AtAnyMoment, Rests};
 ghost use Rattle.pl_desk.specs.Counts.{Counts, Writes};
@@ -24,7 +25,7 @@ impl<'d, D: Desk> Gate<'d, D> {
         ensures any_moment { (pages : List ℕ) → Rests D.Desk self.old.desk.now (IsClosed pages) → length pages ≡ bytes_before touched.now.before
             → AtAnyMoment D.Desk self.old.desk.now self.new.desk.now (HoldsEither touched.now pages) }
 
-        ensures written { Writes result (2056 * length touched.now.pages + 18) (D.written self.old.desk.now) (D.written self.new.desk.now) }
+        ensures written { Writes result (commit_bytes (length touched.now.pages)) (D.written self.old.desk.now) (D.written self.new.desk.now) }
         ensures line { KeepsLine D.Desk self.old.desk.now self.new.desk.now }
         ensures counted { Counts result (D.device_faults self.old.desk.now) (D.device_faults self.new.desk.now) }
         ensures same_desk { self.new.desk.ghost_name ≡ self.old.desk.ghost_name }

@@ -1,3 +1,2 @@
 mod CommitLemmas
-mod LeftLemmas
 mod OpenedFiles

@@ -1,11 +1,24 @@
 -- What a settled file stands for.
-use Rattle.std.proofs.Common.{◌≡◌, ◌≤◌, ◌+◌, arith, ℕ, true, false, List, Option, Some, None, IfSome, length, take, drop, refl, sym, ◌∙◌, subst}
+use Rattle.std.proofs.Common.{◌≡◌, ◌↔◌, ◌≤◌, ◌+◌, arith, ℕ, true, false, List, Option, Some, None, IfSome, IsSome}
+use Rattle.std.proofs.Common.{Result, Ok, Err, length, take, drop, refl, sym, ◌∙◌, subst}
+use Rattle.std.proofs.lemmas.Bool.{both_ways}
+use Rattle.std.proofs.lemmas.Option.{MatchOption-at_some, same_Some}
 use Rattle.pl_base.specs.Store.{Store}
 use Rattle.pl_gate.specs.Gate.{has_gate, is_set, laid}
 use Rattle.pl_gate.specs.Recovery.{IsSettledAs, StandsAs, written_by}
 use Rattle.pl_gate.specs.States.{IsClosed}
 use Rattle.pl_form.specs.Form.{StandsFor}
-use Rattle.pl_store.specs.Session.{Stands, StandsAlike}
+use Rattle.pl_desk.specs.AnyMoment.{rests_less, still_rests}
+use Rattle.pl_desk.specs.Calls.{KeepsLine, OnlyReads}
+use Rattle.pl_desk.specs.Shown.{Rests}
+use Rattle.pl_desk.specs.declared.desk.Desk.{Ghosts}
+use Rattle.pl_base.specs.Touched.{page_size}
+use Rattle.pl_store.specs.declared.ended.Ended.{Ended}
+use Rattle.pl_store.specs.declared.ended.Ended.TheVariants as ended
+use Rattle.pl_store.specs.declared.session.Session.{Session}
+use Rattle.pl_store.specs.Ending.{Opens, OpensStore, RefusesFile}
+use Rattle.pl_store.specs.Reading.{HoldNone, IsReadFrom, Reads}
+use Rattle.pl_store.specs.Session.{Stands, StandsAlike, bytes_of, store_of}
 
 -- what holds of each value that there may be
 pub if_some : {X : Type 0} (o : Option X) (P : X → Type 0) → ((x : X) → o ≡ Some x → P x) → IfSome o P
@@ -47,3 +60,53 @@ module _ (file later : List ℕ) (settled : IsSettledAs file later) where
 -- a recovery of a file whose gate is not set writes nothing
 pub writes_none : (file : List ℕ) (old new : ℕ) → is_set file ≡ false → old ≤ new → new ≤ old + written_by file → new ≡ old
 writes_none file old new unset no_less no_more = let most = rw unset at no_more in omega (arith, no_less, most)
+
+-- ---- how an opening ends, from the settling of the file and the reading behind it
+
+some_is : {X : Type 0} (o : Option X) → IsSome o → (x : X) × (o ≡ Some x)
+some_is None some = absurd (both_ways false refl some)
+some_is (Some x) some = (x, refl)
+
+module _ {D : Type 0} (desk : Ghosts D) (told : (now : D) → IsSome (desk.held now) ↔ IsSome (desk.said now)) (old mid new : D) (settled : (file : List ℕ) → desk.held old ≡ Some file → Rests desk mid (IsSettledAs file)) (good : IfSome (desk.held old) (λ file. has_gate file ≡ true)) (line : KeepsLine desk old mid) (reads : OnlyReads desk mid new) where
+  opens_store : (session : Session) → IfSome (desk.held mid) (λ file. IsReadFrom session (drop page_size file)) → OpensStore desk session old new
+  opens_store session read = record {
+    stands = if_some (desk.held old) _ (λ file is. let has = read_of file is in
+        stands_settled file (settled file is).file (settled file is).has (MatchOption-at_some _ _ file is good) (store_of session) has.stands);
+    only = if_some (desk.held old) _ (λ file is store stands.
+        (read_of file is).only store (settled_form file (settled file is).file (settled file is).has store stands));
+    settled = λ file is. record {
+      rests = still_rests desk mid new (IsClosed (bytes_of session)) reads.file.held reads.file.left (record {
+        file = (settled file is).file;
+        is_held = (settled file is).is_held;
+        only = (settled file is).only;
+        has = closed file (settled file is).file (settled file is).has (bytes_of session) (MatchOption-at_some _ _ file is good) (read_of file is).begins;
+      });
+      stands = (read_of file is).own;
+    };
+  }
+    where
+      read_of : (file : List ℕ) (is : desk.held old ≡ Some file) → IsReadFrom session (drop page_size (settled file is).file)
+      read_of file is = MatchOption-at_some _ _ (settled file is).file (settled file is).is_held read
+
+  refuses_file : IfSome (desk.held mid) (λ file. HoldNone (drop page_size file)) → RefusesFile desk old new
+  refuses_file none = record {
+    was_none = if_some (desk.held old) _ (λ file is store stands. let rests = settled file is in
+        (MatchOption-at_some _ _ rests.file rests.is_held none) store (settled_form file rests.file rests.has store stands));
+    still_none = if_some (desk.held new) _ (λ later is store stands.
+        let is_mid = sym reads.file.held ∙ is in
+        let said = (told mid).0 (subst IsSome (sym is_mid) refl) in
+        let first = some_is (desk.held old) ((told old).1 (subst IsSome line.said said)) in
+        let rests = settled first.0 first.1 in
+        let has = subst (IsSettledAs first.0) (same_Some rests.file later (sym rests.is_held ∙ is_mid)) rests.has in
+        (MatchOption-at_some _ _ later is_mid none) store (later_form first.0 later has store stands));
+    bad_gate = λ file is lacks. absurd (both_ways (has_gate file) lacks (MatchOption-at_some _ _ file is good));
+  }
+
+  pub opens : (limit : ℕ) (result : Result Session Ended) → Reads limit (desk.held mid) result → Opens desk limit result old new
+  opens limit (Ok session) read = (read.0, opens_store session read.1)
+  opens limit (Err ended.DeviceFault) read = tt
+  opens limit (Err ended.NoMemory) read =
+      λ file is. still_rests desk mid new (StandsAlike file) reads.file.held reads.file.left
+      (rests_less desk mid (IsSettledAs file) (StandsAlike file) (settled file is) (λ later has. stands_alike file later has.stands))
+  opens limit (Err ended.NotAStore) none = refuses_file none
+  opens limit (Err (ended.NotEmpty len)) read = read

@@ -1,7 +1,9 @@
 -- What keeps a store, and what the desk's file is to it.
-use Rattle.std.specs.Prelude.{◌⊎◌, ⊤, ℕ, Bool, true, false, List, Option}
+use Rattle.std.specs.Prelude.{◌⊎◌, ⊤, ℕ, Bool, true, false, List}
 use Rattle.pl_base.specs.Store.{Store}
-use Rattle.pl_desk.specs.Desk.{Rests}
+use Rattle.pl_desk.specs.Calls.{LeavesNoMore}
+use Rattle.pl_desk.specs.Shown.{Rests}
+use Rattle.pl_desk.specs.declared.desk.Desk.{Ghosts}
 use Rattle.pl_store.specs.Session as session
 use Rattle.pl_store.specs.Session.{IsPreparedFrom, IsSettled, Stands, memory_limit, memory_store, next_limit, next_store}
 use Rattle.pl_store.specs.declared.keeper.Keeper.{Keeper}
@@ -42,20 +44,22 @@ IsReadyFrom (File s) (ready.File prepared) = IsPreparedFrom s prepared
 
 -- Which files a stop may leave: where the store is in a file those that stand for it, and else those that a
 -- stop might have left at first.
-abbrev pub Leaves : Bool → (List ℕ → Type 0) → Store → List ℕ → Type 0
-Leaves true first store file = Stands file store
-Leaves false first store file = first file
+abbrev pub Leaves : {D : Type 0} (desk : Ghosts D) → Bool → D → Store → List ℕ → Type 0
+Leaves desk true first store file = Stands file store
+Leaves desk false first store file = desk.may_leave first file
 
-abbrev pub LeavesEither : Bool → (List ℕ → Type 0) → Store → Store → List ℕ → Type 0
-LeavesEither is_file first before after file = Leaves is_file first before file ⊎ Leaves is_file first after file
+-- the same of one store or another
+abbrev pub LeavesEither : {D : Type 0} (desk : Ghosts D) → Bool → D → Store → Store → List ℕ → Type 0
+LeavesEither desk is_file first before after file =
+    Leaves desk is_file first before file ⊎ Leaves desk is_file first after file
 
 -- the file holds the keeper's store, or is left alone by a keeper that has none
-abbrev pub IsKept : Keeper → (List ℕ → Type 0) → Option (List ℕ) → (List ℕ → Type 0) → Type 0
-IsKept (Memory memory) first held may_leave = (file : List ℕ) → may_leave file → first file
-IsKept (File s) first held may_leave = IsSettled s held may_leave
+abbrev pub IsKept : {D : Type 0} (desk : Ghosts D) → Keeper → D → D → Type 0
+IsKept desk (Memory memory) first now = LeavesNoMore desk first now
+IsKept desk (File s) first now = IsSettled desk s now
 
 -- the file holds this store: it is at rest and stands for it; without a file a stop leaves a file that it might
 -- have left at first
-abbrev pub Keeps : Bool → (List ℕ → Type 0) → Store → Option (List ℕ) → (List ℕ → Type 0) → Type 0
-Keeps true first store held may_leave = Rests held may_leave (λ file. Stands file store)
-Keeps false first store held may_leave = (file : List ℕ) → may_leave file → first file
+abbrev pub Keeps : {D : Type 0} (desk : Ghosts D) → Bool → D → Store → D → Type 0
+Keeps desk true first store now = Rests desk now (λ file. Stands file store)
+Keeps desk false first store now = LeavesNoMore desk first now

@@ -1,10 +1,12 @@
 -- What an opening reads of a file, and what a session is to the bytes that it was read from.
-use Rattle.std.specs.Prelude.{◌≡◌, ℕ, List, length, take}
+use Rattle.std.specs.Prelude.{◌≡◌, ⊤, ◌≤◌, ℕ, ◌*◌, List, length, take, drop, Option, Some, None, Result, Ok, Err, IfSome}
 use Rattle.pl_base.specs.Store.{Store}
-use Rattle.pl_base.specs.Touched.{bytes_before}
-use Rattle.pl_form.specs.Form.{StandsFor, form_bytes, store_rows}
+use Rattle.pl_base.specs.Touched.{bytes_before, page_size}
+use Rattle.pl_form.specs.Form.{StandsFor, form_bytes, most_pages, store_rows}
+use Rattle.pl_store.specs.declared.ended.Ended.{Ended}
+use Rattle.pl_store.specs.declared.ended.Ended.TheVariants as ended
 use Rattle.pl_store.specs.declared.session.Session.{Session}
-use Rattle.pl_store.specs.Session.{bytes_of, store_of}
+use Rattle.pl_store.specs.Session.{bytes_of, limit_of, store_of}
 
 -- the bytes from page 1 on stand for no store
 abbrev pub HoldNone : List ℕ → Type 0
@@ -14,6 +16,16 @@ HoldNone bytes = (store : Store) → StandsFor bytes store → ⊥
 abbrev pub HoldPages : ℕ → List ℕ → Type 0
 HoldPages pages bytes =
     (store : Store) → StandsFor bytes store → length (form_bytes (store_rows store)) ≡ bytes_before pages
+
+-- so many pages of a file are its store's, with the gate's and the header's
+pub record ArePagesOf (pages : ℕ) (file : List ℕ) : Type 0 where
+  pub within : page_size * pages ≤ length file
+  pub whole : HoldPages pages (drop page_size file)
+
+-- what a file's header tells: the number of its store's pages, which no store exceeds, or that there is none
+abbrev pub TellsPages : Option ℕ → Option (List ℕ) → Type 0
+TellsPages (Some pages) held = (2 ≤ pages) × (pages ≤ most_pages) × IfSome held (ArePagesOf pages)
+TellsPages None held = IfSome held (λ file. HoldNone (drop page_size file))
 
 -- a front of the bytes from page 1 on that stands for each store that all of them stand for
 pub record IsStoreOf (bytes front : List ℕ) : Type 0 where
@@ -26,3 +38,12 @@ pub record IsReadFrom (session : Session) (bytes : List ℕ) : Type 0 where
   pub only : (store : Store) → StandsFor bytes store → store ≡ store_of session
   pub begins : take (length (bytes_of session)) bytes ≡ bytes_of session
   pub own : StandsFor (bytes_of session) (store_of session)
+
+-- how the reading of a store ends, of a file whose gate is not set; it never tells how many bytes there are
+abbrev pub Reads : ℕ → Option (List ℕ) → Result Session Ended → Type 0
+Reads limit held (Ok session) =
+    (limit_of session ≡ limit) × IfSome held (λ file. IsReadFrom session (drop page_size file))
+Reads limit held (Err ended.DeviceFault) = ⊤
+Reads limit held (Err ended.NoMemory) = ⊤
+Reads limit held (Err ended.NotAStore) = IfSome held (λ file. HoldNone (drop page_size file))
+Reads limit held (Err (ended.NotEmpty len)) = ⊥

@@ -1,10 +1,11 @@
 -- Which files stand for a store, and what a session and a prepared command are to a file.
-use Rattle.std.specs.Prelude.{◌≡◌, ◌⊎◌, ◌↔◌, ℕ, ◌+◌, ◌*◌, true, List, length, Option, None, Some}
+use Rattle.std.specs.Prelude.{◌≡◌, ◌⊎◌, ◌↔◌, ℕ, true, List, length, Option, None, Some}
 use Rattle.pl_base.specs.Rows as rows
 use Rattle.pl_base.specs.Store.{Store}
 use Rattle.pl_base.specs.Touched.{changed, bytes_before}
-use Rattle.pl_desk.specs.Desk.{Rests}
-use Rattle.pl_gate.specs.Gate.{has_gate, laid}
+use Rattle.pl_desk.specs.Shown.{Rests}
+use Rattle.pl_desk.specs.declared.desk.Desk.{Ghosts}
+use Rattle.pl_gate.specs.Gate.{commit_bytes, has_gate, laid}
 use Rattle.pl_gate.specs.States.{IsClosed}
 use Rattle.pl_plain.specs.Flat.{kept_of}
 use Rattle.pl_plain.specs.Flat as flat
@@ -51,8 +52,8 @@ limit_of session = session.engine.limit
 
 -- The desk's file holds the session's store: its gate is not set, it begins with the store's pages, and a stop
 -- leaves just what a read gives.
-pub record IsSettled (session : Session) (held : Option (List ℕ)) (may_leave : List ℕ → Type 0) : Type 0 where
-  pub rests : Rests held may_leave (IsClosed (bytes_of session))
+pub record IsSettled {D : Type 0} (desk : Ghosts D) (session : Session) (now : D) : Type 0 where
+  pub rests : Rests desk now (IsClosed (bytes_of session))
   pub stands : StandsFor (bytes_of session) (store_of session)
 
 -- ---- a prepared command
@@ -72,7 +73,7 @@ writes_nothing prepared = prepared.change ≡ None
 
 abbrev bytes_of_change : Option Pending → ℕ
 bytes_of_change None = 0
-bytes_of_change (Some pending) = 2056 * length pending.touched.pages + 18
+bytes_of_change (Some pending) = commit_bytes (length pending.touched.pages)
 
 -- how many bytes a commit writes: each page twice, with its number and a few more
 abbrev pub bytes_to_write : Prepared → ℕ

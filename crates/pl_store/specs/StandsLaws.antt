@@ -1,11 +1,12 @@
 -- Which files stand for a session's store.
-use Rattle.std.proofs.Common.{◌≡◌, ℕ, List, Option, length, take, inl, inr, ⊎_elim, sym, ◌∙◌, ap, subst, arith}
+use Rattle.std.proofs.Common.{◌≡◌, ℕ, List, length, take, inl, inr, ⊎_elim, sym, ◌∙◌, ap, subst, arith}
 use Rattle.std.proofs.lemmas.List.{length-take, take-take}
 use Rattle.pl_base.specs.Store.{Store}
 use Rattle.pl_base.specs.Touched.{Change, changed}
 use Rattle.pl_gate.specs.Gate.{Holds, laid}
 use Rattle.pl_gate.specs.States.{HoldsEither, IsClosed}
 use Rattle.pl_form.specs.Form.{StandsFor, form_bytes, store_rows}
+use Rattle.pl_desk.specs.declared.desk.Desk.{Ghosts}
 use Rattle.pl_store.specs.declared.session.Session.{Session}
 use Rattle.pl_store.specs.Session.{IsSettled, Stands, StandsForEither, store_of}
 
@@ -32,6 +33,9 @@ pub stands_by_either : (change : Change) (bytes later : List ℕ) (before after 
 stands_by_either change bytes later before after is first second file either =
     ⊎_elim (λ holds. inl (stands_by bytes file before first holds)) (λ holds. inr (stands_by later file after second (subst (λ (b : List ℕ). Holds b file) is holds))) either
 
-pub settled_stands : (session : Session) (held : Option (List ℕ)) (may_leave : List ℕ → Type 0) → IsSettled session held may_leave → (file : List ℕ) → may_leave file → Stands file (store_of session)
-settled_stands session held may_leave settled file left =
-    stands_by _ file (store_of session) settled.stands (subst (IsClosed _) (sym (settled.rests.only file left)) settled.rests.has).holds
+-- a stop leaves files that stand for the session's store where the file is settled for it
+pub settled_stands : {D : Type 0} (desk : Ghosts D) (session : Session) (now : D) → IsSettled desk session now
+    → (file : List ℕ) → desk.may_leave now file → Stands file (store_of session)
+settled_stands desk session now settled file left =
+    stands_by _ file (store_of session) settled.stands
+    (subst (IsClosed _) (sym (settled.rests.only file left)) settled.rests.has).holds

@@ -17,10 +17,10 @@ impl Prepared {
         ensures store { IfOk result (λ session. store_of session ≡ next_store self) }
         ensures limit { IfOk result (λ session. limit_of session ≡ next_limit self) }
         ensures settled { IfOk result (λ session. (before : Session) → IsPreparedFrom before self
-            → IsSettled before (D.held desk.old) (D.may_leave desk.old) → IsSettled session (D.held desk.new) (D.may_leave desk.new)) }
-        ensures any_moment { (before : Session) → IsPreparedFrom before self → IsSettled before (D.held desk.old) (D.may_leave desk.old)
+            → IsSettled D.Desk before desk.old → IsSettled D.Desk session desk.new) }
+        ensures any_moment { (before : Session) → IsPreparedFrom before self → IsSettled D.Desk before desk.old
             → AtAnyMoment D.Desk desk.old desk.new (StandsForEither (store_of before) (next_store self)) }
-        ensures left { (before : Session) → IsPreparedFrom before self → IsSettled before (D.held desk.old) (D.may_leave desk.old)
+        ensures left { (before : Session) → IsPreparedFrom before self → IsSettled D.Desk before desk.old
             → (file : List ℕ) → D.may_leave desk.new file → StandsForEither (store_of before) (next_store self) file }
         ensures unasked { writes_nothing self → desk.new ≡ desk.old }
         ensures unasked_ok { writes_nothing self → IsOk result }

@@ -54,16 +54,15 @@ impl Ready {
         ensures store { IfOk result (λ keeper. store_of keeper ≡ ready_store self) }
         ensures limit { IfOk result (λ keeper. limit_of keeper ≡ ready_limit self) }
         ensures kept { IfOk result (λ keeper. (before : Keeper) (first : D) → IsReadyFrom before self
-            → IsKept before (D.may_leave first) (D.held desk.old) (D.may_leave desk.old)
-            → IsKept keeper (D.may_leave first) (D.held desk.new) (D.may_leave desk.new)) }
+            → IsKept D.Desk before first desk.old → IsKept D.Desk keeper first desk.new) }
         ensures kind { IfOk result (λ keeper. (before : Keeper) → IsReadyFrom before self → is_file keeper ≡ is_file before) }
         ensures any_moment { (before : Keeper) (first : D) (line : List ℕ) → IsReadyFrom before self
-            → IsKept before (D.may_leave first) (D.held desk.old) (D.may_leave desk.old) → D.said desk.old ≡ Some line
+            → IsKept D.Desk before first desk.old → D.said desk.old ≡ Some line
             → AtAnyMoment D.Desk desk.old desk.new
-            (LeavesEither (is_file before) (D.may_leave first) (store_of before) (ready_store self)) }
+            (LeavesEither D.Desk (is_file before) first (store_of before) (ready_store self)) }
         ensures left { OnErr result ((before : Keeper) (first : D) (file : List ℕ) → IsReadyFrom before self
-            → IsKept before (D.may_leave first) (D.held desk.old) (D.may_leave desk.old) → D.may_leave desk.new file
-            → LeavesEither (is_file before) (D.may_leave first) (store_of before) (ready_store self) file) }
+            → IsKept D.Desk before first desk.old → D.may_leave desk.new file
+            → LeavesEither D.Desk (is_file before) first (store_of before) (ready_store self) file) }
         ensures alone { (before : Keeper) → IsReadyFrom before self → is_file before ≡ false → desk.new ≡ desk.old }
         ensures no_less { D.written desk.old ≤ D.written desk.new }
         ensures line { KeepsLine D.Desk desk.old desk.new }

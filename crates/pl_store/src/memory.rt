@@ -1,6 +1,7 @@
 ghost use Rattle.std.specs.Prelude.{◌≡◌, ◌≤◌, IfOk};
 ghost use Rattle.pl_base.specs.Store.{opening};
 ghost use Rattle.pl_engine.specs.Step.{HasDates, perform};
+ghost use Rattle.pl_store.specs.Keeper.{slot_limit};
 ghost use Rattle.pl_store.specs.Session.{memory_limit, memory_store};
 
 use crate::uncounted;
@@ -21,7 +22,7 @@ pub struct Memory {
 impl Memory {
     /// The store before its first command, which may take so many slots of 128 bytes.
     pub fn opening(alloc: Global, limit: u32) -> Result<Memory, NoMemory>
-        requires { limit ≤ 4_194_304 }
+        requires { limit ≤ slot_limit }
         ensures store { IfOk result (λ memory. memory_store memory ≡ opening) }
         ensures limit { IfOk result (λ memory. memory_limit memory ≡ limit) }
     {

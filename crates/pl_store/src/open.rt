@@ -1,11 +1,10 @@
-ghost use Rattle.std.specs.Prelude.{◌≡◌, ◌≤◌, ◌<◌, ℕ, List, [], Err, Some, length, IfOk, IfSome, OnOk};
-ghost use Rattle.pl_base.specs.Store.{Store, opening};
-ghost use Rattle.pl_desk.specs.Settling.{Settles};
-ghost use Rattle.pl_store.specs.Ending.{IsFinished, LacksGate, StandsForNone};
-ghost use Rattle.pl_store.specs.Session.{IsSettled, Stands, StandsAlike, limit_of, store_of};
-ghost use Rattle.pl_desk.specs.Shown.{Rests};
-ghost use Rattle.pl_desk.specs.Counts.{CountsAt};
+ghost use Rattle.std.specs.Prelude.{◌≡◌, ◌≤◌, ℕ, List, Err, Some};
 ghost use Rattle.pl_desk.specs.Calls.{KeepsLine};
+ghost use Rattle.pl_desk.specs.Counts.{CountsAt};
+ghost use Rattle.pl_desk.specs.Settling.{Settles};
+ghost use Rattle.pl_store.specs.Ending.{KeepsFinished, Makes, Opens};
+ghost use Rattle.pl_store.specs.Keeper.{slot_limit};
+ghost use Rattle.pl_store.specs.Session.{StandsAlike};
 
 use crate::ended::Ended;
 use crate::memory::SLOT_LIMIT;
@@ -20,20 +19,11 @@ use std::alloc::Global;
 /// bytes, and says how many; a file that has bytes is left as it was at each end. A stop within it may leave
 /// a file that stands for no store.
 pub fn create<D: Desk>(alloc: Global, desk: &mut D) -> Result<Session, Ended>
-    ensures store { IfOk result (λ session. store_of session ≡ opening) }
-    ensures limit { IfOk result (λ session. limit_of session ≡ 4_194_304) }
-    ensures settled { IfOk result (λ session. (file : List ℕ) → D.held desk.old ≡ Some file
-        → IsSettled session (D.held desk.new) (D.may_leave desk.new)) }
-    ensures was_empty { OnOk result (IfSome (D.held desk.old) (λ file. file ≡ [])) }
-    ensures not_empty { (n : ℕ) → result ≡ Err (Ended.NotEmpty n) → (0 < n) × IfSome (D.held desk.old) (λ file. n ≡ length file) }
-    ensures not_written { (n : ℕ) → result ≡ Err (Ended.NotEmpty n) → (D.held desk.new ≡ D.held desk.old) × (D.written desk.new ≡ D.written desk.old) }
-    ensures not_over { (file : List ℕ) → D.held desk.old ≡ Some file → 0 < length file
-        → (D.held desk.new ≡ D.held desk.old) × (D.written desk.new ≡ D.written desk.old) × ((later : List ℕ) → D.may_leave desk.new later → D.may_leave desk.old later) }
-    ensures not_made { result ≡ Err Ended.NoMemory → (D.held desk.new ≡ D.held desk.old) × (D.written desk.new ≡ D.written desk.old) }
-    ensures no_check { result ≡ Err Ended.NotAStore → ⊥ }
+    ensures ends { Makes D.Desk result desk.old desk.new }
     ensures no_less { D.written desk.old ≤ D.written desk.new }
     ensures line { KeepsLine D.Desk desk.old desk.new }
-    ensures counted { CountsAt (result ≡ Err Ended.DeviceFault) (D.device_faults desk.old) (D.device_faults desk.new) }
+    ensures counted { CountsAt (result ≡ Err Ended.DeviceFault)
+        (D.device_faults desk.old) (D.device_faults desk.new) }
 {
     let len = desk.len()?;
     if len > 0 {
@@ -48,25 +38,17 @@ pub fn create<D: Desk>(alloc: Global, desk: &mut D) -> Result<Session, Ended>
 /// of 128 bytes that the store may take. What lies behind the store's pages is not read. `NotAStore` comes
 /// just where the bytes stand for no store.
 pub fn reopen<D: Desk>(alloc: Global, desk: &mut D, limit: u32) -> Result<Session, Ended>
-    requires { limit ≤ 4_194_304 }
-    ensures stands { IfOk result (λ session. IfSome (D.held desk.old) (λ file. Stands file (store_of session))) }
-    ensures only { IfOk result (λ session. IfSome (D.held desk.old) (λ file. (store : Store) → Stands file store → store ≡ store_of session)) }
-    ensures limit { IfOk result (λ session. limit_of session ≡ limit) }
-    ensures settled { IfOk result (λ session. (file : List ℕ) → D.held desk.old ≡ Some file
-        → IsSettled session (D.held desk.new) (D.may_leave desk.new)) }
-    ensures not_a_store { result ≡ Err Ended.NotAStore → IfSome (D.held desk.old) StandsForNone }
-    ensures still_none { result ≡ Err Ended.NotAStore → IfSome (D.held desk.new) StandsForNone }
-    ensures bad_gate { result ≡ Err Ended.NotAStore → (file : List ℕ) → D.held desk.old ≡ Some file → LacksGate file → D.held desk.new ≡ D.held desk.old }
-    ensures finished { (file : List ℕ) → D.held desk.old ≡ Some file → IsFinished file → (D.held desk.new ≡ D.held desk.old) × (D.written desk.new ≡ D.written desk.old) }
+    requires { limit ≤ slot_limit }
+    ensures ends { Opens D.Desk limit result desk.old desk.new }
+    ensures finished { KeepsFinished D.Desk desk.old desk.new }
     // Until the file is settled a stop shows one that it might have left at first; from then on each file that it
     // shows stands for what the one stood for that a read gave.
     ensures any_moment { (file : List ℕ) → D.held desk.old ≡ Some file
         → Settles D.Desk desk.old desk.new (StandsAlike file) }
-    ensures no_memory { result ≡ Err Ended.NoMemory → (file : List ℕ) → D.held desk.old ≡ Some file → Rests D.Desk desk.new (StandsAlike file) }
-    ensures no_length { (n : ℕ) → result ≡ Err (Ended.NotEmpty n) → ⊥ }
     ensures no_less { D.written desk.old ≤ D.written desk.new }
     ensures line { KeepsLine D.Desk desk.old desk.new }
-    ensures counted { CountsAt (result ≡ Err Ended.DeviceFault) (D.device_faults desk.old) (D.device_faults desk.new) }
+    ensures counted { CountsAt (result ≡ Err Ended.DeviceFault)
+        (D.device_faults desk.old) (D.device_faults desk.new) }
 {
     settle(desk)?;
     read_session(alloc, desk, limit)

@@ -1,103 +1,78 @@
 // What an opening reads of a file.
-ghost use Rattle.std.specs.Prelude.{◌≡◌, ◌≤◌, ◌+◌, ◌*◌, ℕ, List, Err, Some, true, false, drop, length, IfOk, IfSome, OnOk};
+ghost use Rattle.std.specs.Prelude.{◌≡◌, ◌≤◌, ◌+◌, ℕ, List, Err, Some, true, false, drop, IfOk, IfSome, OnOk};
 ghost use Rattle.pl_base.specs.Touched.{page_size};
+ghost use Rattle.pl_desk.specs.Calls.{KeepsLine, OnlyReads};
+ghost use Rattle.pl_desk.specs.Counts.{Counts, CountsAt};
 ghost use Rattle.pl_desk.specs.Settling.{Settles};
+ghost use Rattle.pl_desk.specs.Shown.{Rests};
 ghost use Rattle.pl_gate.specs.Gate.{has_gate, is_set};
 ghost use Rattle.pl_gate.specs.Recovery.{IsSettledAs, StandsAs, written_by};
-ghost use Rattle.pl_form.specs.Form.{most_pages};
-ghost use Rattle.pl_store.specs.Reading.{HoldNone, HoldPages, IsReadFrom, IsStoreOf};
+ghost use Rattle.pl_store.specs.Keeper.{slot_limit};
+ghost use Rattle.pl_store.specs.Reading.{HoldNone, IsReadFrom, Reads, TellsPages};
 ghost use Rattle.pl_store.specs.Session.{limit_of};
-ghost use Rattle.pl_desk.specs.Shown.{Rests};
-ghost use Rattle.pl_desk.specs.Counts.{CountsAt};
-ghost use Rattle.pl_desk.specs.Calls.{KeepsLine, OnlyReads};
 
 use crate::ended::Ended;
 use crate::session::Session;
 use pl_base::PAGE_SIZE;
-use pl_desk::Desk;
+use pl_desk::{Desk, Failed};
 use pl_engine::Engine;
 use pl_form::named_pages;
-use pl_gate::Gate;
-use pl_plain::Flat;
+use pl_gate::{Gate, GateError};
+use pl_plain::{CheckError, Flat};
 use std::alloc::Global;
 
 /// Settles the gate of a file that a stop may have left.
-pub(crate) fn settle<D: Desk>(desk: &mut D) -> Result<(), Ended>
-    ensures settled { OnOk result ((file : List ℕ) → D.held desk.old ≡ Some file → Rests D.Desk desk.new (IsSettledAs file)) }
+pub(crate) fn settle<D: Desk>(desk: &mut D) -> Result<(), GateError>
+    ensures settled { OnOk result ((file : List ℕ) → D.held desk.old ≡ Some file
+        → Rests D.Desk desk.new (IsSettledAs file)) }
     ensures good { OnOk result (IfSome (D.held desk.old) (λ file. has_gate file ≡ true)) }
-    ensures bad { result ≡ Err Ended.NotAStore → IfSome (D.held desk.old) (λ file. has_gate file ≡ false) }
-    ensures untouched { result ≡ Err Ended.NotAStore → D.held desk.new ≡ D.held desk.old }
-    ensures unset { (file : List ℕ) → D.held desk.old ≡ Some file → is_set file ≡ false → D.held desk.new ≡ D.held desk.old }
+    ensures bad { result ≡ Err GateError.BadGate
+        → IfSome (D.held desk.old) (λ file. has_gate file ≡ false) }
+    ensures untouched { result ≡ Err GateError.BadGate → D.held desk.new ≡ D.held desk.old }
+    ensures unset { (file : List ℕ) → D.held desk.old ≡ Some file → is_set file ≡ false
+        → D.held desk.new ≡ D.held desk.old }
     ensures any_moment { (file : List ℕ) → D.held desk.old ≡ Some file
         → Settles D.Desk desk.old desk.new (StandsAs file) }
-    ensures no_more { (file : List ℕ) → D.held desk.old ≡ Some file → D.written desk.new ≤ D.written desk.old + written_by file }
-    ensures no_memory { result ≡ Err Ended.NoMemory → ⊥ }
-    ensures no_length { (n : ℕ) → result ≡ Err (Ended.NotEmpty n) → ⊥ }
+    ensures no_more { (file : List ℕ) → D.held desk.old ≡ Some file
+        → D.written desk.new ≤ D.written desk.old + written_by file }
     ensures no_less { D.written desk.old ≤ D.written desk.new }
     ensures line { KeepsLine D.Desk desk.old desk.new }
-    ensures counted { CountsAt (result ≡ Err Ended.DeviceFault) (D.device_faults desk.old) (D.device_faults desk.new) }
+    ensures counted { CountsAt (result ≡ Err GateError.DeviceFault)
+        (D.device_faults desk.old) (D.device_faults desk.new) }
 {
     let mut gate = Gate::of(desk);
     gate.recover()?;
     Ok(())
 }
 
-/// How many pages of the file are its store's, with the gate's and the header's, as the header tells.
-fn store_pages<D: Desk>(desk: &mut D) -> Result<u32, Ended>
-    ensures some { IfOk result (λ pages. 2 ≤ pages) }
-    ensures most { IfOk result (λ pages. pages ≤ most_pages) }
-    ensures within { IfOk result (λ pages. IfSome (D.held desk.old)
-        (λ file. page_size * pages ≤ length file)) }
-    ensures whole { IfOk result (λ pages. IfSome (D.held desk.old)
-        (λ file. HoldPages pages (drop page_size file))) }
-    ensures not_a_store { result ≡ Err Ended.NotAStore → IfSome (D.held desk.old)
-        (λ file. HoldNone (drop page_size file)) }
+/// How many pages of the file are its store's, with the gate's and the header's, as the header tells. `None`
+/// comes where there is no header, or fewer pages than it names.
+fn store_pages<D: Desk>(desk: &mut D) -> Result<Option<u32>, Failed>
+    ensures pages { IfOk result (λ pages. TellsPages pages (D.held desk.old)) }
     ensures reads { OnlyReads D.Desk desk.old desk.new }
-    ensures no_memory { result ≡ Err Ended.NoMemory → ⊥ }
-    ensures no_length { (n : ℕ) → result ≡ Err (Ended.NotEmpty n) → ⊥ }
-    ensures counted { CountsAt (result ≡ Err Ended.DeviceFault) (D.device_faults desk.old) (D.device_faults desk.new) }
+    ensures counted { Counts result (D.device_faults desk.old) (D.device_faults desk.new) }
 {
     let len = desk.len()?;
     if len < 2 * PAGE_SIZE as u64 {
-        return Err(Ended::NotAStore);
+        return Ok(None);
     }
     let mut header = [0; PAGE_SIZE];
     desk.read_at(PAGE_SIZE as u64, &mut header)?;
     let Some(pages) = named_pages(&header) else {
-        return Err(Ended::NotAStore);
+        return Ok(None);
     };
     if len < PAGE_SIZE as u64 * u64::from(pages) {
-        return Err(Ended::NotAStore);
+        return Ok(None);
     }
-    Ok(pages)
-}
-
-/// The pages of the file that are its store's, the gate's and the header's among them. What lies behind
-/// them is not read.
-fn read_pages<D: Desk>(alloc: Global, desk: &mut D) -> Result<Vec<u8>, Ended>
-    ensures store { IfOk result (λ bytes. IfSome (D.held desk.old)
-        (λ file. IsStoreOf (drop page_size file) (drop page_size bytes.items))) }
-    ensures not_a_store { result ≡ Err Ended.NotAStore → IfSome (D.held desk.old)
-        (λ file. HoldNone (drop page_size file)) }
-    ensures reads { OnlyReads D.Desk desk.old desk.new }
-    ensures no_length { (n : ℕ) → result ≡ Err (Ended.NotEmpty n) → ⊥ }
-    ensures counted { CountsAt (result ≡ Err Ended.DeviceFault) (D.device_faults desk.old) (D.device_faults desk.new) }
-{
-    let pages = store_pages(desk)?;
-    let mut bytes = Vec::new(alloc);
-    bytes.resize(PAGE_SIZE * pages as usize, 0)?;
-    desk.read_at(0, &mut bytes)?;
-    Ok(bytes)
+    Ok(Some(pages))
 }
 
 /// A session of the store that the bytes of a file stand for where its gate is not set.
-fn session_of(alloc: Global, bytes: &[u8], limit: u32) -> Result<Session, Ended>
-    requires { limit ≤ 4_194_304 }
+fn session_of(alloc: Global, bytes: &[u8], limit: u32) -> Result<Session, CheckError>
+    requires { limit ≤ slot_limit }
     ensures read { IfOk result (λ session. IsReadFrom session (drop page_size bytes.now)) }
     ensures limit { IfOk result (λ session. limit_of session ≡ limit) }
-    ensures not_a_store { result ≡ Err Ended.NotAStore → HoldNone (drop page_size bytes.now) }
-    ensures no_length { (n : ℕ) → result ≡ Err (Ended.NotEmpty n) → ⊥ }
-    ensures no_fault { result ≡ Err Ended.DeviceFault → ⊥ }
+    ensures not_a_store { result ≡ Err CheckError.NotAStore → HoldNone (drop page_size bytes.now) }
 {
     let flat = Flat::check(alloc, bytes)?;
     let engine = Engine::over(alloc, flat, limit)?;
@@ -111,16 +86,17 @@ pub(crate) fn read_session<D: Desk>(
     desk: &mut D,
     limit: u32,
 ) -> Result<Session, Ended>
-    requires { limit ≤ 4_194_304 }
-    ensures read { IfOk result (λ session. IfSome (D.held desk.old)
-        (λ file. IsReadFrom session (drop page_size file))) }
-    ensures limit { IfOk result (λ session. limit_of session ≡ limit) }
-    ensures not_a_store { result ≡ Err Ended.NotAStore → IfSome (D.held desk.old)
-        (λ file. HoldNone (drop page_size file)) }
+    requires { limit ≤ slot_limit }
+    ensures ends { Reads limit (D.held desk.old) result }
     ensures reads { OnlyReads D.Desk desk.old desk.new }
-    ensures no_length { (n : ℕ) → result ≡ Err (Ended.NotEmpty n) → ⊥ }
-    ensures counted { CountsAt (result ≡ Err Ended.DeviceFault) (D.device_faults desk.old) (D.device_faults desk.new) }
+    ensures counted { CountsAt (result ≡ Err Ended.DeviceFault)
+        (D.device_faults desk.old) (D.device_faults desk.new) }
 {
-    let bytes = read_pages(alloc, desk)?;
-    session_of(alloc, &bytes, limit)
+    let Some(pages) = store_pages(desk)? else {
+        return Err(Ended::NotAStore);
+    };
+    let mut bytes = Vec::new(alloc);
+    bytes.resize(PAGE_SIZE * pages as usize, 0)?;
+    desk.read_at(0, &mut bytes)?;
+    Ok(session_of(alloc, &bytes, limit)?)
 }

@@ -2,6 +2,7 @@ ghost use Rattle.std.specs.Prelude.{◌≡◌, ◌≤◌, ◌<◌, [], IfOk};
 ghost use Rattle.pl_base.specs.Store.{opening};
 ghost use Rattle.pl_base.specs.Touched.{IsWithin, changed};
 ghost use Rattle.pl_form.specs.Form.{StandsFor};
+ghost use Rattle.pl_store.specs.Keeper.{slot_limit};
 ghost use Rattle.pl_store.specs.Session.{bytes_of, limit_of, store_of};
 
 use crate::session::Session;
@@ -13,7 +14,7 @@ use std::alloc::Global;
 
 /// A session of the store before its first command, and the change that writes it into an empty file.
 pub(crate) fn start(alloc: Global, limit: u32) -> Result<(Session, Touched), NoMemory>
-    requires { limit ≤ 4_194_304 }
+    requires { limit ≤ slot_limit }
     ensures store { IfOk result (λ done. store_of done.0 ≡ opening) }
     ensures limit { IfOk result (λ done. limit_of done.0 ≡ limit) }
     ensures stands { IfOk result (λ done. StandsFor (bytes_of done.0) (store_of done.0)) }

@@ -1,5 +1,6 @@
-ghost use Rattle.std.specs.Prelude.{◌≡◌, ◌≤◌, ◌<◌, ◌+◌, ◌*◌, ℕ, List, [], Some, length, OnOk};
+ghost use Rattle.std.specs.Prelude.{◌≡◌, ◌≤◌, ◌<◌, ℕ, List, [], Some, length, OnOk};
 ghost use Rattle.pl_base.specs.Touched.{IsWithin, changed, bytes_before};
+ghost use Rattle.pl_gate.specs.Gate.{commit_bytes};
 ghost use Rattle.pl_gate.specs.States.{HoldsEither, IsClosed};
 ghost use Rattle.pl_desk.specs.Shown.{AtAnyMoment, Rests};
 ghost use Rattle.pl_desk.specs.Counts.{Counts, Writes};
@@ -21,7 +22,7 @@ pub(crate) fn write_change<D: Desk>(desk: &mut D, touched: &Touched) -> Result<(
     ensures any_moment { (pages : List ℕ) → Rests D.Desk desk.old (IsClosed pages) → length pages ≡ bytes_before touched.now.before
         → AtAnyMoment D.Desk desk.old desk.new (HoldsEither touched.now pages) }
 
-    ensures written { Writes result (2056 * length touched.now.pages + 18) (D.written desk.old) (D.written desk.new) }
+    ensures written { Writes result (commit_bytes (length touched.now.pages)) (D.written desk.old) (D.written desk.new) }
     ensures line { KeepsLine D.Desk desk.old desk.new }
     ensures counted { Counts result (D.device_faults desk.old) (D.device_faults desk.new) }
 {

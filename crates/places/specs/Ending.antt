@@ -1,10 +1,15 @@
 -- What a run leaves at each of its ends, where the source and the desk tell their content.
-use Rattle.std.specs.Prelude.{◌≡◌, ◌⊎◌, ℕ, Bool, true, false, ◌<◌, List, [], ◌∷◌, ◌++◌, codes, length, Option, Some}
+use Rattle.std.specs.Prelude.{◌≡◌, ◌⊎◌, ⊤, ℕ, Bool, true, false, ◌<◌, List, [], ◌∷◌, ◌++◌, map, codes, length, take}
+use Rattle.std.specs.Prelude.{Option, Some}
+use denote.Ref.{Bor}
 use Rattle.pl_base.specs.Store.{Store, opening}
-use Rattle.pl_desk.specs.Desk.{Rests}
+use Rattle.pl_desk.specs.Calls.{KeepsFile, LeavesNoMore}
+use Rattle.pl_desk.specs.Shown.{Rests}
+use Rattle.pl_desk.specs.declared.desk.Desk as desks
+use Rattle.pl_desk.specs.declared.source.Source as sources
 use Rattle.pl_engine.specs.Run.{replies, after}
 use Rattle.pl_script.specs.Script.{script}
-use Rattle.pl_store.specs.Ending.{IsFinished}
+use Rattle.pl_store.specs.Ending.{FindsBytes, IsFinished, SparesBytes}
 use Rattle.pl_store.specs.Keeper.{Keeps, slot_limit}
 use Rattle.pl_store.specs.Session.{Stands}
 use Rattle.places.specs.declared.answer_error.AnswerError.{AnswerError}
@@ -15,15 +20,20 @@ use Rattle.places.specs.declared.stop.Stop.{Stop}
 use Rattle.places.specs.declared.stop.Stop.TheVariants as stop
 use Rattle.places.specs.Limits.{script_limit}
 use Rattle.places.specs.Progress.{HasRead, ended_entries, entries_read}
-use Rattle.places.specs.Said.{SaysUntil, texts}
+use Rattle.places.specs.Said.{Says, SaysUntil, texts}
 use Rattle.places.specs.Stops.{LeavesAtEntry}
 
+-- how an answer's error stops a run
 abbrev pub Becomes : AnswerError → Stop → Type 0
 Becomes answer.SayFault e = e ≡ stop.SayFault
 Becomes answer.DeviceFault e = e ≡ stop.DeviceFault
 Becomes answer.NoMemory e = e ≡ stop.NoMemory
 
 -- ---- words
+
+-- the bytes of the words
+abbrev pub spelled : List (Bor (List ℕ)) → List (List ℕ)
+spelled words = map (λ word. word.now) words
 
 -- `try`; `new` and `run` with the name of a file
 abbrev pub IsTry : List (List ℕ) → Type 0
@@ -35,6 +45,18 @@ IsNew words = (path : List ℕ) × (words ≡ codes "new" ∷ path ∷ [])
 abbrev pub IsRun : List (List ℕ) → Type 0
 IsRun words = (path : List ℕ) × (words ≡ codes "run" ∷ path ∷ [])
 
+-- which words may end so, where these are what `try`, `new` and `run` ask for
+abbrev pub MayEnd : (try_ new_ run_ : Type 0) → Status → Type 0
+MayEnd try_ new_ run_ status.Done = try_ ⊎ new_ ⊎ run_
+MayEnd try_ new_ run_ status.Usage = (try_ ⊎ new_ ⊎ run_) → ⊥
+MayEnd try_ new_ run_ status.ReadFault = try_ ⊎ run_
+MayEnd try_ new_ run_ status.SayFault = try_ ⊎ new_ ⊎ run_
+MayEnd try_ new_ run_ status.DeviceFault = try_ ⊎ new_ ⊎ run_
+MayEnd try_ new_ run_ status.NoMemory = try_ ⊎ new_ ⊎ run_
+MayEnd try_ new_ run_ status.NotAStore = run_
+MayEnd try_ new_ run_ (status.NotEmpty len) = new_
+MayEnd try_ new_ run_ (status.TooLong limit) = (limit ≡ script_limit) × (try_ ⊎ run_)
+
 -- A script is run from this store on: `try` from the store before its first command, `run` from the store that
 -- a read of the file gives; the second is kept in a file.
 abbrev pub BeginsWith : List (List ℕ) → Option (List ℕ) → Bool → Store → Type 0
@@ -42,12 +64,23 @@ BeginsWith words held is_file start =
     (IsTry words × (is_file ≡ false) × (start ≡ opening))
     ⊎ (IsRun words × (is_file ≡ true) × ((file : List ℕ) × (held ≡ Some file) × Stands file start))
 
+-- the word of `new`
+abbrev pub made_text : List ℕ
+made_text = codes "new\n"
+
 -- ---- what was said
 
 -- P of what the source holds and of what was said before, where both are told
 abbrev pub IfTold : Option (List ℕ) → Option (List ℕ) → (List ℕ → List ℕ → Type 0) → Type 0
 IfTold left said P =
     (bytes before : List ℕ) → left ≡ Some bytes → said ≡ Some before → P bytes before
+
+-- P of the store that a script is run from, whether it is kept in a file, and of these two
+abbrev pub OfScript : {S D : Type 0} (source : sources.Ghosts S) (desk : desks.Ghosts D) → List (List ℕ) → S → D
+    → (Bool → Store → List ℕ → List ℕ → Type 0) → Type 0
+OfScript source desk words input now P =
+    (is_file : Bool) (start : Store) → BeginsWith words (desk.held now) is_file start
+    → IfTold (source.left input) (desk.said now) (P is_file start)
 
 -- the input was read to its end, and the texts of all replies were said
 pub record SaysAll (start : Store) (bytes before : List ℕ) (left said : Option (List ℕ)) : Type 0 where
@@ -63,7 +96,8 @@ pub record SaysEnded (start : Store) (bytes before : List ℕ) (left said : Opti
   pub ended_said : said ≡ Some (before ++ texts (replies slot_limit start (ended_entries read)))
 
 -- the run stopped at one of the replies to what was read
-pub record SaysFront (error : AnswerError) (start : Store) (bytes before : List ℕ) (left said : Option (List ℕ)) : Type 0 where
+pub record SaysFront (error : AnswerError) (start : Store) (bytes before : List ℕ) (left said : Option (List ℕ))
+    : Type 0 where
   pub read : List ℕ
   pub rest : List ℕ
   pub has_read : HasRead bytes read rest left
@@ -87,49 +121,78 @@ EndsScript (status.NotEmpty len) start bytes before left said = ⊥
 
 -- ---- what was said, and the file
 
--- the run stopped at one of the entries of what was read, or before the next one
-pub record LeavesWithin (error : AnswerError) (is_file : Bool) (first : List ℕ → Type 0) (start : Store) (bytes before : List ℕ) (left said held : Option (List ℕ)) (may_leave : List ℕ → Type 0) : Type 0 where
-  pub read : List ℕ
-  pub rest : List ℕ
-  pub has_read : HasRead bytes read rest left
-  pub leaves : LeavesAtEntry error is_file first slot_limit start (entries_read read rest) before said held may_leave
+module _ {D : Type 0} (desk : desks.Ghosts D) where
+  -- the run stopped at one of the entries of what was read, or before the next one
+  pub record LeavesWithin (error : AnswerError) (is_file : Bool) (first : D) (start : Store) (bytes before : List ℕ)
+      (left : Option (List ℕ)) (now : D) : Type 0 where
+    pub read : List ℕ
+    pub rest : List ℕ
+    pub has_read : HasRead bytes read rest left
+    pub leaves : LeavesAtEntry desk error is_file first slot_limit start (entries_read read rest) before now
 
--- the run ended before its file was settled: nothing was read or said, and a stop leaves what it might have left at
--- first
-pub record LeavesUnopened (first : List ℕ → Type 0) (bytes before : List ℕ) (left said : Option (List ℕ)) (may_leave : List ℕ → Type 0) : Type 0 where
-  pub unread : left ≡ Some bytes
-  pub unsaid : said ≡ Some before
-  pub as_before : (file : List ℕ) → may_leave file → first file
+  -- the file was not settled: nothing was read or said, and a stop leaves a file that it might have left at first
+  pub record LeavesUnopened (first : D) (bytes before : List ℕ) (left : Option (List ℕ)) (now : D) : Type 0 where
+    pub unread : left ≡ Some bytes
+    pub unsaid : desk.said now ≡ Some before
+    pub as_before : LeavesNoMore desk first now
 
--- What a script's run leaves at each status. At Done the file holds the store after all entries, and a read that fails
--- and the limit of a script leave it with the store after those that ended within what was read. A line that fails
--- leaves the store after the entry whose reply was not said whole, a file that fails the store before or after an
--- entry, or one that was not settled yet, and want of memory the store after those that were answered.
-abbrev pub LeavesAtEnd : Status → Bool → (List ℕ → Type 0) → Store → List ℕ → List ℕ → Option (List ℕ) → Option (List ℕ) → Option (List ℕ) → (List ℕ → Type 0) → Type 0
-LeavesAtEnd status.Done is_file first start bytes before left said held may_leave =
-    SaysAll start bytes before left said × Keeps is_file first (after slot_limit start (script bytes)) held may_leave
-LeavesAtEnd status.ReadFault is_file first start bytes before left said held may_leave =
-    (ended : SaysEnded start bytes before left said) × (length ended.read < script_limit)
-    × Keeps is_file first (after slot_limit start (ended_entries ended.read)) held may_leave
-LeavesAtEnd (status.TooLong limit) is_file first start bytes before left said held may_leave =
-    (ended : SaysEnded start bytes before left said) × (length ended.read ≡ limit)
-    × Keeps is_file first (after slot_limit start (ended_entries ended.read)) held may_leave
-LeavesAtEnd status.SayFault is_file first start bytes before left said held may_leave =
-    LeavesWithin answer.SayFault is_file first start bytes before left said held may_leave
-LeavesAtEnd status.DeviceFault is_file first start bytes before left said held may_leave =
-    LeavesUnopened first bytes before left said may_leave
-    ⊎ LeavesWithin answer.DeviceFault is_file first start bytes before left said held may_leave
-LeavesAtEnd status.NoMemory is_file first start bytes before left said held may_leave =
-    LeavesWithin answer.NoMemory is_file first start bytes before left said held may_leave
-LeavesAtEnd status.Usage is_file first start bytes before left said held may_leave = ⊥
-LeavesAtEnd status.NotAStore is_file first start bytes before left said held may_leave = ⊥
-LeavesAtEnd (status.NotEmpty len) is_file first start bytes before left said held may_leave = ⊥
+  -- the lines were answered that ended within what was read, which is this many bytes, and their store is kept
+  pub record LeavesEnded (HasLength : ℕ → Type 0) (is_file : Bool) (first : D) (start : Store) (bytes before : List ℕ)
+      (left : Option (List ℕ)) (now : D) : Type 0 where
+    pub says : SaysEnded start bytes before left (desk.said now)
+    pub read : HasLength (length says.read)
+    pub keeps : Keeps desk is_file first (after slot_limit start (ended_entries says.read)) now
 
--- ---- a new store
+  -- What a script's run leaves at each status. At Done the file holds the store after all entries, and a read that
+  -- fails and the limit of a script leave it with the store after those that ended within what was read. A line that
+  -- fails leaves the store after the entry whose reply was not said whole, a file that fails the store before or after
+  -- an entry, or one that was not settled yet, and want of memory the store after those that were answered.
+  abbrev pub LeavesAtEnd : Status → Bool → D → Store → List ℕ → List ℕ → Option (List ℕ) → D → Type 0
+  LeavesAtEnd status.Done is_file first start bytes before left now =
+      SaysAll start bytes before left (desk.said now)
+      × Keeps desk is_file first (after slot_limit start (script bytes)) now
+  LeavesAtEnd status.ReadFault is_file first start bytes before left now =
+      LeavesEnded (λ len. len < script_limit) is_file first start bytes before left now
+  LeavesAtEnd (status.TooLong limit) is_file first start bytes before left now =
+      LeavesEnded (λ len. len ≡ limit) is_file first start bytes before left now
+  LeavesAtEnd status.SayFault is_file first start bytes before left now =
+      LeavesWithin answer.SayFault is_file first start bytes before left now
+  LeavesAtEnd status.DeviceFault is_file first start bytes before left now =
+      LeavesUnopened first bytes before left now
+      ⊎ LeavesWithin answer.DeviceFault is_file first start bytes before left now
+  LeavesAtEnd status.NoMemory is_file first start bytes before left now =
+      LeavesWithin answer.NoMemory is_file first start bytes before left now
+  LeavesAtEnd status.Usage is_file first start bytes before left now = ⊥
+  LeavesAtEnd status.NotAStore is_file first start bytes before left now = ⊥
+  LeavesAtEnd (status.NotEmpty len) is_file first start bytes before left now = ⊥
 
-abbrev pub made_text : List ℕ
-made_text = codes "new\n"
+  -- ---- a new store
 
--- the file stands for the store before its first command with its gate not set, and a stop leaves just what a read gives
-abbrev pub IsMade : Option (List ℕ) → (List ℕ → Type 0) → Type 0
-IsMade held may_leave = Rests held may_leave (λ file. IsFinished file × Stands file opening)
+  -- the file stands for the store before its first command with its gate not set, and a stop leaves just what a read
+  -- gives
+  abbrev pub IsMade : D → Type 0
+  IsMade now = Rests desk now (λ file. IsFinished file × Stands file opening)
+
+  -- an empty file holds the new store
+  abbrev pub MadeOfEmpty : D → D → Type 0
+  MadeOfEmpty old new = (file : List ℕ) → desk.held old ≡ Some file → (file ≡ []) × IsMade new
+
+  -- What `new` leaves at each status. Its word is said once the file holds the new store; a file that has bytes is
+  -- left as it was, and so is an empty one for want of memory.
+  abbrev pub EndsNew : Status → D → D → Type 0
+  EndsNew status.Done old new = Says (desk.said old) made_text (desk.said new) × MadeOfEmpty old new
+  EndsNew status.SayFault old new =
+      ((n : ℕ) × (n < length made_text) × Says (desk.said old) (take n made_text) (desk.said new)) × MadeOfEmpty old new
+  EndsNew status.DeviceFault old new = (desk.said new ≡ desk.said old) × SparesBytes desk old new
+  EndsNew status.NoMemory old new = (desk.said new ≡ desk.said old) × KeepsFile desk old new
+  EndsNew (status.NotEmpty len) old new = (desk.said new ≡ desk.said old) × FindsBytes desk len old new
+  EndsNew status.Usage old new = ⊥
+  EndsNew status.ReadFault old new = ⊥
+  EndsNew status.NotAStore old new = ⊥
+  EndsNew (status.TooLong limit) old new = ⊥
+
+-- ---- a file that is no store
+
+-- how a run may end on a file that stands for no store
+abbrev pub EndsUnopened : Status → Type 0
+EndsUnopened result = (result ≡ status.NotAStore) ⊎ (result ≡ status.DeviceFault) ⊎ (result ≡ status.NoMemory)

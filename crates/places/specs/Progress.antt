@@ -6,10 +6,15 @@ use Rattle.pl_engine.specs.Run.{replies, after}
 use Rattle.pl_engine.specs.Parsed.{Parsed}
 use Rattle.pl_script.specs.Script.{script}
 use Rattle.places.specs.declared.script_run.ScriptRun.{ScriptRun}
-use Rattle.pl_store.specs.Keeper.{limit_of, slot_limit, store_of}
+use Rattle.pl_desk.specs.Shown.{ShowsOnly}
+use Rattle.pl_desk.specs.declared.desk.Desk.{Ghosts}
+use Rattle.pl_store.specs.declared.keeper.Keeper.{Keeper}
+use Rattle.pl_store.specs.Keeper.{IsKept, is_file, limit_of, slot_limit, store_of}
+use Rattle.places.specs.declared.answer_error.AnswerError.{AnswerError}
 use Rattle.places.specs.Limits.{script_limit}
 use Rattle.places.specs.Lines.{ended_lines, entries_of, open_line}
 use Rattle.places.specs.Said.{Says, texts}
+use Rattle.places.specs.Stops.{LeavesAtEntry, ShowsAnswered}
 
 -- what the lines ask for that ended within the bytes
 abbrev pub ended_entries : List ℕ → List (Parsed Command)
@@ -34,3 +39,26 @@ pub record IsAt (start : Store) (bytes : List ℕ) (begun : Option (List ℕ)) (
   pub store : store_of run.keeper ≡ after slot_limit start (ended_entries bytes)
   pub line : run.line.items ≡ take 262_146 (open_line bytes)
   pub text : Says begun (texts (replies slot_limit start (ended_entries bytes))) said
+
+module _ {D : Type 0} (desk : Ghosts D) where
+  -- after these bytes more the run stands behind the longer input
+  abbrev pub GoesOn : ScriptRun → List ℕ → D → ScriptRun → D → Type 0
+  GoesOn run piece old next new = (start : Store) (bytes : List ℕ) (begun : Option (List ℕ))
+      → IsAt start bytes begun run (desk.said old) → IsAt start (bytes ++ piece) begun next (desk.said new)
+
+  -- what was kept is kept by the next keeper
+  abbrev pub StaysKept : Keeper → D → Keeper → D → Type 0
+  StaysKept keeper old next new = (first : D) → IsKept desk keeper first old → IsKept desk next first new
+
+  -- what is left where the run stopped at one of these entries of the input up to the piece that it takes
+  abbrev pub StopsIn : AnswerError → ScriptRun → (List ℕ → List (Parsed Command)) → D → D → Type 0
+  StopsIn error run entries old new = (start : Store) (bytes begun : List ℕ) (first : D)
+      → IsAt start bytes (Some begun) run (desk.said old) → IsKept desk run.keeper first old
+      → LeavesAtEntry desk error (is_file run.keeper) first slot_limit start (entries bytes) begun new
+
+  -- what a stop shows while the piece is taken
+  abbrev pub ShowsIn : ScriptRun → (List ℕ → List (Parsed Command)) → D → D → Type 0
+  ShowsIn run entries old new = (start : Store) (bytes begun : List ℕ) (first : D)
+      → IsAt start bytes (Some begun) run (desk.said old) → IsKept desk run.keeper first old
+      → ShowsOnly desk old new
+      (ShowsAnswered desk (is_file run.keeper) first slot_limit start (entries bytes) begun)

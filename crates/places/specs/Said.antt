@@ -40,6 +40,7 @@ SaysUntil NoMemory replies said = SaysWhole replies said
 
 -- the same of one answer, which has one reply or none
 abbrev pub SaysOfAnswer : AnswerError → List Reply → Option (List ℕ) → Option (List ℕ) → Type 0
-SaysOfAnswer SayFault replies before now = (n : ℕ) × (n < length (texts replies)) × Says before (take n (texts replies)) now
+SaysOfAnswer SayFault replies before now =
+    (n : ℕ) × (n < length (texts replies)) × Says before (take n (texts replies)) now
 SaysOfAnswer DeviceFault replies before now = now ≡ before
 SaysOfAnswer NoMemory replies before now = now ≡ before

@@ -1,13 +1,15 @@
 // The answer to one line.
-ghost use Rattle.std.specs.Prelude.{◌≡◌, ◌≢◌, ◌≤◌, ℕ, List, [], ◌∷◌, Some, Err, false, IfOk, IfErr, OnOk, OnErr};
-ghost use Rattle.pl_desk.specs.Counts.{Rose};
-ghost use Rattle.pl_desk.specs.Desk.{ShowsOnly};
+ghost use Rattle.std.specs.Prelude.{◌≡◌, ℕ, List, [], ◌∷◌, Some, Err, false, IfOk, IfErr, OnOk};
 ghost use Rattle.pl_engine.specs.Run.{replies, after};
 ghost use Rattle.pl_script.specs.Reply.{reply_text as text_of_reply};
 ghost use Rattle.pl_store.specs.Keeper.{IsKept, is_file, limit_of, store_of};
 ghost use Rattle.places.specs.Lines.{entries_in};
+ghost use Rattle.places.specs.Progress.{StaysKept};
 ghost use Rattle.places.specs.Said.{Says, SaysOfAnswer, texts};
 ghost use Rattle.places.specs.Stops.{LeavesOfAnswer, ShowsAnswer, ShowsFront};
+ghost use Rattle.pl_desk.specs.Shown.{ShowsOnly};
+ghost use Rattle.pl_desk.specs.Counts.{CountsAt};
+ghost use Rattle.pl_desk.specs.Calls.{LeavesFile};
 
 use crate::answer_error::AnswerError;
 use crate::say::say_all;
@@ -26,23 +28,27 @@ pub fn answer<D: Desk>(
     bytes: &[u8],
     desk: &mut D,
 ) -> Result<Keeper, AnswerError>
-    ensures store { IfOk result (λ next. store_of next ≡ after (limit_of keeper) (store_of keeper) (entries_in bytes.now)) }
+    ensures store { IfOk result (λ next. store_of next
+        ≡ after (limit_of keeper) (store_of keeper) (entries_in bytes.now)) }
     ensures limit { IfOk result (λ next. limit_of next ≡ limit_of keeper) }
     ensures kind { IfOk result (λ next. is_file next ≡ is_file keeper) }
-    ensures kept { IfOk result (λ next. (first : D) → IsKept keeper (D.may_leave first) (D.held desk.old) (D.may_leave desk.old)
-        → IsKept next (D.may_leave first) (D.held desk.new) (D.may_leave desk.new)) }
-    ensures said { OnOk result (Says (D.said desk.old) (texts (replies (limit_of keeper) (store_of keeper) (entries_in bytes.now))) (D.said desk.new)) }
-    ensures stopped { IfErr result (λ error. SaysOfAnswer error (replies (limit_of keeper) (store_of keeper) (entries_in bytes.now)) (D.said desk.old) (D.said desk.new)) }
-    ensures left { IfErr result (λ error. (first : D) → IsKept keeper (D.may_leave first) (D.held desk.old) (D.may_leave desk.old)
-        → LeavesOfAnswer error (is_file keeper) (D.may_leave first) (store_of keeper) (after (limit_of keeper) (store_of keeper) (entries_in bytes.now)) (D.held desk.new) (D.may_leave desk.new)) }
+    ensures kept { IfOk result (λ next. StaysKept D.Desk keeper desk.old next desk.new) }
+    ensures said { OnOk result (Says (D.said desk.old)
+        (texts (replies (limit_of keeper) (store_of keeper) (entries_in bytes.now))) (D.said desk.new)) }
+    ensures stopped { IfErr result (λ error. SaysOfAnswer error
+        (replies (limit_of keeper) (store_of keeper) (entries_in bytes.now)) (D.said desk.old) (D.said desk.new)) }
+    ensures left { IfErr result (λ error. (first : D) → IsKept D.Desk keeper first desk.old
+        → LeavesOfAnswer D.Desk error (is_file keeper) first (store_of keeper)
+        (after (limit_of keeper) (store_of keeper) (entries_in bytes.now)) desk.new) }
     ensures shows { (first : D) (before : List ℕ) → D.said desk.old ≡ Some before
-        → IsKept keeper (D.may_leave first) (D.held desk.old) (D.may_leave desk.old)
-        → ShowsOnly D.Desk desk.old desk.new
-        (ShowsAnswer (is_file keeper) (D.may_leave first) (limit_of keeper) (store_of keeper) (entries_in bytes.now) before) }
-    ensures alone { is_file keeper ≡ false → (D.held desk.new ≡ D.held desk.old) × (D.written desk.new ≡ D.written desk.old) × (D.device_faults desk.new ≡ D.device_faults desk.old) }
+        → IsKept D.Desk keeper first desk.old → ShowsOnly D.Desk desk.old desk.new (ShowsAnswer D.Desk
+        (is_file keeper) first (limit_of keeper) (store_of keeper) (entries_in bytes.now) before) }
+    ensures alone { is_file keeper ≡ false → LeavesFile D.Desk desk.old desk.new }
     ensures no_memory { result ≡ Err AnswerError.NoMemory → desk.new ≡ desk.old }
-    ensures says_counted { CountsAt (result ≡ Err AnswerError.SayFault) (D.line_faults desk.old) (D.line_faults desk.new) }
-    ensures device_counted { CountsAt (result ≡ Err AnswerError.DeviceFault) (D.device_faults desk.old) (D.device_faults desk.new) }
+    ensures says_counted { CountsAt (result ≡ Err AnswerError.SayFault)
+        (D.line_faults desk.old) (D.line_faults desk.new) }
+    ensures device_counted { CountsAt (result ≡ Err AnswerError.DeviceFault)
+        (D.device_faults desk.old) (D.device_faults desk.new) }
 {
     let command = match line(alloc, bytes) {
         Ok(Some(command)) => command,
@@ -64,14 +70,18 @@ pub fn answer<D: Desk>(
 
 // Answers a line that asks for nothing that can be done.
 fn refuse<D: Desk>(alloc: Global, refusal: Refusal, desk: &mut D) -> Result<(), AnswerError>
-    ensures said { OnOk result (Says (D.said desk.old) (text_of_reply (Reply.Refused refusal)) (D.said desk.new)) }
-    ensures stopped { IfErr result (λ error. SaysOfAnswer error (Reply.Refused refusal ∷ []) (D.said desk.old) (D.said desk.new)) }
+    ensures said { OnOk result
+        (Says (D.said desk.old) (text_of_reply (Reply.Refused refusal)) (D.said desk.new)) }
+    ensures stopped { IfErr result (λ error.
+        SaysOfAnswer error (Reply.Refused refusal ∷ []) (D.said desk.old) (D.said desk.new)) }
     ensures shows { (before : List ℕ) → D.said desk.old ≡ Some before
-        → ShowsOnly D.Desk desk.old desk.new (ShowsFront (D.may_leave desk.old) before (text_of_reply (Reply.Refused refusal))) }
+        → ShowsOnly D.Desk desk.old desk.new
+        (ShowsFront D.Desk desk.old before (text_of_reply (Reply.Refused refusal))) }
     ensures no_fault { result ≡ Err AnswerError.DeviceFault → ⊥ }
     ensures no_memory { result ≡ Err AnswerError.NoMemory → desk.new ≡ desk.old }
     ensures file { LeavesFile D.Desk desk.old desk.new }
-    ensures counted { CountsAt (result ≡ Err AnswerError.SayFault) (D.line_faults desk.old) (D.line_faults desk.new) }
+    ensures counted { CountsAt (result ≡ Err AnswerError.SayFault)
+        (D.line_faults desk.old) (D.line_faults desk.new) }
 {
     let text = reply_text(alloc, &Reply::Refused(refusal))?;
     match say_all(desk, text.as_str().as_bytes()) {

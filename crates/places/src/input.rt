@@ -1,7 +1,7 @@
 // The input in pieces.
-ghost use Rattle.std.specs.Prelude.{◌≡◌, ◌≢◌, ◌≤◌, ◌<◌, ◌⊎◌, [], ◌++◌, length, IfOk, IfErr, IfSome, OnErr};
+ghost use Rattle.std.specs.Prelude.{◌≡◌, ◌≤◌, ◌<◌, ◌⊎◌, [], ◌++◌, length, IfOk, IfErr, IfSome, OnErr};
 ghost use Rattle.std.specs.Option.{option_map};
-ghost use Rattle.pl_desk.specs.Counts.{Rose};
+ghost use Rattle.pl_desk.specs.Counts.{CountsAt};
 
 use crate::stop::Stop;
 use pl_desk::Source;
@@ -10,9 +10,11 @@ use std::alloc::Global;
 /// The next piece of the input, of at most so many bytes, and empty at its end.
 pub fn next_piece<S: Source>(alloc: Global, input: &mut S, room: usize) -> Result<Vec<u8>, Stop>
     requires { 0 < room }
-    ensures taken { IfOk result (λ piece. S.left input.old ≡ option_map (λ rest. piece.items ++ rest) (S.left input.new)) }
+    ensures taken { IfOk result (λ piece.
+        S.left input.old ≡ option_map (λ rest. piece.items ++ rest) (S.left input.new)) }
     ensures within { IfOk result (λ piece. length piece.items ≤ room) }
-    ensures ended { IfOk result (λ piece. length piece.items ≡ 0 → IfSome (S.left input.old) (λ rest. rest ≡ [])) }
+    ensures ended { IfOk result (λ piece.
+        length piece.items ≡ 0 → IfSome (S.left input.old) (λ rest. rest ≡ [])) }
     ensures kept { OnErr result (S.left input.new ≡ S.left input.old) }
     ensures counted { CountsAt (result ≡ Err Stop.ReadFault) (S.faults input.old) (S.faults input.new) }
     ensures errors { IfErr result (λ stop. (stop ≡ Stop.ReadFault) ⊎ (stop ≡ Stop.NoMemory)) }

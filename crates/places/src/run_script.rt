@@ -1,13 +1,14 @@
 // The script of the input on a store.
-ghost use Rattle.std.specs.Prelude.{◌≡◌, ◌≢◌, ◌≤◌, false, Err};
-ghost use Rattle.pl_desk.specs.Counts.{Rose};
-ghost use Rattle.pl_desk.specs.Desk.{ShowsOnly};
+ghost use Rattle.std.specs.Prelude.{◌≡◌, false, Err};
 ghost use Rattle.pl_script.specs.Script.{script};
 ghost use Rattle.places.specs.Ending.{IfTold, LeavesAtEnd};
 ghost use Rattle.pl_store.specs.Keeper.{IsKept, is_file, limit_of, slot_limit, store_of};
 ghost use Rattle.places.specs.declared.status.Status.{Status};
 ghost use Rattle.places.specs.Status.{EndsAs};
 ghost use Rattle.places.specs.Stops.{ShowsAnswered};
+ghost use Rattle.pl_desk.specs.Shown.{ShowsOnly};
+ghost use Rattle.pl_desk.specs.Counts.{CountsAt};
+ghost use Rattle.pl_desk.specs.Calls.{LeavesFile};
 
 use crate::input::next_piece;
 use crate::script_run::ScriptRun;
@@ -30,17 +31,19 @@ pub fn run_script<S: Source, D: Desk>(
     desk: &mut D,
 ) -> Result<(), Stop>
     requires limit { limit_of keeper ≡ slot_limit }
-    ensures ends { (status : Status) → EndsAs result status → IfTold (S.left input.old) (D.said desk.old) (λ bytes before. (first : D)
-        → IsKept keeper (D.may_leave first) (D.held desk.old) (D.may_leave desk.old)
-        → LeavesAtEnd status (is_file keeper) (D.may_leave first) (store_of keeper) bytes before (S.left input.new) (D.said desk.new) (D.held desk.new) (D.may_leave desk.new)) }
+    ensures ends { (status : Status) → EndsAs result status
+        → IfTold (S.left input.old) (D.said desk.old) (λ bytes before. (first : D)
+        → IsKept D.Desk keeper first desk.old → LeavesAtEnd D.Desk status (is_file keeper) first
+        (store_of keeper) bytes before (S.left input.new) desk.new) }
     ensures shows { IfTold (S.left input.old) (D.said desk.old) (λ bytes before. (first : D)
-        → IsKept keeper (D.may_leave first) (D.held desk.old) (D.may_leave desk.old)
-        → ShowsOnly D.Desk desk.old desk.new
-        (ShowsAnswered (is_file keeper) (D.may_leave first) slot_limit (store_of keeper) (script bytes) before)) }
+        → IsKept D.Desk keeper first desk.old → ShowsOnly D.Desk desk.old desk.new
+        (ShowsAnswered D.Desk (is_file keeper) first slot_limit (store_of keeper) (script bytes) before)) }
+    ensures alone { is_file keeper ≡ false → LeavesFile D.Desk desk.old desk.new }
     ensures reads_counted { CountsAt (result ≡ Err Stop.ReadFault) (S.faults input.old) (S.faults input.new) }
-    ensures says_counted { CountsAt (result ≡ Err Stop.SayFault) (D.line_faults desk.old) (D.line_faults desk.new) }
-    ensures device_counted { CountsAt (result ≡ Err Stop.DeviceFault) (D.device_faults desk.old) (D.device_faults desk.new) }
-    ensures alone { is_file keeper ≡ false → (D.held desk.new ≡ D.held desk.old) × (D.written desk.new ≡ D.written desk.old) × (D.device_faults desk.new ≡ D.device_faults desk.old) }
+    ensures says_counted { CountsAt (result ≡ Err Stop.SayFault)
+        (D.line_faults desk.old) (D.line_faults desk.new) }
+    ensures device_counted { CountsAt (result ≡ Err Stop.DeviceFault)
+        (D.device_faults desk.old) (D.device_faults desk.new) }
 {
     let mut run = ScriptRun::new(alloc, keeper);
     let mut read = 0;

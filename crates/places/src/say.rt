@@ -1,18 +1,20 @@
 // Saying a whole text.
-ghost use Rattle.std.specs.Prelude.{◌≡◌, ℕ, List, Some, ◌<◌, ◌≤◌, length, take, OnOk, OnErr};
-ghost use Rattle.pl_desk.specs.Counts.{Rose};
-ghost use Rattle.pl_desk.specs.Desk.{ShowsOnly};
+ghost use Rattle.std.specs.Prelude.{◌≡◌, ℕ, List, Some, ◌<◌, length, take, OnOk, OnErr};
 ghost use Rattle.places.specs.Said.{Says};
 ghost use Rattle.places.specs.Stops.{ShowsFront};
+ghost use Rattle.pl_desk.specs.Shown.{ShowsOnly};
+ghost use Rattle.pl_desk.specs.Counts.{Counts};
+ghost use Rattle.pl_desk.specs.Calls.{LeavesFile};
 
 use pl_desk::{Desk, Failed};
 
 /// Says all the bytes, each turn at least one. A failure leaves a front of them said.
 pub fn say_all<D: Desk>(desk: &mut D, bytes: &[u8]) -> Result<(), Failed>
     ensures whole { OnOk result (Says (D.said desk.old) bytes.now (D.said desk.new)) }
-    ensures front { OnErr result ((n : ℕ) × (n < length bytes.now) × Says (D.said desk.old) (take n bytes.now) (D.said desk.new)) }
+    ensures front { OnErr result ((n : ℕ) × (n < length bytes.now)
+        × Says (D.said desk.old) (take n bytes.now) (D.said desk.new)) }
     ensures shows { (before : List ℕ) → D.said desk.old ≡ Some before
-        → ShowsOnly D.Desk desk.old desk.new (ShowsFront (D.may_leave desk.old) before bytes.now) }
+        → ShowsOnly D.Desk desk.old desk.new (ShowsFront D.Desk desk.old before bytes.now) }
     ensures counted { Counts result (D.line_faults desk.old) (D.line_faults desk.new) }
     ensures file { LeavesFile D.Desk desk.old desk.new }
 {

@@ -1,7 +1,6 @@
 // A run of a script whose bytes come one after another.
-ghost use Rattle.std.specs.Prelude.{◌≡◌, ◌≢◌, ◌≤◌, ℕ, List, Option, [], ◌∷◌, ◌++◌, Some, Err, false, IfErr, IfOk, OnOk};
+ghost use Rattle.std.specs.Prelude.{◌≡◌, ◌≢◌, ℕ, List, Option, [], ◌∷◌, ◌++◌, Err, false, IfErr, IfOk, OnOk};
 ghost use Rattle.std.specs.Str.Lines.{strip_carriage_return};
-ghost use Rattle.pl_desk.specs.Counts.{Rose};
 
 use crate::answer::answer;
 use crate::answer_error::AnswerError;
@@ -24,16 +23,17 @@ pub struct ScriptRun {
 
 impl ScriptRun {
     ghost use Rattle.pl_base.specs.Store.{Store};
-    ghost use Rattle.pl_desk.specs.Desk.{ShowsOnly};
+    ghost use Rattle.pl_desk.specs.Calls.{LeavesFile};
+    ghost use Rattle.pl_desk.specs.Counts.{CountsAt};
     ghost use Rattle.pl_engine.specs.Run.{replies, after};
     ghost use Rattle.pl_script.specs.Script.{script};
-    ghost use Rattle.pl_store.specs.Keeper.{IsKept, is_file, limit_of, slot_limit, store_of};
-    ghost use Rattle.places.specs.Progress.{IsAt, ended_entries};
+    ghost use Rattle.pl_store.specs.Keeper.{is_file, limit_of, slot_limit, store_of};
+    ghost use Rattle.places.specs.Progress.{GoesOn, IsAt, ShowsIn, StaysKept, StopsIn, ended_entries};
     ghost use Rattle.places.specs.Said.{Says, texts};
-    ghost use Rattle.places.specs.Stops.{LeavesAtEntry, ShowsAnswered};
 
     pub fn new(alloc: Global, keeper: Keeper) -> Self
-        ensures at { limit_of keeper ≡ slot_limit → (begun : Option (List ℕ)) → IsAt (store_of keeper) [] begun result begun }
+        ensures at { limit_of keeper ≡ slot_limit → (begun : Option (List ℕ))
+            → IsAt (store_of keeper) [] begun result begun }
         ensures keeper { result.keeper ≡ keeper }
     {
         ScriptRun {
@@ -45,21 +45,17 @@ impl ScriptRun {
 
     /// Takes the next bytes of the input, and answers each line that ends within them.
     pub fn take_all<D: Desk>(self, piece: &[u8], desk: &mut D) -> Result<ScriptRun, AnswerError>
-        ensures ok { IfOk result (λ run. (start : Store) (bytes : List ℕ) (begun : Option (List ℕ)) → IsAt start bytes begun self (D.said desk.old)
-            → IsAt start (bytes ++ piece.now) begun run (D.said desk.new)) }
+        ensures ok { IfOk result (λ run. GoesOn D.Desk self piece.now desk.old run desk.new) }
         ensures kind { IfOk result (λ run. is_file run.keeper ≡ is_file self.keeper) }
-        ensures kept { IfOk result (λ run. (first : D) → IsKept self.keeper (D.may_leave first) (D.held desk.old) (D.may_leave desk.old)
-            → IsKept run.keeper (D.may_leave first) (D.held desk.new) (D.may_leave desk.new)) }
-        ensures ends { IfErr result (λ error. (start : Store) (bytes begun : List ℕ) (first : D) → IsAt start bytes (Some begun) self (D.said desk.old)
-            → IsKept self.keeper (D.may_leave first) (D.held desk.old) (D.may_leave desk.old)
-            → LeavesAtEntry error (is_file self.keeper) (D.may_leave first) slot_limit start (ended_entries (bytes ++ piece.now)) begun (D.said desk.new) (D.held desk.new) (D.may_leave desk.new)) }
-        ensures shows { (start : Store) (bytes begun : List ℕ) (first : D) → IsAt start bytes (Some begun) self (D.said desk.old)
-            → IsKept self.keeper (D.may_leave first) (D.held desk.old) (D.may_leave desk.old)
-            → ShowsOnly D.Desk desk.old desk.new
-            (ShowsAnswered (is_file self.keeper) (D.may_leave first) slot_limit start (ended_entries (bytes ++ piece.now)) begun) }
-        ensures alone { is_file self.keeper ≡ false → (D.held desk.new ≡ D.held desk.old) × (D.written desk.new ≡ D.written desk.old) × (D.device_faults desk.new ≡ D.device_faults desk.old) }
-        ensures says_counted { CountsAt (result ≡ Err AnswerError.SayFault) (D.line_faults desk.old) (D.line_faults desk.new) }
-        ensures device_counted { CountsAt (result ≡ Err AnswerError.DeviceFault) (D.device_faults desk.old) (D.device_faults desk.new) }
+        ensures kept { IfOk result (λ run. StaysKept D.Desk self.keeper desk.old run.keeper desk.new) }
+        ensures ends { IfErr result (λ error.
+            StopsIn D.Desk error self (λ bytes. ended_entries (bytes ++ piece.now)) desk.old desk.new) }
+        ensures shows { ShowsIn D.Desk self (λ bytes. ended_entries (bytes ++ piece.now)) desk.old desk.new }
+        ensures alone { is_file self.keeper ≡ false → LeavesFile D.Desk desk.old desk.new }
+        ensures says_counted { CountsAt (result ≡ Err AnswerError.SayFault)
+            (D.line_faults desk.old) (D.line_faults desk.new) }
+        ensures device_counted { CountsAt (result ≡ Err AnswerError.DeviceFault)
+            (D.device_faults desk.old) (D.device_faults desk.new) }
     {
         let mut run = self;
         for &byte in piece {
@@ -69,21 +65,17 @@ impl ScriptRun {
     }
 
     fn take<D: Desk>(self, byte: u8, desk: &mut D) -> Result<ScriptRun, AnswerError>
-        ensures ok { IfOk result (λ run. (start : Store) (bytes : List ℕ) (begun : Option (List ℕ)) → IsAt start bytes begun self (D.said desk.old)
-            → IsAt start (bytes ++ byte ∷ []) begun run (D.said desk.new)) }
+        ensures ok { IfOk result (λ run. GoesOn D.Desk self (byte ∷ []) desk.old run desk.new) }
         ensures kind { IfOk result (λ run. is_file run.keeper ≡ is_file self.keeper) }
-        ensures kept { IfOk result (λ run. (first : D) → IsKept self.keeper (D.may_leave first) (D.held desk.old) (D.may_leave desk.old)
-            → IsKept run.keeper (D.may_leave first) (D.held desk.new) (D.may_leave desk.new)) }
-        ensures ends { IfErr result (λ error. (start : Store) (bytes begun : List ℕ) (first : D) → IsAt start bytes (Some begun) self (D.said desk.old)
-            → IsKept self.keeper (D.may_leave first) (D.held desk.old) (D.may_leave desk.old)
-            → LeavesAtEntry error (is_file self.keeper) (D.may_leave first) slot_limit start (ended_entries (bytes ++ byte ∷ [])) begun (D.said desk.new) (D.held desk.new) (D.may_leave desk.new)) }
-        ensures shows { (start : Store) (bytes begun : List ℕ) (first : D) → IsAt start bytes (Some begun) self (D.said desk.old)
-            → IsKept self.keeper (D.may_leave first) (D.held desk.old) (D.may_leave desk.old)
-            → ShowsOnly D.Desk desk.old desk.new
-            (ShowsAnswered (is_file self.keeper) (D.may_leave first) slot_limit start (ended_entries (bytes ++ byte ∷ [])) begun) }
-        ensures alone { is_file self.keeper ≡ false → (D.held desk.new ≡ D.held desk.old) × (D.written desk.new ≡ D.written desk.old) × (D.device_faults desk.new ≡ D.device_faults desk.old) }
-        ensures says_counted { CountsAt (result ≡ Err AnswerError.SayFault) (D.line_faults desk.old) (D.line_faults desk.new) }
-        ensures device_counted { CountsAt (result ≡ Err AnswerError.DeviceFault) (D.device_faults desk.old) (D.device_faults desk.new) }
+        ensures kept { IfOk result (λ run. StaysKept D.Desk self.keeper desk.old run.keeper desk.new) }
+        ensures ends { IfErr result (λ error.
+            StopsIn D.Desk error self (λ bytes. ended_entries (bytes ++ byte ∷ [])) desk.old desk.new) }
+        ensures shows { ShowsIn D.Desk self (λ bytes. ended_entries (bytes ++ byte ∷ [])) desk.old desk.new }
+        ensures alone { is_file self.keeper ≡ false → LeavesFile D.Desk desk.old desk.new }
+        ensures says_counted { CountsAt (result ≡ Err AnswerError.SayFault)
+            (D.line_faults desk.old) (D.line_faults desk.new) }
+        ensures device_counted { CountsAt (result ≡ Err AnswerError.DeviceFault)
+            (D.device_faults desk.old) (D.device_faults desk.new) }
     {
         if byte == b'\n' {
             self.end_line(desk)
@@ -94,21 +86,17 @@ impl ScriptRun {
 
     // The line has ended with LF.
     fn end_line<D: Desk>(self, desk: &mut D) -> Result<ScriptRun, AnswerError>
-        ensures ok { IfOk result (λ run. (start : Store) (bytes : List ℕ) (begun : Option (List ℕ)) → IsAt start bytes begun self (D.said desk.old)
-            → IsAt start (bytes ++ 10 ∷ []) begun run (D.said desk.new)) }
+        ensures ok { IfOk result (λ run. GoesOn D.Desk self (10 ∷ []) desk.old run desk.new) }
         ensures kind { IfOk result (λ run. is_file run.keeper ≡ is_file self.keeper) }
-        ensures kept { IfOk result (λ run. (first : D) → IsKept self.keeper (D.may_leave first) (D.held desk.old) (D.may_leave desk.old)
-            → IsKept run.keeper (D.may_leave first) (D.held desk.new) (D.may_leave desk.new)) }
-        ensures ends { IfErr result (λ error. (start : Store) (bytes begun : List ℕ) (first : D) → IsAt start bytes (Some begun) self (D.said desk.old)
-            → IsKept self.keeper (D.may_leave first) (D.held desk.old) (D.may_leave desk.old)
-            → LeavesAtEntry error (is_file self.keeper) (D.may_leave first) slot_limit start (ended_entries (bytes ++ 10 ∷ [])) begun (D.said desk.new) (D.held desk.new) (D.may_leave desk.new)) }
-        ensures shows { (start : Store) (bytes begun : List ℕ) (first : D) → IsAt start bytes (Some begun) self (D.said desk.old)
-            → IsKept self.keeper (D.may_leave first) (D.held desk.old) (D.may_leave desk.old)
-            → ShowsOnly D.Desk desk.old desk.new
-            (ShowsAnswered (is_file self.keeper) (D.may_leave first) slot_limit start (ended_entries (bytes ++ 10 ∷ [])) begun) }
-        ensures alone { is_file self.keeper ≡ false → (D.held desk.new ≡ D.held desk.old) × (D.written desk.new ≡ D.written desk.old) × (D.device_faults desk.new ≡ D.device_faults desk.old) }
-        ensures says_counted { CountsAt (result ≡ Err AnswerError.SayFault) (D.line_faults desk.old) (D.line_faults desk.new) }
-        ensures device_counted { CountsAt (result ≡ Err AnswerError.DeviceFault) (D.device_faults desk.old) (D.device_faults desk.new) }
+        ensures kept { IfOk result (λ run. StaysKept D.Desk self.keeper desk.old run.keeper desk.new) }
+        ensures ends { IfErr result (λ error.
+            StopsIn D.Desk error self (λ bytes. ended_entries (bytes ++ 10 ∷ [])) desk.old desk.new) }
+        ensures shows { ShowsIn D.Desk self (λ bytes. ended_entries (bytes ++ 10 ∷ [])) desk.old desk.new }
+        ensures alone { is_file self.keeper ≡ false → LeavesFile D.Desk desk.old desk.new }
+        ensures says_counted { CountsAt (result ≡ Err AnswerError.SayFault)
+            (D.line_faults desk.old) (D.line_faults desk.new) }
+        ensures device_counted { CountsAt (result ≡ Err AnswerError.DeviceFault)
+            (D.device_faults desk.old) (D.device_faults desk.new) }
     {
         let ScriptRun {
             alloc,
@@ -127,7 +115,8 @@ impl ScriptRun {
     // The line goes on with this byte.
     fn keep(mut self, byte: u8) -> Result<ScriptRun, NoMemory>
         requires { byte ≢ 10 }
-        ensures ok { IfOk result (λ run. (start : Store) (bytes : List ℕ) (begun said : Option (List ℕ)) → IsAt start bytes begun self said → IsAt start (bytes ++ byte ∷ []) begun run said) }
+        ensures ok { IfOk result (λ run. (start : Store) (bytes : List ℕ) (begun said : Option (List ℕ))
+            → IsAt start bytes begun self said → IsAt start (bytes ++ byte ∷ []) begun run said) }
         ensures keeper { IfOk result (λ run. run.keeper ≡ self.keeper) }
     {
         if self.line.len() >= KEPT {
@@ -139,23 +128,22 @@ impl ScriptRun {
 
     /// The input has ended: the line that has not ended with LF ends too.
     pub fn finish<D: Desk>(self, desk: &mut D) -> Result<Keeper, AnswerError>
-        ensures ok { OnOk result ((start : Store) (bytes : List ℕ) (begun : Option (List ℕ)) → IsAt start bytes begun self (D.said desk.old)
+        ensures ok { OnOk result ((start : Store) (bytes : List ℕ) (begun : Option (List ℕ))
+            → IsAt start bytes begun self (D.said desk.old)
             → Says begun (texts (replies slot_limit start (script bytes))) (D.said desk.new)) }
-        ensures store { IfOk result (λ keeper. (start : Store) (bytes : List ℕ) (begun : Option (List ℕ)) → IsAt start bytes begun self (D.said desk.old)
+        ensures store { IfOk result (λ keeper. (start : Store) (bytes : List ℕ) (begun : Option (List ℕ))
+            → IsAt start bytes begun self (D.said desk.old)
             → store_of keeper ≡ after slot_limit start (script bytes)) }
         ensures kind { IfOk result (λ keeper. is_file keeper ≡ is_file self.keeper) }
-        ensures kept { IfOk result (λ keeper. (first : D) → IsKept self.keeper (D.may_leave first) (D.held desk.old) (D.may_leave desk.old)
-            → IsKept keeper (D.may_leave first) (D.held desk.new) (D.may_leave desk.new)) }
-        ensures ends { IfErr result (λ error. (start : Store) (bytes begun : List ℕ) (first : D) → IsAt start bytes (Some begun) self (D.said desk.old)
-            → IsKept self.keeper (D.may_leave first) (D.held desk.old) (D.may_leave desk.old)
-            → LeavesAtEntry error (is_file self.keeper) (D.may_leave first) slot_limit start (script bytes) begun (D.said desk.new) (D.held desk.new) (D.may_leave desk.new)) }
-        ensures shows { (start : Store) (bytes begun : List ℕ) (first : D) → IsAt start bytes (Some begun) self (D.said desk.old)
-            → IsKept self.keeper (D.may_leave first) (D.held desk.old) (D.may_leave desk.old)
-            → ShowsOnly D.Desk desk.old desk.new
-            (ShowsAnswered (is_file self.keeper) (D.may_leave first) slot_limit start (script bytes) begun) }
-        ensures alone { is_file self.keeper ≡ false → (D.held desk.new ≡ D.held desk.old) × (D.written desk.new ≡ D.written desk.old) × (D.device_faults desk.new ≡ D.device_faults desk.old) }
-        ensures says_counted { CountsAt (result ≡ Err AnswerError.SayFault) (D.line_faults desk.old) (D.line_faults desk.new) }
-        ensures device_counted { CountsAt (result ≡ Err AnswerError.DeviceFault) (D.device_faults desk.old) (D.device_faults desk.new) }
+        ensures kept { IfOk result (λ keeper. StaysKept D.Desk self.keeper desk.old keeper desk.new) }
+        ensures ends { IfErr result (λ error.
+            StopsIn D.Desk error self script desk.old desk.new) }
+        ensures shows { ShowsIn D.Desk self script desk.old desk.new }
+        ensures alone { is_file self.keeper ≡ false → LeavesFile D.Desk desk.old desk.new }
+        ensures says_counted { CountsAt (result ≡ Err AnswerError.SayFault)
+            (D.line_faults desk.old) (D.line_faults desk.new) }
+        ensures device_counted { CountsAt (result ≡ Err AnswerError.DeviceFault)
+            (D.device_faults desk.old) (D.device_faults desk.new) }
     {
         answer(self.alloc, self.keeper, &self.line, desk)
     }

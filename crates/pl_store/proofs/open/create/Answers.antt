@@ -1,14 +1,28 @@
-use Rattle.std.proofs.Common.{arith}
+use Rattle.std.proofs.Common.{◌≡◌, List, ℕ, Some, [], ◌∙◌, ap, arith, subst}
 use Rattle.std.proofs.lemmas.List.{nil_from_length}
 use Rattle.std.proofs.lemmas.Option.{IfSome_then, MatchOption-at_some}
+use Rattle.pl_desk.specs.Shown.{Rests}
+use Rattle.pl_gate.specs.States.{IsClosed}
+use Rattle.pl_form.specs.Form.{StandsFor}
+use Rattle.pl_store.specs.Session.{bytes_of, store_of}
 use Rattle.pl_store.proofs.open.create.Goals as goal
 
-pub returns-clause-was_empty : goal.returns-clause-was_empty
-returns-clause-was_empty g c =
-    IfSome_then (g.D.Desk.held c.args.desk.now) c.in_ok-len.ensures.length (λ file is. nil_from_length file (omega (arith, is, c.if-len-gt0.false)))
-
-pub returns-clause-not_over : goal.returns-clause-not_over
-returns-clause-not_over g c file is some = absurd (omega (arith, some, MatchOption-at_some _ _ file is c.in_ok-len.ensures.length, c.if-len-gt0.false))
-
-pub returns-in_err-write_change-clause-not_over : goal.returns-in_err-write_change-clause-not_over
-returns-in_err-write_change-clause-not_over g c file is some = absurd (omega (arith, some, MatchOption-at_some _ _ file is c.in_ok-len.ensures.length, c.if-len-gt0.false))
+pub returns-clause-ends : goal.returns-clause-ends
+returns-clause-ends g c =
+    let done = c.in_ok-session.ensures in
+    let desk = g.D.Desk in
+    record {
+      store = done.store;
+      limit = done.limit;
+      was_empty = IfSome_then (desk.held c.args.desk.now) c.in_ok-len.ensures.length
+          (λ file is. nil_from_length file (omega (arith, is, c.if-len-gt0.false)));
+      settled = λ file is.
+          let len = MatchOption-at_some _ _ file is c.in_ok-len.ensures.length in
+          let empty : file ≡ [] = nil_from_length file (omega (arith, len, c.if-len-gt0.false)) in
+          let held = c.len.ensures.held ∙ is ∙ ap Some empty in
+          record {
+            rests = subst (λ (bytes : List ℕ). Rests desk c.write_change.new.desk (IsClosed bytes)) done.whole
+                (c.in_ok-write_change.ensures.closed_empty held done.before done.after);
+            stands = done.stands;
+          };
+    }

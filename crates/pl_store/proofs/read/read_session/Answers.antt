@@ -1,13 +1,47 @@
-use Rattle.std.proofs.Common.{ℕ, List, IfSome, drop, length, take, ◌∙◌, ap, arith, subst, sym}
-use Rattle.std.proofs.lemmas.List.{length-take, take-take}
-use Rattle.std.proofs.lemmas.Option.{IfSome_then}
-use Rattle.std.proofs.lemmas.Result.{IfOk-weaker}
-use Rattle.pl_base.specs.Touched.{page_size}
+use Rattle.std.proofs.Common.{◌≡◌, ◌≤◌, ◌+◌, ◌-◌, ◌*◌, ◌++◌, ◌∙◌, ℕ, List, Option, Err, IfSome}
+use Rattle.std.proofs.Common.{ap, arith, drop, length, refl, subst, sym, take}
+use Rattle.std.specs.List.{slice_range}
+use Rattle.std.proofs.lemmas.List.{drop-take, length-drop, length-take, length-take-le, take-take}
+use Rattle.std.proofs.Math.Seq.{take-append_seam}
+use Rattle.std.proofs.lemmas.Option.{IfSome_then, MatchOption-at_some}
+use Rattle.std.proofs.lemmas.Result.{err_from_is_err_and}
+use Rattle.pl_base.specs.Touched.{bytes_before, page_size}
+use Rattle.pl_desk.specs.AnyMoment.{read_call}
+use Rattle.pl_form.specs.declared.check_error.CheckError.{CheckError}
+use Rattle.pl_form.specs.declared.check_error.CheckError.TheVariants as check
+use Rattle.pl_form.specs.Form.{form_bytes, store_rows}
 use Rattle.pl_store.specs.declared.session.Session.{Session}
-use Rattle.pl_store.specs.Reading.{HoldNone, IsReadFrom, IsStoreOf}
+use Rattle.pl_store.specs.Errors.{ended_by_check}
+use Rattle.pl_store.specs.Reading.{HoldNone, HoldPages, IsReadFrom, IsStoreOf, Reads}
 use Rattle.pl_store.specs.Session.{bytes_of, store_of}
 use Rattle.pl_store.specs.StandsLaws.{stands_for_more}
+use Rattle.pl_store.proofs.OpenedFiles.{if_some}
 use Rattle.pl_store.proofs.read.read_session.Goals as goal
+
+-- as many of the bytes as each of their stores has
+front_of : (bytes : List ℕ) (pages : ℕ) → bytes_before pages ≤ length bytes → HoldPages pages bytes → IsStoreOf bytes (take (bytes_before pages) bytes)
+front_of bytes pages within hold = record {
+  begins = ap (λ n. take n bytes) (length-take-le (bytes_before pages) bytes within);
+  whole = λ store stands. record {
+    good = stands.good;
+    of_visits = stands.of_visits;
+    texts = stands.texts;
+    live = stands.live;
+    begins = take-take (length (form_bytes (store_rows store))) (bytes_before pages) bytes (omega (arith, hold store stands)) ∙ stands.begins;
+  };
+}
+
+-- the first pages of a file, from page 1 on
+pages_read : (file read : List ℕ) (pages len : ℕ) → 2 ≤ pages → page_size * pages ≤ length file → HoldPages pages (drop page_size file) → len ≡ page_size * pages → read ≡ slice_range file 0 (0 + len) → IsStoreOf (drop page_size file) (drop page_size read)
+pages_read file read pages len some within hold counted is =
+    let whole : 0 + len - 0 ≡ page_size + bytes_before pages = omega arith in
+    let front : drop page_size read ≡ take (bytes_before pages) (drop page_size file) =
+    ap (drop page_size) (is ∙ ap (λ n. take n file) whole) ∙ drop-take page_size (bytes_before pages) file in
+    subst (IsStoreOf (drop page_size file)) (sym front) (front_of (drop page_size file) pages (omega (arith, length-drop page_size file)) hold)
+
+-- a vector that a read filled
+read_back : (out rest : List ℕ) (len : ℕ) → len ≡ length out → take len (out ++ rest) ≡ out
+read_back out rest len same = rw same (take-append_seam out rest)
 
 -- what was read from the store's bytes was read from all of them
 read_from : (session : Session) (bytes front : List ℕ) → IsStoreOf bytes front → IsReadFrom session front → IsReadFrom session bytes
@@ -20,14 +54,45 @@ read_from session bytes front is read =
       own = read.own;
     }
 
-pub returns-clause-read : goal.returns-clause-read
-returns-clause-read g c =
-    let held = g.D.Desk.held c.args.desk.now in
-    IfOk-weaker c.session_of.result (λ session. IsReadFrom session (drop page_size c.deref.result.now)) (λ session. IfSome held (λ file. IsReadFrom session (drop page_size file)))
-    (λ session read. IfSome_then held c.in_ok-bytes.ensures.store
-    (λ file is. read_from session (drop page_size file) (drop page_size c.in_ok-bytes.bytes.items) is (subst (λ (bytes : List ℕ). IsReadFrom session (drop page_size bytes)) c.deref.ensures.value read))) c.session_of.ensures.read
+pub returns-clause-reads : goal.returns-clause-reads
+returns-clause-reads g c =
+    let desk = g.D.Desk in let mid = c.store_pages.new.desk in let read = c.read_at.ensures in
+    read_call desk c.args.desk.now mid c.read_at.new.self c.store_pages.ensures.reads read.held read.said read.written
+    read.line read.leaves read.time
 
-pub returns-clause-not_a_store : goal.returns-clause-not_a_store
-returns-clause-not_a_store g c ended =
-    let none = subst (λ (bytes : List ℕ). HoldNone (drop page_size bytes)) c.deref.ensures.value (c.session_of.ensures.not_a_store ended) in
-    IfSome_then (g.D.Desk.held c.args.desk.now) c.in_ok-bytes.ensures.store (λ file is store stands. none store (is.whole store stands))
+-- a check that failed for want of memory tells nothing of the file
+check_failed : (limit : ℕ) (held : Option (List ℕ)) (error : CheckError)
+    → (error ≡ check.NotAStore → IfSome held (λ file. HoldNone (drop page_size file)))
+    → Reads limit held (Err (ended_by_check error))
+check_failed limit held check.NotAStore none = none refl
+check_failed limit held check.NoMemory none = tt
+
+pub returns-in_err-session_of-clause-ends : goal.returns-in_err-session_of-clause-ends
+returns-in_err-session_of-clause-ends g c =
+    let held = g.D.Desk.held in
+    let told = rw c.in-Some.is at c.in_ok-pages.ensures.pages in
+    let pages : ℕ = c.in-Some.pages in
+    let len : length c.deref_mut.result.now ≡ page_size * pages = omega (arith, c.deref_mut.ensures.len, c.in_ok-resize.ensures.len) in
+    let p = err_from_is_err_and c.from_residual-in_err-session_of.result c.from_residual-in_err-session_of.ensures.1 in
+    rw (p.1, p.2) (check_failed c.args.limit (held c.args.desk.now) c.in_err-session_of.field-0.0 (λ error_is.
+    if_some (held c.args.desk.now) _ (λ file is store stands.
+    let are = MatchOption-at_some _ _ file is told.2 in
+    let read : c.read_at.new.out ≡ slice_range file 0 (0 + length c.deref_mut.result.now) = MatchOption-at_some _ _ file (c.store_pages.ensures.reads.file.held ∙ is) c.in_ok-read_at.ensures.read in
+    let back = read_back c.read_at.new.out _ _ (omega (arith, c.deref_mut.ensures.len, c.read_at.auto.out)) in
+    let front = pages_read file c.deref.result.now pages (length c.deref_mut.result.now) told.0 are.within are.whole len (c.deref.ensures.value ∙ back ∙ read) in
+    c.session_of.ensures.not_a_store (c.in_err-session_of.was ∙ ap Err error_is) store (front.whole store stands))))
+
+pub returns-clause-ends : goal.returns-clause-ends
+returns-clause-ends g c =
+    let held = g.D.Desk.held in
+    let told = rw c.in-Some.is at c.in_ok-pages.ensures.pages in
+    let pages : ℕ = c.in-Some.pages in
+    let len : length c.deref_mut.result.now ≡ page_size * pages = omega (arith, c.deref_mut.ensures.len, c.in_ok-resize.ensures.len) in (
+      c.in_ok-session_of.ensures.limit,
+      if_some (held c.args.desk.now) _ (λ file is.
+          let are = MatchOption-at_some _ _ file is told.2 in
+          let read : c.read_at.new.out ≡ slice_range file 0 (0 + length c.deref_mut.result.now) = MatchOption-at_some _ _ file (c.store_pages.ensures.reads.file.held ∙ is) c.in_ok-read_at.ensures.read in
+          let back = read_back c.read_at.new.out _ _ (omega (arith, c.deref_mut.ensures.len, c.read_at.auto.out)) in
+          read_from c.in_ok-session_of.field-0 (drop page_size file) (drop page_size c.deref.result.now)
+          (pages_read file c.deref.result.now pages (length c.deref_mut.result.now) told.0 are.within are.whole len (c.deref.ensures.value ∙ back ∙ read)) c.in_ok-session_of.ensures.read),
+    )

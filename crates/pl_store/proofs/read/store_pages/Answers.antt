@@ -1,13 +1,15 @@
-use Rattle.std.proofs.Common.{◌≡◌, ◌≤◌, ◌<◌, ◌-◌, ◌*◌, ◌++◌, ◌∙◌, ℕ, List, Option, IsSome, ap, arith, drop, length, refl, replicate, sym, take}
+use Rattle.std.proofs.Common.{◌≡◌, ◌≤◌, ◌<◌, ◌-◌, ◌*◌, ◌++◌, ◌∙◌, ℕ, List, ap, arith, drop, length, replicate, sym, take}
 use Rattle.std.proofs.lemmas.List.{length-append, length-drop, length-take}
 use Rattle.std.proofs.lemmas.Option.{IfSome_then, MatchOption-at_some}
 use Rattle.pl_base.specs.Store.{Store}
 use Rattle.pl_base.specs.Touched.{page_size}
-use Rattle.pl_desk.specs.AnyMoment.{OnlyNow, and_call, begun}
-use Rattle.pl_desk.specs.Desk.{AtAnyMoment, Elapses, Shows}
+use Rattle.pl_desk.specs.AnyMoment.{read_call, reads_none}
+use Rattle.pl_desk.specs.Calls.{OnlyReads}
 use Rattle.pl_form.specs.Form.{StandsFor, filled_pages, form_bytes, header, plain_bytes, store_rows}
-use Rattle.pl_store.specs.Reading.{HoldNone, HoldPages}
+use Rattle.pl_store.specs.Reading.{ArePagesOf, HoldNone, HoldPages}
 use Rattle.pl_store.proofs.OpenedFiles.{if_some}
+use Rattle.pl_store.proofs.read.store_pages.Given.{Over}
+use Rattle.pl_store.proofs.read.store_pages.Goals.{After-len, After-read_at}
 use Rattle.pl_store.proofs.read.store_pages.Goals as goal
 
 -- ---- what the bytes stand for
@@ -34,64 +36,70 @@ cut_off file pages hold cut store stands =
 
 -- ---- what a stop shows
 
-module _ {D : Type 0} (moment : D → ℕ) (shown_since : D → ℕ → List ℕ → List ℕ → Type 0) (may_leave : D → List ℕ → Type 0) (said held : D → Option (List ℕ)) where
-  two_shown : OnlyNow moment shown_since may_leave said held → (old mid new : D) → IsSome (said old) → said mid ≡ said old → ((file : List ℕ) → may_leave mid file → may_leave old file) → ((file : List ℕ) → may_leave new file → may_leave mid file)
-      → Elapses (moment old) (moment mid) (shown_since old) (shown_since mid) (Shows (may_leave mid) (said old)) → Elapses (moment mid) (moment new) (shown_since mid) (shown_since new) (Shows (may_leave new) (said mid))
-      → AtAnyMoment moment shown_since said old new (may_leave old)
-  two_shown only_now old mid new some unsaid first second time later =
-      and_call moment shown_since may_leave said held old mid new (may_leave old) unsaid
-      (and_call moment shown_since may_leave said held old old mid (may_leave old) refl
-      (begun moment shown_since may_leave said held only_now old (may_leave old) some (λ file left. left)) time first)
-      later (λ file left. first file (second file left))
+len_read : (g : Over) (c : After-len g) → OnlyReads g.D.Desk c.args.desk.now c.len.new.self
+len_read g c =
+    let desk = g.D.Desk in let old = c.args.desk.now in let len = c.len.ensures in
+    read_call desk old old c.len.new.self (reads_none desk g.met.D.Desk.only_now old) len.held len.said len.written len.line
+    len.leaves len.time
 
--- ---- the goals
+header_read : (g : Over) (c : After-read_at g) → OnlyReads g.D.Desk c.args.desk.now c.read_at.new.self
+header_read g c =
+    let desk = g.D.Desk in let old = c.args.desk.now in let mid = c.len.new.self in
+    let len = c.len.ensures in let read = c.read_at.ensures in
+    let first = read_call desk old old mid (reads_none desk g.met.D.Desk.only_now old) len.held len.said len.written len.line
+    len.leaves len.time in
+    read_call desk old mid c.read_at.new.self first read.held read.said read.written read.line read.leaves read.time
 
-pub returns-then-len-clause-not_a_store : goal.returns-then-len-clause-not_a_store
-returns-then-len-clause-not_a_store g c ended =
-    IfSome_then (g.D.Desk.held c.args.desk.now) c.in_ok-len.ensures.length (λ file is. too_short file (omega (arith, is, c.if-len.true)))
+pub returns-in_err-len-clause-reads : goal.returns-in_err-len-clause-reads
+returns-in_err-len-clause-reads g c = len_read g c.before.before.before
 
-pub returns-in_default-clause-not_a_store : goal.returns-in_default-clause-not_a_store
-returns-in_default-clause-not_a_store g c ended =
+pub returns-then-len-clause-reads : goal.returns-then-len-clause-reads
+returns-then-len-clause-reads g c = len_read g c.before.before.before
+
+pub returns-in_err-read_at-clause-reads : goal.returns-in_err-read_at-clause-reads
+returns-in_err-read_at-clause-reads g c = header_read g c.before.before.before.before
+
+pub returns-in_default-clause-reads : goal.returns-in_default-clause-reads
+returns-in_default-clause-reads g c = header_read g c.before.before.before.before.before.before
+
+pub returns-then-len-from-clause-reads : goal.returns-then-len-from-clause-reads
+returns-then-len-from-clause-reads g c = header_read g c.before.before.before.before.before.before.before.before
+
+pub returns-clause-reads : goal.returns-clause-reads
+returns-clause-reads g c = header_read g c.before.before.before.before.before.before.before.before
+
+-- ---- what the header tells
+
+pub returns-then-len-clause-pages : goal.returns-then-len-clause-pages
+returns-then-len-clause-pages g c =
+    IfSome_then (g.D.Desk.held c.args.desk.now) c.in_ok-len.ensures.length
+    (λ file is. too_short file (omega (arith, is, c.if-len.true)))
+
+pub returns-in_default-clause-pages : goal.returns-in_default-clause-pages
+returns-in_default-clause-pages g c =
     let held = g.D.Desk.held in
     if_some (held c.args.desk.now) (λ file. HoldNone (drop page_size file)) (λ file is store stands.
     let first : c.read_at.new.out ≡ take page_size (drop page_size file) = MatchOption-at_some _ _ file (c.len.ensures.held ∙ is) c.in_ok-read_at.ensures.read in
     c.in_default.ensures.whole (drop page_size file) store stands (sym first))
 
-pub returns-then-len-from-clause-not_a_store : goal.returns-then-len-from-clause-not_a_store
-returns-then-len-from-clause-not_a_store g c ended =
+pub returns-then-len-from-clause-pages : goal.returns-then-len-from-clause-pages
+returns-then-len-from-clause-pages g c =
     let held = g.D.Desk.held in
     if_some (held c.args.desk.now) (λ file. HoldNone (drop page_size file)) (λ file is.
     let first : c.read_at.new.out ≡ take page_size (drop page_size file) = MatchOption-at_some _ _ file (c.len.ensures.held ∙ is) c.in_ok-read_at.ensures.read in
     let len : c.in_ok-len.len ≡ length file = MatchOption-at_some _ _ file is c.in_ok-len.ensures.length in
     cut_off file c.in-Some.pages (λ store stands. c.in-Some.ensures.whole (drop page_size file) store stands (sym first)) (omega (arith, len, c.from.ensures, c.if-len-from.true)))
 
-pub returns-clause-whole : goal.returns-clause-whole
-returns-clause-whole g c =
-    let held = g.D.Desk.held in
-    if_some (held c.args.desk.now) (λ file. HoldPages c.in-Some.pages (drop page_size file)) (λ file is store stands.
-    let first : c.read_at.new.out ≡ take page_size (drop page_size file) = MatchOption-at_some _ _ file (c.len.ensures.held ∙ is) c.in_ok-read_at.ensures.read in
-    c.in-Some.ensures.whole (drop page_size file) store stands (sym first))
-
-pub returns-in_err-read_at-clause-any_moment : goal.returns-in_err-read_at-clause-any_moment
-returns-in_err-read_at-clause-any_moment g c some =
-    let desk = g.D.Desk in
-    two_shown desk.moment desk.shown_since desk.may_leave desk.said desk.held g.met.D.Desk.only_now c.args.desk.now c.len.new.self c.read_at.new.self some
-    c.len.ensures.said c.len.ensures.leaves c.read_at.ensures.leaves c.len.ensures.time c.read_at.ensures.time
-
-pub returns-in_default-clause-any_moment : goal.returns-in_default-clause-any_moment
-returns-in_default-clause-any_moment g c some =
-    let desk = g.D.Desk in
-    two_shown desk.moment desk.shown_since desk.may_leave desk.said desk.held g.met.D.Desk.only_now c.args.desk.now c.len.new.self c.read_at.new.self some
-    c.len.ensures.said c.len.ensures.leaves c.read_at.ensures.leaves c.len.ensures.time c.read_at.ensures.time
-
-pub returns-then-len-from-clause-any_moment : goal.returns-then-len-from-clause-any_moment
-returns-then-len-from-clause-any_moment g c some =
-    let desk = g.D.Desk in
-    two_shown desk.moment desk.shown_since desk.may_leave desk.said desk.held g.met.D.Desk.only_now c.args.desk.now c.len.new.self c.read_at.new.self some
-    c.len.ensures.said c.len.ensures.leaves c.read_at.ensures.leaves c.len.ensures.time c.read_at.ensures.time
-
-pub returns-clause-any_moment : goal.returns-clause-any_moment
-returns-clause-any_moment g c some =
-    let desk = g.D.Desk in
-    two_shown desk.moment desk.shown_since desk.may_leave desk.said desk.held g.met.D.Desk.only_now c.args.desk.now c.len.new.self c.read_at.new.self some
-    c.len.ensures.said c.len.ensures.leaves c.read_at.ensures.leaves c.len.ensures.time c.read_at.ensures.time
+pub returns-clause-pages : goal.returns-clause-pages
+returns-clause-pages g c =
+    let held = g.D.Desk.held in (
+      c.in-Some.ensures.some,
+      c.in-Some.ensures.most,
+      if_some (held c.args.desk.now) (ArePagesOf c.in-Some.pages) (λ file is.
+          let first : c.read_at.new.out ≡ take page_size (drop page_size file) = MatchOption-at_some _ _ file (c.len.ensures.held ∙ is) c.in_ok-read_at.ensures.read in
+          let len : c.in_ok-len.len ≡ length file = MatchOption-at_some _ _ file is c.in_ok-len.ensures.length in
+          record {
+            within = omega (arith, len, c.from.ensures, c.if-len-from.false);
+            whole = λ store stands. c.in-Some.ensures.whole (drop page_size file) store stands (sym first);
+          }),
+    )

@@ -1,26 +1,25 @@
 use Rattle.std.proofs.Common.{◌≡◌, ℕ, IsSome, List, Some, length, inl, sym, subst}
 use Rattle.pl_base.specs.Touched.{bytes_before}
-use Rattle.pl_desk.specs.AnyMoment.{begun, some_said, weaker}
-use Rattle.pl_desk.specs.Desk.{AtAnyMoment, Rests}
+use Rattle.pl_desk.specs.AnyMoment.{begun, left_now, some_said, weaker}
 use Rattle.pl_gate.specs.States.{HoldsEither, IsClosed}
 use Rattle.pl_store.specs.declared.pending.Pending.{Pending}
 use Rattle.pl_store.specs.declared.session.Prepared.{Prepared}
 use Rattle.pl_store.specs.declared.session.Session.{Session}
 use Rattle.pl_store.specs.Session.{IsPreparedFrom, IsSettled, StandsForEither, bytes_of, next_bytes, next_store, store_of}
 use Rattle.pl_store.specs.StandsLaws.{settled_stands, stands_by_either}
-use Rattle.pl_store.proofs.LeftLemmas.{left_now}
 use Rattle.pl_store.proofs.session.Prepared.commit.Given.{Over}
 use Rattle.pl_store.proofs.session.Prepared.commit.Goals as goal
+use Rattle.pl_desk.specs.Shown.{AtAnyMoment, Rests}
 
 -- what a stop within the write of the change shows
 write_shown : (g : Over) (old new : g.row.D.Denot) (prepared : Prepared) (pending : Pending) → prepared.change ≡ Some pending
-    → ((pages : List ℕ) → Rests (g.D.Desk.held old) (g.D.Desk.may_leave old) (IsClosed pages) → length pages ≡ bytes_before pending.touched.before
-    → AtAnyMoment g.D.Desk.moment g.D.Desk.shown_since g.D.Desk.said old new (HoldsEither pending.touched pages))
-    → (before : Session) → IsPreparedFrom before prepared → IsSettled before (g.D.Desk.held old) (g.D.Desk.may_leave old)
-    → AtAnyMoment g.D.Desk.moment g.D.Desk.shown_since g.D.Desk.said old new (StandsForEither (store_of before) (next_store prepared))
+    → ((pages : List ℕ) → Rests g.D.Desk old (IsClosed pages) → length pages ≡ bytes_before pending.touched.before
+    → AtAnyMoment g.D.Desk old new (HoldsEither pending.touched pages))
+    → (before : Session) → IsPreparedFrom before prepared → IsSettled g.D.Desk before old
+    → AtAnyMoment g.D.Desk old new (StandsForEither (store_of before) (next_store prepared))
 write_shown g old new prepared pending is shows before from settled =
     let desk = g.D.Desk in let change = pending.touched in let leads = rw is at from.leads in
-    weaker desk.moment desk.shown_since desk.may_leave desk.said desk.held old new (HoldsEither change (bytes_of before)) (StandsForEither (store_of before) (next_store prepared))
+    weaker desk old new (HoldsEither change (bytes_of before)) (StandsForEither (store_of before) (next_store prepared))
     (shows (bytes_of before) settled.rests leads.1)
     (stands_by_either change (bytes_of before) (next_bytes prepared) (store_of before) (next_store prepared) leads.0 settled.stands from.stands)
 
@@ -28,16 +27,16 @@ pub returns-in_default-clause-settled : goal.returns-in_default-clause-settled
 returns-in_default-clause-settled g c before from settled =
     let desk = g.D.Desk in let same = rw c.in_default.is at from.leads in
     record {
-      rests = subst (λ (bytes : List ℕ). Rests (desk.held c.args.desk.now) (desk.may_leave c.args.desk.now) (IsClosed bytes)) (sym same) settled.rests;
+      rests = subst (λ (bytes : List ℕ). Rests desk c.args.desk.now (IsClosed bytes)) (sym same) settled.rests;
       stands = from.stands;
     }
 
 pub returns-in_default-clause-any_moment : goal.returns-in_default-clause-any_moment
 returns-in_default-clause-any_moment g c before from settled =
     let desk = g.D.Desk in let old = c.args.desk.now in let some = g.met.D.Desk.told_together old in
-    begun desk.moment desk.shown_since desk.may_leave desk.said desk.held g.met.D.Desk.only_now old (StandsForEither (store_of before) (next_store c.args.self))
-    (some_said desk.moment desk.shown_since desk.may_leave desk.said desk.held old settled.rests.file some settled.rests.is_held)
-    (λ file left. inl (settled_stands before (desk.held old) (desk.may_leave old) settled file left))
+    begun desk g.met.D.Desk.only_now old (StandsForEither (store_of before) (next_store c.args.self))
+    (some_said desk old settled.rests.file some settled.rests.is_held)
+    (λ file left. inl (settled_stands desk before old settled file left))
 
 pub returns-in_err-write_change-clause-any_moment : goal.returns-in_err-write_change-clause-any_moment
 returns-in_err-write_change-clause-any_moment g c before from settled =
@@ -47,7 +46,7 @@ pub returns-clause-settled : goal.returns-clause-settled
 returns-clause-settled g c before from settled =
     let desk = g.D.Desk in let new = c.write_change.new.desk in let leads = rw c.in-Some.is at from.leads in
     record {
-      rests = subst (λ (bytes : List ℕ). Rests (desk.held new) (desk.may_leave new) (IsClosed bytes)) leads.0 (c.in_ok-write_change.ensures.closed (bytes_of before) settled.rests leads.1);
+      rests = subst (λ (bytes : List ℕ). Rests desk new (IsClosed bytes)) leads.0 (c.in_ok-write_change.ensures.closed (bytes_of before) settled.rests leads.1);
       stands = from.stands;
     }
 
@@ -56,24 +55,24 @@ returns-clause-any_moment g c before from settled =
     write_shown g c.args.desk.now c.write_change.new.desk c.args.self c.in-Some.pending c.in-Some.is c.write_change.ensures.any_moment before from settled
 
 -- what a stop after it leaves
-write_left : (g : Over) (old new : g.row.D.Denot) (prepared : Prepared) (before : Session) → IsSettled before (g.D.Desk.held old) (g.D.Desk.may_leave old) → g.D.Desk.said new ≡ g.D.Desk.said old
-    → AtAnyMoment g.D.Desk.moment g.D.Desk.shown_since g.D.Desk.said old new (StandsForEither (store_of before) (next_store prepared))
+write_left : (g : Over) (old new : g.row.D.Denot) (prepared : Prepared) (before : Session) → IsSettled g.D.Desk before old → g.D.Desk.said new ≡ g.D.Desk.said old
+    → AtAnyMoment g.D.Desk old new (StandsForEither (store_of before) (next_store prepared))
     → (file : List ℕ) → g.D.Desk.may_leave new file → StandsForEither (store_of before) (next_store prepared) file
 write_left g old new prepared before settled unsaid shows =
     let desk = g.D.Desk in
-    let some = some_said desk.moment desk.shown_since desk.may_leave desk.said desk.held old settled.rests.file (g.met.D.Desk.told_together old) settled.rests.is_held in
-    left_now desk.moment desk.shown_since desk.may_leave desk.said g.met.D.Desk.counts_now old new (StandsForEither (store_of before) (next_store prepared)) (subst IsSome (sym unsaid) some) shows
+    let some = some_said desk old settled.rests.file (g.met.D.Desk.told_together old) settled.rests.is_held in
+    left_now desk g.met.D.Desk.counts_now old new (StandsForEither (store_of before) (next_store prepared)) (subst IsSome (sym unsaid) some) shows
 
 pub returns-in_default-clause-left : goal.returns-in_default-clause-left
 returns-in_default-clause-left g c before from settled file left =
-    let desk = g.D.Desk in inl (settled_stands before (desk.held c.args.desk.now) (desk.may_leave c.args.desk.now) settled file left)
+    let desk = g.D.Desk in inl (settled_stands desk before c.args.desk.now settled file left)
 
 pub returns-in_err-write_change-clause-left : goal.returns-in_err-write_change-clause-left
 returns-in_err-write_change-clause-left g c before from settled =
-    write_left g c.args.desk.now c.write_change.new.desk c.args.self before settled c.write_change.ensures.said
+    write_left g c.args.desk.now c.write_change.new.desk c.args.self before settled c.write_change.ensures.line.said
     (write_shown g c.args.desk.now c.write_change.new.desk c.args.self c.in-Some.pending c.in-Some.is c.write_change.ensures.any_moment before from settled)
 
 pub returns-clause-left : goal.returns-clause-left
 returns-clause-left g c before from settled =
-    write_left g c.args.desk.now c.write_change.new.desk c.args.self before settled c.write_change.ensures.said
+    write_left g c.args.desk.now c.write_change.new.desk c.args.self before settled c.write_change.ensures.line.said
     (write_shown g c.args.desk.now c.write_change.new.desk c.args.self c.in-Some.pending c.in-Some.is c.write_change.ensures.any_moment before from settled)
