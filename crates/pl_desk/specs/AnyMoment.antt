@@ -3,7 +3,7 @@ use Rattle.std.proofs.Common.{◌≡◌, ◌↔◌, ◌≤◌, false, ℕ, List,
 use Rattle.std.proofs.Common.{refl, sym, ◌∙◌, ap, subst, arith}
 use Rattle.std.proofs.lemmas.Bool.{both_ways}
 use Rattle.std.proofs.lemmas.Option.{MatchOption-at_some}
-use Rattle.pl_desk.specs.Calls.{LeavesNoMore, OnlyReads}
+use Rattle.pl_desk.specs.Calls.{LeavesFile, LeavesNoMore, OnlyReads}
 use Rattle.pl_desk.specs.Desk.{Elapses, Only, Shows}
 use Rattle.pl_desk.specs.Moments.{goes_on, shows_less, started}
 use Rattle.pl_desk.specs.Shown.{AtAnyMoment, Rests, Unsaid}
@@ -170,4 +170,22 @@ module _ {D : Type 0} (desk : Ghosts D) where
     };
     shows = λ some. and_more old mid new (desk.may_leave old) (desk.may_leave mid) first.line.said (first.shows some)
         (second.shows (subst IsSome (sym first.line.said) some)) first.file.left;
+  }
+
+  -- ---- a file that is left alone
+
+  pub left_alone : (now : D) → LeavesFile desk now now
+  left_alone now = record {
+    kept = record { held = refl; written = refl; left = λ file may. may };
+    faults = refl;
+  }
+
+  pub alone_on : (old mid new : D) → LeavesFile desk old mid → LeavesFile desk mid new → LeavesFile desk old new
+  alone_on old mid new first second = record {
+    kept = record {
+      held = second.kept.held ∙ first.kept.held;
+      written = second.kept.written ∙ first.kept.written;
+      left = λ file may. first.kept.left file (second.kept.left file may);
+    };
+    faults = second.faults ∙ first.faults;
   }

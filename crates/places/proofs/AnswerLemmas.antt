@@ -1,9 +1,8 @@
 -- What a stop shows while one line is answered.
-use Rattle.std.proofs.Common.{◌≡◌, ℕ, Bool, List, [], ◌∷◌, ◌++◌, take, Option, Some, Ok, Err, inl, inr, ⊎_elim, refl, sym, ap, ◌∙◌, subst, append-nil}
+use Rattle.std.proofs.Common.{◌≡◌, ℕ, Bool, List, [], ◌∷◌, ◌++◌, take, Some, Ok, Err, inl, inr, ⊎_elim, refl, sym, ap, ◌∙◌, subst, append-nil}
 use Rattle.std.proofs.lemmas.Option.{same_Some}
 use Rattle.pl_base.specs.declared.refusal.Refusal.{Refusal}
 use Rattle.pl_base.specs.Store.{Store}
-use Rattle.pl_desk.specs.Desk.{AtAnyMoment, ShowsOnly}
 use Rattle.pl_desk.specs.Moments.{started, and_on, shows_less}
 use Rattle.pl_engine.specs.declared.command.Command.{Command}
 use Rattle.pl_engine.specs.declared.reply.Reply.{Reply}
@@ -19,6 +18,10 @@ use Rattle.places.specs.declared.answer_error.AnswerError.TheVariants as answer
 use Rattle.places.specs.Said.{texts}
 use Rattle.places.specs.Stops.{LeavesOfAnswer, ShowsAnswer, ShowsFront}
 use Rattle.pl_store.specs.KeeperLaws.{kept_keeps, kept_leaves, still_keeps}
+use Rattle.pl_desk.specs.declared.desk.Desk.{Ghosts}
+use Rattle.pl_desk.specs.Shown.{AtAnyMoment, ShowsOnly}
+use Rattle.pl_desk.specs.Calls.{KeepsFile}
+use Rattle.pl_desk.specs.AnyMoment.{OnlyNow}
 
 -- the text of a command's reply
 pub text_of_command : (limit : ℕ) (store : Store) (entries : List (Parsed Command)) (command : Command) (done : Reply × Store) (text : List ℕ) → entries ≡ Ok command ∷ [] → done ≡ perform limit store command → text ≡ reply_text done.0
@@ -33,83 +36,80 @@ after_command limit store next entries command done one step stepped =
     stepped ∙ ap (λ (d : Reply × Store). d.1) step ∙ sym (ap (after limit store) one)
 
 -- the store's file after a refused line
-pub keeps_refused : (keeper : Keeper) (limit : ℕ) (entries : List (Parsed Command)) (refusal : Refusal) (first : List ℕ → Type 0) (held held_now : Option (List ℕ)) (may_leave may_leave_now : List ℕ → Type 0) (error : AnswerError)
-    → entries ≡ Err refusal ∷ [] → held_now ≡ held → ((file : List ℕ) → may_leave_now file → may_leave file) → (error ≡ answer.DeviceFault → ⊥)
-    → IsKept keeper first held may_leave → LeavesOfAnswer error (is_file keeper) first (store_of keeper) (after limit (store_of keeper) entries) held_now may_leave_now
-keeps_refused keeper limit entries refusal first held held_now may_leave may_leave_now error one same leaves no_fault kept =
-    at error no_fault (still_keeps (is_file keeper) first (store_of keeper) held held_now may_leave may_leave_now same leaves (kept_keeps keeper first held may_leave kept))
+pub keeps_refused : {D : Type 0} (desk : Ghosts D) (keeper : Keeper) (limit : ℕ) (entries : List (Parsed Command)) (refusal : Refusal) (first old new : D) (error : AnswerError)
+    → entries ≡ Err refusal ∷ [] → KeepsFile desk old new → (error ≡ answer.DeviceFault → ⊥)
+    → IsKept desk keeper first old → LeavesOfAnswer desk error (is_file keeper) first (store_of keeper) (after limit (store_of keeper) entries) new
+keeps_refused {D} desk keeper limit entries refusal first old new error one same no_fault kept =
+    at error no_fault (still_keeps desk (is_file keeper) first (store_of keeper) old new same.held same.left (kept_keeps desk keeper first old kept))
   where
-    at : (e : AnswerError) → (e ≡ answer.DeviceFault → ⊥) → Keeps (is_file keeper) first (store_of keeper) held_now may_leave_now → LeavesOfAnswer e (is_file keeper) first (store_of keeper) (after limit (store_of keeper) entries) held_now may_leave_now
+    at : (e : AnswerError) → (e ≡ answer.DeviceFault → ⊥) → Keeps desk (is_file keeper) first (store_of keeper) new → LeavesOfAnswer desk e (is_file keeper) first (store_of keeper) (after limit (store_of keeper) entries) new
     at answer.SayFault other keeps = rw one keeps
     at answer.DeviceFault other keeps = absurd (other refl)
     at answer.NoMemory other keeps = keeps
 
-leaves_as : (first : List ℕ → Type 0) (file : List ℕ) (kind kind_now : Bool) (store store_now : Store) → kind ≡ kind_now → store ≡ store_now → Leaves kind first store file → Leaves kind_now first store_now file
-leaves_as first file kind kind_now store store_now same_kind same_store leaves =
-    subst (λ (k : Bool). Leaves k first store_now file) same_kind (subst (λ (s : Store). Leaves kind first s file) same_store leaves)
+leaves_as : {D : Type 0} (desk : Ghosts D) (first : D) (file : List ℕ) (kind kind_now : Bool) (store store_now : Store) → kind ≡ kind_now → store ≡ store_now → Leaves desk kind first store file → Leaves desk kind_now first store_now file
+leaves_as desk first file kind kind_now store store_now same_kind same_store leaves =
+    subst (λ (k : Bool). Leaves desk k first store_now file) same_kind (subst (λ (s : Store). Leaves desk kind first s file) same_store leaves)
 
-pub keeps_as : (kind kind_now : Bool) (first : List ℕ → Type 0) (store store_now : Store) (held : Option (List ℕ)) (may_leave : List ℕ → Type 0) → kind ≡ kind_now → store ≡ store_now → Keeps kind first store held may_leave → Keeps kind_now first store_now held may_leave
-keeps_as kind kind_now first store store_now held may_leave same_kind same_store keeps = rw (← same_kind, ← same_store) keeps
+pub keeps_as : {D : Type 0} (desk : Ghosts D) (kind kind_now : Bool) (first : D) (store store_now : Store) (now : D) → kind ≡ kind_now → store ≡ store_now → Keeps desk kind first store now → Keeps desk kind_now first store_now now
+keeps_as desk kind kind_now first store store_now now same_kind same_store keeps = rw (← same_kind, ← same_store) keeps
 
-module _ {D : Type 0} (moment : D → ℕ) (shown_since : D → ℕ → List ℕ → List ℕ → Type 0) (may_leave : D → List ℕ → Type 0) (said held : D → Option (List ℕ)) where
-  abbrev pub OnlyNow : Type 0
-  OnlyNow = (desk : D) (line_now file line : List ℕ) → said desk ≡ Some line_now → shown_since desk (moment desk) file line → may_leave desk file × (line ≡ line_now)
-
+module _ {D : Type 0} (desk : Ghosts D) where
   -- before the first call
-  pub unanswered : OnlyNow → (old first : D) (keeper : Keeper) (limit : ℕ) (entries : List (Parsed Command)) (before : List ℕ) → said old ≡ Some before
-      → IsKept keeper (may_leave first) (held old) (may_leave old) → ShowsOnly moment shown_since old old (ShowsAnswer (is_file keeper) (may_leave first) limit (store_of keeper) entries before)
+  pub unanswered : OnlyNow desk → (old first : D) (keeper : Keeper) (limit : ℕ) (entries : List (Parsed Command)) (before : List ℕ) → desk.said old ≡ Some before
+      → IsKept desk keeper first old → ShowsOnly desk old old (ShowsAnswer desk (is_file keeper) first limit (store_of keeper) entries before)
   unanswered only_now old first keeper limit entries before is kept =
-      started moment shown_since old (ShowsAnswer (is_file keeper) (may_leave first) limit (store_of keeper) entries before)
+      started desk old (ShowsAnswer desk (is_file keeper) first limit (store_of keeper) entries before)
       (λ file line shown. let now = only_now old before file line is shown in record {
         part = 0;
         said = now.1 ∙ sym (append-nil before);
-        leaves = inr (refl, kept_leaves keeper (may_leave first) (held old) (may_leave old) kept file now.0);
+        leaves = inr (refl, kept_leaves desk keeper first old kept file now.0);
       })
 
   -- while the file takes the step, nothing is said
-  pub committing : (old new first : D) (keeper : Keeper) (limit : ℕ) (entries : List (Parsed Command)) (before : List ℕ) (next : Store) → said old ≡ Some before → next ≡ after limit (store_of keeper) entries
-      → AtAnyMoment moment shown_since said old new (LeavesEither (is_file keeper) (may_leave first) (store_of keeper) next)
-      → ShowsOnly moment shown_since old new (ShowsAnswer (is_file keeper) (may_leave first) limit (store_of keeper) entries before)
+  pub committing : (old new first : D) (keeper : Keeper) (limit : ℕ) (entries : List (Parsed Command)) (before : List ℕ) (next : Store) → desk.said old ≡ Some before → next ≡ after limit (store_of keeper) entries
+      → AtAnyMoment desk old new (LeavesEither desk (is_file keeper) first (store_of keeper) next)
+      → ShowsOnly desk old new (ShowsAnswer desk (is_file keeper) first limit (store_of keeper) entries before)
   committing old new first keeper limit entries before next is stepped shows =
-      shows_less moment shown_since old new (λ file line. LeavesEither (is_file keeper) (may_leave first) (store_of keeper) next file × (said old ≡ Some line))
-      (ShowsAnswer (is_file keeper) (may_leave first) limit (store_of keeper) entries before) shows
+      shows_less desk old new (λ file line. LeavesEither desk (is_file keeper) first (store_of keeper) next file × (desk.said old ≡ Some line))
+      (ShowsAnswer desk (is_file keeper) first limit (store_of keeper) entries before) shows
       (λ file line has. record {
         part = 0;
         said = same_Some line before (sym has.1 ∙ is) ∙ sym (append-nil before);
-        leaves = ⊎_elim (λ as_before. inr (refl, as_before)) (λ left. inl (leaves_as (may_leave first) file _ _ next _ refl stepped left)) has.0;
+        leaves = ⊎_elim (λ as_before. inr (refl, as_before)) (λ left. inl (leaves_as desk first file _ _ next _ refl stepped left)) has.0;
       })
 
   -- the reply is said, beside a keeper of the store after the step
   pub answering : (old mid new first : D) (keeper next : Keeper) (limit : ℕ) (entries : List (Parsed Command)) (before text : List ℕ)
       → is_file next ≡ is_file keeper → store_of next ≡ after limit (store_of keeper) entries → texts (replies limit (store_of keeper) entries) ≡ text
-      → IsKept next (may_leave first) (held mid) (may_leave mid)
-      → ShowsOnly moment shown_since old mid (ShowsAnswer (is_file keeper) (may_leave first) limit (store_of keeper) entries before)
-      → ShowsOnly moment shown_since mid new (ShowsFront (may_leave mid) before text)
-      → ShowsOnly moment shown_since old new (ShowsAnswer (is_file keeper) (may_leave first) limit (store_of keeper) entries before)
+      → IsKept desk next first mid
+      → ShowsOnly desk old mid (ShowsAnswer desk (is_file keeper) first limit (store_of keeper) entries before)
+      → ShowsOnly desk mid new (ShowsFront desk mid before text)
+      → ShowsOnly desk old new (ShowsAnswer desk (is_file keeper) first limit (store_of keeper) entries before)
   answering old mid new first keeper next limit entries before text same_kind stepped texts_are kept so_far saying =
-      and_on moment shown_since old mid new (ShowsAnswer (is_file keeper) (may_leave first) limit (store_of keeper) entries before) (ShowsFront (may_leave mid) before text) so_far saying
+      and_on desk old mid new (ShowsAnswer desk (is_file keeper) first limit (store_of keeper) entries before) (ShowsFront desk mid before text) so_far saying
       (λ file line shows. record {
         part = shows.1.0;
         said = shows.1.1 ∙ ap (λ (t : List ℕ). before ++ take shows.1.0 t) (sym texts_are);
-        leaves = inl (leaves_as (may_leave first) file _ _ _ _ same_kind stepped (kept_leaves next (may_leave first) (held mid) (may_leave mid) kept file shows.0));
+        leaves = inl (leaves_as desk first file _ _ _ _ same_kind stepped (kept_leaves desk next first mid kept file shows.0));
       })
 
   -- a command is performed, its step is taken by the file, and its reply is said
-  pub performing : (old mid new first : D) (keeper next : Keeper) (limit : ℕ) (entries : List (Parsed Command)) (command : Command) (done : Reply × Store) (before text : List ℕ) → said old ≡ Some before → said mid ≡ said old
+  pub performing : (old mid new first : D) (keeper next : Keeper) (limit : ℕ) (entries : List (Parsed Command)) (command : Command) (done : Reply × Store) (before text : List ℕ) → desk.said old ≡ Some before → desk.said mid ≡ desk.said old
       → entries ≡ Ok command ∷ [] → done ≡ perform limit (store_of keeper) command → text ≡ reply_text done.0
-      → is_file next ≡ is_file keeper → store_of next ≡ done.1 → IsKept next (may_leave first) (held mid) (may_leave mid)
-      → AtAnyMoment moment shown_since said old mid (LeavesEither (is_file keeper) (may_leave first) (store_of keeper) done.1)
-      → ((line : List ℕ) → said mid ≡ Some line → ShowsOnly moment shown_since mid new (ShowsFront (may_leave mid) line text))
-      → ShowsOnly moment shown_since old new (ShowsAnswer (is_file keeper) (may_leave first) limit (store_of keeper) entries before)
+      → is_file next ≡ is_file keeper → store_of next ≡ done.1 → IsKept desk next first mid
+      → AtAnyMoment desk old mid (LeavesEither desk (is_file keeper) first (store_of keeper) done.1)
+      → ((line : List ℕ) → desk.said mid ≡ Some line → ShowsOnly desk mid new (ShowsFront desk mid line text))
+      → ShowsOnly desk old new (ShowsAnswer desk (is_file keeper) first limit (store_of keeper) entries before)
   performing old mid new first keeper next limit entries command done before text is unsaid one step written same_kind stepped kept shows saying =
       answering old mid new first keeper next limit entries before text same_kind (after_command limit (store_of keeper) (store_of next) entries command done one step stepped)
       (text_of_command limit (store_of keeper) entries command done text one step written) kept
       (committing old mid first keeper limit entries before done.1 is (after_command limit (store_of keeper) done.1 entries command done one step refl) shows) (saying before (unsaid ∙ is))
 
   -- a refusal is said, and the store stays
-  pub refusing : OnlyNow → (old new first : D) (keeper : Keeper) (limit : ℕ) (entries : List (Parsed Command)) (refusal : Refusal) (before : List ℕ) → said old ≡ Some before → entries ≡ Err refusal ∷ []
-      → IsKept keeper (may_leave first) (held old) (may_leave old) → ShowsOnly moment shown_since old new (ShowsFront (may_leave old) before (reply_text (Refused refusal)))
-      → ShowsOnly moment shown_since old new (ShowsAnswer (is_file keeper) (may_leave first) limit (store_of keeper) entries before)
+  pub refusing : OnlyNow desk → (old new first : D) (keeper : Keeper) (limit : ℕ) (entries : List (Parsed Command)) (refusal : Refusal) (before : List ℕ) → desk.said old ≡ Some before → entries ≡ Err refusal ∷ []
+      → IsKept desk keeper first old → ShowsOnly desk old new (ShowsFront desk old before (reply_text (Refused refusal)))
+      → ShowsOnly desk old new (ShowsAnswer desk (is_file keeper) first limit (store_of keeper) entries before)
   refusing only_now old new first keeper limit entries refusal before is one kept saying =
       answering old old new first keeper keeper limit entries before (reply_text (Refused refusal)) refl (sym (ap (after limit (store_of keeper)) one))
       (ap (λ (es : List (Parsed Command)). texts (replies limit (store_of keeper) es)) one ∙ append-nil (reply_text (Refused refusal))) kept

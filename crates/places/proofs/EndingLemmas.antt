@@ -7,7 +7,6 @@ use Rattle.std.proofs.Math.Seq.{take-add}
 use Rattle.std.proofs.lemmas.List.{drop-drop}
 use Rattle.std.proofs.lemmas.Bool.{eqb-true}
 use Rattle.pl_base.specs.Store.{Store}
-use Rattle.pl_desk.specs.Desk.{ShowsOnly}
 use Rattle.pl_desk.specs.Moments.{and_on, shows_less}
 use Rattle.pl_engine.specs.Run.{replies, after}
 use Rattle.pl_script.specs.Script.{script}
@@ -26,6 +25,10 @@ use Rattle.places.specs.Said.{Says, texts}
 use Rattle.places.specs.Stops.{LeavesAtEntry, ShowsAnswered}
 use Rattle.places.proofs.EntryLemmas.{keeps_here, leaves_here, leaves_script}
 use Rattle.places.proofs.StopLemmas.{shows_here, shows_script}
+use Rattle.places.specs.Limits.{script_limit}
+use Rattle.pl_desk.specs.declared.desk.Desk.{Ghosts}
+use Rattle.pl_desk.specs.Shown.{ShowsOnly}
+use Rattle.pl_desk.specs.AnyMoment.{OnlyNow, begun, left_now}
 
 -- the bytes read are a front of the input, and the run stands behind them
 pub record IsBehind (start : Store) (read : ℕ) (bytes before : List ℕ) (left : Option (List ℕ)) (run : ScriptRun) (said : Option (List ℕ)) : Type 0 where
@@ -87,7 +90,7 @@ none_left start read bytes before piece left left' said run behind empty taken e
     let none : drop read bytes ≡ [] = subst (λ l. IfSome l (λ rest. rest ≡ [])) behind.rest_left ended in
     is.rest_left ∙ ap (λ n. Some (drop n bytes)) (omega arith) ∙ ap Some none
 
-says_all : (start : Store) (read : ℕ) (bytes before piece : List ℕ) (left left' said said' : Option (List ℕ)) (run : ScriptRun) → IsBehind start read bytes before left run said → read < 2_147_483_648 → length piece ≡ 0 → left ≡ option_map (λ rest. piece ++ rest) left' → IfSome left (λ rest. rest ≡ []) → ((b : List ℕ) (begun : Option (List ℕ)) → IsAt start b begun run said → Says begun (texts (replies slot_limit start (script b))) said') → SaysAll start bytes before left' said'
+says_all : (start : Store) (read : ℕ) (bytes before piece : List ℕ) (left left' said said' : Option (List ℕ)) (run : ScriptRun) → IsBehind start read bytes before left run said → read < script_limit → length piece ≡ 0 → left ≡ option_map (λ rest. piece ++ rest) left' → IfSome left (λ rest. rest ≡ []) → ((b : List ℕ) (begun : Option (List ℕ)) → IsAt start b begun run said → Says begun (texts (replies slot_limit start (script b))) said') → SaysAll start bytes before left' said'
 says_all start read bytes before piece left left' said said' run behind short empty taken ended answered =
     let whole = at_end start read bytes before piece left said run behind ended in
     record {
@@ -101,14 +104,14 @@ halves : (read : ℕ) (bytes : List ℕ) → take read bytes ++ drop read bytes 
 halves read bytes = take-append-drop read bytes
 
 -- what was read so far
-read_so_far : (start : Store) (read : ℕ) (bytes before : List ℕ) (left left' said : Option (List ℕ)) (run : ScriptRun) → IsBehind start read bytes before left run said → left' ≡ left → read ≤ 2_147_483_648 → HasRead bytes (take read bytes) (drop read bytes) left'
+read_so_far : (start : Store) (read : ℕ) (bytes before : List ℕ) (left left' said : Option (List ℕ)) (run : ScriptRun) → IsBehind start read bytes before left run said → left' ≡ left → read ≤ script_limit → HasRead bytes (take read bytes) (drop read bytes) left'
 read_so_far start read bytes before left left' said run behind kept few = record {
   order = sym (halves read bytes);
   rest_left = kept ∙ behind.rest_left;
   in_limit = omega (arith, length-take-le read bytes behind.in_input, few);
 }
 
-ended_so_far : (start : Store) (read : ℕ) (bytes before : List ℕ) (left left' said : Option (List ℕ)) (run : ScriptRun) → IsBehind start read bytes before left run said → left' ≡ left → read ≤ 2_147_483_648 → SaysEnded start bytes before left' said
+ended_so_far : (start : Store) (read : ℕ) (bytes before : List ℕ) (left left' said : Option (List ℕ)) (run : ScriptRun) → IsBehind start read bytes before left run said → left' ≡ left → read ≤ script_limit → SaysEnded start bytes before left' said
 ended_so_far start read bytes before left left' said run behind kept few = record {
   read = take read bytes;
   rest = drop read bytes;
@@ -122,92 +125,92 @@ empty_piece {len} items is empty = sym is ∙ eqb-true len 0 empty
 
 -- ---- what a stop shows
 
-module _ (kind : Bool) (first : List ℕ → Type 0) (start : Store) where
+module _ {D : Type 0} (desk : Ghosts D) (kind : Bool) (first : D) (start : Store) where
   -- while a piece is taken, and when the input has ended
   pub shows_in_piece : (read : ℕ) (bytes before piece : List ℕ) (left left' said : Option (List ℕ)) (run : ScriptRun) → IsBehind start read bytes before left run said → left ≡ option_map (λ rest. piece ++ rest) left' → (file line : List ℕ)
-      → ShowsAnswered kind first slot_limit start (ended_entries (take read bytes ++ piece)) before file line → ShowsAnswered kind first slot_limit start (script bytes) before file line
+      → ShowsAnswered desk kind first slot_limit start (ended_entries (take read bytes ++ piece)) before file line → ShowsAnswered desk kind first slot_limit start (script bytes) before file line
   shows_in_piece read bytes before piece left left' said run behind taken file line shows =
       let part = piece_of read bytes piece left' behind.in_input (sym behind.rest_left ∙ taken) in
       let order : (take read bytes ++ piece) ++ drop (read + length piece) bytes ≡ bytes = ap (λ front. front ++ drop (read + length piece) bytes) (sym part.front) ∙ halves (read + length piece) bytes in
-      rw order at (shows_script kind first start (take read bytes ++ piece) (drop (read + length piece) bytes) before file line shows)
+      rw order at (shows_script desk kind first start (take read bytes ++ piece) (drop (read + length piece) bytes) before file line shows)
 
   pub shows_at_end : (read : ℕ) (bytes before piece : List ℕ) (left said : Option (List ℕ)) (run : ScriptRun) → IsBehind start read bytes before left run said → IfSome left (λ rest. rest ≡ []) → (file line : List ℕ)
-      → ShowsAnswered kind first slot_limit start (script (take read bytes)) before file line → ShowsAnswered kind first slot_limit start (script bytes) before file line
+      → ShowsAnswered desk kind first slot_limit start (script (take read bytes)) before file line → ShowsAnswered desk kind first slot_limit start (script bytes) before file line
   shows_at_end read bytes before piece left said run behind ended file line shows =
       rw (at_end start read bytes before piece left said run behind ended).0 at shows
 
-module _ {D : Type 0} (moment : D → ℕ) (shown_since : D → ℕ → List ℕ → List ℕ → Type 0) (may_leave : D → List ℕ → Type 0) (said held : D → Option (List ℕ)) where
+module _ {D : Type 0} (desk : Ghosts D) where
   -- before anything happens on the desk
-  pub shows_begun : ((desk : D) (line_now file line : List ℕ) → said desk ≡ Some line_now → shown_since desk (moment desk) file line → may_leave desk file × (line ≡ line_now))
-      → (first : List ℕ → Type 0) (start : Store) (read : ℕ) (bytes before : List ℕ) (left : Option (List ℕ)) (run : ScriptRun) (desk : D) → IsBehind start read bytes before left run (said desk) → IsKept run.keeper first (held desk) (may_leave desk)
-      → ShowsOnly moment shown_since desk desk (ShowsAnswered (is_file run.keeper) first slot_limit start (script bytes) before)
-  shows_begun only_now first start read bytes before left run desk behind kept =
-      shows_less moment shown_since desk desk
-      (ShowsAnswered (is_file run.keeper) first slot_limit start (ended_entries (take read bytes)) before)
-      (ShowsAnswered (is_file run.keeper) first slot_limit start (script bytes) before)
-      (shows_here moment shown_since may_leave said held only_now first start (take read bytes) before run desk behind.at kept)
-      (λ file line shows. rw (halves read bytes) at (shows_script (is_file run.keeper) first start (take read bytes) (drop read bytes) before file line shows))
+  pub shows_begun : OnlyNow desk
+      → (first : D) (start : Store) (read : ℕ) (bytes before : List ℕ) (left : Option (List ℕ)) (run : ScriptRun) (now : D) → IsBehind start read bytes before left run (desk.said now) → IsKept desk run.keeper first now
+      → ShowsOnly desk now now (ShowsAnswered desk (is_file run.keeper) first slot_limit start (script bytes) before)
+  shows_begun only_now first start read bytes before left run now behind kept =
+      shows_less desk now now
+      (ShowsAnswered desk (is_file run.keeper) first slot_limit start (ended_entries (take read bytes)) before)
+      (ShowsAnswered desk (is_file run.keeper) first slot_limit start (script bytes) before)
+      (shows_here desk only_now first start (take read bytes) before run now behind.at kept)
+      (λ file line shows. rw (halves read bytes) at (shows_script desk (is_file run.keeper) first start (take read bytes) (drop read bytes) before file line shows))
 
   -- a piece more was taken, or the last line answered
-  pub shows_piece : (first : List ℕ → Type 0) (start : Store) (read : ℕ) (bytes before piece : List ℕ) (left left' : Option (List ℕ)) (kind : Bool) (run : ScriptRun) (old mid new : D) → IsBehind start read bytes before left run (said mid)
+  pub shows_piece : (first : D) (start : Store) (read : ℕ) (bytes before piece : List ℕ) (left left' : Option (List ℕ)) (kind : Bool) (run : ScriptRun) (old mid new : D) → IsBehind start read bytes before left run (desk.said mid)
       → is_file run.keeper ≡ kind → left ≡ option_map (λ rest. piece ++ rest) left'
-      → ShowsOnly moment shown_since old mid (ShowsAnswered kind first slot_limit start (script bytes) before)
-      → ShowsOnly moment shown_since mid new (ShowsAnswered (is_file run.keeper) first slot_limit start (ended_entries (take read bytes ++ piece)) before)
-      → ShowsOnly moment shown_since old new (ShowsAnswered kind first slot_limit start (script bytes) before)
+      → ShowsOnly desk old mid (ShowsAnswered desk kind first slot_limit start (script bytes) before)
+      → ShowsOnly desk mid new (ShowsAnswered desk (is_file run.keeper) first slot_limit start (ended_entries (take read bytes ++ piece)) before)
+      → ShowsOnly desk old new (ShowsAnswered desk kind first slot_limit start (script bytes) before)
   shows_piece first start read bytes before piece left left' kind run old mid new behind is taken so_far more =
-      and_on moment shown_since old mid new
-      (ShowsAnswered kind first slot_limit start (script bytes) before)
-      (ShowsAnswered (is_file run.keeper) first slot_limit start (ended_entries (take read bytes ++ piece)) before)
+      and_on desk old mid new
+      (ShowsAnswered desk kind first slot_limit start (script bytes) before)
+      (ShowsAnswered desk (is_file run.keeper) first slot_limit start (ended_entries (take read bytes ++ piece)) before)
       so_far more
-      (λ file line shows. shows_in_piece kind first start read bytes before piece left left' (said mid) run behind taken file line (rw is at shows))
+      (λ file line shows. shows_in_piece desk kind first start read bytes before piece left left' (desk.said mid) run behind taken file line (rw is at shows))
 
-  pub shows_last : (first : List ℕ → Type 0) (start : Store) (read : ℕ) (bytes before piece : List ℕ) (left : Option (List ℕ)) (kind : Bool) (run : ScriptRun) (old mid new : D) → IsBehind start read bytes before left run (said mid)
+  pub shows_last : (first : D) (start : Store) (read : ℕ) (bytes before piece : List ℕ) (left : Option (List ℕ)) (kind : Bool) (run : ScriptRun) (old mid new : D) → IsBehind start read bytes before left run (desk.said mid)
       → is_file run.keeper ≡ kind → IfSome left (λ rest. rest ≡ [])
-      → ShowsOnly moment shown_since old mid (ShowsAnswered kind first slot_limit start (script bytes) before)
-      → ShowsOnly moment shown_since mid new (ShowsAnswered (is_file run.keeper) first slot_limit start (script (take read bytes)) before)
-      → ShowsOnly moment shown_since old new (ShowsAnswered kind first slot_limit start (script bytes) before)
+      → ShowsOnly desk old mid (ShowsAnswered desk kind first slot_limit start (script bytes) before)
+      → ShowsOnly desk mid new (ShowsAnswered desk (is_file run.keeper) first slot_limit start (script (take read bytes)) before)
+      → ShowsOnly desk old new (ShowsAnswered desk kind first slot_limit start (script bytes) before)
   shows_last first start read bytes before piece left kind run old mid new behind is ended so_far more =
-      and_on moment shown_since old mid new
-      (ShowsAnswered kind first slot_limit start (script bytes) before)
-      (ShowsAnswered (is_file run.keeper) first slot_limit start (script (take read bytes)) before)
+      and_on desk old mid new
+      (ShowsAnswered desk kind first slot_limit start (script bytes) before)
+      (ShowsAnswered desk (is_file run.keeper) first slot_limit start (script (take read bytes)) before)
       so_far more
-      (λ file line shows. shows_at_end kind first start read bytes before piece left (said mid) run behind ended file line (rw is at shows))
+      (λ file line shows. shows_at_end desk kind first start read bytes before piece left (desk.said mid) run behind ended file line (rw is at shows))
 
 -- ---- what a run leaves at its end
 
 -- by the status that comes of the error
-ends_at : (error : AnswerError) (e : Stop) (s : Status) (kind : Bool) (first : List ℕ → Type 0) (start : Store) (bytes before : List ℕ) (left said held : Option (List ℕ)) (may_leave : List ℕ → Type 0) → Becomes error e → EndsIn e s
-    → LeavesWithin error kind first start bytes before left said held may_leave → LeavesAtEnd s kind first start bytes before left said held may_leave
-ends_at answer.SayFault e s kind first start bytes before left said held may_leave is ends leaves =
-    subst (λ (t : Status). LeavesAtEnd t kind first start bytes before left said held may_leave) (sym (rw is at ends)) leaves
-ends_at answer.DeviceFault e s kind first start bytes before left said held may_leave is ends leaves =
-    subst (λ (t : Status). LeavesAtEnd t kind first start bytes before left said held may_leave) (sym (rw is at ends)) (inr leaves)
-ends_at answer.NoMemory e s kind first start bytes before left said held may_leave is ends leaves =
-    subst (λ (t : Status). LeavesAtEnd t kind first start bytes before left said held may_leave) (sym (rw is at ends)) leaves
+ends_at : {D : Type 0} (desk : Ghosts D) (error : AnswerError) (e : Stop) (s : Status) (kind : Bool) (first : D) (start : Store) (bytes before : List ℕ) (left : Option (List ℕ)) (now : D) → Becomes error e → EndsIn e s
+    → LeavesWithin desk error kind first start bytes before left now → LeavesAtEnd desk s kind first start bytes before left now
+ends_at desk answer.SayFault e s kind first start bytes before left now is ends leaves =
+    subst (λ (t : Status). LeavesAtEnd desk t kind first start bytes before left now) (sym (rw is at ends)) leaves
+ends_at desk answer.DeviceFault e s kind first start bytes before left now is ends leaves =
+    subst (λ (t : Status). LeavesAtEnd desk t kind first start bytes before left now) (sym (rw is at ends)) (inr leaves)
+ends_at desk answer.NoMemory e s kind first start bytes before left now is ends leaves =
+    subst (λ (t : Status). LeavesAtEnd desk t kind first start bytes before left now) (sym (rw is at ends)) leaves
 
 -- the lines that ended are among those that were read
-leaves_read : (error : AnswerError) (kind : Bool) (first : List ℕ → Type 0) (start : Store) (before : List ℕ) (said held : Option (List ℕ)) (may_leave : List ℕ → Type 0) (read rest : List ℕ)
-    → LeavesAtEntry error kind first slot_limit start (ended_entries read) before said held may_leave → LeavesAtEntry error kind first slot_limit start (entries_read read rest) before said held may_leave
-leaves_read error kind first start before said held may_leave read [] leaves = rw append-nil at (leaves_script error kind first start before said held may_leave read [] leaves)
-leaves_read error kind first start before said held may_leave read (b ∷ rest) leaves = leaves
+leaves_read : {D : Type 0} (desk : Ghosts D) (error : AnswerError) (kind : Bool) (first : D) (start : Store) (before : List ℕ) (now : D) (read rest : List ℕ)
+    → LeavesAtEntry desk error kind first slot_limit start (ended_entries read) before now → LeavesAtEntry desk error kind first slot_limit start (entries_read read rest) before now
+leaves_read desk error kind first start before now read [] leaves = rw append-nil at (leaves_script desk error kind first start before now read [] leaves)
+leaves_read desk error kind first start before now read (b ∷ rest) leaves = leaves
 
-module _ (kind : Bool) (first : List ℕ → Type 0) (start : Store) (read : ℕ) (bytes before piece : List ℕ) (left left_now : Option (List ℕ)) (run : ScriptRun) (was said held : Option (List ℕ)) (may_leave : List ℕ → Type 0) where
+module _ {D : Type 0} (desk : Ghosts D) (kind : Bool) (first : D) (start : Store) (read : ℕ) (bytes before piece : List ℕ) (left left_now : Option (List ℕ)) (run : ScriptRun) (was : Option (List ℕ)) (now : D) where
   -- at the end of the input
-  pub ends_done : (s : Status) (store : Store) → s ≡ status.Done → IsBehind start read bytes before left run was → read < 2_147_483_648 → length piece ≡ 0 → left ≡ option_map (λ rest. piece ++ rest) left_now → IfSome left (λ rest. rest ≡ [])
-      → ((b : List ℕ) (begun : Option (List ℕ)) → IsAt start b begun run was → Says begun (texts (replies slot_limit start (script b))) said)
-      → ((b : List ℕ) (begun : Option (List ℕ)) → IsAt start b begun run was → store ≡ after slot_limit start (script b)) → Keeps kind first store held may_leave
-      → LeavesAtEnd s kind first start bytes before left_now said held may_leave
+  pub ends_done : (s : Status) (store : Store) → s ≡ status.Done → IsBehind start read bytes before left run was → read < script_limit → length piece ≡ 0 → left ≡ option_map (λ rest. piece ++ rest) left_now → IfSome left (λ rest. rest ≡ [])
+      → ((b : List ℕ) (begun : Option (List ℕ)) → IsAt start b begun run was → Says begun (texts (replies slot_limit start (script b))) (desk.said now))
+      → ((b : List ℕ) (begun : Option (List ℕ)) → IsAt start b begun run was → store ≡ after slot_limit start (script b)) → Keeps desk kind first store now
+      → LeavesAtEnd desk s kind first start bytes before left_now now
   ends_done s store is behind below none taken ended answered stepped keeps =
-      subst (λ (t : Status). LeavesAtEnd t kind first start bytes before left_now said held may_leave) (sym is) (
-        says_all start read bytes before piece left left_now was said run behind below none taken ended answered,
+      subst (λ (t : Status). LeavesAtEnd desk t kind first start bytes before left_now now) (sym is) (
+        says_all start read bytes before piece left left_now was (desk.said now) run behind below none taken ended answered,
         rw (at_end start read bytes before piece left was run behind ended).0 at (rw (stepped (take read bytes) (Some before) behind.at) at keeps),
       )
 
-  pub ends_last : (error : AnswerError) (e : Stop) (s : Status) → Becomes error e → EndsIn e s → IsBehind start read bytes before left run was → is_file run.keeper ≡ kind → read < 2_147_483_648 → length piece ≡ 0 → left ≡ option_map (λ rest. piece ++ rest) left_now → IfSome left (λ rest. rest ≡ [])
-      → LeavesAtEntry error (is_file run.keeper) first slot_limit start (script (take read bytes)) before said held may_leave → LeavesAtEnd s kind first start bytes before left_now said held may_leave
+  pub ends_last : (error : AnswerError) (e : Stop) (s : Status) → Becomes error e → EndsIn e s → IsBehind start read bytes before left run was → is_file run.keeper ≡ kind → read < script_limit → length piece ≡ 0 → left ≡ option_map (λ rest. piece ++ rest) left_now → IfSome left (λ rest. rest ≡ [])
+      → LeavesAtEntry desk error (is_file run.keeper) first slot_limit start (script (take read bytes)) before now → LeavesAtEnd desk s kind first start bytes before left_now now
   ends_last error e s becomes ends behind is below none taken ended leaves =
       let whole = at_end start read bytes before piece left was run behind ended in
-      ends_at error e s kind first start bytes before left_now said held may_leave becomes ends (record {
+      ends_at desk error e s kind first start bytes before left_now now becomes ends (record {
         read = bytes;
         rest = [];
         has_read = record {
@@ -219,12 +222,12 @@ module _ (kind : Bool) (first : List ℕ → Type 0) (start : Store) (read : ℕ
       })
 
   -- in a piece
-  pub ends_piece : (error : AnswerError) (e : Stop) (s : Status) → Becomes error e → EndsIn e s → IsBehind start read bytes before left run was → is_file run.keeper ≡ kind → read + length piece ≤ 2_147_483_648 → left ≡ option_map (λ rest. piece ++ rest) left_now
-      → LeavesAtEntry error (is_file run.keeper) first slot_limit start (ended_entries (take read bytes ++ piece)) before said held may_leave → LeavesAtEnd s kind first start bytes before left_now said held may_leave
+  pub ends_piece : (error : AnswerError) (e : Stop) (s : Status) → Becomes error e → EndsIn e s → IsBehind start read bytes before left run was → is_file run.keeper ≡ kind → read + length piece ≤ script_limit → left ≡ option_map (λ rest. piece ++ rest) left_now
+      → LeavesAtEntry desk error (is_file run.keeper) first slot_limit start (ended_entries (take read bytes ++ piece)) before now → LeavesAtEnd desk s kind first start bytes before left_now now
   ends_piece error e s becomes ends behind is few taken leaves =
       let part = piece_of read bytes piece left_now behind.in_input (sym behind.rest_left ∙ taken) in
       let order : (take read bytes ++ piece) ++ drop (read + length piece) bytes ≡ bytes = ap (λ front. front ++ drop (read + length piece) bytes) (sym part.front) ∙ halves (read + length piece) bytes in
-      ends_at error e s kind first start bytes before left_now said held may_leave becomes ends (record {
+      ends_at desk error e s kind first start bytes before left_now now becomes ends (record {
         read = take read bytes ++ piece;
         rest = drop (read + length piece) bytes;
         has_read = record {
@@ -232,34 +235,38 @@ module _ (kind : Bool) (first : List ℕ → Type 0) (start : Store) (read : ℕ
           rest_left = part.rest_left;
           in_limit = omega (arith, length-append (take read bytes) piece, length-take-le read bytes behind.in_input, few);
         };
-        leaves = leaves_read error kind first start before said held may_leave (take read bytes ++ piece) (drop (read + length piece) bytes) (rw is at leaves);
+        leaves = leaves_read desk error kind first start before now (take read bytes ++ piece) (drop (read + length piece) bytes) (rw is at leaves);
       })
 
   -- between two pieces
-  keeps_behind : IsBehind start read bytes before left run said → is_file run.keeper ≡ kind → IsKept run.keeper first held may_leave → Keeps kind first (after slot_limit start (ended_entries (take read bytes))) held may_leave
-  keeps_behind behind is kept = rw is at (keeps_here first start (take read bytes) (Some before) run said held may_leave behind.at kept)
+  keeps_behind : IsBehind start read bytes before left run (desk.said now) → is_file run.keeper ≡ kind → IsKept desk run.keeper first now → Keeps desk kind first (after slot_limit start (ended_entries (take read bytes))) now
+  keeps_behind behind is kept = rw is at (keeps_here desk first start (take read bytes) (Some before) run now behind.at kept)
 
-  pub ends_reading : (e : Stop) (s : Status) → (e ≡ stop.ReadFault) ⊎ (e ≡ stop.NoMemory) → EndsIn e s → IsBehind start read bytes before left run said → is_file run.keeper ≡ kind → IsKept run.keeper first held may_leave → read < 2_147_483_648 → left_now ≡ left
-      → LeavesAtEnd s kind first start bytes before left_now said held may_leave
+  pub ends_reading : (e : Stop) (s : Status) → (e ≡ stop.ReadFault) ⊎ (e ≡ stop.NoMemory) → EndsIn e s → IsBehind start read bytes before left run (desk.said now) → is_file run.keeper ≡ kind → IsKept desk run.keeper first now → read < script_limit → left_now ≡ left
+      → LeavesAtEnd desk s kind first start bytes before left_now now
   unfolding ended_so_far
   ends_reading e s (inl fault) ends behind is kept below same =
-      subst (λ (t : Status). LeavesAtEnd t kind first start bytes before left_now said held may_leave) (sym (rw fault at ends)) (
-        ended_so_far start read bytes before left left_now said run behind same (omega (arith, below)),
-        omega (arith, length-take-le read bytes behind.in_input, below),
-        keeps_behind behind is kept,
-      )
+      subst (λ (t : Status). LeavesAtEnd desk t kind first start bytes before left_now now) (sym (rw fault at ends)) (record {
+        says = ended_so_far start read bytes before left left_now (desk.said now) run behind same (omega (arith, below));
+        read = omega (arith, length-take-le read bytes behind.in_input, below);
+        keeps = keeps_behind behind is kept;
+      })
   ends_reading e s (inr memory) ends behind is kept below same =
-      let here = leaves_here first start (take read bytes) before run said held may_leave behind.at kept in
-      ends_at answer.NoMemory e s kind first start bytes before left_now said held may_leave memory ends (record {
+      let here = leaves_here desk first start (take read bytes) before run now behind.at kept in
+      ends_at desk answer.NoMemory e s kind first start bytes before left_now now memory ends (record {
         read = take read bytes;
         rest = drop read bytes;
-        has_read = read_so_far start read bytes before left left_now said run behind same (omega (arith, below));
-        leaves = leaves_read answer.NoMemory kind first start before said held may_leave (take read bytes) (drop read bytes) (rw is at here);
+        has_read = read_so_far start read bytes before left left_now (desk.said now) run behind same (omega (arith, below));
+        leaves = leaves_read desk answer.NoMemory kind first start before now (take read bytes) (drop read bytes) (rw is at here);
       })
 
-  pub ends_too_long : (s : Status) → s ≡ status.TooLong 2_147_483_648 → IsBehind start read bytes before left run said → is_file run.keeper ≡ kind → IsKept run.keeper first held may_leave → read ≡ 2_147_483_648
-      → LeavesAtEnd s kind first start bytes before left said held may_leave
+  pub ends_too_long : (s : Status) → s ≡ status.TooLong script_limit → IsBehind start read bytes before left run (desk.said now) → is_file run.keeper ≡ kind → IsKept desk run.keeper first now → read ≡ script_limit
+      → LeavesAtEnd desk s kind first start bytes before left now
   unfolding ended_so_far
   ends_too_long s ends behind is kept limit =
-      subst (λ (t : Status). LeavesAtEnd t kind first start bytes before left said held may_leave) (sym ends)
-      (ended_so_far start read bytes before left left said run behind refl (omega (arith, limit)), length-take-le read bytes behind.in_input ∙ limit, keeps_behind behind is kept)
+      subst (λ (t : Status). LeavesAtEnd desk t kind first start bytes before left now) (sym ends)
+      (record {
+        says = ended_so_far start read bytes before left left (desk.said now) run behind refl (omega (arith, limit));
+        read = length-take-le read bytes behind.in_input ∙ limit;
+        keeps = keeps_behind behind is kept;
+      })

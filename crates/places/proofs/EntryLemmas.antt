@@ -18,6 +18,8 @@ use Rattle.places.specs.Said.{SaysOfAnswer, texts}
 use Rattle.places.specs.Stops.{LeavesAtEntry, LeavesOfAnswer}
 use Rattle.places.proofs.LineLemmas.{script-is}
 use Rattle.places.proofs.ProgressLemmas.{around, ended_further, ended_lf, kept_open, kept_stripped}
+use Rattle.pl_desk.specs.declared.desk.Desk.{Ghosts}
+use Rattle.pl_desk.specs.AnyMoment.{begun}
 
 -- two facts of an error
 pub if_err_both : {X E : Type 0} (result : Result X E) (P Q R : E → Type 0) → IfErr result P → IfErr result Q → ((error : E) → P error → Q error → R error) → IfErr result R
@@ -28,9 +30,9 @@ pub one_entry : (found : Option (Parsed Command)) → length (option_to_list fou
 one_entry None = omega arith
 one_entry (Some e) = omega arith
 
-module _ (error : AnswerError) (kind : Bool) (first : List ℕ → Type 0) (start : Store) (begun : List ℕ) (said held : Option (List ℕ)) (may_leave : List ℕ → Type 0) where
+module _ {D : Type 0} (desk : Ghosts D) (error : AnswerError) (kind : Bool) (first : D) (start : Store) (begun : List ℕ) (now : D) where
   abbrev pub Leaves : List (Parsed Command) → Type 0
-  Leaves entries = LeavesAtEntry error kind first slot_limit start entries begun said held may_leave
+  Leaves entries = LeavesAtEntry desk error kind first slot_limit start entries begun now
 
   -- a run of more entries
   leaves_further : (xs ys : List (Parsed Command)) → Leaves xs → Leaves (xs ++ ys)
@@ -60,8 +62,8 @@ module _ (error : AnswerError) (kind : Bool) (first : List ℕ → Type 0) (star
       (leaves_further (ended_entries (bytes ++ rest)) (entries_in (open_line (bytes ++ rest))) (leaves_later bytes rest left))
 
   -- an answer that failed behind what was answered
-  leaves_entry : (xs : List (Parsed Command)) (found : Option (Parsed Command)) → SaysOfAnswer error (replies slot_limit (after slot_limit start xs) (option_to_list found)) (Some (begun ++ texts (replies slot_limit start xs))) said
-      → LeavesOfAnswer error kind first (after slot_limit start xs) (after slot_limit (after slot_limit start xs) (option_to_list found)) held may_leave → Leaves (xs ++ option_to_list found)
+  leaves_entry : (xs : List (Parsed Command)) (found : Option (Parsed Command)) → SaysOfAnswer error (replies slot_limit (after slot_limit start xs) (option_to_list found)) (Some (begun ++ texts (replies slot_limit start xs))) (desk.said now)
+      → LeavesOfAnswer desk error kind first (after slot_limit start xs) (after slot_limit (after slot_limit start xs) (option_to_list found)) now → Leaves (xs ++ option_to_list found)
   leaves_entry xs found says file = record {
     answered = xs;
     next = option_to_list found;
@@ -73,8 +75,8 @@ module _ (error : AnswerError) (kind : Bool) (first : List ℕ → Type 0) (star
   }
 
   module _ (bytes line : List ℕ) (before : Option (List ℕ)) (run : ScriptRun) (at : IsAt start bytes (Some begun) run before)
-      (says : SaysOfAnswer error (replies (limit_of run.keeper) (store_of run.keeper) (entries_in line)) before said)
-      (file : LeavesOfAnswer error kind first (store_of run.keeper) (after (limit_of run.keeper) (store_of run.keeper) (entries_in line)) held may_leave) where
+      (says : SaysOfAnswer error (replies (limit_of run.keeper) (store_of run.keeper) (entries_in line)) before (desk.said now))
+      (file : LeavesOfAnswer desk error kind first (store_of run.keeper) (after (limit_of run.keeper) (store_of run.keeper) (entries_in line)) now) where
     -- a line that ends with LF, and the last one
     pub line_leaves : line ≡ strip_carriage_return run.line.items → Leaves (ended_entries (bytes ++ 10 ∷ []))
     line_leaves is =
@@ -91,20 +93,20 @@ module _ (error : AnswerError) (kind : Bool) (first : List ℕ → Type 0) (star
         (rw (at.limit, at.store, ap entries_in is ∙ kept_open bytes run.line.items at.line) at file))
 
 -- the keeper's file after the lines that ended
-pub keeps_here : (first : List ℕ → Type 0) (start : Store) (bytes : List ℕ) (begun : Option (List ℕ)) (run : ScriptRun) (said held : Option (List ℕ)) (may_leave : List ℕ → Type 0) → IsAt start bytes begun run said → IsKept run.keeper first held may_leave
-    → Keeps (is_file run.keeper) first (after slot_limit start (ended_entries bytes)) held may_leave
-keeps_here first start bytes begun run said held may_leave at kept =
-    subst (λ (store : Store). Keeps (is_file run.keeper) first store held may_leave) at.store (kept_keeps run.keeper first held may_leave kept)
+pub keeps_here : {D : Type 0} (desk : Ghosts D) (first : D) (start : Store) (bytes : List ℕ) (begun : Option (List ℕ)) (run : ScriptRun) (now : D) → IsAt start bytes begun run (desk.said now) → IsKept desk run.keeper first now
+    → Keeps desk (is_file run.keeper) first (after slot_limit start (ended_entries bytes)) now
+keeps_here desk first start bytes begun run now at kept =
+    subst (λ (store : Store). Keeps desk (is_file run.keeper) first store now) at.store (kept_keeps desk run.keeper first now kept)
 
 -- want of memory with nothing of a line done
-pub leaves_here : (first : List ℕ → Type 0) (start : Store) (bytes begun : List ℕ) (run : ScriptRun) (said held : Option (List ℕ)) (may_leave : List ℕ → Type 0) → IsAt start bytes (Some begun) run said → IsKept run.keeper first held may_leave
-    → LeavesAtEntry NoMemory (is_file run.keeper) first slot_limit start (ended_entries bytes) begun said held may_leave
-leaves_here first start bytes begun run said held may_leave at kept = record {
+pub leaves_here : {D : Type 0} (desk : Ghosts D) (first : D) (start : Store) (bytes begun : List ℕ) (run : ScriptRun) (now : D) → IsAt start bytes (Some begun) run (desk.said now) → IsKept desk run.keeper first now
+    → LeavesAtEntry desk NoMemory (is_file run.keeper) first slot_limit start (ended_entries bytes) begun now
+leaves_here desk first start bytes begun run now at kept = record {
   answered = ended_entries bytes;
   next = [];
   more = [];
   order = sym (append-nil (ended_entries bytes));
   one = omega arith;
   text = at.text;
-  file = keeps_here first start bytes (Some begun) run said held may_leave at kept;
+  file = keeps_here desk first start bytes (Some begun) run now at kept;
 }

@@ -20,6 +20,7 @@ use Rattle.places.specs.Said.{Says, texts}
 use Rattle.places.proofs.LineLemmas.{ended_lines-lf, ended_lines-on, entries_of-append, entries_of-one, open_line-lf, open_line-on, script-is}
 use Rattle.places.proofs.LongLines.{entry-kept, entry-kept_stripped}
 use Rattle.places.proofs.SaidLemmas.{says_more}
+use Rattle.pl_desk.specs.AnyMoment.{begun}
 
 -- ---- runs, one after another
 

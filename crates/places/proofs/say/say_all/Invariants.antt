@@ -1,21 +1,18 @@
 use Rattle.std.proofs.Common.{◌≡◌, ◌≤◌, ◌-◌, ℕ, List, Some, length, take}
-use Rattle.pl_desk.specs.Desk.{ShowsOnly}
 use Rattle.places.specs.Said.{Says}
 use Rattle.places.specs.Stops.{ShowsFront}
 use Rattle.places.proofs.say.say_all.Given as goal
+use Rattle.pl_desk.specs.Shown.{ShowsOnly}
+use Rattle.pl_desk.specs.Calls.{LeavesFile}
 
 -- the bytes said so far are a front
 abbrev pub invariant-loop-said : goal.invariant-loop-said
 invariant-loop-said g l = let desk = g.D.Desk in record {
   within : l.said ≤ length l.bytes;
   front : Says (desk.said l.initial.desk) (take l.said l.bytes) (desk.said l.desk);
-  shows : (before : List ℕ) → desk.said l.initial.desk ≡ Some before → ShowsOnly desk.moment desk.shown_since l.initial.desk l.desk (ShowsFront (desk.may_leave l.initial.desk) before l.bytes);
-  leaves : (file : List ℕ) → desk.may_leave l.desk file → desk.may_leave l.initial.desk file;
-  counted : desk.line_faults l.initial.desk ≤ desk.line_faults l.desk;
+  shows : (before : List ℕ) → desk.said l.initial.desk ≡ Some before → ShowsOnly desk l.initial.desk l.desk (ShowsFront desk l.initial.desk before l.bytes);
   no_fault : desk.line_faults l.desk ≡ desk.line_faults l.initial.desk;
-  held : desk.held l.desk ≡ desk.held l.initial.desk;
-  written : desk.written l.desk ≡ desk.written l.initial.desk;
-  device : desk.device_faults l.desk ≡ desk.device_faults l.initial.desk;
+  file : LeavesFile desk l.initial.desk l.desk;
 }
 
 abbrev pub decreases-loop-said : goal.decreases-loop-said

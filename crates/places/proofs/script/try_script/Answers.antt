@@ -1,31 +1,36 @@
+use Rattle.std.specs.Prelude.{⊤}
 use Rattle.std.proofs.Common.{false, inl, inr, subst}
 use Rattle.pl_base.specs.Store.{Store, opening}
-use Rattle.pl_desk.specs.Desk.{ShowsOnly}
 use Rattle.pl_script.specs.Script.{script}
 use Rattle.places.specs.Ending.{LeavesAtEnd}
 use Rattle.pl_store.specs.Keeper.{slot_limit}
 use Rattle.places.specs.Stops.{ShowsAnswered}
-use Rattle.places.proofs.OpeningLemmas.{ends_unread, shows_unopened}
+use Rattle.places.proofs.OpeningLemmas.{ends_unread, script_may_end, shows_unopened}
 use Rattle.places.proofs.script.try_script.Goals as goal
+use Rattle.pl_desk.specs.Shown.{ShowsOnly}
+use Rattle.pl_desk.specs.AnyMoment.{begun}
 
 pub returns-in-Ok-clause-ends : goal.returns-in-Ok-clause-ends
 returns-in-Ok-clause-ends g c = λ bytes before told begun.
     let desk = g.D.Desk in let old = c.args.desk.now in let new = c.run_script.new.desk in let left = g.S.Source.left c.run_script.new.input in
-    subst (λ (start : Store). LeavesAtEnd c.status_of.result false (desk.may_leave old) start bytes before left (desk.said new) (desk.held new) (desk.may_leave new)) c.in-Ok.ensures.store
+    subst (λ (start : Store). LeavesAtEnd desk c.status_of.result false old start bytes before left new) c.in-Ok.ensures.store
     (c.run_script.ensures.ends c.status_of.result c.status_of.ensures bytes before told begun old (λ file is_left. is_left))
 
 pub returns-in-Ok-clause-stops : goal.returns-in-Ok-clause-stops
 returns-in-Ok-clause-stops g c = λ bytes before told begun. let desk = g.D.Desk in let old = c.args.desk.now in inr (record {
   turn = old;
-  before = shows_unopened desk.moment desk.shown_since desk.may_leave desk.said g.met.D.Desk.only_now old before begun;
-  since = subst (λ (start : Store). ShowsOnly desk.moment desk.shown_since old c.run_script.new.desk (ShowsAnswered false (desk.may_leave old) slot_limit start (script bytes) before)) c.in-Ok.ensures.store
+  before = shows_unopened desk g.met.D.Desk.only_now old before begun;
+  since = subst (λ (start : Store). ShowsOnly desk old c.run_script.new.desk (ShowsAnswered desk false old slot_limit start (script bytes) before)) c.in-Ok.ensures.store
       (c.run_script.ensures.shows bytes before told begun old (λ file left. left));
 })
 
 pub returns-in-Err-clause-ends : goal.returns-in-Err-clause-ends
 returns-in-Err-clause-ends g c = λ bytes before told begun. let desk = g.D.Desk in let old = c.args.desk.now in
-    ends_unread false (desk.may_leave old) opening bytes before (g.S.Source.left c.args.input.now) (desk.said old) (desk.held old) (desk.may_leave old) told begun (λ file left. left)
+    ends_unread desk false old opening bytes before (g.S.Source.left c.args.input.now) old told begun (λ file left. left)
 
 pub returns-in-Err-clause-stops : goal.returns-in-Err-clause-stops
 returns-in-Err-clause-stops g c = λ bytes before told begun. let desk = g.D.Desk in
-    inl (shows_unopened desk.moment desk.shown_since desk.may_leave desk.said g.met.D.Desk.only_now c.args.desk.now before begun)
+    inl (shows_unopened desk g.met.D.Desk.only_now c.args.desk.now before begun)
+
+pub returns-in-Ok-clause-status : goal.returns-in-Ok-clause-status
+returns-in-Ok-clause-status g c = script_may_end ⊤ ⊥ ⊥ c.run_script.result c.status_of.result (inl tt) c.status_of.ensures

@@ -11,6 +11,7 @@ use Rattle.places.proofs.EntryLemmas.{if_err_both, last_leaves}
 use Rattle.places.proofs.ProgressLemmas.{finished, finished_store}
 use Rattle.places.proofs.StopLemmas.{last_shows}
 use Rattle.places.proofs.script_run.ScriptRun.finish.Goals as goal
+use Rattle.pl_desk.specs.AnyMoment.{begun}
 
 pub returns-clause-ok : goal.returns-clause-ok
 returns-clause-ok g c =
@@ -23,10 +24,10 @@ returns-clause-store g c =
 pub returns-clause-ends : goal.returns-clause-ends
 returns-clause-ends g c = let desk = g.D.Desk in let new = c.answer.new.desk in
     if_err_both c.answer.result _ _ _ c.answer.ensures.stopped c.answer.ensures.left (λ error says left. λ start bytes begun first at kept.
-    last_leaves error (is_file c.args.self.keeper) (desk.may_leave first) start begun (desk.said new) (desk.held new) (desk.may_leave new) bytes c.deref.result.now (desk.said c.args.desk.now) c.args.self at says (left first kept) c.deref.ensures.value)
+    last_leaves desk error (is_file c.args.self.keeper) first start begun new bytes c.deref.result.now (desk.said c.args.desk.now) c.args.self at says (left first kept) c.deref.ensures.value)
 
 pub returns-clause-shows : goal.returns-clause-shows
 returns-clause-shows g c = λ start bytes begun first at kept. let desk = g.D.Desk in
-    shows_less desk.moment desk.shown_since c.args.desk.now c.answer.new.desk _ (ShowsAnswered (is_file c.args.self.keeper) (desk.may_leave first) slot_limit start (script bytes) begun)
+    shows_less desk c.args.desk.now c.answer.new.desk _ (ShowsAnswered desk (is_file c.args.self.keeper) first slot_limit start (script bytes) begun)
     (c.answer.ensures.shows first (begun ++ texts (replies slot_limit start (ended_entries bytes))) at.text kept)
-    (last_shows (is_file c.args.self.keeper) (desk.may_leave first) start bytes c.deref.result.now begun _ c.args.self at c.deref.ensures.value)
+    (last_shows desk (is_file c.args.self.keeper) first start bytes c.deref.result.now begun _ c.args.self at c.deref.ensures.value)

@@ -1,4 +1,4 @@
-use Rattle.std.proofs.Common.{◌∙◌, ◌++◌, ℕ, List, Some, append-nil, ap, arith, refl, subst, take}
+use Rattle.std.proofs.Common.{◌∙◌, ◌++◌, ℕ, List, Some, append-nil, ap, refl, subst, take}
 use Rattle.std.proofs.lemmas.Option.{none-some}
 use Rattle.std.proofs.lemmas.Result.{err_from_is_err_and}
 use Rattle.std.specs.Result.{result_err}
@@ -7,6 +7,7 @@ use Rattle.pl_store.specs.Keeper.{is_file, slot_limit}
 use Rattle.places.specs.Progress.{IsAt, ended_entries}
 use Rattle.places.specs.Stops.{ShowsAnswered}
 use Rattle.places.proofs.EntryLemmas.{leaves_within}
+use Rattle.pl_desk.specs.AnyMoment.{alone_on, begun, left_alone}
 use Rattle.places.proofs.ProgressLemmas.{taken_further}
 use Rattle.places.proofs.StopLemmas.{shows_here, shows_later, shows_taken}
 use Rattle.places.proofs.script_run.ScriptRun.take_all.Goals as goal
@@ -15,13 +16,13 @@ pub returns-in_err-run-clause-ends : goal.returns-in_err-run-clause-ends
 returns-in_err-run-clause-ends g c =
     let p = err_from_is_err_and c.from_residual.result c.from_residual.ensures.1 in
     rw (p.1, p.2) (λ start bytes begun first at kept. let desk = g.D.Desk in let is = c.loop-byte.invariant in let i = c.loop-byte.byte-index in let piece = c.args.piece.now in let new = c.take.new.desk in
-    leaves_within _ (is_file c.args.self.keeper) (desk.may_leave first) start begun (desk.said new) (desk.held new) (desk.may_leave new) bytes piece i c.loop-byte-test.true
+    leaves_within desk _ (is_file c.args.self.keeper) first start begun new bytes piece i c.loop-byte-test.true
     (rw is.kind at (c.in_err-run.ensures.ends start (bytes ++ take i piece) begun first (is.at start bytes (Some begun) at) (is.kept first kept))))
 
 pub returns-in_err-run-clause-shows : goal.returns-in_err-run-clause-shows
 returns-in_err-run-clause-shows g c = λ start bytes begun first at kept.
     let desk = g.D.Desk in let is = c.loop-byte.invariant in let i = c.loop-byte.byte-index in let piece = c.args.piece.now in
-    shows_taken desk.moment desk.shown_since desk.may_leave desk.said desk.held (desk.may_leave first) start bytes piece i begun (is_file c.args.self.keeper) c.loop-byte.run
+    shows_taken desk first start bytes piece i begun (is_file c.args.self.keeper) c.loop-byte.run
     c.args.desk.now c.loop-byte.desk c.take.new.desk c.loop-byte-test.true is.kind (is.shows start bytes begun first at kept)
     (c.take.ensures.shows start (bytes ++ take i piece) begun first (is.at start bytes (Some begun) at) (is.kept first kept))
 
@@ -31,14 +32,12 @@ loop-byte-init g c = let desk = g.D.Desk in record {
   kind = refl;
   kept = λ first kept. kept;
   shows = λ start bytes begun first at kept.
-      shows_less desk.moment desk.shown_since c.args.desk.now c.args.desk.now
-      (ShowsAnswered (is_file c.args.self.keeper) (desk.may_leave first) slot_limit start (ended_entries bytes) begun)
-      (ShowsAnswered (is_file c.args.self.keeper) (desk.may_leave first) slot_limit start (ended_entries (bytes ++ c.args.piece.now)) begun)
-      (shows_here desk.moment desk.shown_since desk.may_leave desk.said desk.held g.met.D.Desk.only_now (desk.may_leave first) start bytes begun c.args.self c.args.desk.now at kept)
-      (shows_later (is_file c.args.self.keeper) (desk.may_leave first) start bytes c.args.piece.now begun);
-  alone = λ memory. (refl, refl, refl);
-  says_counted = omega arith;
-  device_counted = omega arith;
+      shows_less desk c.args.desk.now c.args.desk.now
+      (ShowsAnswered desk (is_file c.args.self.keeper) first slot_limit start (ended_entries bytes) begun)
+      (ShowsAnswered desk (is_file c.args.self.keeper) first slot_limit start (ended_entries (bytes ++ c.args.piece.now)) begun)
+      (shows_here desk g.met.D.Desk.only_now first start bytes begun c.args.self c.args.desk.now at kept)
+      (shows_later desk (is_file c.args.self.keeper) first start bytes c.args.piece.now begun);
+  alone = λ memory. left_alone desk c.args.desk.now;
   no_say_fault = refl;
   no_device_fault = refl;
 }
@@ -51,12 +50,10 @@ loop-byte-preserved g c = let is = c.loop-byte.invariant in let did = c.in_ok-ru
   kept = λ first kept. did.kept first (is.kept first kept);
   shows = λ start bytes begun first at kept.
       let desk = g.D.Desk in let i = c.loop-byte.byte-index in let piece = c.args.piece.now in
-      shows_taken desk.moment desk.shown_since desk.may_leave desk.said desk.held (desk.may_leave first) start bytes piece i begun (is_file c.args.self.keeper) c.loop-byte.run
+      shows_taken desk first start bytes piece i begun (is_file c.args.self.keeper) c.loop-byte.run
       c.args.desk.now c.loop-byte.desk c.take.new.desk c.loop-byte-test.true is.kind (is.shows start bytes begun first at kept)
       (c.take.ensures.shows start (bytes ++ take i piece) begun first (is.at start bytes (Some begun) at) (is.kept first kept));
-  alone = λ memory. let now = did.alone (is.kind ∙ memory) in let before = is.alone memory in (now.0 ∙ before.0, now.1 ∙ before.1, now.2 ∙ before.2);
-  says_counted = omega (arith, did.says_counted, is.says_counted);
-  device_counted = omega (arith, did.device_counted, is.device_counted);
-  no_say_fault = did.no_say_fault (λ e. none-some _ (ap result_err e)) ∙ is.no_say_fault;
-  no_device_fault = did.no_device_fault (λ e. none-some _ (ap result_err e)) ∙ is.no_device_fault;
+  alone = λ memory. alone_on g.D.Desk c.args.desk.now c.loop-byte.desk c.take.new.desk (is.alone memory) (did.alone (is.kind ∙ memory));
+  no_say_fault = did.says_counted.stands (λ e. none-some _ (ap result_err e)) ∙ is.no_say_fault;
+  no_device_fault = did.device_counted.stands (λ e. none-some _ (ap result_err e)) ∙ is.no_device_fault;
 }

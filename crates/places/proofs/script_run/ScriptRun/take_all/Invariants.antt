@@ -1,10 +1,12 @@
-use Rattle.std.proofs.Common.{◌≡◌, ◌≤◌, ◌++◌, List, Option, ℕ, Some, false, take}
+use Rattle.std.proofs.Common.{◌≡◌, ◌++◌, List, Option, ℕ, Some, false, take}
 use Rattle.pl_base.specs.Store.{Store}
-use Rattle.pl_desk.specs.Desk.{ShowsOnly}
 use Rattle.pl_store.specs.Keeper.{IsKept, is_file, slot_limit}
 use Rattle.places.specs.Progress.{IsAt, ended_entries}
 use Rattle.places.specs.Stops.{ShowsAnswered}
 use Rattle.places.proofs.script_run.ScriptRun.take_all.Given as goal
+use Rattle.pl_desk.specs.Shown.{ShowsOnly}
+use Rattle.pl_desk.specs.Calls.{LeavesFile}
+use Rattle.pl_desk.specs.AnyMoment.{begun}
 
 -- the run stands behind the bytes taken so far, and a stop since the start shows some of the whole piece's answers
 abbrev pub invariant-loop-byte : goal.invariant-loop-byte
@@ -12,14 +14,12 @@ invariant-loop-byte g l = let desk = g.D.Desk in record {
   at : (start : Store) (bytes : List ℕ) (begun : Option (List ℕ)) → IsAt start bytes begun l.initial.run (desk.said l.initial.desk)
       → IsAt start (bytes ++ take l.byte-index l.piece) begun l.run (desk.said l.desk);
   kind : is_file l.run.keeper ≡ is_file l.initial.run.keeper;
-  kept : (first : g.row.D.Denot) → IsKept l.initial.run.keeper (desk.may_leave first) (desk.held l.initial.desk) (desk.may_leave l.initial.desk)
-      → IsKept l.run.keeper (desk.may_leave first) (desk.held l.desk) (desk.may_leave l.desk);
+  kept : (first : g.row.D.Denot) → IsKept desk l.initial.run.keeper first l.initial.desk
+      → IsKept desk l.run.keeper first l.desk;
   shows : (start : Store) (bytes begun : List ℕ) (first : g.row.D.Denot) → IsAt start bytes (Some begun) l.initial.run (desk.said l.initial.desk)
-      → IsKept l.initial.run.keeper (desk.may_leave first) (desk.held l.initial.desk) (desk.may_leave l.initial.desk)
-      → ShowsOnly desk.moment desk.shown_since l.initial.desk l.desk (ShowsAnswered (is_file l.initial.run.keeper) (desk.may_leave first) slot_limit start (ended_entries (bytes ++ l.piece)) begun);
-  alone : is_file l.initial.run.keeper ≡ false → (desk.held l.desk ≡ desk.held l.initial.desk) × (desk.written l.desk ≡ desk.written l.initial.desk) × (desk.device_faults l.desk ≡ desk.device_faults l.initial.desk);
-  says_counted : desk.line_faults l.initial.desk ≤ desk.line_faults l.desk;
-  device_counted : desk.device_faults l.initial.desk ≤ desk.device_faults l.desk;
+      → IsKept desk l.initial.run.keeper first l.initial.desk
+      → ShowsOnly desk l.initial.desk l.desk (ShowsAnswered desk (is_file l.initial.run.keeper) first slot_limit start (ended_entries (bytes ++ l.piece)) begun);
+  alone : is_file l.initial.run.keeper ≡ false → LeavesFile desk l.initial.desk l.desk;
   no_say_fault : desk.line_faults l.desk ≡ desk.line_faults l.initial.desk;
   no_device_fault : desk.device_faults l.desk ≡ desk.device_faults l.initial.desk;
 }
