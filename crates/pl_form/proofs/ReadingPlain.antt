@@ -8,6 +8,7 @@ use Rattle.pl_form.specs.Reading.{IsAny, IsEight, IsFour, Reads}
 use Rattle.pl_form.specs.Stored.{IsShort}
 use Rattle.pl_form.proofs.FormReads.{Reached, started, further, stopped}
 use Rattle.pl_form.proofs.ReadingNumbers.{front_is, rest_is}
+use Rattle.pl_base.specs.Touched.{page_size}
 
 abbrev pub name : Unit {0} → List ℕ
 name _ = codes "PLFLAT01"
@@ -18,12 +19,12 @@ blank _ = replicate header_rest 0
 
 -- the zeros that follow so many plain bytes
 abbrev pub padding : ℕ → List ℕ
-padding n = replicate (1024 * filled_pages n - n) 0
+padding n = replicate (page_size * filled_pages n - n) 0
 
 pub short-len : (n : ℕ) → 2 + filled_pages n < 2 ^ 32 → n < 2 ^ 64
 short-len n short = omega arith
 
-pub filled-enough : (n : ℕ) → n ≤ 1024 * filled_pages n
+pub filled-enough : (n : ℕ) → n ≤ page_size * filled_pages n
 filled-enough n = omega arith
 
 regroup : (a b c z x p : List ℕ) → (((a ++ b) ++ c) ++ z) ++ x ++ p ≡ a ++ (b ++ (c ++ (z ++ (x ++ p))))
@@ -163,10 +164,10 @@ wrong_pages bytes left part mid after pages len e header size split differs =
 
 -- the zeros by a number of pages that was computed
 pub padded : {bytes rest : List ℕ} {result : Result (Unit {0}) CheckError} (len filled : ℕ) → filled ≡ filled_pages len
-    → Reads {A = Unit {0}} (λ _. replicate (1024 * filled - len) 0) IsAny bytes result rest
+    → Reads {A = Unit {0}} (λ _. replicate (page_size * filled - len) 0) IsAny bytes result rest
     → Reads {A = Unit {0}} (λ _. padding len) IsAny bytes result rest
 padded {bytes = bytes} {rest = rest} {result = result} len filled same read =
-    subst (λ (k : ℕ). Reads {A = Unit {0}} (λ _. replicate (1024 * k - len) 0) IsAny bytes result rest) same read
+    subst (λ (k : ℕ). Reads {A = Unit {0}} (λ _. replicate (page_size * k - len) 0) IsAny bytes result rest) same read
 
 plain_again : (a b c z x p after : List ℕ)
     → (((a ++ b) ++ c) ++ z) ++ (x ++ (p ++ after)) ≡ ((((a ++ b) ++ c) ++ z) ++ x ++ p) ++ after

@@ -3,7 +3,7 @@ use Rattle.std.proofs.Common.{◌≡◌, ◌≢◌, ◌∙◌, ℕ, ◌<◌, ◌
 use Rattle.std.proofs.Common.{Err, length, nat_lt, if◌then◌else◌, sym, ap, refl, arith, subst, append_assoc}
 use Rattle.std.specs.Str.{IsUtf8}
 use Rattle.std.proofs.lemmas.Bool.{ltb-true}
-use Rattle.pl_base.specs.Address.{canon, if_store_url, serialized, record_of}
+use Rattle.pl_base.specs.Address.{canon, if_store_url, serialized, record_of, text_limit}
 use Rattle.pl_link.specs.declared.canon.CanonError.{CanonError}
 use Rattle.pl_link.specs.declared.canon.CanonError.TheVariants as canon_error
 use Rattle.pl_form.specs.declared.check_error.CheckError.{CheckError}
@@ -40,10 +40,10 @@ some_then true o u h = refl
 some_then false o u h = absurd (cc)
 
 -- a text that has a URL is short
-pub canon-short : (t u : List ℕ) → canon t ≡ Some u → length t < 16_777_216
+pub canon-short : (t u : List ℕ) → canon t ≡ Some u → length t < text_limit
 canon-short t u h =
-    ltb-true (length t) 16_777_216
-    (some_then (nat_lt (length t) 16_777_216) (if_store_url (serialized (record_of t))) u h)
+    ltb-true (length t) text_limit
+    (some_then (nat_lt (length t) text_limit) (if_store_url (serialized (record_of t))) u h)
 
 pub url-short : (x : List ℕ) → IsUrl x → length x < 2 ^ 32
 url-short x one = omega (arith, canon-short x x one.1)
