@@ -15,7 +15,7 @@ use Rattle.pl_base.specs.declared.row.Mark.{Mark}
 use Rattle.pl_base.specs.declared.transition.Transition.{Transition}
 use Rattle.pl_base.specs.Address.{is_unrecorded_url}
 use Rattle.pl_base.specs.Good.{end_of_ids}
-use Rattle.pl_base.specs.Live.{live_slots}
+use Rattle.pl_base.specs.Live.{live_slots, slot_limit}
 use Rattle.pl_base.specs.Marks.{is_counted, visit_count}
 use Rattle.pl_base.specs.Rows.{IsWellKept, Kept, KeptPage, live_with_page, store_of}
 use Rattle.pl_base.specs.Store.{Page, Visit}
@@ -112,7 +112,7 @@ slots_page kept url origin transition date target =
 
 pub has_room : (limit : ℕ) (kept : Kept) (url : List ℕ) (target : Target) (transition : Transition) (date : Micros)
     → IsWellKept kept → IsTargetOf kept url target → visit_refusal limit (store_of kept) url transition date ≡ None
-    → limit ≤ 4_194_304 → HasRoom url target kept
+    → limit ≤ slot_limit → HasRoom url target kept
 has_room limit kept url (Known id) transition date h of none most = tt
 has_room limit kept url (New origin) transition date h of none most = (
   below_last kept.ids.page end_of_ids h.page_ids.next_last
@@ -142,8 +142,8 @@ has_id limit kept mid url target page transition date h with none =
 
 pub has_slot : (limit : ℕ) (kept mid : Kept) (url : List ℕ) (target : Target) (page : PageId) (transition : Transition)
     (date : Micros) → IsTargetOf kept url target → WithTarget url target kept mid page
-    → visit_refusal limit (store_of kept) url transition date ≡ None → limit ≤ 4_194_304
-    → live_slots (store_of mid) < 4_194_304
+    → visit_refusal limit (store_of kept) url transition date ≡ None → limit ≤ slot_limit
+    → live_slots (store_of mid) < slot_limit
 has_slot limit kept mid url (Known id) page transition date of with none most =
     omega (
       arith,
