@@ -1,5 +1,6 @@
 -- What keeps a store, and what the desk's file is to it.
 use Rattle.std.specs.Prelude.{◌⊎◌, ⊤, ℕ, Bool, true, false, List, Option}
+pub use Rattle.pl_base.specs.Live.{slot_limit}
 use Rattle.pl_base.specs.Store.{Store}
 use Rattle.pl_desk.specs.Desk.{Rests}
 use Rattle.pl_store.specs.Session as session
@@ -8,10 +9,6 @@ use Rattle.pl_store.specs.declared.keeper.Keeper.{Keeper}
 use Rattle.pl_store.specs.declared.keeper.Keeper.TheVariants.{Memory, File}
 use Rattle.pl_store.specs.declared.keeper.Ready.{Ready}
 use Rattle.pl_store.specs.declared.keeper.Ready.TheVariants as ready
-
--- how many slots of 128 bytes a store of the program may take
-abbrev pub slot_limit : ℕ
-slot_limit = 4_194_304
 
 abbrev pub store_of : Keeper → Store
 store_of (Memory memory) = memory_store memory

@@ -9,9 +9,6 @@ use pl_engine::{Command, Engine, Reply};
 use pl_plain::Flat;
 use std::alloc::Global;
 
-/// How many slots of 128 bytes the program's stores may take: 512 MiB.
-pub const SLOT_LIMIT: u32 = 4_194_304;
-
 /// A store in memory alone.
 #[derive(Drop)]
 pub struct Memory {

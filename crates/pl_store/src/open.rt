@@ -7,11 +7,11 @@ ghost use Rattle.pl_store.specs.Ending.{IsFinished, LacksGate, StandsForNone};
 ghost use Rattle.pl_store.specs.Session.{IsSettled, Stands, StandsAlike, limit_of, store_of};
 
 use crate::ended::Ended;
-use crate::memory::SLOT_LIMIT;
 use crate::read::{read_session, settle};
 use crate::session::Session;
 use crate::start::start;
 use crate::write::write_change;
+use pl_base::SLOT_LIMIT;
 use pl_desk::Desk;
 use std::alloc::Global;
 
