@@ -10,7 +10,6 @@ use Rattle.std.proofs.lemmas.List.Sums.{sum_by-cons}
 use Rattle.pl_base.specs.declared.id.PageId.{PageId}
 use Rattle.pl_base.specs.declared.id.Slot.{Slot}
 use Rattle.pl_base.specs.declared.row.Mark.{Mark}
-use Rattle.pl_base.specs.declared.transition.Transition.TheVariants.{Typed}
 use Rattle.pl_base.specs.Address.{is_place_url}
 use Rattle.pl_base.specs.Date.{IsDate}
 use Rattle.pl_base.specs.Frecency.{frecency_of}
@@ -23,7 +22,7 @@ use Rattle.pl_base.specs.Store.{Store, Visit}
 use Rattle.pl_base.specs.Visits.{visits_of}
 use Rattle.pl_engine.specs.declared.engine.find.Target.{Target}
 use Rattle.pl_engine.specs.declared.engine.find.Target.TheVariants.{Known, New}
-use Rattle.pl_engine.specs.Engine.{IsSound}
+use Rattle.pl_engine.specs.Engine.{IsSound, IsTypedRight}
 use Rattle.pl_engine.specs.Target.{IsMarkBefore, IsTargetOf, WithTarget}
 use Rattle.pl_engine.proofs.KnownPage.{IsKnown, has_known, holds_known, known, mark_known, only_known}
 use Rattle.pl_base.proofs.ListLaws.{All-from_map, list_all-alike, list_any_last}
@@ -51,8 +50,7 @@ pub record IsReady (kept : Kept) (page : PageId) (url : List ℕ) (before : Mark
   pub right : All (λ (p : KeptPage). (p.page.id.0 == page.0) ≡ false → IsRightPage (store_of kept) p) kept.pages
   pub visited : All (λ (p : KeptPage). (p.page.id.0 == page.0) ≡ false → IsTrue (is_visited (store_of kept) p.page.id))
       kept.pages
-  pub typed : All (λ (p : KeptPage). All
-      (λ (v : Visit). v.page ≡ p.page.id → v.transition ≡ Typed → IsTrue p.page.typed) kept.visits) kept.pages
+  pub typed : All (IsTypedRight kept) kept.pages
 
 -- ---- hidden pages
 
@@ -237,9 +235,7 @@ ready_fresh kept url origin page before h sound is mark =
           (λ k d within _. sound.visited.visited k d within)
           (λ other. absurd (false≢true (sym other ∙ here)));
       typed =
-          All-push (λ (p : KeptPage). All
-          (λ (v : Visit). v.page ≡ p.page.id → v.transition ≡ Typed → IsTrue p.page.typed) kept.visits) kept.pages
-          new sound.visited.typed
+          All-push (IsTypedRight kept) kept.pages new sound.visited.typed
           (λ k d within of _. absurd (omega (arith, ap (λ (i : PageId). i.0) of, visits_below kept h k d within)));
     }
 

@@ -17,7 +17,7 @@ use Rattle.pl_base.specs.Frecency.{frecency_of}
 use Rattle.pl_base.specs.Good.{AreIds, IsGoodVisit}
 use Rattle.pl_base.specs.Live.{chunks, live_slots, origin_count}
 use Rattle.pl_base.specs.Marks.{is_hidden, visit_count}
-use Rattle.pl_base.specs.Rows.{IsOfVisits, IsRight, Kept, KeptPage, has_page, store_of}
+use Rattle.pl_base.specs.Rows.{IsOfVisits, IsRight, Kept, KeptPage, has_page, store_of, AreAlike}
 use Rattle.pl_base.specs.Store.{Page, Store, Visit, roots}
 use Rattle.pl_base.proofs.OriginLaws.{origins_equal}
 use Rattle.pl_plain.specs.declared.flat.row.FlatPage.{FlatPage}
@@ -245,11 +245,8 @@ is-flat rows qs keys origins live h =
           λ n some last. list_any-map (λ (k : KeptPage). k.origin.0 == n) page_of qs
           ∙ h.named.used n some (omega (arith, h.count));
       same =
-          All-map (λ (p : KeptPage). All
-          (λ (q : KeptPage). (p.origin ≡ q.origin) ↔ IsTrue (same_origin p.page.url q.page.url)) (map page_of qs))
-          page_of qs
-          (λ i d inside. All-map (λ (q : KeptPage). ((get_or qs i d).origin ≡ q.origin)
-          ↔ IsTrue (same_origin (get_or qs i d).url q.page.url)) page_of qs
+          All-map (λ (p : KeptPage). All (AreAlike p) (map page_of qs)) page_of qs
+          (λ i d inside. All-map (AreAlike (page_of (get_or qs i d))) page_of qs
           (λ j e within. alike keys (get_or qs i d) (get_or qs j e) h.named.distinct (h.named.named i d inside)
           (h.named.named j e within)));
       counted = h.count ∙ h.named.counted ∙ ap origin_count (sym (urls_same rows qs));

@@ -70,9 +70,9 @@ unfolding url_on_literals
 refusals = refl
 
 -- columns of what is not of its form, missing or too many; a comment and empty lines have no reply
-faulty_lines : said (codes
-    "# a comment\n\nvisits\nvisit\nvisit\ta\\x\t1\t0\nvisit\ta\t10\t0\nvisit\ta\t1\t01\r\nvisit\ta\t1\t0\t\n\r")
-    ≡ codes
-    "refused\t14\t1\nrefused\t14\t6\nrefused\t14\t7\nrefused\t14\t9\nrefused\t14\t11\nrefused\t14\t13\nrefused\t14\t1\n"
+faulty_lines : said (codes "# a comment\n\nvisits\nvisit\nvisit\ta\\x\t1\t0\n"
+    ++ codes "visit\ta\t10\t0\nvisit\ta\t1\t01\r\nvisit\ta\t1\t0\t\n\r")
+    ≡ codes "refused\t14\t1\nrefused\t14\t6\nrefused\t14\t7\nrefused\t14\t9\n"
+    ++ codes "refused\t14\t11\nrefused\t14\t13\nrefused\t14\t1\n"
 unfolding url_on_literals
 faulty_lines = refl
