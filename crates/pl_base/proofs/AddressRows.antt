@@ -1,9 +1,9 @@
--- Worked rows of addresses: the definitions compute to values that were worked out by hand from the URL
--- Standard.
+-- Worked rows of addresses: the definitions compute to values that were worked out by hand from the URL Standard.
 use Rattle.std.proofs.Common.{◌≡◌, List, ℕ, [], Some, None, Ok, Err, true, false, refl}
 use Rattle.std.specs.Prelude.{codes}
 use Rattle.url.proofs.OnLiterals.{url_on_literals}
-use Rattle.pl_base.specs.Address.{canon, record_of, prefix, host_and_port, reversed_host, is_place_url, is_unrecorded_url, same_origin}
+use Rattle.pl_base.specs.Address.{canon, record_of, prefix, host_and_port, reversed_host}
+use Rattle.pl_base.specs.Address.{is_place_url, is_unrecorded_url, same_origin}
 use Rattle.url.specs.Parser.{Parsed}
 use Rattle.url.specs.Parts.{Parts}
 

@@ -1,25 +1,38 @@
--- The constants of the crate are those of the definitions: the last date and its day, the ids, a page.
+-- The constants of the crate are those of the definitions: the last date and its day, the ids, a page, the slots.
 use Rattle.std.proofs.Common.{◌≡◌, refl}
-use Rattle.pl_base.specs.declared.date.TheConstants.Micros.{LAST as last_date}
-use Rattle.pl_base.specs.declared.date.TheConstants.Day.{LAST as last_day}
-use Rattle.pl_base.specs.declared.id.TheConstants.Ids.{END as end_of_ids, OPENING as opening_ids}
+use Rattle.pl_base.specs.declared.date.TheConstants.Micros.{LAST as LAST_DATE}
+use Rattle.pl_base.specs.declared.date.TheConstants.Day.{LAST as LAST_DAY}
+use Rattle.pl_base.specs.declared.id.TheConstants.Ids.{END, OPENING}
+use Rattle.pl_base.specs.declared.date.TheConstants.{MICROS_PER_DAY}
+use Rattle.pl_base.specs.declared.rows.TheConstants.{SLOT_LIMIT}
 use Rattle.pl_base.specs.declared.touched.TheConstants.{PAGE_SIZE}
-use Rattle.pl_base.specs.Date.{day_number}
+use Rattle.pl_base.specs.Date.{day_number, last_date, last_day, micros_per_day}
+use Rattle.pl_base.specs.Good.{end_of_ids}
+use Rattle.pl_base.specs.Live.{slot_limit}
 use Rattle.pl_base.specs.Store.{opening}
 use Rattle.pl_base.specs.Touched.{page_size}
 
 -- the last microsecond of 9999-12-31, and its day
-last_date_is : last_date.0 ≡ 253_402_300_799_999_999
+last_date_is : LAST_DATE.0 ≡ last_date
 last_date_is = refl
 
-last_day_is : last_day.0 ≡ day_number last_date
+last_day_is : LAST_DAY.0 ≡ last_day
 last_day_is = refl
 
-opening_ids_are : opening_ids ≡ opening.ids
+last_date_of_last_day : day_number LAST_DATE ≡ last_day
+last_date_of_last_day = refl
+
+micros_per_day_are : MICROS_PER_DAY ≡ micros_per_day
+micros_per_day_are = refl
+
+opening_ids_are : OPENING ≡ opening.ids
 opening_ids_are = refl
 
-end_of_ids_is : end_of_ids ≡ 4_294_967_295
+end_of_ids_is : END ≡ end_of_ids
 end_of_ids_is = refl
 
 page_size_is : PAGE_SIZE ≡ page_size
 page_size_is = refl
+
+slot_limit_is : SLOT_LIMIT ≡ slot_limit
+slot_limit_is = refl

@@ -1,5 +1,10 @@
 mod AddressRows
 mod ConstantRows
+pub mod IdsLaws
+pub mod ListLaws
 pub mod OriginLaws
-mod VisitsLaws
+pub mod RootsLaws
+pub mod SourceLaws
+pub mod TablesLaws
+pub mod VisitsLaws
 mod WorkedRows

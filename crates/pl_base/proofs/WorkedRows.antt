@@ -3,9 +3,11 @@ use Rattle.std.proofs.Common.{◌≡◌, ℕ, ◌+◌, List, [], ◌∷◌, ◌+
 use Rattle.std.specs.Prelude.{ℤ, pos, negsuc, codes, replicate}
 use Rattle.std.specs.List.{range_with_len}
 use Rattle.pl_base.specs.declared.transition.Transition.{Transition}
-use Rattle.pl_base.specs.declared.transition.Transition.TheVariants.{Link, Typed, Bookmark, Embed, RedirectPermanent, RedirectTemporary, Download, FramedLink, Reload}
+use Rattle.pl_base.specs.declared.transition.Transition.TheVariants.{Link, Typed, Bookmark, Embed, RedirectPermanent}
+use Rattle.pl_base.specs.declared.transition.Transition.TheVariants.{RedirectTemporary, Download, FramedLink, Reload}
 use Rattle.pl_base.specs.declared.id.VisitId.{VisitId}
 use Rattle.url.proofs.OnLiterals.{url_on_literals}
+use Rattle.pl_base.specs.Address.{longest_url}
 use Rattle.pl_base.specs.Frecency.{frecency_of}
 use Rattle.pl_base.specs.Live.{chunks, live_slots}
 use Rattle.pl_base.specs.Marks.{is_hidden, visit_count}
@@ -120,7 +122,10 @@ a_season_old = refl
 -- ---- marks
 
 -- of a visit by each transition five count
-each_transition : visit_count (on_day 0 (map (λ t. visit 1 1 0 t None) (Link ∷ Typed ∷ Bookmark ∷ Embed ∷ RedirectPermanent ∷ RedirectTemporary ∷ Download ∷ FramedLink ∷ Reload ∷ []))) (record { 0 = 1 }) ≡ 5
+each_transition : visit_count
+    (on_day 0 (map (λ t. visit 1 1 0 t None)
+    (Link ∷ Typed ∷ Bookmark ∷ Embed ∷ RedirectPermanent ∷ RedirectTemporary ∷ Download ∷ FramedLink ∷ Reload ∷ [])))
+    (record { 0 = 1 }) ≡ 5
 each_transition = refl
 
 -- a page is hidden whose visits were all within frames or led to redirects, and one that is a query
@@ -160,8 +165,8 @@ one_chunk = refl
 two_chunks : chunks (replicate 121 97) ≡ 2
 two_chunks = refl
 
-longest_url : chunks (replicate 65_536 97) ≡ 547
-longest_url = refl
+chunks_of_longest_url : chunks (replicate longest_url 97) ≡ 547
+chunks_of_longest_url = refl
 
 only_roots : live_slots opening ≡ 6
 only_roots = refl
@@ -172,7 +177,8 @@ at n url = record (page n) { url = url }
 
 abbrev two_origins : Store
 two_origins = record (on_day 0 (link ∷ visit 2 2 0 Link None ∷ visit 3 3 0 Link None ∷ [])) {
-  pages = at 1 (codes "https://a.example/") ∷ at 2 (codes "http://a.example/") ∷ at 3 (codes "https://a.example/x") ∷ [];
+  pages =
+      at 1 (codes "https://a.example/") ∷ at 2 (codes "http://a.example/") ∷ at 3 (codes "https://a.example/x") ∷ [];
 }
 
 slots_of_two_origins : live_slots two_origins ≡ 2 + 3 + 3 + 6 + 3

@@ -1,5 +1,6 @@
 -- Frecency, after the classic algorithm of Mozilla Places, in whole numbers.
-use Rattle.std.specs.Prelude.{ℕ, ◌+◌, ◌-◌, ◌*◌, ◌/◌, ◌==◌, ◌||◌, not, Bool, length, ℤ, pos, negsuc, if◌then◌else◌}
+use Rattle.std.specs.Prelude.{ℕ, ◌+◌, ◌-◌, ◌*◌, ◌/◌, ◌==◌, ◌||◌, not}
+use Rattle.std.specs.Prelude.{Bool, length, ℤ, pos, negsuc, if◌then◌else◌}
 use Rattle.std.specs.List.{sum_by}
 use Rattle.pl_base.specs.declared.date.Day.{Day}
 use Rattle.pl_base.specs.declared.date.Micros.{Micros}
@@ -18,13 +19,14 @@ rounded_up a b = (a + (b - 1)) / b
 abbrev pub points : Day → Micros → ℕ → ℕ
 points day date bonus = weight_of (age day date) * bonus
 
--- the frecency of a page with visits that count: their number times the mean of the sample, rounded up
--- twice, and -1 where the sample adds nothing
+-- the frecency of a page with visits that count: their number times the mean of the sample, rounded
+-- up twice, and -1 where the sample adds nothing
 abbrev pub visited_frecency : ℕ → ℕ → ℕ → ℤ
 visited_frecency total sampled count =
     if total == 0 then negsuc 0 else pos (rounded_up (count * rounded_up total 100) sampled)
 
--- the frecency of a page without such visits, by whether it is in the tree, was typed, and is a query
+-- the frecency of a page without such visits, by whether it is in the tree,
+-- was typed, and is a query
 abbrev pub unvisited_frecency : Bool → Bool → Bool → ℤ
 unvisited_frecency referenced typed place =
     if not referenced || place then pos 0 else if typed then pos 340 else pos 140
@@ -32,12 +34,14 @@ unvisited_frecency referenced typed place =
 -- a frecency from what the sample adds together, its length, the `visit_count` and the page's marks
 abbrev pub frecency_from : ℕ → ℕ → ℕ → Bool → Bool → Bool → ℤ
 frecency_from total sampled count referenced typed place =
-    if count == 0 then unvisited_frecency referenced typed place else visited_frecency total sampled count
+    if count == 0 then unvisited_frecency referenced typed place
+    else visited_frecency total sampled count
 
 -- what a sampled visit of the store counts
 abbrev pub visit_bonus : Store → Visit → ℕ
 visit_bonus store v =
-    bonus_of v.transition (source_transition store v) (is_redirect_source store v) (is_referenced store v.page)
+    bonus_of v.transition (source_transition store v) (is_redirect_source store v)
+    (is_referenced store v.page)
 
 -- the frecency of a page on the store's day, computed afresh
 abbrev pub frecency_of : Store → Page → ℤ

@@ -1,5 +1,7 @@
 -- What holds of every store that the program makes or opens.
-use Rattle.std.specs.Prelude.{◌≡◌, ◌≢◌, ◌↔◌, ℕ, ◌+◌, ◌-◌, ◌<◌, ◌≤◌, ◌==◌, ◌||◌, not, Bool, List, [], ◌∷◌, length, map, slice_index, chars, encode_utf8_all, Option, Some, None, IfSome, IsSome, IsSomeAnd, IsTrue}
+use Rattle.std.specs.Prelude.{◌≡◌, ◌≢◌, ◌↔◌, ℕ, ◌+◌, ◌-◌, ◌<◌, ◌≤◌, ◌==◌, ◌||◌, not, Bool}
+use Rattle.std.specs.Prelude.{List, [], ◌∷◌, length, map, slice_index, chars, encode_utf8_all}
+use Rattle.std.specs.Prelude.{Option, Some, None, IfSome, IsSome, IsSomeAnd, IsTrue}
 use Rattle.std.specs.List.{All, AllPairs, filter_map, find, flat_map, list_any, range_with_len}
 use Rattle.std.specs.List.Sorted.{IsPermutation, IsStrictlyIncreasing}
 use Rattle.std.specs.Str.{IsUtf8}
@@ -10,39 +12,51 @@ use Rattle.pl_base.specs.declared.transition.Transition.TheVariants.{Typed}
 use Rattle.pl_base.specs.Address.{canon}
 use Rattle.pl_base.specs.Date.{IsDate, IsDay}
 use Rattle.pl_base.specs.Marks.{is_referenced}
-use Rattle.pl_base.specs.Redirects.{visit_at}
-use Rattle.pl_base.specs.Store.{Store, Page, Visit, Item, bookmark, folder, root_folder, top_folders}
+use Rattle.pl_base.specs.Redirects.{visit_by_id}
+use Rattle.pl_base.specs.Store.{Store, Page, Visit, Item, bookmark}
+use Rattle.pl_base.specs.Store.{folder, root_folder, top_folders}
 
--- ids ascend, are given from 1 on, and lie below the next one, which is at least `first`; the id
--- 4,294,967,295 is never given
+-- the id that is never given
+abbrev pub end_of_ids : ℕ
+end_of_ids = 4_294_967_295
+
+-- ids ascend, are given from 1 on, and lie below the next one, which is at least `first`
 pub record AreIds (first next : ℕ) (ids : List ℕ) : Type 0 where
   pub ascending : IsStrictlyIncreasing ids
   pub given : All (λ id. (0 < id) × (id < next)) ids
   pub next_first : first ≤ next
-  pub next_last : next ≤ 4_294_967_295
+  pub next_last : next ≤ end_of_ids
 
--- a text of at most 4,096 bytes
+-- the bytes of the longest title
+abbrev pub longest_title : ℕ
+longest_title = 4_096
+
+-- a text that is not too long
 abbrev pub IsTitle : List ℕ → Type 0
-IsTitle title = IsUtf8 title × (length title ≤ 4096)
+IsTitle title = IsUtf8 title × (length title ≤ longest_title)
 
+-- a page has this id
 abbrev pub has_page_at : Store → PageId → Bool
 has_page_at store id = list_any (λ (p : Page). p.id.0 == id.0) store.pages
 
+-- a visit has this page
 abbrev pub is_visited : Store → PageId → Bool
 is_visited store id = list_any (λ (v : Visit). v.page.0 == id.0) store.visits
 
--- a page has a URL of the store, stands there by a visit or an item, and is typed if a visit to it was
+-- a page has a URL of the store, stands there by a visit or an item, and is
+-- typed if a visit to it was
 pub record IsGoodPage (store : Store) (p : Page) : Type 0 where
   pub url : canon p.url ≡ Some p.url
   pub title : IsTitle p.title
-  pub typed : All (λ (v : Visit). v.page ≡ p.id → v.transition ≡ Typed → IsTrue p.typed) store.visits
+  pub typed :
+      All (λ (v : Visit). v.page ≡ p.id → v.transition ≡ Typed → IsTrue p.typed) store.visits
   pub kept : IsTrue (is_visited store p.id || is_referenced store p.id)
 
 -- a visit has a page, and as its source, if any, an earlier visit
 pub record IsGoodVisit (store : Store) (v : Visit) : Type 0 where
   pub date : IsDate v.date
   pub page : IsTrue (has_page_at store v.page)
-  pub source : IfSome v.source (λ id. (id.0 < v.id.0) × IsSome (visit_at store id))
+  pub source : IfSome v.source (λ id. (id.0 < v.id.0) × IsSome (visit_by_id store id))
 
 -- an item has a page exactly where it is a bookmark, and children only where it is a folder
 pub record IsGoodItem (store : Store) (i : Item) : Type 0 where
@@ -55,9 +69,11 @@ pub record IsGoodItem (store : Store) (i : Item) : Type 0 where
 
 -- ---- the bookmark tree
 
+-- the item with this id
 abbrev pub item_at : Store → ItemId → Option Item
 item_at store id = find (λ (i : Item). i.id.0 == id.0) store.items
 
+-- the children of an item, if there is one
 abbrev children_in : Store → Option Item → List Item
 children_in store None = []
 children_in store (Some i) = filter_map (item_at store) i.children
@@ -66,19 +82,31 @@ children_in store (Some i) = filter_map (item_at store) i.children
 abbrev pub children_of : Store → ItemId → List Item
 children_of store id = children_in store (item_at store id)
 
--- the items are one tree: all but item 1 are a child once, and each child lies one deeper than its parent
+-- the ids of all children
+abbrev pub child_ids : List Item → List ℕ
+child_ids items = flat_map (λ (i : Item). map (λ (c : ItemId). c.0) i.children) items
+
+-- the items are one tree: all but item 1 are a child once, and each child lies
+-- one deeper than its parent
 pub record IsTree (items : List Item) : Type 0 where
-  pub one_parent : IsPermutation (map (λ (i : Item). i.id.0) items) (1 ∷ flat_map (λ (i : Item). map (λ (c : ItemId). c.0) i.children) items)
+  pub one_parent : IsPermutation (map (λ (i : Item). i.id.0) items) (1 ∷ child_ids items)
   pub depth : ℕ → ℕ
-  pub deeper : All (λ (i : Item). All (λ (c : ItemId). depth c.0 ≡ depth i.id.0 + 1) i.children) items
+  pub deeper :
+      All (λ (i : Item). All (λ (c : ItemId). depth c.0 ≡ depth i.id.0 + 1) i.children) items
+
+-- item n is a folder as it stood at first, but for its children
+abbrev pub IsTopFolder : Store → ℕ → Type 0
+IsTopFolder store n =
+    IsSomeAnd (item_at store (record { 0 = n })) (λ i. i ≡ root_folder n i.children)
 
 -- the six roots stand as they stood at first, but for the children of 2 to 6
 pub record HasRoots (store : Store) : Type 0 where
   pub root : item_at store (record { 0 = 1 }) ≡ Some (root_folder 1 top_folders)
-  pub top : All (λ n. IsSomeAnd (item_at store (record { 0 = n })) (λ i. i ≡ root_folder n i.children)) (range_with_len 2 5)
+  pub top : All (IsTopFolder store) (range_with_len 2 5)
 
 -- ---- tags
 
+-- TAB, LF, FF, CR and the space
 abbrev pub is_blank : ℕ → Bool
 is_blank b = (b == 9) || (b == 10) || (b == 12) || (b == 13) || (b == 32)
 
@@ -103,13 +131,18 @@ pub record IsTagFolder (store : Store) (tag : Item) : Type 0 where
   pub entries : All (λ (i : Item). (i.kind ≡ bookmark) × (i.title ≡ [])) (children_of store tag.id)
   pub pages : AllPairs (λ (i j : Item). i.page ≢ j.page) (children_of store tag.id)
 
--- the children of the tags root, item 4, are tag folders, and no two have the same name
+-- the children of the tags root, item 4
+abbrev pub tags_of : Store → List Item
+tags_of store = children_of store (record { 0 = 4 })
+
+-- the tags are tag folders, and no two have the same name
 pub record HasTags (store : Store) : Type 0 where
-  pub folders : All (IsTagFolder store) (children_of store (record { 0 = 4 }))
-  pub names : AllPairs (λ (a b : Item). folded a.title ≢ folded b.title) (children_of store (record { 0 = 4 }))
+  pub folders : All (IsTagFolder store) (tags_of store)
+  pub names : AllPairs (λ (a b : Item). folded a.title ≢ folded b.title) (tags_of store)
 
 -- ---- the whole
 
+-- each row is good, ids and URLs stand once, and the tree has its roots and tags
 pub record IsGood (store : Store) : Type 0 where
   pub day : IsDay store.day
   pub page_ids : AreIds 1 store.ids.page (map (λ (p : Page). p.id.0) store.pages)

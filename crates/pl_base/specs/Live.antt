@@ -4,6 +4,14 @@ use Rattle.std.specs.List.{list_any, sum_by}
 use Rattle.pl_base.specs.Address.{same_origin}
 use Rattle.pl_base.specs.Store.{Store, Page, Item}
 
+-- the bytes of a slot
+abbrev pub slot_size : ℕ
+slot_size = 128
+
+-- no store takes more slots than this
+abbrev pub slot_limit : ℕ
+slot_limit = 4_194_304
+
 -- a text takes a slot for each 120 bytes
 abbrev pub chunks : List ℕ → ℕ
 chunks text = (length text + 119) / 120

@@ -1,9 +1,13 @@
 -- What is told of a page: filters over the visits and the items.
-use Rattle.std.specs.Prelude.{ℕ, ◌&&◌, ◌||◌, ◌==◌, Bool, true, false, List, [], ◌∷◌, Option, Some, None}
+use Rattle.std.specs.Prelude.{ℕ, ◌&&◌, ◌||◌, ◌==◌, Bool, true, false}
+use Rattle.std.specs.Prelude.{List, [], ◌∷◌, Option, Some, None}
 use Rattle.std.specs.List.{count_by, list_all, list_any}
 use Rattle.pl_base.specs.declared.id.PageId.{PageId}
 use Rattle.pl_base.specs.declared.transition.Transition.{Transition}
-use Rattle.pl_base.specs.declared.transition.Transition.TheVariants.{Link, Typed, Bookmark, Embed, RedirectPermanent, RedirectTemporary, Download, FramedLink, Reload}
+use Rattle.pl_base.specs.declared.transition.Transition.TheVariants.{Link, Typed, Bookmark}
+use Rattle.pl_base.specs.declared.transition.Transition.TheVariants.{Embed, RedirectPermanent}
+use Rattle.pl_base.specs.declared.transition.Transition.TheVariants.{RedirectTemporary, Download}
+use Rattle.pl_base.specs.declared.transition.Transition.TheVariants.{FramedLink, Reload}
 use Rattle.pl_base.specs.Address.{is_place_url}
 use Rattle.pl_base.specs.Redirects.{is_redirect_source}
 use Rattle.pl_base.specs.Store.{Store, Page, Visit, Item}
@@ -26,13 +30,26 @@ abbrev pub visit_count : Store → PageId → ℕ
 visit_count store page =
     count_by (λ v. (v.page.0 == page.0) && is_counted v.transition) store.visits
 
-abbrev pub has_page : PageId → Option PageId → Bool
-has_page page None = false
-has_page page (Some other) = other.0 == page.0
+-- the page is there, and is this one
+abbrev pub is_page : PageId → Option PageId → Bool
+is_page page None = false
+is_page page (Some other) = other.0 == page.0
 
 -- an item of the tree has the page
 abbrev pub is_referenced : Store → PageId → Bool
-is_referenced store page = list_any (λ (item : Item). has_page page item.page) store.items
+is_referenced store page = list_any (λ (item : Item). is_page page item.page) store.items
+
+-- visits to an address that was typed
+abbrev pub is_typed : Transition → Bool
+is_typed Typed = true
+is_typed Link = false
+is_typed Bookmark = false
+is_typed Embed = false
+is_typed RedirectPermanent = false
+is_typed RedirectTemporary = false
+is_typed Download = false
+is_typed FramedLink = false
+is_typed Reload = false
 
 -- visits within a frame, which no one asked for by themselves
 abbrev pub is_framed : Transition → Bool
@@ -49,7 +66,8 @@ is_framed Reload = false
 -- there are visits, and each is within a frame or led to a redirect
 abbrev hidden_by : Store → List Visit → Bool
 hidden_by store [] = false
-hidden_by store (v ∷ vs) = list_all (λ w. is_framed w.transition || is_redirect_source store w) (v ∷ vs)
+hidden_by store (v ∷ vs) =
+    list_all (λ w. is_framed w.transition || is_redirect_source store w) (v ∷ vs)
 
 -- a page is hidden that is a query, and one with no visit but such
 abbrev pub is_hidden : Store → Page → Bool

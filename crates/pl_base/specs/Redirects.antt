@@ -4,9 +4,13 @@ use Rattle.std.specs.List.{list_any, find}
 use Rattle.std.specs.Option.{option_and_then, option_map}
 use Rattle.pl_base.specs.declared.id.VisitId.{VisitId}
 use Rattle.pl_base.specs.declared.transition.Transition.{Transition}
-use Rattle.pl_base.specs.declared.transition.Transition.TheVariants.{Link, Typed, Bookmark, Embed, RedirectPermanent, RedirectTemporary, Download, FramedLink, Reload}
+use Rattle.pl_base.specs.declared.transition.Transition.TheVariants.{Link, Typed, Bookmark}
+use Rattle.pl_base.specs.declared.transition.Transition.TheVariants.{Embed, RedirectPermanent}
+use Rattle.pl_base.specs.declared.transition.Transition.TheVariants.{RedirectTemporary, Download}
+use Rattle.pl_base.specs.declared.transition.Transition.TheVariants.{FramedLink, Reload}
 use Rattle.pl_base.specs.Store.{Store, Visit}
 
+-- visits that a redirect made
 abbrev pub is_redirect : Transition → Bool
 is_redirect RedirectPermanent = true
 is_redirect RedirectTemporary = true
@@ -19,17 +23,19 @@ is_redirect FramedLink = false
 is_redirect Reload = false
 
 -- the visit with this id
-abbrev pub visit_at : Store → VisitId → Option Visit
-visit_at store id = find (λ v. v.id.0 == id.0) store.visits
+abbrev pub visit_by_id : Store → VisitId → Option Visit
+visit_by_id store id = find (λ v. v.id.0 == id.0) store.visits
 
-abbrev pub transition_at : Store → VisitId → Option Transition
-transition_at store id = option_map (λ (v : Visit). v.transition) (visit_at store id)
+-- the transition of the visit with this id
+abbrev pub visit_transition : Store → VisitId → Option Transition
+visit_transition store id = option_map (λ (v : Visit). v.transition) (visit_by_id store id)
 
 -- the transition of the visit that a redirect came from
 abbrev pub source_transition : Store → Visit → Option Transition
 source_transition store v =
-    if is_redirect v.transition then option_and_then (transition_at store) v.source else None
+    if is_redirect v.transition then option_and_then (visit_transition store) v.source else None
 
+-- the source is there, and is this visit
 abbrev pub came_from : Visit → Option VisitId → Bool
 came_from v None = false
 came_from v (Some source) = source.0 == v.id.0

@@ -3,8 +3,10 @@ use Rattle.std.specs.Prelude.{ℕ, List, [], ◌∷◌}
 use Rattle.pl_base.specs.declared.id.IdKind.{IdKind}
 use Rattle.pl_base.specs.declared.id.IdKind.TheVariants.{Page, Visit, Item}
 use Rattle.pl_base.specs.declared.refusal.Refusal.{Refusal}
-use Rattle.pl_base.specs.declared.refusal.Refusal.TheVariants.{BadUrl, NotRecorded, Full, NoIds, BadLine}
+use Rattle.pl_base.specs.declared.refusal.Refusal.TheVariants.{BadUrl, NotRecorded}
+use Rattle.pl_base.specs.declared.refusal.Refusal.TheVariants.{Full, NoIds, BadLine}
 
+-- the number of a refusal
 abbrev pub refusal_number : Refusal → ℕ
 refusal_number BadUrl = 1
 refusal_number NotRecorded = 2
@@ -12,15 +14,16 @@ refusal_number (Full slots) = 12
 refusal_number (NoIds kind) = 13
 refusal_number (BadLine column) = 14
 
-abbrev pub kind_number : IdKind → ℕ
-kind_number Page = 1
-kind_number Visit = 2
-kind_number Item = 3
+-- the number of what an id names
+abbrev pub id_kind_number : IdKind → ℕ
+id_kind_number Page = 1
+id_kind_number Visit = 2
+id_kind_number Item = 3
 
 -- the values that a refusal tells besides
 abbrev pub refusal_values : Refusal → List ℕ
 refusal_values BadUrl = []
 refusal_values NotRecorded = []
 refusal_values (Full slots) = slots ∷ []
-refusal_values (NoIds kind) = kind_number kind ∷ []
+refusal_values (NoIds kind) = id_kind_number kind ∷ []
 refusal_values (BadLine column) = column ∷ []

@@ -1,5 +1,7 @@
 -- What is kept of a store: its rows, and beside each page what was computed of it last.
-use Rattle.std.specs.Prelude.{◌≡◌, ◌≢◌, ◌↔◌, ◌&&◌, ℕ, ℤ, pos, ◌+◌, ◌≤◌, ◌<◌, ◌==◌, Bool, true, false, IsTrue, IsFalse, Contains, List, [], ◌∷◌, ◌++◌, map, nat_lt, Option, Some, None, if◌then◌else◌}
+use Rattle.std.specs.Prelude.{◌≡◌, ◌≢◌, ◌↔◌, ◌&&◌, ℕ, ℤ, pos, ◌+◌, ◌≤◌, ◌<◌, ◌==◌, Bool}
+use Rattle.std.specs.Prelude.{true, false, IsTrue, IsFalse, Contains, List, [], ◌∷◌}
+use Rattle.std.specs.Prelude.{◌++◌, map, nat_lt, Option, Some, None, if◌then◌else◌}
 use Rattle.std.specs.List.{All, AllPairs, find, list_any}
 use Rattle.std.specs.Option.{option_and_then, option_map}
 use Rattle.pl_base.specs.declared.date.Day.{Day}
@@ -13,10 +15,14 @@ use Rattle.pl_base.specs.Address.{is_store_url, same_origin}
 use Rattle.pl_base.specs.Date.{IsDate, IsDay}
 use Rattle.pl_base.specs.Frecency.{frecency_of}
 use Rattle.pl_base.specs.Good.{AreIds, IsTitle}
-use Rattle.pl_base.specs.Live.{live_slots}
+use Rattle.pl_base.specs.Live.{live_slots, slot_limit}
 use Rattle.pl_base.specs.Marks.{is_hidden, visit_count}
 use Rattle.pl_base.specs.Store.{Store, Page, Visit, Item, roots}
 use Rattle.pl_base.specs.Visits.{latest_first, visits_of}
+
+-- the most records that a call on one row reads
+abbrev pub most_reads : ℕ
+most_reads = 4
 
 -- a page, the name of its origin, and what was computed of it last
 pub record KeptPage : Type 0 where
@@ -26,7 +32,8 @@ pub record KeptPage : Type 0 where
   pub count : ℕ
   pub hidden : Bool
 
--- the name of an origin, and the sum of the positive frecencies of its pages as it was computed last
+-- the name of an origin, and the sum of the positive frecencies of its
+-- pages as it was computed last
 pub record KeptOrigin : Type 0 where
   pub origin : Slot
   pub total : ℕ
@@ -54,28 +61,43 @@ store_of kept =
 -- the opening store with these next ids
 abbrev pub opening_with : Ids → Kept
 opening_with ids =
-    record { day = record { 0 = 0 }; ids = ids; pages = []; origins = []; visits = []; items = roots }
+    record {
+      day = record { 0 = 0 };
+      ids = ids;
+      pages = [];
+      origins = [];
+      visits = [];
+      items = roots;
+    }
 
 -- ---- looking up
 
+-- the page with this id
 abbrev pub page_at : Kept → PageId → Option KeptPage
 page_at kept id = find (λ (p : KeptPage). p.page.id.0 == id.0) kept.pages
 
+-- the visit with this id
 abbrev pub visit_at : Kept → VisitId → Option Visit
 visit_at kept id = find (λ (v : Visit). v.id.0 == id.0) kept.visits
 
+-- a page has this id
 abbrev pub has_page : Kept → PageId → Bool
 has_page kept id = list_any (λ (p : KeptPage). p.page.id.0 == id.0) kept.pages
 
+-- a visit has this id
 abbrev pub has_visit : Kept → VisitId → Bool
 has_visit kept id = list_any (λ (v : Visit). v.id.0 == id.0) kept.visits
 
+-- what is kept of a page beside its texts
 abbrev pub mark_of : KeptPage → Mark
-mark_of p = record { frecency = p.frecency; count = p.count; typed = p.page.typed; hidden = p.hidden }
+mark_of p =
+    record { frecency = p.frecency; count = p.count; typed = p.page.typed; hidden = p.hidden }
 
+-- a visit without its id
 abbrev pub row_of : Visit → VisitRow
 row_of v = record { page = v.page; date = v.date; transition = v.transition; source = v.source }
 
+-- the number of a page, and 0 of none
 abbrev number_or_zero : Option PageId → ℕ
 number_or_zero None = 0
 number_or_zero (Some id) = id.0
@@ -83,8 +105,10 @@ number_or_zero (Some id) = id.0
 -- the first page with a greater id, or the first of all
 abbrev pub page_behind : Kept → Option PageId → Option PageId
 page_behind kept id =
-    option_map (λ (p : KeptPage). p.page.id) (find (λ (p : KeptPage). nat_lt (number_or_zero id) p.page.id.0) kept.pages)
+    option_map (λ (p : KeptPage). p.page.id)
+    (find (λ (p : KeptPage). nat_lt (number_or_zero id) p.page.id.0) kept.pages)
 
+-- the id of the first visit
 abbrev pub first_id : List Visit → Option VisitId
 first_id [] = None
 first_id (v ∷ vs) = Some v.id
@@ -98,57 +122,73 @@ id_behind id (v ∷ vs) = if v.id.0 == id.0 then first_id vs else id_behind id v
 abbrev pub page_visits : Kept → PageId → List Visit
 page_visits kept page = latest_first (visits_of (store_of kept) page)
 
+-- the URL of the page with this id
 abbrev pub url_of : Kept → PageId → Option (List ℕ)
 url_of kept page = option_map (λ (p : KeptPage). p.page.url) (page_at kept page)
 
+-- the name of the origin of the page with this id
 abbrev pub origin_of : Kept → PageId → Option Slot
 origin_of kept page = option_map (λ (p : KeptPage). p.origin) (page_at kept page)
 
 -- the visit of the same page that comes next before it
 abbrev pub older_visit : Kept → VisitId → Option VisitId
-older_visit kept id = option_and_then (λ (v : Visit). id_behind id (page_visits kept v.page)) (visit_at kept id)
+older_visit kept id =
+    option_and_then (λ (v : Visit). id_behind id (page_visits kept v.page)) (visit_at kept id)
 
 -- ---- changes
 
+-- the rows on another day
 abbrev pub with_day : Day → Kept → Kept
 with_day day kept = record kept { day = day }
 
 -- a page with the next id, in an origin, with nothing computed of it yet
-abbrev pub with_page : List ℕ → Slot → Kept → Kept
-with_page url origin kept =
+abbrev pub next_page : List ℕ → Slot → Kept → KeptPage
+next_page url origin kept =
+    record {
+      page = record { id = record { 0 = kept.ids.page }; url = url; title = []; typed = false };
+      origin = origin;
+      frecency = pos 0;
+      count = 0;
+      hidden = false;
+    }
+
+-- the rows with that page
+abbrev pub with_new_page : List ℕ → Slot → Kept → Kept
+with_new_page url origin kept =
     record kept {
       ids = record kept.ids { page = kept.ids.page + 1 };
-      pages = kept.pages ++ record {
-        page = record { id = record { 0 = kept.ids.page }; url = url; title = []; typed = false };
-        origin = origin;
-        frecency = pos 0;
-        count = 0;
-        hidden = false;
-      } ∷ [];
+      pages = kept.pages ++ next_page url origin kept ∷ [];
     }
 
 -- an origin more, with no total yet
 abbrev pub with_origin : Slot → Kept → Kept
-with_origin origin kept = record kept { origins = kept.origins ++ record { origin = origin; total = 0 } ∷ [] }
+with_origin origin kept =
+    record kept { origins = kept.origins ++ record { origin = origin; total = 0 } ∷ [] }
 
 -- the slots of the store with a page of this URL more
 abbrev pub live_with_page : List ℕ → Kept → ℕ
-live_with_page url kept = live_slots (store_of (with_page url (record { 0 = 0 }) kept))
+live_with_page url kept = live_slots (store_of (with_new_page url (record { 0 = 0 }) kept))
 
 -- a visit with the next id
+abbrev pub next_visit : VisitRow → Kept → Visit
+next_visit row kept =
+    record {
+      id = record { 0 = kept.ids.visit };
+      page = row.page;
+      date = row.date;
+      transition = row.transition;
+      source = row.source;
+    }
+
+-- the rows with that visit
 abbrev pub with_visit : VisitRow → Kept → Kept
 with_visit row kept =
     record kept {
       ids = record kept.ids { visit = kept.ids.visit + 1 };
-      visits = kept.visits ++ record {
-        id = record { 0 = kept.ids.visit };
-        page = row.page;
-        date = row.date;
-        transition = row.transition;
-        source = row.source;
-      } ∷ [];
+      visits = kept.visits ++ next_visit row kept ∷ [];
     }
 
+-- the page with this mark
 abbrev pub marked : Mark → KeptPage → KeptPage
 marked mark p =
     record p {
@@ -161,27 +201,45 @@ marked mark p =
 -- the page with this id has this mark
 abbrev pub with_mark : PageId → Mark → Kept → Kept
 with_mark id mark kept =
-    record kept { pages = map (λ (p : KeptPage). if p.page.id.0 == id.0 then marked mark p else p) kept.pages }
+    record kept {
+      pages = map (λ (p : KeptPage). if p.page.id.0 == id.0 then marked mark p else p) kept.pages;
+    }
 
 -- ---- what holds of the rows
 
--- each origin has a name of its own, and pages have the same name exactly where they have the same origin
+-- the names of the origins
+abbrev pub origin_names : Kept → List ℕ
+origin_names kept = map (λ (a : KeptOrigin). a.origin.0) kept.origins
+
+-- the names that the pages have
+abbrev pub page_origins : Kept → List ℕ
+page_origins kept = map (λ (p : KeptPage). p.origin.0) kept.pages
+
+-- two pages have the same name exactly where they have the same origin
+abbrev pub AreAlike : KeptPage → KeptPage → Type 0
+AreAlike p q = (p.origin ≡ q.origin) ↔ IsTrue (same_origin p.page.url q.page.url)
+
+-- each origin has a name of its own, and pages have the same name exactly where
+-- they have the same origin
 pub record NamesOrigins (kept : Kept) : Type 0 where
   pub distinct : AllPairs (λ (a b : KeptOrigin). a.origin ≢ b.origin) kept.origins
   pub some : All (λ (a : KeptOrigin). 0 < a.origin.0) kept.origins
-  pub known : All (λ (p : KeptPage). Contains (map (λ (a : KeptOrigin). a.origin.0) kept.origins) p.origin.0) kept.pages
-  pub used : All (λ (a : KeptOrigin). Contains (map (λ (p : KeptPage). p.origin.0) kept.pages) a.origin.0) kept.origins
-  pub same : All (λ (p : KeptPage). All (λ (q : KeptPage). (p.origin ≡ q.origin) ↔ IsTrue (same_origin p.page.url q.page.url)) kept.pages) kept.pages
+  pub known : All (λ (p : KeptPage). Contains (origin_names kept) p.origin.0) kept.pages
+  pub used : All (λ (a : KeptOrigin). Contains (page_origins kept) a.origin.0) kept.origins
+  pub same : All (λ (p : KeptPage). All (AreAlike p) kept.pages) kept.pages
 
 -- the origin by this name is that of the URL; without a name no page has it
 abbrev pub IsOriginOf : Kept → List ℕ → Option Slot → Type 0
 IsOriginOf kept url None = All (λ (p : KeptPage). IsFalse (same_origin p.page.url url)) kept.pages
-IsOriginOf kept url (Some origin) = list_any (λ (p : KeptPage). (p.origin.0 == origin.0) && same_origin p.page.url url) kept.pages ≡ true
+IsOriginOf kept url (Some origin) =
+    list_any (λ (p : KeptPage). (p.origin.0 == origin.0) && same_origin p.page.url url) kept.pages
+    ≡ true
 
 -- the origin of a new page: the one by the name, or a new one
 abbrev pub WithPageIn : List ℕ → Option Slot → Kept → Kept → Type 0
-WithPageIn url (Some origin) old new = new ≡ with_page url origin old
-WithPageIn url None old new = (origin : Slot) × (new ≡ with_page url origin (with_origin origin old))
+WithPageIn url (Some origin) old new = new ≡ with_new_page url origin old
+WithPageIn url None old new =
+    (origin : Slot) × (new ≡ with_new_page url origin (with_origin origin old))
 
 -- the numbers of each kind lie below the next, dates and days are in range, and no URL stands twice
 pub record IsWellKept (kept : Kept) : Type 0 where
@@ -194,7 +252,7 @@ pub record IsWellKept (kept : Kept) : Type 0 where
   pub titles : All (λ (p : KeptPage). IsTitle p.page.title) kept.pages
   pub visits : All (λ (v : Visit). IsDate v.date × IsTrue (has_page kept v.page)) kept.visits
   pub origins : NamesOrigins kept
-  pub live : live_slots (store_of kept) ≤ 4_194_304
+  pub live : live_slots (store_of kept) ≤ slot_limit
 
 -- Nothing but what visits without a source make: no source, no title, and no item but the roots.
 pub record IsOfVisits (store : Store) : Type 0 where
@@ -204,6 +262,7 @@ pub record IsOfVisits (store : Store) : Type 0 where
 
 -- what was computed of each page is what the definitions give on the store's day
 pub record IsRight (kept : Kept) : Type 0 where
-  pub frecencies : All (λ (p : KeptPage). p.frecency ≡ frecency_of (store_of kept) p.page) kept.pages
+  pub frecencies :
+      All (λ (p : KeptPage). p.frecency ≡ frecency_of (store_of kept) p.page) kept.pages
   pub counts : All (λ (p : KeptPage). p.count ≡ visit_count (store_of kept) p.page.id) kept.pages
   pub hidden : All (λ (p : KeptPage). p.hidden ≡ is_hidden (store_of kept) p.page) kept.pages

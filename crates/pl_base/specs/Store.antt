@@ -25,13 +25,14 @@ pub record Visit : Type 0 where
   pub transition : Transition
   pub source : Option VisitId
 
+-- what an item is
 pub data ItemKind : Type 0 where
   bookmark : ItemKind
   folder : ItemKind
   separator : ItemKind
 
--- a row of the bookmark tree. Tags are rows too: a tag is a folder in the tags root, and the pages that
--- have the tag are the bookmarks in that folder
+-- a row of the bookmark tree. Tags are rows too: a tag is a folder in the tags root, and the pages
+-- that have the tag are the bookmarks in that folder
 pub record Item : Type 0 where
   pub id : ItemId
   pub kind : ItemKind
@@ -41,6 +42,7 @@ pub record Item : Type 0 where
   pub modified : Micros
   pub children : List ItemId
 
+-- the store's day, its next ids, and its rows
 pub record Store : Type 0 where
   pub day : Day
   pub ids : Ids
@@ -48,6 +50,7 @@ pub record Store : Type 0 where
   pub visits : List Visit
   pub items : List Item
 
+-- the item id with this number
 abbrev pub item_id : ℕ → ItemId
 item_id n = record { 0 = n }
 
@@ -64,7 +67,8 @@ root_folder n children =
       children = children;
     }
 
--- the items from 2 to 6: `menu________`, `toolbar_____`, `tags________`, `unfiled_____`, `mobile______`
+-- the items from 2 to 6: `menu________`, `toolbar_____`, `tags________`,
+-- `unfiled_____`, `mobile______`
 abbrev pub top_folders : List ItemId
 top_folders = map item_id (range_with_len 2 5)
 

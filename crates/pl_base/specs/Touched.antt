@@ -1,6 +1,7 @@
--- Pages of a store's bytes, and a change of some of them. Page 0 is the gate's, and the store's own begin
--- with page 1.
-use Rattle.std.specs.Prelude.{ℕ, ◌+◌, ◌-◌, ◌*◌, ◌≤◌, ◌<◌, ◌≡◌, ◌==◌, ◌&&◌, Bool, true, List, [], ◌∷◌, ◌++◌, map, take, drop, length, nat_lt}
+-- Pages of a store's bytes, and a change of some of them. Page 0 is the gate's, and the store's own
+-- begin with page 1.
+use Rattle.std.specs.Prelude.{ℕ, ◌+◌, ◌-◌, ◌*◌, ◌≤◌, ◌<◌, ◌≡◌, ◌==◌, ◌&&◌, Bool, true}
+use Rattle.std.specs.Prelude.{List, [], ◌∷◌, ◌++◌, map, take, drop, length, nat_lt}
 use Rattle.std.specs.List.{All, list_any}
 
 -- the bytes of a page
@@ -18,9 +19,11 @@ pub record Change : Type 0 where
   pub after : ℕ
   pub pages : List PageImage
 
+-- the numbers of the pages
 abbrev pub page_numbers : List PageImage → List ℕ
 page_numbers pages = map (λ (p : PageImage). p.page) pages
 
+-- what the pages are to hold
 abbrev pub page_images : List PageImage → List (List ℕ)
 page_images pages = map (λ (p : PageImage). p.image) pages
 
@@ -38,13 +41,19 @@ abbrev pub with_one_more : ℕ → List ℕ → Change → Change
 with_one_more page image change =
     record change { pages = change.pages ++ record { page = page; image = image } ∷ [] }
 
--- how many bytes from page 1 on lie before a page: where it lies, and the length of the pages before it
+-- the bytes of a file from page 1 on
+abbrev pub behind_gate : List ℕ → List ℕ
+behind_gate file = drop page_size file
+
+-- how many bytes from page 1 on lie before a page: where it lies, and the length of the pages
+-- before it
 abbrev pub bytes_before : ℕ → ℕ
 bytes_before page = page_size * (page - 1)
 
 -- the bytes from page 1 on with a page's image in its place
 abbrev pub with_page : PageImage → List ℕ → List ℕ
-with_page p bytes = take (bytes_before p.page) bytes ++ p.image ++ drop (bytes_before p.page + page_size) bytes
+with_page p bytes =
+    take (bytes_before p.page) bytes ++ p.image ++ drop (bytes_before p.page + page_size) bytes
 
 -- the same with several images
 abbrev pub with_pages : List PageImage → List ℕ → List ℕ
@@ -55,6 +64,7 @@ with_pages (p ∷ pages) bytes = with_pages pages (with_page p bytes)
 abbrev pub changed : Change → List ℕ → List ℕ
 changed change bytes = with_pages change.pages (take (bytes_before change.after) bytes)
 
+-- one of the pages has this number
 abbrev pub has_number : ℕ → List PageImage → Bool
 has_number n pages = list_any (λ m. m == n) (page_numbers pages)
 

@@ -2,8 +2,12 @@
 use Rattle.std.specs.Prelude.{ℕ, List, [], ◌∷◌, ◌==◌, Option}
 use Rattle.std.specs.List.{find}
 use Rattle.pl_base.specs.declared.transition.Transition.{Transition}
-use Rattle.pl_base.specs.declared.transition.Transition.TheVariants.{Link, Typed, Bookmark, Embed, RedirectPermanent, RedirectTemporary, Download, FramedLink, Reload}
+use Rattle.pl_base.specs.declared.transition.Transition.TheVariants.{Link, Typed, Bookmark}
+use Rattle.pl_base.specs.declared.transition.Transition.TheVariants.{Embed, RedirectPermanent}
+use Rattle.pl_base.specs.declared.transition.Transition.TheVariants.{RedirectTemporary, Download}
+use Rattle.pl_base.specs.declared.transition.Transition.TheVariants.{FramedLink, Reload}
 
+-- the number of a transition
 abbrev pub transition_number : Transition → ℕ
 transition_number Link = 1
 transition_number Typed = 2
@@ -15,6 +19,7 @@ transition_number Download = 7
 transition_number FramedLink = 8
 transition_number Reload = 9
 
+-- all transitions
 abbrev pub transitions : List Transition
 transitions =
     Link ∷ Typed ∷ Bookmark ∷ Embed ∷ RedirectPermanent ∷ RedirectTemporary ∷ Download ∷ FramedLink

@@ -1,5 +1,5 @@
 -- The visits of a page, and the sample of them that its frecency is computed from.
-use Rattle.std.specs.Prelude.{◌&&◌, ◌||◌, ◌==◌, Bool, List, [], ◌∷◌, nat_lt, take, if◌then◌else◌}
+use Rattle.std.specs.Prelude.{◌&&◌, ◌||◌, ◌==◌, ℕ, Bool, List, [], ◌∷◌, nat_lt, take, if◌then◌else◌}
 use Rattle.std.specs.List.{filter}
 use Rattle.pl_base.specs.declared.id.PageId.{PageId}
 use Rattle.pl_base.specs.Store.{Store, Visit}
@@ -23,6 +23,10 @@ latest_first (v ∷ vs) = in_place v (latest_first vs)
 abbrev pub visits_of : Store → PageId → List Visit
 visits_of store page = filter (λ v. v.page.0 == page.0) store.visits
 
--- its ten latest visits
+-- the visits of a full sample
+abbrev pub sample_size : ℕ
+sample_size = 10
+
+-- its latest visits, as many as a sample has
 abbrev pub sample_of : Store → PageId → List Visit
-sample_of store page = take 10 (latest_first (visits_of store page))
+sample_of store page = take sample_size (latest_first (visits_of store page))

@@ -1,5 +1,5 @@
 ghost use Rattle.std.specs.Prelude.{◌≡◌};
-ghost use Rattle.pl_base.specs.Refusal.{kind_number};
+ghost use Rattle.pl_base.specs.Refusal.{id_kind_number};
 
 /// Names a page. Ids are at least 1 and are never used again.
 #[derive(Clone, Copy, Debug, PartialEq, Eq, PartialOrd, Ord, Hash)]
@@ -48,7 +48,7 @@ pub enum IdKind {
 impl IdKind {
     /// The number by which replies name the kind.
     pub fn number(self) -> u8
-        ensures { result ≡ kind_number self }
+        ensures { result ≡ id_kind_number self }
     {
         self as u8
     }

@@ -1,6 +1,6 @@
-//! What the whole store speaks of: ids, dates, transitions, texts and refusals, and in `specs/` the
-//! definitions of the store, its addresses and its frecencies, after the documentation of Mozilla
-//! Places.
+//! What the whole store speaks of: ids, dates, transitions, texts and refusals, and in
+//! `specs/` the definitions of the store, its addresses and its frecencies, after the
+//! documentation of Mozilla Places.
 #![tactic(auto)]
 
 mod date;
@@ -21,7 +21,7 @@ pub use id::{IdKind, Ids, ItemId, PageId, Slot, VisitId};
 pub use memory::NoMemory;
 pub use refusal::Refusal;
 pub use row::{Mark, VisitRow};
-pub use rows::Rows;
+pub use rows::{Rows, SLOT_LIMIT};
 pub use steps::Steps;
 pub use touched::{PAGE_SIZE, Touched};
 pub use transition::Transition;

@@ -1,21 +1,30 @@
-ghost use Rattle.std.specs.Prelude.{◌≡◌, ◌≢◌, ◌↔◌, ◌+◌, ◌≤◌, ◌<◌, ℕ, List, Some, true, length, IfOk, IfSome, OnOk};
+ghost use Rattle.std.specs.Prelude.{◌≡◌, ◌≢◌, ◌↔◌, ◌+◌, ◌≤◌, ◌<◌, ℕ, List};
+ghost use Rattle.std.specs.Prelude.{Some, true, length, IfOk, IfSome, OnOk};
 ghost use Rattle.std.specs.List.{All};
 ghost use Rattle.std.specs.Option.{option_map};
 ghost use Rattle.pl_base.specs.Address.{is_store_url};
 ghost use Rattle.pl_base.specs.Date.{IsDate, IsDay};
-ghost use Rattle.pl_base.specs.Good.{IsGood};
-ghost use Rattle.pl_base.specs.Live.{live_slots};
-ghost use Rattle.pl_base.specs.Rows.{Kept, KeptPage, IsWellKept, IsOfVisits, IsRight, store_of, has_page, has_visit, mark_of, row_of, page_at, visit_at, page_behind, page_visits, first_id, older_visit, url_of, origin_of, IsOriginOf, WithPageIn, with_day, with_mark, with_visit, live_with_page};
+ghost use Rattle.pl_base.specs.Good.{IsGood, end_of_ids};
+ghost use Rattle.pl_base.specs.Live.{live_slots, slot_limit};
+ghost use Rattle.pl_base.specs.Rows.{Kept, KeptPage, IsWellKept, IsOfVisits, IsRight, store_of};
+ghost use Rattle.pl_base.specs.Rows.{has_page, has_visit, mark_of, row_of, page_at, visit_at};
+ghost use Rattle.pl_base.specs.Rows.{page_behind, page_visits, first_id, older_visit, url_of};
+ghost use Rattle.pl_base.specs.Rows.{origin_of, IsOriginOf, WithPageIn, with_day, with_mark};
+ghost use Rattle.pl_base.specs.Rows.{with_visit, live_with_page, most_reads};
 ghost use Rattle.pl_base.specs.Store.{Store};
 ghost use Rattle.pl_base.specs.Touched.{changed, bytes_before, IsWithin};
 
 use crate::{Day, Ids, Mark, NoMemory, PageId, Slot, Steps, Touched, Txt, VisitId, VisitRow};
 use std::sync::ledger::Ledger;
 
-/// The rows of a store, however they are kept, and the bytes that a file of it holds from page 1 on.
+/// No store takes more slots of 128 bytes.
+pub const SLOT_LIMIT: u32 = 4_194_304;
+
+/// The rows of a store, however they are kept, and the bytes that a file
+/// of it holds from page 1 on.
 ///
-/// A call that answers `NoMemory` leaves the rows to be given up. `steps` counts the records that are
-/// read.
+/// A call that answers `NoMemory` leaves the rows to be given up. `steps` counts the records that
+/// are read.
 pub trait Rows {
     /// The rows, and what was computed of them last.
     ghost kept: { Self → Kept };
@@ -23,8 +32,8 @@ pub trait Rows {
     /// The store's bytes from page 1 on.
     ghost bytes: { Self → List ℕ };
 
-    /// What these bytes may have been at the last `touched`; before the first one, what the rows were
-    /// made over.
+    /// What these bytes may have been at the last `touched`; before the first one, what the rows
+    /// were made over.
     ghost base: { Self → List ℕ → Type 0 };
 
     /// Which bytes from page 1 on stand for a store.
@@ -32,32 +41,32 @@ pub trait Rows {
 
     fn day<L: Ledger>(&self, steps: &mut Steps<L>) -> Day
         ensures day { result ≡ (kept self.now).day }
-        ensures cost { steps.new ≤ steps.old + 4 };
+        ensures cost { steps.new ≤ steps.old + most_reads };
 
     fn set_day<L: Ledger>(&mut self, day: Day, steps: &mut Steps<L>)
         requires { IsDay day }
         ensures kept { kept self.new ≡ with_day day (kept self.old) }
         ensures base { (bytes : List ℕ) → base self.old bytes → base self.new bytes }
-        ensures cost { steps.new ≤ steps.old + 4 };
+        ensures cost { steps.new ≤ steps.old + most_reads };
 
     /// The next ids.
     fn ids<L: Ledger>(&self, steps: &mut Steps<L>) -> Ids
         ensures ids { result ≡ (kept self.now).ids }
-        ensures cost { steps.new ≤ steps.old + 4 };
+        ensures cost { steps.new ≤ steps.old + most_reads };
 
     /// How many slots of 128 bytes the store takes.
     fn live<L: Ledger>(&self, steps: &mut Steps<L>) -> u64
         ensures live { result ≡ live_slots (store_of (kept self.now)) }
-        ensures cost { steps.new ≤ steps.old + 4 };
+        ensures cost { steps.new ≤ steps.old + most_reads };
 
     /// The next page by id, or the first one.
     fn page_after<L: Ledger>(&self, page: Option<PageId>, steps: &mut Steps<L>) -> Option<PageId>
         ensures next { result ≡ page_behind (kept self.now) page }
-        ensures cost { steps.new ≤ steps.old + 4 };
+        ensures cost { steps.new ≤ steps.old + most_reads };
 
     fn page_at<L: Ledger>(&self, page: PageId, steps: &mut Steps<L>) -> Option<Mark>
         ensures mark { result ≡ option_map mark_of (page_at (kept self.now) page) }
-        ensures cost { steps.new ≤ steps.old + 4 };
+        ensures cost { steps.new ≤ steps.old + most_reads };
 
     fn url<L: Ledger>(&self, page: PageId, steps: &mut Steps<L>) -> Result<Txt, NoMemory>
         requires { has_page (kept self.now) page ≡ true }
@@ -66,10 +75,10 @@ pub trait Rows {
     fn origin_of<L: Ledger>(&self, page: PageId, steps: &mut Steps<L>) -> Slot
         requires { has_page (kept self.now) page ≡ true }
         ensures origin { Some result ≡ origin_of (kept self.now) page }
-        ensures cost { steps.new ≤ steps.old + 4 };
+        ensures cost { steps.new ≤ steps.old + most_reads };
 
-    /// A new page with the next id, in the given origin or in a new one. Its URL is a URL of the store
-    /// that no page has.
+    /// A new page with the next id, in the given origin or in a new one. Its URL is a URL of the
+    /// store that no page has.
     fn insert_page<L: Ledger>(
         &mut self,
         url: &str,
@@ -79,8 +88,8 @@ pub trait Rows {
         requires url { is_store_url url.now ≡ true }
         requires absent { All (λ (p : KeptPage). p.page.url ≢ url.now) (kept self.old).pages }
         requires origin { IsOriginOf (kept self.old) url.now origin }
-        requires id { (kept self.old).ids.page < 4_294_967_295 }
-        requires live { live_with_page url.now (kept self.old) ≤ 4_194_304 }
+        requires id { (kept self.old).ids.page < end_of_ids }
+        requires live { live_with_page url.now (kept self.old) ≤ slot_limit }
         ensures page { IfOk result (λ page. page.0 ≡ (kept self.old).ids.page) }
         ensures kept { OnOk result (WithPageIn url.now origin (kept self.old) (kept self.new)) }
         ensures base { OnOk result ((bytes : List ℕ) → base self.old bytes → base self.new bytes) };
@@ -89,23 +98,24 @@ pub trait Rows {
         requires { has_page (kept self.old) page ≡ true }
         ensures kept { kept self.new ≡ with_mark page mark (kept self.old) }
         ensures base { (bytes : List ℕ) → base self.old bytes → base self.new bytes }
-        ensures cost { steps.new ≤ steps.old + 4 };
+        ensures cost { steps.new ≤ steps.old + most_reads };
 
     fn visit_at<L: Ledger>(&self, visit: VisitId, steps: &mut Steps<L>) -> Option<VisitRow>
         ensures row { result ≡ option_map row_of (visit_at (kept self.now) visit) }
-        ensures cost { steps.new ≤ steps.old + 4 };
+        ensures cost { steps.new ≤ steps.old + most_reads };
 
     /// The latest visit of a page.
     fn latest<L: Ledger>(&self, page: PageId, steps: &mut Steps<L>) -> Option<VisitId>
         requires { has_page (kept self.now) page ≡ true }
         ensures latest { result ≡ first_id (page_visits (kept self.now) page) }
-        ensures cost { steps.new ≤ steps.old + 4 };
+        ensures cost { steps.new ≤ steps.old + most_reads };
 
-    /// The visit of the same page that is next before it by date, and by id where dates are the same.
+    /// The visit of the same page that is next before it by date, and by id
+    /// where dates are the same.
     fn older<L: Ledger>(&self, visit: VisitId, steps: &mut Steps<L>) -> Option<VisitId>
         requires { has_visit (kept self.now) visit ≡ true }
         ensures older { result ≡ older_visit (kept self.now) visit }
-        ensures cost { steps.new ≤ steps.old + 4 };
+        ensures cost { steps.new ≤ steps.old + most_reads };
 
     /// A new visit with the next id.
     fn insert_visit<L: Ledger>(
@@ -115,23 +125,27 @@ pub trait Rows {
     ) -> Result<VisitId, NoMemory>
         requires page { has_page (kept self.old) row.now.page ≡ true }
         requires date { IsDate row.now.date }
-        requires source { IfSome row.now.source (λ source. has_visit (kept self.old) source ≡ true) }
-        requires id { (kept self.old).ids.visit < 4_294_967_295 }
-        requires live { live_slots (store_of (kept self.old)) < 4_194_304 }
+        requires source { IfSome row.now.source (λ id. has_visit (kept self.old) id ≡ true) }
+        requires id { (kept self.old).ids.visit < end_of_ids }
+        requires live { live_slots (store_of (kept self.old)) < slot_limit }
         ensures visit { IfOk result (λ visit. visit.0 ≡ (kept self.old).ids.visit) }
         ensures kept { OnOk result (kept self.new ≡ with_visit row.now (kept self.old)) }
         ensures base { OnOk result ((bytes : List ℕ) → base self.old bytes → base self.new bytes) };
 
     /// The pages of the bytes that changed since the last such call, or since the rows were made.
     fn touched<L: Ledger>(&mut self, steps: &mut Steps<L>) -> Result<Touched, NoMemory>
-        ensures whole { IfOk result (λ change. (base_bytes : List ℕ) → base self.old base_bytes → changed change base_bytes ≡ bytes self.old) }
-        ensures before { IfOk result (λ change. (base_bytes : List ℕ) → base self.old base_bytes → length base_bytes ≡ bytes_before change.before) }
-        ensures after { IfOk result (λ change. length (bytes self.old) ≡ bytes_before change.after) }
+        ensures whole { IfOk result (λ change. (base_bytes : List ℕ) → base self.old base_bytes
+            → changed change base_bytes ≡ bytes self.old) }
+        ensures before { IfOk result (λ change. (base_bytes : List ℕ) → base self.old base_bytes
+            → length base_bytes ≡ bytes_before change.before) }
+        ensures after { IfOk result (λ change.
+            length (bytes self.old) ≡ bytes_before change.after) }
         ensures within { IfOk result IsWithin }
         ensures some { IfOk result (λ change. 1 ≤ change.before) }
         ensures kept { kept self.new ≡ kept self.old }
         ensures bytes { bytes self.new ≡ bytes self.old }
-        ensures base { OnOk result ((base_bytes : List ℕ) → base self.new base_bytes ↔ (base_bytes ≡ bytes self.old)) };
+        ensures base { OnOk result ((base_bytes : List ℕ)
+            → base self.new base_bytes ↔ (base_bytes ≡ bytes self.old)) };
 
     /// There are bytes that the last `touched` may have been told of.
     ghost based: { (rows : Self) → (base_bytes : List ℕ) × base rows base_bytes };
@@ -140,5 +154,7 @@ pub trait Rows {
     ghost well_kept: { (rows : Self) → IsWellKept (kept rows) };
 
     /// The bytes stand for a good store whose marks are right, as far as this form has it yet.
-    ghost stands: { (rows : Self) → IsGood (store_of (kept rows)) → IsOfVisits (store_of (kept rows)) → IsRight (kept rows) → form (bytes rows) (store_of (kept rows)) };
+    ghost stands: { (rows : Self)
+        → IsGood (store_of (kept rows)) → IsOfVisits (store_of (kept rows)) → IsRight (kept rows)
+        → form (bytes rows) (store_of (kept rows)) };
 }

@@ -21,7 +21,8 @@ impl<L: Ledger> Model for Steps<L> {
 }
 
 impl<L: Ledger> Steps<L> {
-    /// Nothing was read yet. A caller that counts nothing makes the blank for the ledger's name itself.
+    /// Nothing was read yet. A caller that counts nothing makes the blank for
+    /// the ledger's name itself.
     pub fn none(blank: Blank) -> Self
         requires name { blank.name ≡ L.name }
         requires parts { blank.parts ≡ L.parts }

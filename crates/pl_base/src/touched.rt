@@ -1,6 +1,8 @@
-ghost use Rattle.std.specs.Prelude.{◌≡◌, ◌<◌, ◌≤◌, [], ◌∷◌, ◌++◌, length, map, slice_index, OnOk, OnErr, true};
+ghost use Rattle.std.specs.Prelude.{◌≡◌, ◌<◌, ◌≤◌, [], ◌∷◌, ◌++◌, length};
+ghost use Rattle.std.specs.Prelude.{map, slice_index, OnOk, OnErr, true};
 ghost use Rattle.std.specs.List.{slice_index_or};
-ghost use Rattle.pl_base.specs.Touched.{ascends_above, page_images, page_numbers, page_size, with_one_more, AreImages};
+ghost use Rattle.pl_base.specs.Touched.{ascends_above, page_images, page_numbers};
+ghost use Rattle.pl_base.specs.Touched.{page_size, with_one_more, AreImages};
 
 use crate::NoMemory;
 use std::alloc::Global;
@@ -9,8 +11,9 @@ use std::marker::Model;
 /// The bytes of a page.
 pub const PAGE_SIZE: usize = 1024;
 
-/// The pages of a store that a change touched, by ascending number, with what they are to hold, and
-/// the store's lengths in pages before and after the change. Page 0, the gate's, is never among them.
+/// The pages of a store that a change touched, by ascending number, with what they are to
+/// hold, and the store's lengths in pages before and after the change. Page 0, the
+/// gate's, is never among them.
 #[derive(Debug, Drop)]
 pub struct Touched {
     before: u32,
@@ -26,7 +29,8 @@ impl Model for Touched {
 
     ghost view = { λ t. record { before = t.before; after = t.after; pages = t.pages.items } };
 
-    ghost invariant = { λ t. (ascends_above 0 (page_numbers t.pages.items) ≡ true) × AreImages t.pages.items };
+    ghost invariant = { λ t. (ascends_above 0 (page_numbers t.pages.items) ≡ true)
+        × AreImages t.pages.items };
 }
 
 impl Touched {
@@ -41,8 +45,8 @@ impl Touched {
         }
     }
 
-    /// Adds a page at the end: its number is above the last one, and its image has 1,024 bytes. After an
-    /// `Err` nothing has changed.
+    /// Adds a page at the end: its number is above the last one, and its image has 1,024 bytes.
+    /// After an `Err` nothing has changed.
     pub fn push(&mut self, page: u32, image: &[u8]) -> Result<(), NoMemory>
         requires above { ascends_above 0 (page_numbers self.old.pages ++ page ∷ []) ≡ true }
         requires whole { length image.now ≡ page_size }

@@ -1,10 +1,8 @@
 mod GoodRows
 mod KeptUrls
 mod KnownPage
-mod Lists
 mod LiveAfter
 mod OriginParts
-mod NoSource
 mod PageScore
 mod PageWalk
 mod ReadyPage

@@ -2,30 +2,28 @@
 use Rattle.std.proofs.Common.{◌≡◌, ◌&&◌, ℕ, Bool, false, List, Option, Some, Result, Ok, Err, ap, bytes_eq, sym}
 use Rattle.std.specs.Option.{option_map}
 use Rattle.std.specs.Result.{IsOkAnd}
-use Rattle.pl_base.specs.Address.{host_and_port, is_place, is_place_url, origin_of_url, prefix, record_of, same_origin}
-use Rattle.pl_base.proofs.OriginLaws.{origin_of_url-from, same_origin-by_texts}
+use Rattle.pl_base.specs.Address.{is_place, is_place_url, record_of, same_origin}
+use Rattle.pl_base.proofs.OriginLaws.{same_origin-by_texts}
 use Rattle.pl_link.specs.declared.parts.Parts.{Parts}
 use Rattle.pl_link.specs.Parts.{ArePartsOf}
 use Rattle.pl_engine.specs.Target.{HasParts}
+use Rattle.pl_link.proofs.OriginParts.{origin_by_parts}
 
-ok_weaker : {T E : Type 0} (r : Result T E) (P Q : T → Type 0) → ((x : T) → P x → Q x) → IsOkAnd r P → IsOkAnd r Q
-ok_weaker (Ok x) P Q weaker so = weaker x so
-ok_weaker (Err e) P Q weaker so = so
-
-origin_by_parts : (url : List ℕ) (parts : Parts) → HasParts url parts → origin_of_url url ≡ Some (parts.prefix, parts.host)
-origin_by_parts url parts are =
-    origin_of_url-from url parts.prefix parts.host
-    (ok_weaker (record_of url) (λ found. ArePartsOf found parts) (λ found. (parts.prefix ≡ prefix found) × (parts.host ≡ host_and_port found)) (λ found are. (are.prefix, are.host)) are)
-
-pub same_origin-by_parts : (text url : List ℕ) (own parts : Parts) (alike : Bool) (kept_url : Option (List ℕ)) → HasParts text own → HasParts url parts → alike ≡ (bytes_eq own.prefix parts.prefix && bytes_eq own.host parts.host) → Some text ≡ kept_url → Some alike ≡ option_map (λ (other : List ℕ). same_origin other url) kept_url
+pub same_origin-by_parts : (text url : List ℕ) (own parts : Parts) (alike : Bool) (kept_url : Option (List ℕ))
+    → HasParts text own → HasParts url parts
+    → alike ≡ (bytes_eq own.prefix parts.prefix && bytes_eq own.host parts.host) → Some text ≡ kept_url
+    → Some alike ≡ option_map (λ (other : List ℕ). same_origin other url) kept_url
 same_origin-by_parts text url own parts alike kept_url owns has is stands =
-    rw (← stands, is) (ap (λ (b : Bool). Some b) (sym (same_origin-by_texts text url (own.prefix, own.host) (parts.prefix, parts.host) (origin_by_parts text own owns) (origin_by_parts url parts has))))
+    rw (← stands, is) (ap (λ (b : Bool). Some b)
+    (sym (same_origin-by_texts text url (own.prefix, own.host) (parts.prefix, parts.host)
+    (origin_by_parts text own owns) (origin_by_parts url parts has))))
 
 abbrev passes : {T E : Type 0} → (T → Bool) → Result T E → Bool
 passes test (Ok found) = test found
 passes test (Err e) = false
 
-passes_by : {T E : Type 0} (r : Result T E) (test : T → Bool) (P : T → Type 0) (b : Bool) → ((x : T) → P x → b ≡ test x) → IsOkAnd r P → b ≡ passes test r
+passes_by : {T E : Type 0} (r : Result T E) (test : T → Bool) (P : T → Type 0) (b : Bool) → ((x : T) → P x → b ≡ test x)
+    → IsOkAnd r P → b ≡ passes test r
 passes_by (Ok found) test P b is so = is found so
 passes_by (Err e) test P b is so = absurd so
 

@@ -1,5 +1,6 @@
 -- Where a visit goes, and what the rows have there.
-use Rattle.std.proofs.Common.{◌≡◌, ◌≢◌, ◌∙◌, ◌+◌, ◌==◌, ◌&&◌, ◌||◌, ℕ, All, Bool, true, false, List, [], ◌∷◌, Option, Some, None, ap, bytes_eq, find, if◌then◌else◌, map, refl, sym}
+use Rattle.std.proofs.Common.{◌≡◌, ◌≢◌, ◌∙◌, ◌+◌, ◌==◌, ◌&&◌, ◌||◌, ℕ, All, Bool, true, false, List, []}
+use Rattle.std.proofs.Common.{◌∷◌, Option, Some, None, ap, bytes_eq, find, if◌then◌else◌, map, refl, sym}
 use Rattle.std.specs.List.{AllByRecursion, list_any}
 use Rattle.std.specs.Option.{IsSome, is_none, option_map}
 use Rattle.std.proofs.lemmas.Bool.{false≢true}
@@ -17,34 +18,41 @@ use Rattle.pl_base.specs.Store.{Page}
 use Rattle.pl_engine.specs.declared.engine.find.Target.TheVariants.{Known, New}
 use Rattle.pl_engine.specs.Step.{after_visit, find_page}
 use Rattle.pl_engine.specs.Target.{IsTargetOf}
-use Rattle.pl_engine.proofs.Lists.{list_any-map}
+use Rattle.pl_base.proofs.ListLaws.{list_any-map}
 use Rattle.pl_engine.proofs.LiveAfter.{live_found, live_new}
 
 -- ---- look-ups
 
 -- one is found where there is one
-pub found_where : {A B : Type 0} (p : A → Bool) (f : A → B) (xs : List A) (found : Option B) → list_any p xs ≡ true → found ≡ option_map f (find p xs) → IsSome found
+pub found_where : {A B : Type 0} (p : A → Bool) (f : A → B) (xs : List A) (found : Option B) → list_any p xs ≡ true
+    → found ≡ option_map f (find p xs) → IsSome found
 found_where p f [] found some is = absurd (cc)
 found_where p f (x ∷ xs) found some is = choose (p x) some is (found_where p f xs found)
   where
-    choose : (b : Bool) → (b || list_any p xs) ≡ true → found ≡ option_map f (if b then Some x else find p xs) → (list_any p xs ≡ true → found ≡ option_map f (find p xs) → IsSome found) → IsSome found
+    choose : (b : Bool) → (b || list_any p xs) ≡ true → found ≡ option_map f (if b then Some x else find p xs)
+        → (list_any p xs ≡ true → found ≡ option_map f (find p xs) → IsSome found) → IsSome found
     choose true here is rest = rw is refl
     choose false here is rest = rest here is
 
-none_passes : (p : Page → Bool) (ps : List KeptPage) → find p (map (λ (q : KeptPage). q.page) ps) ≡ None → AllByRecursion (λ (q : KeptPage). p q.page ≡ false) ps
+none_passes : (p : Page → Bool) (ps : List KeptPage) → find p (map (λ (q : KeptPage). q.page) ps) ≡ None
+    → AllByRecursion (λ (q : KeptPage). p q.page ≡ false) ps
 none_passes p [] none = tt
 none_passes p (q ∷ ps) none = choose (p q.page) refl none (none_passes p ps)
   where
-    choose : (b : Bool) → p q.page ≡ b → (if b then Some q.page else find p (map (λ (r : KeptPage). r.page) ps)) ≡ None → (find p (map (λ (r : KeptPage). r.page) ps) ≡ None → AllByRecursion (λ (r : KeptPage). p r.page ≡ false) ps) → AllByRecursion (λ (r : KeptPage). p r.page ≡ false) (q ∷ ps)
+    choose : (b : Bool) → p q.page ≡ b → (if b then Some q.page else find p (map (λ (r : KeptPage). r.page) ps)) ≡ None
+        → (find p (map (λ (r : KeptPage). r.page) ps) ≡ None → AllByRecursion (λ (r : KeptPage). p r.page ≡ false) ps)
+        → AllByRecursion (λ (r : KeptPage). p r.page ≡ false) (q ∷ ps)
     choose true is here rest = absurd (cc)
     choose false is here rest = (is, rest here)
 
 -- no page has the URL
-pub absent : (kept : Kept) (url : List ℕ) → find_page url (store_of kept).pages ≡ None → All (λ (p : KeptPage). p.page.url ≢ url) kept.pages
+pub absent : (kept : Kept) (url : List ℕ) → find_page url (store_of kept).pages ≡ None
+    → All (λ (p : KeptPage). p.page.url ≢ url) kept.pages
 absent kept url none =
     All-weaker (λ (p : KeptPage). bytes_eq p.page.url url ≡ false) (λ (p : KeptPage). p.page.url ≢ url)
     (λ p apart same. false≢true (sym apart ∙ (bytes_eq-Decides p.page.url url).1 same)) kept.pages
-    (All-from_recursion (λ (p : KeptPage). bytes_eq p.page.url url ≡ false) kept.pages (none_passes (λ (p : Page). bytes_eq p.url url) kept.pages none))
+    (All-from_recursion (λ (p : KeptPage). bytes_eq p.page.url url ≡ false) kept.pages
+    (none_passes (λ (p : Page). bytes_eq p.url url) kept.pages none))
 
 -- ---- the target
 
@@ -57,18 +65,23 @@ pub record IsFound (kept : Kept) (url : List ℕ) (id : PageId) : Type 0 where
 pub found_page : (kept : Kept) (url : List ℕ) (id : PageId) → IsTargetOf kept url (Known id) → IsFound kept url id
 found_page kept url id target = choose (find_page url (store_of kept).pages) refl target
   where
-    choose : (found : Option Page) → find_page url (store_of kept).pages ≡ found → option_map (λ (p : Page). p.id) found ≡ Some id → IsFound kept url id
+    choose : (found : Option Page) → find_page url (store_of kept).pages ≡ found
+        → option_map (λ (p : Page). p.id) found ≡ Some id → IsFound kept url id
     choose None is none = absurd (cc)
     choose (Some p) is some = record { page = p; there = is; is = cc }
 
 -- ---- slots
 
-pub slots_known : (kept : Kept) (url : List ℕ) (id : PageId) (transition : Transition) (date : Micros) → IsTargetOf kept url (Known id) → live_slots (after_visit (store_of kept) url transition date) ≡ live_slots (store_of kept) + 1
+pub slots_known : (kept : Kept) (url : List ℕ) (id : PageId) (transition : Transition) (date : Micros)
+    → IsTargetOf kept url (Known id)
+    → live_slots (after_visit (store_of kept) url transition date) ≡ live_slots (store_of kept) + 1
 slots_known kept url id transition date target =
     let f : IsFound kept url id = found_page kept url id target in
     live_found (store_of kept) url transition date f.page f.there
 
-pub has_origin : (kept : Kept) (url : List ℕ) (origin : Option Slot) → IsOriginOf kept url origin → ◌≡◌ {A = ℕ} (if list_any (λ (p : KeptPage). same_origin p.page.url url) kept.pages then 0 else 1) (if is_none origin then 1 else 0)
+pub has_origin : (kept : Kept) (url : List ℕ) (origin : Option Slot) → IsOriginOf kept url origin
+    → ◌≡◌ {A = ℕ} (if list_any (λ (p : KeptPage). same_origin p.page.url url) kept.pages then 0 else 1)
+    (if is_none origin then 1 else 0)
 has_origin kept url None none =
     ap (λ (b : Bool). if b then 0 else 1) (list_any_none (λ (p : KeptPage). same_origin p.page.url url) kept.pages none)
 has_origin kept url (Some origin) some =
@@ -80,14 +93,22 @@ has_origin kept url (Some origin) some =
     both false true c d here rest = refl
     both false false c d here rest = rest here
 
-    either : (ps : List KeptPage) → list_any (λ (p : KeptPage). (p.origin.0 == origin.0) && same_origin p.page.url url) ps ≡ true → list_any (λ (p : KeptPage). same_origin p.page.url url) ps ≡ true
+    either : (ps : List KeptPage)
+        → list_any (λ (p : KeptPage). (p.origin.0 == origin.0) && same_origin p.page.url url) ps ≡ true
+        → list_any (λ (p : KeptPage). same_origin p.page.url url) ps ≡ true
     either [] none = absurd (cc)
     either (p ∷ ps) here =
-        both (p.origin.0 == origin.0) (same_origin p.page.url url) (list_any (λ (q : KeptPage). (q.origin.0 == origin.0) && same_origin q.page.url url) ps)
+        both (p.origin.0 == origin.0) (same_origin p.page.url url)
+        (list_any (λ (q : KeptPage). (q.origin.0 == origin.0) && same_origin q.page.url url) ps)
         (list_any (λ (q : KeptPage). same_origin q.page.url url) ps) here (either ps)
 
-pub slots_new : (kept : Kept) (url : List ℕ) (origin : Option Slot) (transition : Transition) (date : Micros) → IsTargetOf kept url (New origin) → live_slots (after_visit (store_of kept) url transition date) ≡ live_slots (store_of kept) + (2 + chunks url + (if is_none origin then 1 else 0))
+pub slots_new : (kept : Kept) (url : List ℕ) (origin : Option Slot) (transition : Transition) (date : Micros)
+    → IsTargetOf kept url (New origin)
+    → live_slots (after_visit (store_of kept) url transition date) ≡ live_slots (store_of kept)
+    + (2 + chunks url + (if is_none origin then 1 else 0))
 slots_new kept url origin transition date target =
     live_new (store_of kept) url transition date target.0
     ∙ ap (λ (n : ℕ). live_slots (store_of kept) + (2 + chunks url + n))
-    (ap (λ (b : Bool). if b then 0 else 1) (list_any-map (λ (p : Page). same_origin p.url url) (λ (p : KeptPage). p.page) kept.pages) ∙ has_origin kept url origin target.1)
+    (ap (λ (b : Bool). if b then 0 else 1)
+    (list_any-map (λ (p : Page). same_origin p.url url) (λ (p : KeptPage). p.page) kept.pages)
+    ∙ has_origin kept url origin target.1)

@@ -9,7 +9,8 @@ use Rattle.pl_engine.specs.Step.{step}
 -- the replies, in order, on a store that takes at most so many slots
 abbrev pub replies : ℕ → Store → List (Parsed Command) → List Reply
 replies limit store [] = []
-replies limit store (entry ∷ entries) = (step limit store entry).0 ∷ replies limit (step limit store entry).1 entries
+replies limit store (entry ∷ entries) =
+    (step limit store entry).0 ∷ replies limit (step limit store entry).1 entries
 
 -- the store after all of them
 abbrev pub after : ℕ → Store → List (Parsed Command) → Store

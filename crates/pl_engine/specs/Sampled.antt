@@ -9,5 +9,6 @@ use Rattle.pl_score.specs.declared.sample.Sampled.{Sampled}
 abbrev pub sampled_visit : Visit → Sampled
 sampled_visit v = record { date = v.date; bonus = bonus_of v.transition None false false }
 
+-- the same of a visit without its id
 abbrev pub sampled_row : VisitRow → Sampled
 sampled_row row = record { date = row.date; bonus = bonus_of row.transition None false false }

@@ -1,5 +1,7 @@
 -- One step of the machine: what a command answers and what it leaves of the store.
-use Rattle.std.specs.Prelude.{◌≡◌, ℕ, ◌+◌, ◌==◌, ◌&&◌, ◌||◌, Bool, true, false, List, [], ◌∷◌, ◌++◌, map, nat_lt, bytes_eq, unwrap_or, is_none, Option, Some, None, Ok, Err, if◌then◌else◌}
+use Rattle.std.specs.Prelude.{◌≡◌, ℕ, ◌+◌, ◌==◌, ◌&&◌, ◌||◌, Bool, false, List}
+use Rattle.std.specs.Prelude.{[], ◌∷◌, ◌++◌, map, nat_lt, bytes_eq, unwrap_or}
+use Rattle.std.specs.Prelude.{is_none, Option, Some, None, Ok, Err, if◌then◌else◌}
 use Rattle.std.specs.List.{find}
 use Rattle.pl_base.specs.declared.date.Micros.{Micros}
 use Rattle.pl_base.specs.declared.id.IdKind.TheVariants.{Page as PageKind, Visit as VisitKind}
@@ -7,25 +9,29 @@ use Rattle.pl_base.specs.declared.id.PageId.{PageId}
 use Rattle.pl_base.specs.declared.refusal.Refusal.{Refusal}
 use Rattle.pl_base.specs.declared.refusal.Refusal.TheVariants.{NotRecorded, Full, NoIds}
 use Rattle.pl_base.specs.declared.transition.Transition.{Transition}
-use Rattle.pl_base.specs.declared.transition.Transition.TheVariants.{Link, Typed, Bookmark, Embed, RedirectPermanent, RedirectTemporary, Download, FramedLink, Reload}
 use Rattle.pl_base.specs.Address.{is_unrecorded_url}
 use Rattle.pl_base.specs.Date.{IsDate}
 use Rattle.pl_base.specs.Frecency.{frecency_of}
+use Rattle.pl_base.specs.Good.{end_of_ids}
 use Rattle.pl_base.specs.Live.{live_slots}
-use Rattle.pl_base.specs.Store.{Store, Page}
+use Rattle.pl_base.specs.Store.{Store, Page, Visit}
 use Rattle.pl_engine.specs.declared.command.Command.{Command}
 use Rattle.pl_engine.specs.declared.command.Command.TheVariants.{Visit as VisitCommand}
 use Rattle.pl_engine.specs.declared.reply.Reply.{Reply}
 use Rattle.pl_engine.specs.declared.reply.Reply.TheVariants.{Visit as VisitReply, Refused}
 use Rattle.pl_engine.specs.Parsed.{Parsed}
+use Rattle.pl_base.specs.Marks.{is_typed}
 
 -- ---- a visit
 
+-- the page with the URL
 abbrev pub find_page : List ℕ → List Page → Option Page
 find_page url pages = find (λ (p : Page). bytes_eq p.url url) pages
 
+-- a page of the URL with the next id
 abbrev pub new_page : Store → List ℕ → Page
-new_page store url = record { id = record { 0 = store.ids.page }; url = url; title = []; typed = false }
+new_page store url =
+    record { id = record { 0 = store.ids.page }; url = url; title = []; typed = false }
 
 -- the page that a visit to the URL goes to: the one with the URL, or a new one
 abbrev pub page_for : Store → List ℕ → Page
@@ -35,39 +41,44 @@ page_for store url = unwrap_or (find_page url store.pages) (new_page store url)
 abbrev pub with_page_for : Store → List ℕ → Store
 with_page_for store url =
     if is_none (find_page url store.pages)
-    then record store { pages = store.pages ++ new_page store url ∷ []; ids = record store.ids { page = store.ids.page + 1 } }
+    then record store {
+      pages = store.pages ++ new_page store url ∷ [];
+      ids = record store.ids { page = store.ids.page + 1 };
+    }
     else store
-
-abbrev pub is_typed : Transition → Bool
-is_typed Typed = true
-is_typed Link = false
-is_typed Bookmark = false
-is_typed Embed = false
-is_typed RedirectPermanent = false
-is_typed RedirectTemporary = false
-is_typed Download = false
-is_typed FramedLink = false
-is_typed Reload = false
 
 -- a page after a visit to it: from a typed visit on it is typed
 abbrev pub visited_page : Transition → Page → Page
 visited_page transition p = record p { typed = p.typed || is_typed transition }
 
+-- the same of the page with this id
 abbrev pub visit_page : PageId → Transition → Page → Page
 visit_page id transition p = if p.id.0 == id.0 then visited_page transition p else p
 
--- the store with a visit more, at the end of the visits
-abbrev pub with_visit : PageId → Transition → Micros → Store → Store
-with_visit page transition date store =
+-- a visit without a source, with the next id
+abbrev pub new_visit : Store → PageId → Transition → Micros → Visit
+new_visit store page transition date =
+    record {
+      id = record { 0 = store.ids.visit };
+      page = page;
+      date = date;
+      transition = transition;
+      source = None;
+    }
+
+-- the store with that visit, at the end of the visits
+abbrev pub visited_store : PageId → Transition → Micros → Store → Store
+visited_store page transition date store =
     record store {
       ids = record store.ids { visit = store.ids.visit + 1 };
       pages = map (visit_page page transition) store.pages;
-      visits = store.visits ++ record { id = record { 0 = store.ids.visit }; page = page; date = date; transition = transition; source = None } ∷ [];
+      visits = store.visits ++ new_visit store page transition date ∷ [];
     }
 
+-- the store after a visit to the URL
 abbrev pub after_visit : Store → List ℕ → Transition → Micros → Store
 after_visit store url transition date =
-    with_visit (page_for store url).id transition date (with_page_for store url)
+    visited_store (page_for store url).id transition date (with_page_for store url)
 
 -- a store of so many slots after so many before takes more than it may
 abbrev pub is_full : ℕ → ℕ → ℕ → Bool
@@ -78,15 +89,17 @@ abbrev pub visit_refusal : ℕ → Store → List ℕ → Transition → Micros 
 visit_refusal limit store url transition date =
     let slots = live_slots (after_visit store url transition date) in
     if is_unrecorded_url url then Some NotRecorded else
-    if is_none (find_page url store.pages) && (store.ids.page == 4_294_967_295) then Some (NoIds PageKind) else
-    if store.ids.visit == 4_294_967_295 then Some (NoIds VisitKind) else
+    if is_none (find_page url store.pages) && (store.ids.page == end_of_ids)
+    then Some (NoIds PageKind) else
+    if store.ids.visit == end_of_ids then Some (NoIds VisitKind) else
     if is_full limit (live_slots store) slots then Some (Full slots) else None
 
 -- the reply tells the visit, its page, and the page's frecency after it
 abbrev pub visit_reply : Store → List ℕ → Transition → Micros → Reply
 visit_reply store url transition date =
     VisitReply (record { 0 = store.ids.visit }) (page_for store url).id
-    (frecency_of (after_visit store url transition date) (visited_page transition (page_for store url)))
+    (frecency_of (after_visit store url transition date)
+    (visited_page transition (page_for store url)))
 
 -- ---- the step
 

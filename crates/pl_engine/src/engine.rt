@@ -5,6 +5,7 @@ mod visit;
 ghost use Rattle.std.specs.Prelude.{◌≡◌, ◌≤◌, ℕ, List, length, IfOk, IsErr, OnOk};
 ghost use Rattle.std.proofs.Props.{props};
 ghost use Rattle.pl_base.specs.Good.{IsGood};
+ghost use Rattle.pl_base.specs.Live.{slot_limit};
 ghost use Rattle.pl_base.specs.Rows.{IsOfVisits, IsRight, store_of};
 ghost use Rattle.pl_base.specs.Touched.{IsWithin, changed, bytes_before};
 ghost use Rattle.pl_engine.specs.Engine.{IsVisited};
@@ -29,7 +30,7 @@ pub struct Engine<R: Rows> {
     ghost of_visits: { IsOfVisits (store_of (R.kept rows)) } by { Prim.hlevel props },
     ghost visited: { IsVisited (R.kept rows) } by { Prim.hlevel props },
     ghost right: { IsRight (R.kept rows) } by { Prim.hlevel props },
-    ghost most: { limit ≤ 4_194_304 },
+    ghost most: { limit ≤ slot_limit },
 }
 
 impl<R: Rows + Drop> Engine<R> {
@@ -38,7 +39,7 @@ impl<R: Rows + Drop> Engine<R> {
         requires good { IsGood (store_of (R.kept rows)) }
         requires of_visits { IsOfVisits (store_of (R.kept rows)) }
         requires right { IsRight (R.kept rows) }
-        requires most { limit ≤ 4_194_304 }
+        requires most { limit ≤ slot_limit }
         ensures rows { IfOk result (λ engine. engine.rows ≡ rows) }
         ensures stands { R.form (R.bytes rows) (store_of (R.kept rows)) }
         ensures limit { IfOk result (λ engine. engine.limit ≡ limit) }
@@ -46,8 +47,8 @@ impl<R: Rows + Drop> Engine<R> {
         Ok(Engine { alloc, rows, limit })
     }
 
-    /// One step of the machine. A refusal is a reply, and changes nothing. After `NoMemory` the engine is
-    /// gone.
+    /// One step of the machine. A refusal is a reply, and changes nothing. After
+    /// `NoMemory` the engine is gone.
     pub fn apply<L: Ledger>(
         self,
         command: &Command,
@@ -56,9 +57,12 @@ impl<R: Rows + Drop> Engine<R> {
         requires dates { spec.HasDates command.now }
         ensures step { IfOk result (λ done. (done.1, store_of (R.kept done.0.rows))
             ≡ spec.perform self.limit (store_of (R.kept self.rows)) command.now) }
-        ensures refused { IfOk result (λ done. (refusal : Refusal) → done.1 ≡ Reply.Refused refusal → done.0.rows ≡ self.rows) }
-        ensures base { IfOk result (λ done. (bytes : List ℕ) → R.base self.rows bytes → R.base done.0.rows bytes) }
-        ensures stands { IfOk result (λ done. R.form (R.bytes done.0.rows) (store_of (R.kept done.0.rows))) }
+        ensures refused { IfOk result (λ done. (refusal : Refusal)
+            → done.1 ≡ Reply.Refused refusal → done.0.rows ≡ self.rows) }
+        ensures base { IfOk result (λ done. (bytes : List ℕ)
+            → R.base self.rows bytes → R.base done.0.rows bytes) }
+        ensures stands { IfOk result (λ done.
+            R.form (R.bytes done.0.rows) (store_of (R.kept done.0.rows))) }
         ensures limit { IfOk result (λ done. done.0.limit ≡ self.limit) }
 
         // A visit that is not recorded wants no memory.
@@ -79,14 +83,16 @@ impl<R: Rows + Drop> Engine<R> {
         Ok((Engine { alloc, rows, limit }, reply))
     }
 
-    /// The pages of the store's bytes that changed since the last such call, or since the rows were made.
+    /// The pages of the store's bytes that changed since the last such call, or
+    /// since the rows were made.
     pub fn touched<L: Ledger>(&mut self, steps: &mut Steps<L>) -> Result<Touched, NoMemory>
         ensures whole { IfOk result (λ change. (base : List ℕ) → R.base self.old.rows base
             → changed change base ≡ R.bytes self.new.rows) }
         ensures before { IfOk result (λ change. (base : List ℕ) → R.base self.old.rows base
             → length base ≡ bytes_before change.before) }
         ensures some { IfOk result (λ change. 1 ≤ change.before) }
-        ensures after { IfOk result (λ change. length (R.bytes self.new.rows) ≡ bytes_before change.after) }
+        ensures after { IfOk result (λ change.
+            length (R.bytes self.new.rows) ≡ bytes_before change.after) }
         ensures within { IfOk result IsWithin }
         ensures base { OnOk result (R.base self.new.rows (R.bytes self.new.rows)) }
         ensures kept { R.kept self.new.rows ≡ R.kept self.old.rows }

@@ -1,5 +1,5 @@
-//! What performs a command: the commands and their replies, the engine over the rows of a store, and in
-//! `specs/` the step and the run of the machine.
+//! What performs a command: the commands and their replies, the engine over the rows of a store,
+//! and in `specs/` the step and the run of the machine.
 #![tactic(auto)]
 
 mod command;

@@ -1,5 +1,6 @@
 -- How long the form of a store is.
-use Rattle.std.proofs.Common.{◌≡◌, ◌+◌, ◌-◌, ◌*◌, ◌≤◌, ◌++◌, ℕ, ℤ, List, [], ◌∷◌, ap, arith, length, length-append, map, refl, replicate}
+use Rattle.std.proofs.Common.{◌≡◌, ◌+◌, ◌-◌, ◌*◌, ◌≤◌, ◌++◌, ℕ, ℤ, List, [], ◌∷◌, ap}
+use Rattle.std.proofs.Common.{arith, length, length-append, map, refl, replicate}
 use Rattle.std.specs.List.{flat_map, sum_by}
 use Rattle.std.proofs.lemmas.List.{length-replicate}
 use Rattle.std.proofs.lemmas.List.Sums.{sum_by-cons}
@@ -7,13 +8,14 @@ use Rattle.pl_base.specs.Frecency.{frecency_of}
 use Rattle.pl_base.specs.Live.{chunks, live_slots}
 use Rattle.pl_base.specs.Store.{Page, Store, Visit, roots}
 use Rattle.pl_base.specs.Touched.{bytes_before, page_size}
-use Rattle.pl_form.specs.Form.{FormRows, StandsFor, filled_pages, four, header, in_pages, item_bytes, listed, most_pages, page_bytes, plain_bytes, store_rows, text, visit_bytes}
+use Rattle.pl_form.specs.Form.{FormRows, StandsFor, filled_pages, four, header, in_pages, item_bytes, listed}
+use Rattle.pl_form.specs.Form.{most_pages, page_bytes, plain_bytes, store_rows, text_bytes, visit_bytes}
 use Rattle.pl_form.proofs.ReadingPlain.{filled-enough}
 
 -- ---- the plain bytes
 
 length-page_bytes : (row : Page × ℤ) → length (page_bytes row) ≤ 21 + 120 * (chunks row.0.url + chunks row.0.title)
-length-page_bytes row = omega (arith, length-append row.0.url (text row.0.title))
+length-page_bytes row = omega (arith, length-append row.0.url (text_bytes row.0.title))
 
 length-visit_bytes : (v : Visit) → length (visit_bytes v) ≡ 21
 length-visit_bytes v = refl
@@ -22,7 +24,8 @@ length-visit_bytes v = refl
 abbrev pub text_slots : Page × ℤ → ℕ
 text_slots row = chunks row.0.url + chunks row.0.title
 
-length_pages : {X : Type 0} (row : X → Page × ℤ) (xs : List X) → length (flat_map page_bytes (map row xs)) ≤ 21 * length xs + 120 * sum_by (λ x. text_slots (row x)) xs
+length_pages : {X : Type 0} (row : X → Page × ℤ) (xs : List X)
+    → length (flat_map page_bytes (map row xs)) ≤ 21 * length xs + 120 * sum_by (λ x. text_slots (row x)) xs
 length_pages row [] = omega arith
 length_pages row (x ∷ xs) =
     omega (
@@ -36,7 +39,12 @@ length_pages row (x ∷ xs) =
 length_visits : (visits : List Visit) → length (flat_map visit_bytes visits) ≡ 21 * length visits
 length_visits [] = refl
 length_visits (v ∷ visits) =
-    omega (arith, length-append (visit_bytes v) (flat_map visit_bytes visits), length-visit_bytes v, length_visits visits)
+    omega (
+      arith,
+      length-append (visit_bytes v) (flat_map visit_bytes visits),
+      length-visit_bytes v,
+      length_visits visits,
+    )
 
 length_roots : length (listed item_bytes roots) ≡ 222
 length_roots = refl
@@ -44,16 +52,23 @@ length_roots = refl
 length-listed : {A : Type 0} (form : A → List ℕ) (xs : List A) → length (listed form xs) ≡ 4 + length (flat_map form xs)
 length-listed form xs = omega arith
 
-length_of_seven : (a b c d e f g : List ℕ) → length (a ++ b ++ c ++ d ++ e ++ f ++ g) ≡ length a + length b + length c + length d + length e + length f + length g
+length_of_seven : (a b c d e f g : List ℕ)
+    → length (a ++ b ++ c ++ d ++ e ++ f ++ g) ≡ length a + length b + length c + length d + length e + length f
+    + length g
 length_of_seven a b c d e f g = simp length-append (omega arith)
 
-length-plain_bytes : (rows : FormRows) → length (plain_bytes rows) ≡ 16 + length (listed page_bytes rows.pages) + length (listed visit_bytes rows.visits) + length (listed item_bytes rows.items)
+length-plain_bytes : (rows : FormRows)
+    → length (plain_bytes rows) ≡ 16 + length (listed page_bytes rows.pages) + length (listed visit_bytes rows.visits)
+    + length (listed item_bytes rows.items)
 length-plain_bytes rows =
-    length_of_seven (four rows.day.0) (four rows.ids.page) (four rows.ids.visit) (four rows.ids.item) (listed page_bytes rows.pages) (listed visit_bytes rows.visits) (listed item_bytes rows.items)
+    length_of_seven (four rows.day.0) (four rows.ids.page) (four rows.ids.visit) (four rows.ids.item)
+    (listed page_bytes rows.pages) (listed visit_bytes rows.visits) (listed item_bytes rows.items)
 
 -- with the roots as the only items: no more than a slot for each row, and those of the texts
-pub plain_within : {X : Type 0} (row : X → Page × ℤ) (xs : List X) (rows : FormRows) (slots : ℕ) → rows.pages ≡ map row xs → rows.items ≡ roots
-    → length xs + length rows.visits + 6 + sum_by (λ x. text_slots (row x)) xs ≤ slots → length (plain_bytes rows) ≤ 128 * slots
+pub plain_within : {X : Type 0} (row : X → Page × ℤ) (xs : List X) (rows : FormRows) (slots : ℕ)
+    → rows.pages ≡ map row xs → rows.items ≡ roots
+    → length xs + length rows.visits + 6 + sum_by (λ x. text_slots (row x)) xs ≤ slots
+    → length (plain_bytes rows) ≤ 128 * slots
 plain_within row xs rows slots are items enough =
     omega (
       arith,
@@ -68,9 +83,11 @@ plain_within row xs rows slots are items enough =
       enough,
     )
 
-pub store_within : (store : Store) → store.items ≡ roots → length (plain_bytes (store_rows store)) ≤ 128 * live_slots store
+pub store_within : (store : Store) → store.items ≡ roots
+    → length (plain_bytes (store_rows store)) ≤ 128 * live_slots store
 store_within store items =
-    plain_within (λ (p : Page). (p, frecency_of store p)) store.pages (store_rows store) (live_slots store) refl items (omega (arith, ap length items))
+    plain_within (λ (p : Page). (p, frecency_of store p)) store.pages (store_rows store) (live_slots store) refl items
+    (omega (arith, ap length items))
 
 -- ---- the pages
 
@@ -80,15 +97,19 @@ length-header n = refl
 length_of_three : (a b c : List ℕ) → length (a ++ b ++ c) ≡ length a + length b + length c
 length_of_three a b c = simp length-append (omega arith)
 
-whole_pages : (all first plain rest filled : ℕ) → all ≡ first + plain + rest → first ≡ page_size → rest ≡ page_size * filled - plain → plain ≤ page_size * filled → all ≡ page_size * (2 + filled - 1)
+whole_pages : (all first plain rest filled : ℕ) → all ≡ first + plain + rest → first ≡ page_size
+    → rest ≡ page_size * filled - plain → plain ≤ page_size * filled → all ≡ page_size * (2 + filled - 1)
 whole_pages all first plain rest filled sum head tail within = omega arith
 
 pub length-in_pages : (plain : List ℕ) → length (in_pages plain) ≡ bytes_before (2 + filled_pages (length plain))
 length-in_pages plain =
     let n : ℕ = length plain in
     let rest : List ℕ = replicate (page_size * filled_pages n - n) 0 in
-    whole_pages (length (in_pages plain)) (length (header n)) n (length rest) (filled_pages n) (length_of_three (header n) plain rest) (length-header n) (length-replicate (page_size * filled_pages n - n) 0) (filled-enough n)
+    whole_pages (length (in_pages plain)) (length (header n)) n (length rest) (filled_pages n)
+    (length_of_three (header n) plain rest) (length-header n) (length-replicate (page_size * filled_pages n - n) 0)
+    (filled-enough n)
 
 -- no store's file is longer than the longest
-pub stands_within : (bytes : List ℕ) (store : Store) → StandsFor bytes store → 2 + filled_pages (length (plain_bytes (store_rows store))) ≤ most_pages
+pub stands_within : (bytes : List ℕ) (store : Store) → StandsFor bytes store
+    → 2 + filled_pages (length (plain_bytes (store_rows store))) ≤ most_pages
 stands_within bytes store stands = omega (arith, store_within store stands.of_visits.no_item, stands.live)

@@ -1,5 +1,6 @@
 -- Bytes hold the rows of at most one store.
-use Rattle.std.proofs.Common.{◌≡◌, ◌∙◌, ◌+◌, ℕ, ℤ, List, [], ◌∷◌, ◌++◌, All, Bool, true, false, Option, Some, None, length, sym, ap, refl, arith, append_assoc, w32, w64}
+use Rattle.std.proofs.Common.{◌≡◌, ◌∙◌, ◌+◌, ℕ, ℤ, List, [], ◌∷◌, ◌++◌, All, Bool, true, false, Option}
+use Rattle.std.proofs.Common.{Some, None, length, sym, ap, refl, arith, append_assoc, w32, w64}
 use Rattle.std.specs.Int.{cast_signed, cast_unsigned, from_le_bytes}
 use Rattle.std.specs.List.{flat_map}
 use Rattle.std.proofs.Math.Facts.{Fits-lt-pow, Fits-of_z}
@@ -10,16 +11,20 @@ use Rattle.std.proofs.lemmas.Nat.{from_le_bytes-to_le_bytes_4, from_le_bytes-to_
 use Rattle.pl_base.specs.declared.id.Ids.{Ids}
 use Rattle.pl_base.specs.declared.id.VisitId.{VisitId}
 use Rattle.pl_base.specs.declared.transition.Transition.{Transition}
-use Rattle.pl_base.specs.declared.transition.Transition.TheVariants.{Link, Typed, Bookmark, Embed, RedirectPermanent, RedirectTemporary, Download, FramedLink, Reload}
+use Rattle.pl_base.specs.declared.transition.Transition.TheVariants.{Link, Typed, Bookmark, Embed, RedirectPermanent}
+use Rattle.pl_base.specs.declared.transition.Transition.TheVariants.{RedirectTemporary, Download, FramedLink, Reload}
 use Rattle.pl_base.specs.Transition.{transition_at, transition_number}
 use Rattle.pl_form.specs.declared.stored.StoredVisit.{StoredVisit}
-use Rattle.pl_form.specs.Form.{eight, filled_pages, four, in_pages, listed, mark, signed_eight, text}
+use Rattle.pl_form.specs.Form.{eight, filled_pages, four, in_pages, listed, flag, signed_eight, text_bytes}
 use Rattle.pl_form.specs.Reading.{IsAny, IsEight, IsFour, IsSignedEight, IsUrl}
-use Rattle.pl_form.specs.Stored.{AreIdsFour, AreListed, AreStored, IsShort, HoldsRows, IsStoredPage, IsStoredVisit, Stored, ids_bytes, stored_bytes, stored_page_bytes, stored_visit_bytes}
+use Rattle.pl_form.specs.Stored.{AreIdsFour, AreListed, AreStored, IsShort, HoldsRows, IsStoredPage, IsStoredVisit}
+use Rattle.pl_form.specs.Stored.{Stored, ids_bytes, stored_bytes, stored_page_bytes, stored_visit_bytes}
 use Rattle.pl_form.proofs.ReadingNumbers.{front_is, rest_is}
-use Rattle.pl_form.proofs.ReadingPlain.{behind_header, behind_len, behind_name, behind_pages, blank, name, padding, plain_pieces, short-len}
+use Rattle.pl_form.proofs.ReadingPlain.{behind_header, behind_len, behind_name, behind_pages}
+use Rattle.pl_form.proofs.ReadingPlain.{blank, name, padding, plain_pieces, short-len}
 use Rattle.pl_form.proofs.ReadingRows.{nothing, page_pieces, same_parts, visit_pieces}
-use Rattle.pl_form.proofs.ReadingStored.{after_day, after_ids, after_pages, after_visits, ids_pieces, roots_bytes, rows_pieces, same_rows}
+use Rattle.pl_form.proofs.ReadingStored.{after_day, after_ids, after_pages, after_visits}
+use Rattle.pl_form.proofs.ReadingStored.{ids_pieces, roots_bytes, rows_pieces, same_rows}
 use Rattle.pl_form.proofs.ReadingTexts.{url-short}
 
 -- no bytes begin with the forms of two values, nor with that of one value in two ways
@@ -33,27 +38,32 @@ same_front a b r s len same = (
 )
 
 -- the first of two pieces
-first : {A : Type 0} (piece : A → List ℕ) (IsPiece : A → Type 0) (a b : A) (u v r s : List ℕ) → IsOnly piece IsPiece → IsPiece a → IsPiece b → (piece a ++ u) ++ r ≡ (piece b ++ v) ++ s → (a ≡ b) × (u ++ r ≡ v ++ s)
+first : {A : Type 0} (piece : A → List ℕ) (IsPiece : A → Type 0) (a b : A) (u v r s : List ℕ) → IsOnly piece IsPiece
+    → IsPiece a → IsPiece b → (piece a ++ u) ++ r ≡ (piece b ++ v) ++ s → (a ≡ b) × (u ++ r ≡ v ++ s)
 first piece IsPiece a b u v r s only one other same =
     only a b (u ++ r) (v ++ s) one other (sym (append_assoc (piece a) u r) ∙ same ∙ append_assoc (piece b) v s)
 
 four_only : IsOnly four IsFour
 four_only x y r s one other same =
-    let parts = same_front (four x) (four y) r s refl same in
-    (sym (from_le_bytes-to_le_bytes_4 x one) ∙ ap (from_le_bytes w32) parts.0 ∙ from_le_bytes-to_le_bytes_4 y other, parts.1)
+    let parts = same_front (four x) (four y) r s refl same in (
+      sym (from_le_bytes-to_le_bytes_4 x one) ∙ ap (from_le_bytes w32) parts.0 ∙ from_le_bytes-to_le_bytes_4 y other,
+      parts.1,
+    )
 
 eight_only : IsOnly eight IsEight
 eight_only x y r s one other same =
-    let parts = same_front (eight x) (eight y) r s refl same in
-    (sym (from_le_bytes-to_le_bytes_8 x one) ∙ ap (from_le_bytes w64) parts.0 ∙ from_le_bytes-to_le_bytes_8 y other, parts.1)
+    let parts = same_front (eight x) (eight y) r s refl same in (
+      sym (from_le_bytes-to_le_bytes_8 x one) ∙ ap (from_le_bytes w64) parts.0 ∙ from_le_bytes-to_le_bytes_8 y other,
+      parts.1,
+    )
 
-mark_only : IsOnly (λ (m : Bool). mark m ∷ []) IsAny
-mark_only true true r s one other same = (refl, cc)
-mark_only true false r s one other same = absurd (cc)
-mark_only false true r s one other same = absurd (cc)
-mark_only false false r s one other same = (refl, cc)
+flag_only : IsOnly (λ (m : Bool). flag m ∷ []) IsAny
+flag_only true true r s one other same = (refl, cc)
+flag_only true false r s one other same = absurd (cc)
+flag_only false true r s one other same = absurd (cc)
+flag_only false false r s one other same = (refl, cc)
 
-url_only : IsOnly text IsUrl
+url_only : IsOnly text_bytes IsUrl
 url_only x y r s one other same =
     let len = first four IsFour (length x) (length y) x y r s four_only (url-short x one) (url-short y other) same in
     same_front x y r s len.0 len.1
@@ -63,22 +73,32 @@ eight_bytes z fits = Fits-lt-pow {w = w64} {n = cast_unsigned w64 z} (Fits-of_z 
 
 signed_only : IsOnly signed_eight IsSignedEight
 signed_only x y r s one other same =
-    let parts = eight_only (cast_unsigned w64 x) (cast_unsigned w64 y) r s (eight_bytes x one) (eight_bytes y other) same in
+    let parts =
+    eight_only (cast_unsigned w64 x) (cast_unsigned w64 y) r s (eight_bytes x one) (eight_bytes y other) same in
     (sym (to_z-of_z w64 x one) ∙ ap (cast_signed w64) parts.0 ∙ to_z-of_z w64 y other, parts.1)
 
 -- lists of the same length
-each_only : {A : Type 0} (form : A → List ℕ) (IsOne : A → Type 0) (xs ys : List A) (r s : List ℕ) → IsOnly form IsOne → length xs ≡ length ys → All IsOne xs → All IsOne ys → flat_map form xs ++ r ≡ flat_map form ys ++ s → (xs ≡ ys) × (r ≡ s)
+each_only : {A : Type 0} (form : A → List ℕ) (IsOne : A → Type 0) (xs ys : List A) (r s : List ℕ) → IsOnly form IsOne
+    → length xs ≡ length ys → All IsOne xs → All IsOne ys → flat_map form xs ++ r ≡ flat_map form ys ++ s
+    → (xs ≡ ys) × (r ≡ s)
 each_only form IsOne [] [] r s only len ones others same = (refl, same)
 each_only form IsOne [] (y ∷ ys) r s only len ones others same = absurd (omega arith)
 each_only form IsOne (x ∷ xs) [] r s only len ones others same = absurd (omega arith)
 each_only form IsOne (x ∷ xs) (y ∷ ys) r s only len ones others same =
-    let head = first form IsOne x y (flat_map form xs) (flat_map form ys) r s only (All-head IsOne x xs ones) (All-head IsOne y ys others) same in
-    let rest = each_only form IsOne xs ys r s only (omega arith) (All-tail IsOne x xs ones) (All-tail IsOne y ys others) head.1 in
+    let head =
+    first form IsOne x y (flat_map form xs) (flat_map form ys) r s only (All-head IsOne x xs ones)
+    (All-head IsOne y ys others) same in
+    let rest =
+    each_only form IsOne xs ys r s only (omega arith) (All-tail IsOne x xs ones) (All-tail IsOne y ys others)
+    head.1 in
     (cc, rest.1)
 
-listed_only : {A : Type 0} (form : A → List ℕ) (IsOne : A → Type 0) → IsOnly form IsOne → IsOnly (listed form) (AreListed IsOne)
+listed_only : {A : Type 0} (form : A → List ℕ) (IsOne : A → Type 0) → IsOnly form IsOne
+    → IsOnly (listed form) (AreListed IsOne)
 listed_only form IsOne only xs ys r s ones others same =
-    let len = first four IsFour (length xs) (length ys) (flat_map form xs) (flat_map form ys) r s four_only ones.1 others.1 same in
+    let len =
+    first four IsFour (length xs) (length ys) (flat_map form xs) (flat_map form ys) r s four_only ones.1
+    others.1 same in
     each_only form IsOne xs ys r s only len.0 ones.0 others.0 len.1
 
 -- bytes that stand there for each value
@@ -103,7 +123,8 @@ transition_only x y r s one other same =
     (cc, cc)
 
 -- a form by the pieces that make it
-by_pieces : {A : Type 0} (form pieces : A → List ℕ) (IsOne : A → Type 0) → ((x : A) → IsOne x → form x ≡ pieces x) → IsOnly pieces IsOne → IsOnly form IsOne
+by_pieces : {A : Type 0} (form pieces : A → List ℕ) (IsOne : A → Type 0) → ((x : A) → IsOne x → form x ≡ pieces x)
+    → IsOnly pieces IsOne → IsOnly form IsOne
 by_pieces form pieces IsOne are only x y r s one other same =
     only x y r s one other (ap (λ l. l ++ r) (sym (are x one)) ∙ same ∙ ap (λ l. l ++ s) (are y other))
 
@@ -111,39 +132,82 @@ by_pieces form pieces IsOne are only x y r s one other same =
 
 page_only : IsOnly stored_page_bytes IsStoredPage
 page_only =
-    by_pieces stored_page_bytes (λ p. four p.id.0 ++ ((mark p.typed ∷ []) ++ (signed_eight p.frecency ++ (text p.url ++ nothing tt)))) IsStoredPage page_pieces
+    by_pieces stored_page_bytes
+    (λ p. four p.id.0 ++ ((flag p.typed ∷ []) ++ (signed_eight p.frecency ++ (text_bytes p.url ++ nothing tt))))
+    IsStoredPage page_pieces
     (λ x y r s one other same.
-    let id = first four IsFour x.id.0 y.id.0 ((mark x.typed ∷ []) ++ (signed_eight x.frecency ++ (text x.url ++ nothing tt))) ((mark y.typed ∷ []) ++ (signed_eight y.frecency ++ (text y.url ++ nothing tt))) r s four_only one.0 other.0 same in
-    let typed = first (λ (m : Bool). mark m ∷ []) IsAny x.typed y.typed (signed_eight x.frecency ++ (text x.url ++ nothing tt)) (signed_eight y.frecency ++ (text y.url ++ nothing tt)) r s mark_only tt tt id.1 in
-    let frecency = first signed_eight IsSignedEight x.frecency y.frecency (text x.url ++ nothing tt) (text y.url ++ nothing tt) r s signed_only one.1 other.1 typed.1 in
-    let url = first text IsUrl x.url y.url (nothing tt) (nothing tt) r s url_only one.2 other.2 frecency.1 in
-    (same_parts x.id.0 y.id.0 x.typed y.typed x.frecency y.frecency x.url y.url id.0 typed.0 frecency.0 url.0, (constant_only (nothing tt) tt tt r s tt tt url.1).1))
+    let id =
+    first four IsFour x.id.0 y.id.0
+    ((flag x.typed ∷ []) ++ (signed_eight x.frecency ++ (text_bytes x.url ++ nothing tt)))
+    ((flag y.typed ∷ []) ++ (signed_eight y.frecency ++ (text_bytes y.url ++ nothing tt))) r s four_only one.0
+    other.0 same in
+    let typed =
+    first (λ (m : Bool). flag m ∷ []) IsAny x.typed y.typed
+    (signed_eight x.frecency ++ (text_bytes x.url ++ nothing tt))
+    (signed_eight y.frecency ++ (text_bytes y.url ++ nothing tt)) r s flag_only tt tt id.1 in
+    let frecency =
+    first signed_eight IsSignedEight x.frecency y.frecency (text_bytes x.url ++ nothing tt)
+    (text_bytes y.url ++ nothing tt) r s signed_only one.1 other.1 typed.1 in
+    let url = first text_bytes IsUrl x.url y.url (nothing tt) (nothing tt) r s url_only one.2 other.2 frecency.1 in (
+      same_parts x.id.0 y.id.0 x.typed y.typed x.frecency y.frecency x.url y.url id.0 typed.0 frecency.0 url.0,
+      (constant_only (nothing tt) tt tt r s tt tt url.1).1,
+    ))
 
-same_visits : (i j p q d e : ℕ) (t u : Transition) (a b : Option VisitId) → i ≡ j → p ≡ q → d ≡ e → t ≡ u → a ≡ None → b ≡ None
-    → ◌≡◌ {A = StoredVisit} (record { id = record { 0 = i }; page = record { 0 = p }; date = record { 0 = d }; transition = t; source = a }) (record { id = record { 0 = j }; page = record { 0 = q }; date = record { 0 = e }; transition = u; source = b })
+abbrev visit_with : ℕ → ℕ → ℕ → Transition → Option VisitId → StoredVisit
+visit_with id page date transition source =
+    record {
+      id = record { 0 = id };
+      page = record { 0 = page };
+      date = record { 0 = date };
+      transition = transition;
+      source = source;
+    }
+
+same_visits : (i j p q d e : ℕ) (t u : Transition) (a b : Option VisitId) → i ≡ j → p ≡ q → d ≡ e → t ≡ u → a ≡ None
+    → b ≡ None → visit_with i p d t a ≡ visit_with j q e u b
 same_visits i j p q d e t u a b id page date transition none other = cc
 
 visit_only : IsOnly stored_visit_bytes IsStoredVisit
 visit_only =
-    by_pieces stored_visit_bytes (λ v. four v.id.0 ++ (four v.page.0 ++ (nothing tt ++ (eight v.date.0 ++ (transition_number v.transition ∷ []))))) IsStoredVisit visit_pieces
+    by_pieces stored_visit_bytes
+    (λ v. four v.id.0 ++ (four v.page.0
+    ++ (nothing tt ++ (eight v.date.0 ++ (transition_number v.transition ∷ []))))) IsStoredVisit visit_pieces
     (λ x y r s one other same.
-    let id = first four IsFour x.id.0 y.id.0 (four x.page.0 ++ (nothing tt ++ (eight x.date.0 ++ (transition_number x.transition ∷ [])))) (four y.page.0 ++ (nothing tt ++ (eight y.date.0 ++ (transition_number y.transition ∷ [])))) r s four_only one.0 other.0 same in
-    let page = first four IsFour x.page.0 y.page.0 (nothing tt ++ (eight x.date.0 ++ (transition_number x.transition ∷ []))) (nothing tt ++ (eight y.date.0 ++ (transition_number y.transition ∷ []))) r s four_only one.1 other.1 id.1 in
-    let source = first {A = Unit {0}} nothing IsAny tt tt (eight x.date.0 ++ (transition_number x.transition ∷ [])) (eight y.date.0 ++ (transition_number y.transition ∷ [])) r s (constant_only (nothing tt)) tt tt page.1 in
-    let date = first eight IsEight x.date.0 y.date.0 (transition_number x.transition ∷ []) (transition_number y.transition ∷ []) r s eight_only one.3 other.3 source.1 in
-    let transition = transition_only x.transition y.transition r s tt tt date.1 in
-    (same_visits x.id.0 y.id.0 x.page.0 y.page.0 x.date.0 y.date.0 x.transition y.transition x.source y.source id.0 page.0 date.0 transition.0 one.2 other.2, transition.1))
+    let id =
+    first four IsFour x.id.0 y.id.0
+    (four x.page.0 ++ (nothing tt ++ (eight x.date.0 ++ (transition_number x.transition ∷ []))))
+    (four y.page.0 ++ (nothing tt ++ (eight y.date.0 ++ (transition_number y.transition ∷ [])))) r s four_only
+    one.0 other.0 same in
+    let page =
+    first four IsFour x.page.0 y.page.0
+    (nothing tt ++ (eight x.date.0 ++ (transition_number x.transition ∷ [])))
+    (nothing tt ++ (eight y.date.0 ++ (transition_number y.transition ∷ []))) r s four_only one.1 other.1
+    id.1 in
+    let source =
+    first {A = Unit {0}} nothing IsAny tt tt (eight x.date.0 ++ (transition_number x.transition ∷ []))
+    (eight y.date.0 ++ (transition_number y.transition ∷ [])) r s (constant_only (nothing tt)) tt tt page.1 in
+    let date =
+    first eight IsEight x.date.0 y.date.0 (transition_number x.transition ∷ [])
+    (transition_number y.transition ∷ []) r s eight_only one.3 other.3 source.1 in
+    let transition = transition_only x.transition y.transition r s tt tt date.1 in (
+      same_visits x.id.0 y.id.0 x.page.0 y.page.0 x.date.0 y.date.0 x.transition y.transition x.source y.source id.0
+          page.0 date.0 transition.0 one.2 other.2,
+      transition.1,
+    ))
 
 ids_only : IsOnly ids_bytes AreIdsFour
 ids_only =
     by_pieces ids_bytes (λ ids. four ids.page ++ (four ids.visit ++ four ids.item)) AreIdsFour ids_pieces
     (λ x y r s one other same.
-    let page = first four IsFour x.page y.page (four x.visit ++ four x.item) (four y.visit ++ four y.item) r s four_only one.0 other.0 same in
+    let page =
+    first four IsFour x.page y.page (four x.visit ++ four x.item) (four y.visit ++ four y.item) r s four_only
+    one.0 other.0 same in
     let visit = first four IsFour x.visit y.visit (four x.item) (four y.item) r s four_only one.1 other.1 page.1 in
     let item = four_only x.item y.item r s one.2 other.2 visit.1 in
     (same_ids x.page y.page x.visit y.visit x.item y.item page.0 visit.0 item.0, item.1))
   where
-    same_ids : (a b c d e f : ℕ) → a ≡ b → c ≡ d → e ≡ f → ◌≡◌ {A = Ids} (record { page = a; visit = c; item = e }) (record { page = b; visit = d; item = f })
+    same_ids : (a b c d e f : ℕ) → a ≡ b → c ≡ d → e ≡ f
+        → ◌≡◌ {A = Ids} (record { page = a; visit = c; item = e }) (record { page = b; visit = d; item = f })
     same_ids a b c d e f page visit item = cc
 
 rows_only : IsOnly stored_bytes AreStored
@@ -152,9 +216,16 @@ rows_only =
     (λ x y r s one other same.
     let day = first four IsFour x.day.0 y.day.0 (after_day x) (after_day y) r s four_only one.day other.day same in
     let ids = first ids_bytes AreIdsFour x.ids y.ids (after_ids x) (after_ids y) r s ids_only one.ids other.ids day.1 in
-    let pages = first (listed stored_page_bytes) (AreListed IsStoredPage) x.pages y.pages (after_pages x) (after_pages y) r s (listed_only stored_page_bytes IsStoredPage page_only) one.pages other.pages ids.1 in
-    let visits = first (listed stored_visit_bytes) (AreListed IsStoredVisit) x.visits y.visits (after_visits x) (after_visits y) r s (listed_only stored_visit_bytes IsStoredVisit visit_only) one.visits other.visits pages.1 in
-    (same_rows x.day.0 y.day.0 x.ids y.ids x.pages y.pages x.visits y.visits day.0 ids.0 pages.0 visits.0, (constant_only (roots_bytes tt) tt tt r s tt tt visits.1).1))
+    let pages =
+    first (listed stored_page_bytes) (AreListed IsStoredPage) x.pages y.pages (after_pages x) (after_pages y) r
+    s (listed_only stored_page_bytes IsStoredPage page_only) one.pages other.pages ids.1 in
+    let visits =
+    first (listed stored_visit_bytes) (AreListed IsStoredVisit) x.visits y.visits (after_visits x)
+    (after_visits y) r s (listed_only stored_visit_bytes IsStoredVisit visit_only) one.visits other.visits
+    pages.1 in (
+      same_rows x.day.0 y.day.0 x.ids y.ids x.pages y.pages x.visits y.visits day.0 ids.0 pages.0 visits.0,
+      (constant_only (roots_bytes tt) tt tt r s tt tt visits.1).1,
+    ))
 
 -- ---- the pages
 
@@ -162,15 +233,30 @@ pages_only : IsOnly in_pages IsShort
 pages_only =
     by_pieces in_pages (λ x. name tt ++ behind_name x) IsShort plain_pieces
     (λ x y r s one other same.
-    let form = first {A = Unit {0}} name IsAny tt tt (behind_name x) (behind_name y) r s (constant_only (name tt)) tt tt same in
-    let pages = first four IsFour (2 + filled_pages (length x)) (2 + filled_pages (length y)) (behind_pages x) (behind_pages y) r s four_only one other form.1 in
-    let len = first eight IsEight (length x) (length y) (behind_len x) (behind_len y) r s eight_only (short-len (length x) one) (short-len (length y) other) pages.1 in
-    let zeros = first {A = Unit {0}} blank IsAny tt tt (behind_header x) (behind_header y) r s (constant_only (blank tt)) tt tt len.1 in
-    let plain = same_front x y (padding (length x) ++ r) (padding (length y) ++ s) len.0 (sym (append_assoc x (padding (length x)) r) ∙ zeros.1 ∙ append_assoc y (padding (length y)) s) in
-    (plain.0, (same_front (padding (length x)) (padding (length y)) r s (ap (λ n. length (padding n)) len.0) plain.1).1))
+    let form =
+    first {A = Unit {0}} name IsAny tt tt (behind_name x) (behind_name y) r s (constant_only (name tt)) tt tt
+    same in
+    let pages =
+    first four IsFour (2 + filled_pages (length x)) (2 + filled_pages (length y)) (behind_pages x)
+    (behind_pages y) r s four_only one other form.1 in
+    let len =
+    first eight IsEight (length x) (length y) (behind_len x) (behind_len y) r s eight_only
+    (short-len (length x) one) (short-len (length y) other) pages.1 in
+    let zeros =
+    first {A = Unit {0}} blank IsAny tt tt (behind_header x) (behind_header y) r s (constant_only (blank tt)) tt
+    tt len.1 in
+    let plain =
+    same_front x y (padding (length x) ++ r) (padding (length y) ++ s) len.0
+    (sym (append_assoc x (padding (length x)) r) ∙ zeros.1 ∙ append_assoc y (padding (length y)) s) in (
+      plain.0,
+      (same_front (padding (length x)) (padding (length y)) r s (ap (λ n. length (padding n)) len.0) plain.1).1,
+    ))
 
 -- the plain bytes are the same, and so the rows are
-pub one_rows : (bytes : List ℕ) (a b : Stored) → AreStored a → AreStored b → HoldsRows bytes a → HoldsRows bytes b → a ≡ b
+pub one_rows : (bytes : List ℕ) (a b : Stored) → AreStored a → AreStored b → HoldsRows bytes a → HoldsRows bytes b
+    → a ≡ b
 one_rows bytes a b one other first_rows second_rows =
-    let plain = pages_only (stored_bytes a) (stored_bytes b) first_rows.rest second_rows.rest first_rows.short second_rows.short (sym first_rows.begins ∙ second_rows.begins) in
+    let plain =
+    pages_only (stored_bytes a) (stored_bytes b) first_rows.rest second_rows.rest first_rows.short
+    second_rows.short (sym first_rows.begins ∙ second_rows.begins) in
     (rows_only a b [] [] one other (ap (λ l. l ++ []) plain.0)).0

@@ -1,5 +1,6 @@
 -- What it is to read a value at the beginning of bytes.
-use Rattle.std.specs.Prelude.{◌≡◌, ◌<◌, ◌^◌, ℕ, ℤ, List, ◌++◌, Some, Ok, Err, Result, IfOk, MatchResult, Vec}
+use Rattle.std.specs.Prelude.{◌≡◌, ◌<◌, ◌^◌, ℕ, ℤ, List, ◌++◌, Some}
+use Rattle.std.specs.Prelude.{Ok, Err, Result, IfOk, MatchResult, Vec}
 use Rattle.std.specs.declared.alloc.Global.{Global}
 use Rattle.std.specs.Int.{w64}
 use Rattle.std.specs.Int.RustNames.{FitsSigned}
@@ -8,13 +9,15 @@ use Rattle.pl_base.specs.Address.{canon}
 use Rattle.pl_form.specs.declared.check_error.CheckError.{CheckError}
 use Rattle.pl_form.specs.declared.check_error.CheckError.TheVariants.{NoMemory}
 
--- numbers of 4 and of 8 bytes
+-- a number of 4 bytes
 abbrev pub IsFour : ℕ → Type 0
 IsFour n = n < 2 ^ 32
 
+-- a number of 8 bytes
 abbrev pub IsEight : ℕ → Type 0
 IsEight n = n < 2 ^ 64
 
+-- a number of 8 bytes with its sign
 abbrev pub IsSignedEight : ℤ → Type 0
 IsSignedEight z = FitsSigned w64 z
 
@@ -31,8 +34,10 @@ abbrev pub items_of : {A : Type 0} → Result (Vec A Global) CheckError → Resu
 items_of (Ok v) = Ok v.items
 items_of (Err e) = Err e
 
--- A value is read exactly where the bytes begin with its form, and the rest is what is left then. Where
--- they begin with no value's form there is an error.
-pub record Reads {A : Type 0} (form : A → List ℕ) (IsOne : A → Type 0) (bytes : List ℕ) (result : Result A CheckError) (rest : List ℕ) : Type 0 where
+-- A value is read exactly where the bytes begin with its form, and the rest is what is left then.
+-- Where they begin with no value's form there is an error.
+pub record Reads {A : Type 0} (form : A → List ℕ) (IsOne : A → Type 0) (bytes : List ℕ)
+    (result : Result A CheckError) (rest : List ℕ) : Type 0 where
   pub ok : IfOk result (λ x. IsOne x × (bytes ≡ form x ++ rest))
-  pub whole : (x : A) (others : List ℕ) → IsOne x → bytes ≡ form x ++ others → MatchResult result (λ y. (y ≡ x) × (rest ≡ others)) (λ e. e ≡ NoMemory)
+  pub whole : (x : A) (others : List ℕ) → IsOne x → bytes ≡ form x ++ others
+      → MatchResult result (λ y. (y ≡ x) × (rest ≡ others)) (λ e. e ≡ NoMemory)

@@ -1,5 +1,6 @@
 -- The rows of a store as a file has them, as far as its form has them yet.
-use Rattle.std.specs.Prelude.{◌≡◌, ◌+◌, ◌<◌, ◌^◌, ◌++◌, ℕ, ℤ, List, [], length, map, None, Result, Ok, Err}
+use Rattle.std.specs.Prelude.{◌≡◌, ◌+◌, ◌<◌, ◌^◌, ◌++◌, ℕ, ℤ, List}
+use Rattle.std.specs.Prelude.{[], length, map, None, Result, Ok, Err}
 use Rattle.std.specs.List.{All}
 use Rattle.pl_base.specs.declared.date.Day.{Day}
 use Rattle.pl_base.specs.declared.id.Ids.{Ids}
@@ -8,22 +9,34 @@ use Rattle.pl_form.specs.declared.check_error.CheckError.{CheckError}
 use Rattle.pl_form.specs.declared.plain.Plain.{Plain}
 use Rattle.pl_form.specs.declared.stored.StoredVisit.{StoredVisit}
 use Rattle.pl_form.specs.declared.stored.StoredPage.{StoredPage}
-use Rattle.pl_form.specs.Form.{FormRows, filled_pages, four, in_pages, page_bytes, plain_bytes, visit_bytes}
+use Rattle.pl_form.specs.Form.{FormRows, filled_pages, four, in_pages}
+use Rattle.pl_form.specs.Form.{page_bytes, plain_bytes, visit_bytes}
 use Rattle.pl_form.specs.Reading.{IsEight, IsFour, IsSignedEight, IsUrl}
 
 -- a page without a title
 abbrev pub stored_page : StoredPage → Page
 stored_page p = record { id = p.id; url = p.url; title = []; typed = p.typed }
 
+-- a visit with its source
 abbrev pub visit_of : StoredVisit → Visit
-visit_of v = record { id = v.id; page = v.page; date = v.date; transition = v.transition; source = v.source }
+visit_of v =
+    record {
+      id = v.id;
+      page = v.page;
+      date = v.date;
+      transition = v.transition;
+      source = v.source;
+    }
 
+-- a page and its frecency
 abbrev pub page_row : StoredPage → Page × ℤ
 page_row p = (stored_page p, p.frecency)
 
+-- the bytes of a page
 abbrev pub stored_page_bytes : StoredPage → List ℕ
 stored_page_bytes p = page_bytes (page_row p)
 
+-- the bytes of a visit
 abbrev pub stored_visit_bytes : StoredVisit → List ℕ
 stored_visit_bytes v = visit_bytes (visit_of v)
 
@@ -46,6 +59,7 @@ pub record Stored : Type 0 where
   pub pages : List StoredPage
   pub visits : List StoredVisit
 
+-- the rows with the roots as their items
 abbrev pub form_rows : Stored → FormRows
 form_rows rows =
     record {
@@ -56,9 +70,11 @@ form_rows rows =
       items = roots;
     }
 
+-- the plain bytes of the rows
 abbrev pub stored_bytes : Stored → List ℕ
 stored_bytes rows = plain_bytes (form_rows rows)
 
+-- the store of the rows
 abbrev pub stored_store : Stored → Store
 stored_store rows =
     record {
@@ -69,9 +85,11 @@ stored_store rows =
       items = roots;
     }
 
+-- the bytes of the next ids
 abbrev pub ids_bytes : Ids → List ℕ
 ids_bytes ids = four ids.page ++ four ids.visit ++ four ids.item
 
+-- each of the next ids has 4 bytes
 abbrev pub AreIdsFour : Ids → Type 0
 AreIdsFour ids = IsFour ids.page × IsFour ids.visit × IsFour ids.item
 

@@ -11,5 +11,6 @@ mod stored;
 
 pub use check_error::CheckError;
 pub use header::named_pages;
+pub use plain::HEADER_REST;
 pub use read::{FileRows, read_rows};
 pub use stored::{StoredPage, StoredRows, StoredVisit};

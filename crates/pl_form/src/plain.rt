@@ -18,7 +18,8 @@ impl<'a> Reader<'a> {
     /// The plain bytes in whole pages with their header, and their number of pages.
     pub fn plain(&mut self) -> Result<Plain<'a>, CheckError>
         ensures plain { Reads in_pages IsShort self.old (plain_of result) self.new }
-        ensures pages { IfOk result (λ plain. plain.pages ≡ 2 + filled_pages (length plain.bytes.now)) }
+        ensures pages { IfOk result (λ plain.
+            plain.pages ≡ 2 + filled_pages (length plain.bytes.now)) }
     {
         self.constant(NAME)?;
         let pages = self.four()?;
@@ -44,5 +45,5 @@ fn filled_pages(len: usize) -> usize
 /// What a header page begins with.
 pub const NAME: &[u8; 8] = b"PLFLAT01";
 
-// The bytes of the header's page behind its numbers.
-const HEADER_REST: usize = 1004;
+/// The bytes of the header's page behind its numbers.
+pub const HEADER_REST: usize = 1004;

@@ -1,5 +1,6 @@
 // The rows of a file's bytes.
-ghost use Rattle.std.specs.Prelude.{◌≡◌, ◌+◌, drop, length, IfOk, MatchResult};
+ghost use Rattle.std.specs.Prelude.{◌≡◌, ◌+◌, length, IfOk, MatchResult};
+ghost use Rattle.pl_base.specs.Touched.{behind_gate};
 ghost use Rattle.pl_form.specs.Form.{filled_pages};
 ghost use Rattle.pl_form.specs.Stored.{AreStored, HoldsRows, Stored, stored_bytes};
 
@@ -19,12 +20,14 @@ pub struct FileRows {
 /// The rows that the bytes of a file hold from page 1 on.
 pub fn read_rows(alloc: Global, bytes: &[u8]) -> Result<FileRows, CheckError>
     ensures stored { IfOk result (λ read. AreStored read.rows) }
-    ensures holds { IfOk result (λ read. HoldsRows (drop 1024 bytes.now) read.rows) }
-    ensures pages { IfOk result (λ read. read.pages ≡ 2 + filled_pages (length (stored_bytes read.rows))) }
-    ensures whole { (rows : Stored) → AreStored rows → HoldsRows (drop 1024 bytes.now) rows
+    ensures holds { IfOk result (λ read. HoldsRows (behind_gate bytes.now) read.rows) }
+    ensures pages { IfOk result (λ read.
+        read.pages ≡ 2 + filled_pages (length (stored_bytes read.rows))) }
+    ensures whole { (rows : Stored) → AreStored rows → HoldsRows (behind_gate bytes.now) rows
         → MatchResult result (λ read. read.rows ≡ rows) (λ e. e ≡ CheckError.NoMemory) }
     // The bytes hold the rows of one store at most.
-    ensures one { (a b : Stored) → AreStored a → AreStored b → HoldsRows (drop 1024 bytes.now) a → HoldsRows (drop 1024 bytes.now) b → a ≡ b }
+    ensures one { (a b : Stored) → AreStored a → AreStored b
+        → HoldsRows (behind_gate bytes.now) a → HoldsRows (behind_gate bytes.now) b → a ≡ b }
 {
     let plain = Reader::new(behind_gate(bytes)).plain()?;
     let rows = whole_rows(alloc, plain.bytes)?;
@@ -51,7 +54,7 @@ fn whole_rows(alloc: Global, plain: &[u8]) -> Result<StoredRows, CheckError>
 
 // The bytes from page 1 on.
 fn behind_gate(bytes: &[u8]) -> &[u8]
-    ensures { result.now ≡ drop 1024 bytes.now }
+    ensures { result.now ≡ behind_gate bytes.now }
 {
     if bytes.len() < PAGE_SIZE {
         return &[];

@@ -41,7 +41,8 @@ impl<'a> Reader<'a> {
 
     /// So many bytes.
     pub fn bytes(&mut self, count: usize) -> Result<&'a [u8], CheckError>
-        ensures ok { IfOk result (λ part. (length part.now ≡ count) × (self.old ≡ part.now ++ self.new)) }
+        ensures ok { IfOk result (λ part.
+            (length part.now ≡ count) × (self.old ≡ part.now ++ self.new)) }
         ensures err { IfErr result (λ e. (e ≡ CheckError.NotAStore) × (length self.old < count)) }
     {
         match self.left.split_at_checked(count) {
@@ -89,9 +90,9 @@ impl<'a> Reader<'a> {
         Ok(self.eight()?.cast_signed())
     }
 
-    /// A mark.
-    pub fn mark(&mut self) -> Result<bool, CheckError>
-        ensures mark { Reads (λ b. form.mark b ∷ []) IsAny self.old result self.new }
+    /// A flag.
+    pub fn flag(&mut self) -> Result<bool, CheckError>
+        ensures flag { Reads (λ b. form.flag b ∷ []) IsAny self.old result self.new }
         ensures sure { IfErr result (λ e. e ≡ CheckError.NotAStore) }
     {
         match self.left.split_first() {
@@ -124,7 +125,7 @@ impl<'a> Reader<'a> {
 
     /// A URL of the store.
     pub fn url(&mut self, alloc: Global) -> Result<Canon, CheckError>
-        ensures url { Reads form.text IsUrl self.old result self.new }
+        ensures url { Reads form.text_bytes IsUrl self.old result self.new }
     {
         let len = self.four()?;
         let Ok(text) = str::from_utf8(self.bytes(len as usize)?) else {

@@ -1,5 +1,5 @@
-/// The bytes of the six roots as the only items: their number, and of each its id, no page, the kind of a
-/// folder, two dates that are 0, no title, and its children.
+/// The bytes of the six roots as the only items: their number, and of each its id, no page, the
+/// kind of a folder, two dates that are 0, no title, and its children.
 pub const ROOTS: &[u8; 222] = b"\x06\0\0\0\
     \x01\0\0\0\0\0\0\0\x02\0\0\0\0\0\0\0\0\0\0\0\0\0\0\0\0\0\0\0\0\x05\0\0\0\
     \x02\0\0\0\x03\0\0\0\x04\0\0\0\x05\0\0\0\x06\0\0\0\

@@ -1,7 +1,9 @@
 ghost use Rattle.std.specs.Prelude.{◌≡◌};
 ghost use Rattle.pl_form.specs.Form.{listed};
 ghost use Rattle.pl_form.specs.Reading.{Reads, items_of};
-ghost use Rattle.pl_form.specs.Stored.{AreIdsFour, AreListed, AreStored, IsStoredPage, IsStoredVisit, ids_bytes, stored_bytes, stored_page_bytes, stored_visit_bytes};
+ghost use Rattle.pl_form.specs.Stored.{AreIdsFour, AreListed, AreStored, IsStoredPage};
+ghost use Rattle.pl_form.specs.Stored.{IsStoredVisit, ids_bytes, stored_bytes};
+ghost use Rattle.pl_form.specs.Stored.{stored_page_bytes, stored_visit_bytes};
 
 use crate::CheckError;
 use crate::reader::Reader;
@@ -44,7 +46,12 @@ impl Model for StoredRows {
 
     ghost Value = { Stored };
 
-    ghost view = { λ r. record { day = r.day; ids = r.ids; pages = r.pages.items; visits = r.visits.items } };
+    ghost view = { λ r. record {
+      day = r.day;
+      ids = r.ids;
+      pages = r.pages.items;
+      visits = r.visits.items;
+    } };
 }
 
 impl Reader<'_> {
@@ -80,7 +87,7 @@ impl Reader<'_> {
         ensures { Reads stored_page_bytes IsStoredPage self.old result self.new }
     {
         let id = PageId(self.four()?);
-        let typed = self.mark()?;
+        let typed = self.flag()?;
         let frecency = self.signed_eight()?;
         let url = self.url(alloc)?;
         self.constant(&EMPTY)?;
@@ -112,7 +119,8 @@ impl Reader<'_> {
 
     /// Pages without titles.
     pub fn pages(&mut self, alloc: Global) -> Result<Vec<StoredPage>, CheckError>
-        ensures { Reads (listed stored_page_bytes) (AreListed IsStoredPage) self.old (items_of result) self.new }
+        ensures { Reads (listed stored_page_bytes) (AreListed IsStoredPage)
+            self.old (items_of result) self.new }
     {
         let count = self.four()?;
         let mut pages = Vec::new(alloc);
@@ -124,7 +132,8 @@ impl Reader<'_> {
 
     /// Visits without sources.
     pub fn visits(&mut self, alloc: Global) -> Result<Vec<StoredVisit>, CheckError>
-        ensures { Reads (listed stored_visit_bytes) (AreListed IsStoredVisit) self.old (items_of result) self.new }
+        ensures { Reads (listed stored_visit_bytes) (AreListed IsStoredVisit)
+            self.old (items_of result) self.new }
     {
         let count = self.four()?;
         let mut visits = Vec::new(alloc);

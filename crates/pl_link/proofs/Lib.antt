@@ -1,2 +1,4 @@
 pub mod CanonLemmas
+mod ConstantRows
+pub mod OriginParts
 pub mod PartsLemmas

@@ -1,5 +1,6 @@
 -- How the text of a URL begins.
-use Rattle.std.proofs.Common.{◌≡◌, ℕ, true, nat_eq, List, ◌++◌, length, take, drop, codes, if◌then◌else◌, sym, append_assoc}
+use Rattle.std.proofs.Common.{◌≡◌, ℕ, true, nat_eq, List, ◌++◌, length, take}
+use Rattle.std.proofs.Common.{drop, codes, if◌then◌else◌, sym, append_assoc}
 use Rattle.std.proofs.Math.Seq.{take-append_seam}
 use Rattle.std.proofs.lemmas.Slice.Eq.{bytes_eq-Decides}
 use Rattle.std.specs.List.{starts_with, concat}

@@ -1,5 +1,6 @@
-ghost use Rattle.std.specs.Prelude.{◌≡◌, ◌<◌, ◌≤◌, length, None, Some, Ok, IfOk, IsErr, IsErrOf, IsOkAnd};
-ghost use Rattle.pl_base.specs.Address.{canon, is_recorded, record_of};
+ghost use Rattle.std.specs.Prelude.{◌≡◌, ◌<◌, ◌≤◌, length, None, Some};
+ghost use Rattle.std.specs.Prelude.{Ok, IfOk, IsErr, IsErrOf, IsOkAnd};
+ghost use Rattle.pl_base.specs.Address.{canon, is_recorded, longest_url, record_of, text_limit};
 ghost use Rattle.url.specs.Parts.{serialize};
 
 use std::alloc::Global;
@@ -16,8 +17,8 @@ const LONGEST_URL: usize = 65_536;
 /// Why a text gives no URL of the store.
 #[derive(Clone, Copy, Debug, PartialEq, Eq, Error)]
 pub enum CanonError {
-    /// The text is no absolute URL, or has 16,777,216 bytes or more, or its URL has more than
-    /// 65,536.
+    /// The text is no absolute URL, or has 16,777,216 bytes or more, or its
+    /// URL has more than 65,536.
     #[error("no URL of the store")]
     BadUrl,
     #[error("out of memory")]
@@ -33,7 +34,7 @@ pub struct Canon {
 // The text parses to this URL, so the text alone tells its parts.
 impl Model for Canon {
     ghost use Rattle.std.specs.Prelude.{◌≡◌, ◌≤◌, ℕ, List, length, Ok};
-    ghost use Rattle.pl_base.specs.Address.{record_of};
+    ghost use Rattle.pl_base.specs.Address.{longest_url, record_of};
     ghost use Rattle.url.specs.Parts.{serialize};
 
     ghost Value = { List ℕ };
@@ -41,7 +42,7 @@ impl Model for Canon {
     ghost view = { λ c. serialize c.url };
 
     ghost invariant = { λ c. (record_of (serialize c.url) ≡ Ok c.url)
-        × (length (serialize c.url) ≤ 65536) };
+        × (length (serialize c.url) ≤ longest_url) };
 }
 
 impl Canon {
@@ -51,7 +52,7 @@ impl Canon {
         ensures bad_url { IsErrOf result CanonError.BadUrl → canon text.now ≡ None }
 
         // A text that is too long is refused before any memory is wanted.
-        ensures no_memory { IsErrOf result CanonError.NoMemory → length text.now < 16_777_216 }
+        ensures no_memory { IsErrOf result CanonError.NoMemory → length text.now < text_limit }
     {
         if text.len() >= TEXT_LIMIT {
             return Err(CanonError::BadUrl);
@@ -69,7 +70,7 @@ impl Canon {
 
         // A URL of the store names itself.
         ensures own { canon self.now ≡ Some self.now }
-        ensures longest { length self.now ≤ 65536 }
+        ensures longest { length self.now ≤ longest_url }
     {
         self.url.as_str()
     }

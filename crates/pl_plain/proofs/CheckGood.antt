@@ -1,10 +1,12 @@
 -- The tests of the rows pass exactly where their store is good.
-use Rattle.std.proofs.Common.{◌≡◌, ◌≢◌, ◌∙◌, ◌&&◌, ◌||◌, ◌==◌, ℕ, ◌+◌, ◌<◌, ◌≤◌, All, Bool, true, false, not, IsTrue, zero, suc, List, [], ◌∷◌, Option, bytes_eq, get_or, length, map, nat_le, nat_lt, sym, ap, refl, subst, arith, eq-eqb}
+use Rattle.std.proofs.Common.{◌≡◌, ◌≢◌, ◌∙◌, ◌&&◌, ◌||◌, ◌==◌, ℕ, ◌+◌, ◌<◌, ◌≤◌, All, Bool, true}
+use Rattle.std.proofs.Common.{false, not, IsTrue, zero, suc, List, [], ◌∷◌, Option, bytes_eq}
+use Rattle.std.proofs.Common.{get_or, length, nat_le, nat_lt, sym, ap, refl, subst, arith, eq-eqb}
 use Rattle.std.specs.List.{AllPairs, list_all, list_any}
 use Rattle.std.specs.List.Sorted.{IsStrictlyIncreasing}
 use Rattle.std.specs.Option.{IfSome, IsSome}
-use Rattle.std.proofs.lemmas.Bool.{and_from, and_parts, eqb-true, false≢true, le-leb, leb-true, lt-ltb, ltb-true, not-true, not_from_false, true≢false}
-use Rattle.std.proofs.lemmas.List.{length-map, get_or-map}
+use Rattle.std.proofs.lemmas.Bool.{and_from, and_parts, eqb-true, false≢true, le-leb, leb-true}
+use Rattle.std.proofs.lemmas.Bool.{lt-ltb, ltb-true, not-true, not_from_false, true≢false}
 use Rattle.std.proofs.lemmas.List.Elements.{All-cons, All-head, All-map, All-nil, All-tail, All-weaker}
 use Rattle.std.proofs.lemmas.List.Folds.{Any-from_list_any}
 use Rattle.std.proofs.lemmas.Slice.Eq.{bytes_eq-Decides}
@@ -12,18 +14,22 @@ use Rattle.std.proofs.lemmas.Str.{IsUtf8-nil}
 use Rattle.pl_base.specs.declared.id.PageId.{PageId}
 use Rattle.pl_base.specs.declared.id.VisitId.{VisitId}
 use Rattle.pl_base.specs.declared.transition.Transition.{Transition}
-use Rattle.pl_base.specs.declared.transition.Transition.TheVariants.{Link, Typed, Bookmark, Embed, RedirectPermanent, RedirectTemporary, Download, FramedLink, Reload}
-use Rattle.pl_base.specs.Good.{AreIds, IsGood, IsGoodPage, IsGoodVisit}
-use Rattle.pl_base.specs.Redirects.{visit_at}
+use Rattle.pl_base.specs.declared.transition.Transition.TheVariants.{Link, Typed, Bookmark, Embed, RedirectPermanent}
+use Rattle.pl_base.specs.declared.transition.Transition.TheVariants.{RedirectTemporary, Download, FramedLink, Reload}
+use Rattle.pl_base.specs.Good.{AreIds, IsGood, IsGoodPage, IsGoodVisit, end_of_ids}
+use Rattle.pl_base.specs.Redirects.{visit_by_id}
 use Rattle.pl_base.specs.Store.{Page, Visit}
 use Rattle.pl_base.specs.Touched.{ascends_above}
 use Rattle.pl_form.specs.declared.stored.StoredVisit.{StoredVisit}
 use Rattle.pl_form.specs.declared.stored.StoredPage.{StoredPage}
 use Rattle.pl_plain.specs.FlatLaws.{root_ids}
-use Rattle.pl_plain.specs.Check.{are_good, are_good_numbers, are_ids, have_own_urls, is_good_page, is_good_visit, is_typed, page_numbers, visit_numbers}
+use Rattle.pl_base.specs.Marks.{is_typed}
+use Rattle.pl_plain.specs.Check.{are_good, are_good_numbers, are_ids, have_own_urls, is_good_page}
+use Rattle.pl_plain.specs.Check.{is_good_visit, stored_page_ids, stored_visit_ids, is_typed_visit}
 use Rattle.pl_form.specs.Stored.{AreStored, IsStoredPage, IsStoredVisit, Stored, stored_page, stored_store, visit_of}
-use Rattle.pl_plain.proofs.Lists.{All-from_map, list_any-map, map-map}
-use Rattle.pl_plain.proofs.CheckRoots.{has_roots, roots_are_good, roots_tags, roots_tree}
+use Rattle.pl_base.proofs.ListLaws.{All-from_map, list_any-map, map-map, AllPairs-from_map, AllPairs-map}
+use Rattle.pl_base.proofs.RootsLaws.{has_roots, no_tags, roots_are_good, roots_are_tree}
+use Rattle.pl_base.specs.Date.{last_date, last_day}
 
 -- ---- tests of lists
 
@@ -36,7 +42,8 @@ all_pass p (x ∷ xs) all =
 pub pass_all : {X : Type 0} (p : X → Bool) (xs : List X) → All (λ x. p x ≡ true) xs → list_all p xs ≡ true
 pass_all p [] all = refl
 pass_all p (x ∷ xs) all =
-    and_from (p x) (list_all p xs) (All-head (λ y. p y ≡ true) x xs all) (pass_all p xs (All-tail (λ y. p y ≡ true) x xs all))
+    and_from (p x) (list_all p xs) (All-head (λ y. p y ≡ true) x xs all)
+    (pass_all p xs (All-tail (λ y. p y ≡ true) x xs all))
 
 none_of_two : (a b : Bool) → (a || b) ≡ false → (a ≡ false) × (b ≡ false)
 none_of_two true b h = absurd (cc)
@@ -59,7 +66,8 @@ ascends_all last [] h = All-nil _
 ascends_all last (n ∷ ns) h =
     let parts = and_parts (nat_lt last n) (ascends_above n ns) h in
     let above : last < n = ltb-true last n parts.0 in
-    All-cons (λ id. last < id) n ns above (All-weaker (λ id. n < id) (λ id. last < id) (λ id more. omega arith) ns (ascends_all n ns parts.1))
+    All-cons (λ id. last < id) n ns above
+    (All-weaker (λ id. n < id) (λ id. last < id) (λ id more. omega arith) ns (ascends_all n ns parts.1))
 
 increases : (last : ℕ) (ids : List ℕ) → ascends_above last ids ≡ true → IsStrictlyIncreasing ids
 increases last [] h k within = absurd (omega arith)
@@ -79,16 +87,18 @@ rest_increases n ns h k within =
     let next : suc k + 1 ≡ suc (k + 1) = omega arith in
     subst P next (h (suc k) (omega arith))
 
-ascends : (last : ℕ) (ids : List ℕ) → IsStrictlyIncreasing ids → (0 < length ids → last < get_or ids 0 0) → ascends_above last ids ≡ true
+ascends : (last : ℕ) (ids : List ℕ) → IsStrictlyIncreasing ids → (0 < length ids → last < get_or ids 0 0)
+    → ascends_above last ids ≡ true
 ascends last [] increasing above = refl
 ascends last (n ∷ ns) increasing above =
     and_from (nat_lt last n) (ascends_above n ns) (lt-ltb last n (above (omega arith)))
     (ascends n ns (rest_increases n ns increasing) (λ some. increasing 0 (omega arith)))
 
-ids_given : (next : ℕ) (ids : List ℕ) → All (λ id. 0 < id) ids → All (λ id. nat_lt id next ≡ true) ids → All (λ id. (0 < id) × (id < next)) ids
+ids_given : (next : ℕ) (ids : List ℕ) → All (λ id. 0 < id) ids → All (λ id. nat_lt id next ≡ true) ids
+    → All (λ id. (0 < id) × (id < next)) ids
 ids_given next ids above below k d within = (above k d within, ltb-true (get_or ids k d) next (below k d within))
 
-pub are_ids-to : (next : ℕ) (ids : List ℕ) → 1 ≤ next → next ≤ 4_294_967_295 → are_ids next ids ≡ true → AreIds 1 next ids
+pub are_ids-to : (next : ℕ) (ids : List ℕ) → 1 ≤ next → next ≤ end_of_ids → are_ids next ids ≡ true → AreIds 1 next ids
 are_ids-to next ids first last h =
     let parts = and_parts (ascends_above 0 ids) (list_all (λ id. nat_lt id next) ids) h in
     record {
@@ -109,22 +119,26 @@ are_ids-from next ids h =
 pairs_nil : {X : Type 0} (R : X → X → Type 0) → AllPairs R []
 pairs_nil R i j d before within = absurd (omega arith)
 
-pairs_cons : {X : Type 0} (R : X → X → Type 0) (x : X) (xs : List X) → All (R x) xs → AllPairs R xs → AllPairs R (x ∷ xs)
+pairs_cons : {X : Type 0} (R : X → X → Type 0) (x : X) (xs : List X) → All (R x) xs → AllPairs R xs
+    → AllPairs R (x ∷ xs)
 pairs_cons R x xs each pairs zero zero d before within = absurd (omega arith)
 pairs_cons R x xs each pairs zero (suc j) d before within = each j d (omega arith)
 pairs_cons R x xs each pairs (suc i) zero d before within = absurd (omega arith)
 pairs_cons R x xs each pairs (suc i) (suc j) d before within = pairs i j d (omega arith) (omega arith)
 
-own_urls-to : (pages : List StoredPage) → have_own_urls pages ≡ true → AllPairs (λ (p q : StoredPage). p.url ≢ q.url) pages
+own_urls-to : (pages : List StoredPage) → have_own_urls pages ≡ true
+    → AllPairs (λ (p q : StoredPage). p.url ≢ q.url) pages
 own_urls-to [] h = pairs_nil (λ (p q : StoredPage). p.url ≢ q.url)
 own_urls-to (p ∷ pages) h =
     let parts = and_parts (not (list_any (λ (q : StoredPage). bytes_eq q.url p.url) pages)) (have_own_urls pages) h in
     let none = none_pass (λ (q : StoredPage). bytes_eq q.url p.url) pages (not-true _ parts.0) in
     pairs_cons (λ (p q : StoredPage). p.url ≢ q.url) p pages
-    (λ k d within same. true≢false (sym ((bytes_eq-Decides (get_or pages k d).url p.url).1 (sym same)) ∙ none k d within))
+    (λ k d within same. true≢false
+    (sym ((bytes_eq-Decides (get_or pages k d).url p.url).1 (sym same)) ∙ none k d within))
     (own_urls-to pages parts.1)
 
-own_urls-from : (pages : List StoredPage) → AllPairs (λ (p q : StoredPage). p.url ≢ q.url) pages → have_own_urls pages ≡ true
+own_urls-from : (pages : List StoredPage) → AllPairs (λ (p q : StoredPage). p.url ≢ q.url) pages
+    → have_own_urls pages ≡ true
 own_urls-from [] h = refl
 own_urls-from (p ∷ pages) h =
     and_from (not (list_any (λ (q : StoredPage). bytes_eq q.url p.url) pages)) (have_own_urls pages)
@@ -150,27 +164,30 @@ typed_number Reload h = absurd (false≢true h)
 same_page : (a b : PageId) → (a.0 == b.0) ≡ true → a ≡ b
 same_page a b h = ap (λ (n : ℕ). record { 0 = n }) (eqb-true a.0 b.0 h)
 
-abbrev typed_visit : PageId → StoredVisit → Bool
-typed_visit id v = (v.page.0 == id.0) && is_typed v.transition
-
 abbrev IsTypedBy : PageId → Bool → Visit → Type 0
 IsTypedBy id t v = v.page ≡ id → v.transition ≡ Typed → IsTrue t
 
-typed-to : (id : PageId) (t : Bool) (visits : List StoredVisit) → (t || not (list_any (typed_visit id) visits)) ≡ true → All (λ (v : StoredVisit). IsTypedBy id t (visit_of v)) visits
+typed-to : (id : PageId) (t : Bool) (visits : List StoredVisit)
+    → (t || not (list_any (is_typed_visit id) visits)) ≡ true
+    → All (λ (v : StoredVisit). IsTypedBy id t (visit_of v)) visits
 typed-to id true visits h k d within page typed = refl
 typed-to id false visits h k d within page typed =
-    let none = none_pass (typed_visit id) visits (not-true _ h) in
-    let passes : typed_visit id (get_or visits k d) ≡ true =
-    and_from ((get_or visits k d).page.0 == id.0) (is_typed (get_or visits k d).transition) (eq-eqb _ _ (ap (λ (p : PageId). p.0) page)) (ap is_typed typed) in
+    let none = none_pass (is_typed_visit id) visits (not-true _ h) in
+    let passes : is_typed_visit id (get_or visits k d) ≡ true =
+    and_from ((get_or visits k d).page.0 == id.0) (is_typed (get_or visits k d).transition)
+    (eq-eqb _ _ (ap (λ (p : PageId). p.0) page)) (ap is_typed typed) in
     absurd (true≢false (sym passes ∙ none k d within))
 
-typed-from : (id : PageId) (t : Bool) (visits : List StoredVisit) → All (λ (v : StoredVisit). IsTypedBy id t (visit_of v)) visits → (t || not (list_any (typed_visit id) visits)) ≡ true
+typed-from : (id : PageId) (t : Bool) (visits : List StoredVisit)
+    → All (λ (v : StoredVisit). IsTypedBy id t (visit_of v)) visits
+    → (t || not (list_any (is_typed_visit id) visits)) ≡ true
 typed-from id true visits h = refl
 typed-from id false visits h =
     not_from_false _ (none_by _ (λ some.
-    let at = Any-from_list_any (typed_visit id) visits some in
+    let at = Any-from_list_any (is_typed_visit id) visits some in
     let parts = and_parts (at.1.page.0 == id.0) (is_typed at.1.transition) at.4 in
-    let typed : IsTypedBy id false (visit_of at.1) = subst (λ (v : StoredVisit). IsTypedBy id false (visit_of v)) at.3 (h at.0 at.1 at.2) in
+    let typed : IsTypedBy id false (visit_of at.1) =
+    subst (λ (v : StoredVisit). IsTypedBy id false (visit_of v)) at.3 (h at.0 at.1 at.2) in
     false≢true (typed (same_page at.1.page id parts.0) (typed_number at.1.transition parts.1))))
 
 -- ---- the rows
@@ -179,9 +196,12 @@ or_false : (a : Bool) → (a || false) ≡ a
 or_false true = refl
 or_false false = refl
 
-page-to : (rows : Stored) (p : StoredPage) → IsStoredPage p → is_good_page rows.visits p ≡ true → IsGoodPage (stored_store rows) (stored_page p)
+page-to : (rows : Stored) (p : StoredPage) → IsStoredPage p → is_good_page rows.visits p ≡ true
+    → IsGoodPage (stored_store rows) (stored_page p)
 page-to rows p one h =
-    let parts = and_parts (list_any (λ (v : StoredVisit). v.page.0 == p.id.0) rows.visits) (p.typed || not (list_any (typed_visit p.id) rows.visits)) h in
+    let parts =
+    and_parts (list_any (λ (v : StoredVisit). v.page.0 == p.id.0) rows.visits)
+    (p.typed || not (list_any (is_typed_visit p.id) rows.visits)) h in
     record {
       url = one.2.1;
       title = (IsUtf8-nil, omega arith);
@@ -189,28 +209,36 @@ page-to rows p one h =
       kept = or_false _ ∙ list_any-map (λ (v : Visit). v.page.0 == p.id.0) visit_of rows.visits ∙ parts.0;
     }
 
-pub page-from : (rows : Stored) (p : StoredPage) → IsGoodPage (stored_store rows) (stored_page p) → is_good_page rows.visits p ≡ true
+pub page-from : (rows : Stored) (p : StoredPage) → IsGoodPage (stored_store rows) (stored_page p)
+    → is_good_page rows.visits p ≡ true
 page-from rows p h =
-    and_from (list_any (λ (v : StoredVisit). v.page.0 == p.id.0) rows.visits) (p.typed || not (list_any (typed_visit p.id) rows.visits))
+    and_from (list_any (λ (v : StoredVisit). v.page.0 == p.id.0) rows.visits)
+    (p.typed || not (list_any (is_typed_visit p.id) rows.visits))
     (sym (or_false _ ∙ list_any-map (λ (v : Visit). v.page.0 == p.id.0) visit_of rows.visits) ∙ h.kept)
     (typed-from p.id p.typed rows.visits (All-from_map (IsTypedBy p.id p.typed) visit_of rows.visits h.typed))
 
-visit-to : (rows : Stored) (v : StoredVisit) → IsStoredVisit v → is_good_visit rows.pages v ≡ true → IsGoodVisit (stored_store rows) (visit_of v)
+visit-to : (rows : Stored) (v : StoredVisit) → IsStoredVisit v → is_good_visit rows.pages v ≡ true
+    → IsGoodVisit (stored_store rows) (visit_of v)
 visit-to rows v one h =
-    let parts = and_parts (nat_le v.date.0 253_402_300_799_999_999) (list_any (λ (p : StoredPage). p.id.0 == v.page.0) rows.pages) h in
+    let parts =
+    and_parts (nat_le v.date.0 last_date) (list_any (λ (p : StoredPage). p.id.0 == v.page.0) rows.pages) h in
     record {
-      date = leb-true v.date.0 253_402_300_799_999_999 parts.0;
+      date = leb-true v.date.0 last_date parts.0;
       page = list_any-map (λ (p : Page). p.id.0 == v.page.0) stored_page rows.pages ∙ parts.1;
-      source = subst (λ (o : Option VisitId). IfSome o (λ id. (id.0 < v.id.0) × IsSome (visit_at (stored_store rows) id))) (sym one.2) tt;
+      source =
+          subst (λ (o : Option VisitId). IfSome o (λ id. (id.0 < v.id.0) × IsSome (visit_by_id (stored_store rows) id)))
+          (sym one.2) tt;
     }
 
-visit-from : (rows : Stored) (v : StoredVisit) → IsGoodVisit (stored_store rows) (visit_of v) → is_good_visit rows.pages v ≡ true
+visit-from : (rows : Stored) (v : StoredVisit) → IsGoodVisit (stored_store rows) (visit_of v)
+    → is_good_visit rows.pages v ≡ true
 visit-from rows v h =
-    and_from (nat_le v.date.0 253_402_300_799_999_999) (list_any (λ (p : StoredPage). p.id.0 == v.page.0) rows.pages)
-    (le-leb v.date.0 253_402_300_799_999_999 h.date)
+    and_from (nat_le v.date.0 last_date) (list_any (λ (p : StoredPage). p.id.0 == v.page.0) rows.pages)
+    (le-leb v.date.0 last_date h.date)
     (sym (list_any-map (λ (p : Page). p.id.0 == v.page.0) stored_page rows.pages) ∙ h.page)
 
-six_parts : (a b c d e f : Bool) → (a && b && c && d && e && f) ≡ true → (a ≡ true) × (b ≡ true) × (c ≡ true) × (d ≡ true) × (e ≡ true) × (f ≡ true)
+six_parts : (a b c d e f : Bool) → (a && b && c && d && e && f) ≡ true
+    → (a ≡ true) × (b ≡ true) × (c ≡ true) × (d ≡ true) × (e ≡ true) × (f ≡ true)
 six_parts true true true true true f h = (refl, refl, refl, refl, refl, h)
 six_parts true true true true false f h = absurd (false≢true h)
 six_parts true true true false e f h = absurd (false≢true h)
@@ -224,60 +252,62 @@ four_parts true true false d h = absurd (false≢true h)
 four_parts true false c d h = absurd (false≢true h)
 four_parts false b c d h = absurd (false≢true h)
 
-pairs_map : {X Y : Type 0} (R : Y → Y → Type 0) (f : X → Y) (xs : List X) → AllPairs (λ x y. R (f x) (f y)) xs → AllPairs R (map f xs)
-pairs_map R f [] pairs = pairs_nil R
-pairs_map R f (x ∷ xs) pairs =
-    pairs_cons R (f x) (map f xs)
-    (All-map (R (f x)) f xs (λ k d within. pairs 0 (suc k) d (omega arith) (omega arith)))
-    (pairs_map R f xs (λ i j d before within. pairs (suc i) (suc j) d (omega arith) (omega arith)))
-
 pub good-to : (rows : Stored) → AreStored rows → are_good rows ≡ true → IsGood (stored_store rows)
 good-to rows one h =
     let six =
-    six_parts (are_good_numbers rows) (are_ids rows.ids.page (page_numbers rows.pages)) (are_ids rows.ids.visit (visit_numbers rows.visits)) (have_own_urls rows.pages) (list_all (is_good_page rows.visits) rows.pages) (list_all (is_good_visit rows.pages) rows.visits) h in
-    let numbers = four_parts (nat_le rows.day.0 2_932_896) (nat_le 1 rows.ids.page) (nat_le 1 rows.ids.visit) (nat_le 7 rows.ids.item) six.0 in
+    six_parts (are_good_numbers rows) (are_ids rows.ids.page (stored_page_ids rows.pages))
+    (are_ids rows.ids.visit (stored_visit_ids rows.visits)) (have_own_urls rows.pages)
+    (list_all (is_good_page rows.visits) rows.pages) (list_all (is_good_visit rows.pages) rows.visits) h in
+    let numbers =
+    four_parts (nat_le rows.day.0 last_day) (nat_le 1 rows.ids.page) (nat_le 1 rows.ids.visit)
+    (nat_le 7 rows.ids.item) six.0 in
     record {
-      day = leb-true rows.day.0 2_932_896 numbers.0;
+      day = leb-true rows.day.0 last_day numbers.0;
       page_ids =
           rw (map-map (λ (p : Page). p.id.0) stored_page rows.pages)
-          (are_ids-to rows.ids.page (page_numbers rows.pages) (leb-true 1 rows.ids.page numbers.1) (omega (arith, one.ids.0)) six.1);
+          (are_ids-to rows.ids.page (stored_page_ids rows.pages) (leb-true 1 rows.ids.page numbers.1)
+          (omega (arith, one.ids.0)) six.1);
       visit_ids =
           rw (map-map (λ (v : Visit). v.id.0) visit_of rows.visits)
-          (are_ids-to rows.ids.visit (visit_numbers rows.visits) (leb-true 1 rows.ids.visit numbers.2) (omega (arith, one.ids.1)) six.2);
+          (are_ids-to rows.ids.visit (stored_visit_ids rows.visits) (leb-true 1 rows.ids.visit numbers.2)
+          (omega (arith, one.ids.1)) six.2);
       item_ids = root_ids rows.ids.item (leb-true 7 rows.ids.item numbers.3) (omega (arith, one.ids.2));
       pages =
           All-map (IsGoodPage (stored_store rows)) stored_page rows.pages
-          (λ k d within. page-to rows (get_or rows.pages k d) (one.pages.0 k d within) (all_pass (is_good_page rows.visits) rows.pages six.4 k d within));
-      urls = pairs_map (λ (p q : Page). p.url ≢ q.url) stored_page rows.pages (own_urls-to rows.pages six.3);
+          (λ k d within. page-to rows (get_or rows.pages k d) (one.pages.0 k d within)
+          (all_pass (is_good_page rows.visits) rows.pages six.4 k d within));
+      urls = AllPairs-map (λ (p q : Page). p.url ≢ q.url) stored_page rows.pages (own_urls-to rows.pages six.3);
       visits =
           All-map (IsGoodVisit (stored_store rows)) visit_of rows.visits
-          (λ k d within. visit-to rows (get_or rows.visits k d) (one.visits.0 k d within) (all_pass (is_good_visit rows.pages) rows.visits six.5 k d within));
-      items = roots_are_good rows;
-      roots = has_roots rows;
-      tree = roots_tree;
-      tags = roots_tags rows;
+          (λ k d within. visit-to rows (get_or rows.visits k d) (one.visits.0 k d within)
+          (all_pass (is_good_visit rows.pages) rows.visits six.5 k d within));
+      items = roots_are_good (stored_store rows);
+      roots = has_roots (stored_store rows);
+      tree = roots_are_tree;
+      tags = no_tags (stored_store rows);
     }
-
-pub AllPairs-from_map : {X Y : Type 0} (R : Y → Y → Type 0) (f : X → Y) (xs : List X) → AllPairs R (map f xs) → AllPairs (λ x y. R (f x) (f y)) xs
-AllPairs-from_map R f xs pairs i j d before within =
-    let last : j < length (map f xs) = rw (length-map xs f) within in
-    subst (λ y. R y (f (get_or xs j d))) (get_or-map f xs i d (f d) (omega arith))
-    (subst (R (get_or (map f xs) i (f d))) (get_or-map f xs j d (f d) within) (pairs i j (f d) before last))
 
 pub good-from : (rows : Stored) → IsGood (stored_store rows) → are_good rows ≡ true
 good-from rows h =
     and_from _ (list_all (is_good_visit rows.pages) rows.visits)
     (and_from _ (list_all (is_good_page rows.visits) rows.pages)
     (and_from _ (have_own_urls rows.pages)
-    (and_from _ (are_ids rows.ids.visit (visit_numbers rows.visits))
-    (and_from (are_good_numbers rows) (are_ids rows.ids.page (page_numbers rows.pages))
+    (and_from _ (are_ids rows.ids.visit (stored_visit_ids rows.visits))
+    (and_from (are_good_numbers rows) (are_ids rows.ids.page (stored_page_ids rows.pages))
     (and_from _ (nat_le 7 rows.ids.item)
     (and_from _ (nat_le 1 rows.ids.visit)
-    (and_from (nat_le rows.day.0 2_932_896) (nat_le 1 rows.ids.page) (le-leb rows.day.0 2_932_896 h.day) (le-leb 1 rows.ids.page h.page_ids.next_first))
+    (and_from (nat_le rows.day.0 last_day) (nat_le 1 rows.ids.page) (le-leb rows.day.0 last_day h.day)
+    (le-leb 1 rows.ids.page h.page_ids.next_first))
     (le-leb 1 rows.ids.visit h.visit_ids.next_first))
     (le-leb 7 rows.ids.item h.item_ids.next_first))
-    (are_ids-from rows.ids.page (page_numbers rows.pages) (rw (map-map (λ (p : Page). p.id.0) stored_page rows.pages) at h.page_ids)))
-    (are_ids-from rows.ids.visit (visit_numbers rows.visits) (rw (map-map (λ (v : Visit). v.id.0) visit_of rows.visits) at h.visit_ids)))
+    (are_ids-from rows.ids.page (stored_page_ids rows.pages)
+    (rw (map-map (λ (p : Page). p.id.0) stored_page rows.pages) at h.page_ids)))
+    (are_ids-from rows.ids.visit (stored_visit_ids rows.visits)
+    (rw (map-map (λ (v : Visit). v.id.0) visit_of rows.visits) at h.visit_ids)))
     (own_urls-from rows.pages (AllPairs-from_map (λ (p q : Page). p.url ≢ q.url) stored_page rows.pages h.urls)))
-    (pass_all (is_good_page rows.visits) rows.pages (λ k d within. page-from rows (get_or rows.pages k d) (All-from_map (IsGoodPage (stored_store rows)) stored_page rows.pages h.pages k d within))))
-    (pass_all (is_good_visit rows.pages) rows.visits (λ k d within. visit-from rows (get_or rows.visits k d) (All-from_map (IsGoodVisit (stored_store rows)) visit_of rows.visits h.visits k d within)))
+    (pass_all (is_good_page rows.visits) rows.pages
+    (λ k d within. page-from rows (get_or rows.pages k d)
+    (All-from_map (IsGoodPage (stored_store rows)) stored_page rows.pages h.pages k d within))))
+    (pass_all (is_good_visit rows.pages) rows.visits
+    (λ k d within. visit-from rows (get_or rows.visits k d)
+    (All-from_map (IsGoodVisit (stored_store rows)) visit_of rows.visits h.visits k d within)))

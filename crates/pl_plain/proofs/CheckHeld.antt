@@ -1,5 +1,7 @@
 -- The rows of a store that a file holds.
-use Rattle.std.proofs.Common.{◌≡◌, ◌∙◌, ◌==◌, ℕ, ℤ, ◌+◌, ◌-◌, ◌*◌, ◌<◌, ◌≤◌, ◌^◌, ◌++◌, All, Bool, true, false, List, [], ◌∷◌, Result, Err, drop, ◌&&◌, get_or, length, map, pos, negsuc, w64, zero, suc, sym, ap, refl, subst, arith, if◌then◌else◌}
+use Rattle.std.proofs.Common.{◌≡◌, ◌∙◌, ◌==◌, ℕ, ℤ, ◌+◌, ◌-◌, ◌*◌, ◌<◌, ◌≤◌, ◌^◌, ◌++◌, All, Bool}
+use Rattle.std.proofs.Common.{true, false, List, [], ◌∷◌, Result, Err, drop, ◌&&◌, get_or, length}
+use Rattle.std.proofs.Common.{map, pos, negsuc, w64, sym, ap, refl, subst, arith, if◌then◌else◌}
 use Rattle.std.specs.Int.RustNames.{FitsSigned}
 use Rattle.std.specs.List.{sum_by}
 use Rattle.std.specs.Str.{IsUtf8}
@@ -11,9 +13,10 @@ use Rattle.std.proofs.lemmas.List.Sums.{count_by-le-length}
 use Rattle.std.proofs.Math.Nat.{div-le_self, mul-le-mul}
 use Rattle.pl_base.specs.declared.id.PageId.{PageId}
 use Rattle.pl_base.specs.Address.{is_place_url}
-use Rattle.pl_base.specs.Frecency.{frecency_from, frecency_of, points, rounded_up, unvisited_frecency, visit_bonus, visited_frecency}
+use Rattle.pl_base.specs.Frecency.{frecency_from, frecency_of, points, rounded_up}
+use Rattle.pl_base.specs.Frecency.{unvisited_frecency, visit_bonus, visited_frecency}
 use Rattle.pl_base.specs.Good.{AreIds, IsGood}
-use Rattle.pl_base.specs.Live.{live_slots}
+use Rattle.pl_base.specs.Live.{live_slots, slot_limit}
 use Rattle.pl_base.specs.Marks.{is_counted, is_referenced, visit_count}
 use Rattle.pl_base.specs.Rows.{IsOfVisits}
 use Rattle.pl_base.specs.Store.{Item, Page, Store, Visit, roots}
@@ -26,12 +29,14 @@ use Rattle.pl_form.specs.declared.stored.StoredVisit.{StoredVisit}
 use Rattle.pl_form.specs.declared.stored.StoredPage.{StoredPage}
 use Rattle.pl_plain.specs.CheckPages.{IsFrecencyRight}
 use Rattle.pl_form.specs.Form.{FormRows, StandsFor, filled_pages, form_bytes, in_pages, plain_bytes, store_rows}
-use Rattle.pl_form.specs.Stored.{AreStored, HoldsRows, IsShort, IsStoredPage, IsStoredVisit, Stored, form_rows, stored_bytes, stored_page, stored_store, visit_of}
+use Rattle.pl_form.specs.Stored.{AreStored, HoldsRows, IsShort, IsStoredPage, IsStoredVisit, Stored}
+use Rattle.pl_form.specs.Stored.{form_rows, stored_bytes, stored_page, stored_store, visit_of}
 use Rattle.pl_plain.proofs.CheckFlat.{store_rows-is}
 use Rattle.pl_plain.specs.CheckSample.{sampled_of}
 use Rattle.pl_plain.proofs.CheckMarks.{sampled-small}
 use Rattle.pl_form.proofs.FormLengths.{store_within}
-use Rattle.pl_plain.proofs.Lists.{All-from_map, sum_by-map}
+use Rattle.pl_base.proofs.ListLaws.{All-from_map, sum_by-map}
+use Rattle.pl_base.proofs.IdsLaws.{few_ids}
 
 abbrev page_from : Store → Page → StoredPage
 page_from store p = record { id = p.id; typed = p.typed; frecency = frecency_of store p; url = p.url }
@@ -40,15 +45,23 @@ abbrev visit_from : Visit → StoredVisit
 visit_from v = record { id = v.id; page = v.page; date = v.date; transition = v.transition; source = v.source }
 
 abbrev pub rows_of : Store → Stored
-rows_of store = record { day = store.day; ids = store.ids; pages = map (page_from store) store.pages; visits = map visit_from store.visits }
+rows_of store =
+    record {
+      day = store.day;
+      ids = store.ids;
+      pages = map (page_from store) store.pages;
+      visits = map visit_from store.visits;
+    }
 
 untitled : (p : Page) → p.title ≡ [] → record { id = p.id; url = p.url; title = []; typed = p.typed } ≡ p
 untitled p none = ap (λ (t : List ℕ). record { id = p.id; url = p.url; title = t; typed = p.typed }) (sym none)
 
-pages_back : (store : Store) (ps : List Page) → All (λ (p : Page). p.title ≡ []) ps → map stored_page (map (page_from store) ps) ≡ ps
+pages_back : (store : Store) (ps : List Page) → All (λ (p : Page). p.title ≡ []) ps
+    → map stored_page (map (page_from store) ps) ≡ ps
 pages_back store [] none = refl
 pages_back store (p ∷ ps) none =
-    ap (λ (q : Page). q ∷ map stored_page (map (page_from store) ps)) (untitled p (All-head (λ (q : Page). q.title ≡ []) p ps none))
+    ap (λ (q : Page). q ∷ map stored_page (map (page_from store) ps))
+    (untitled p (All-head (λ (q : Page). q.title ≡ []) p ps none))
     ∙ ap (λ (qs : List Page). p ∷ qs) (pages_back store ps (All-tail (λ (q : Page). q.title ≡ []) p ps none))
 
 visits_back : (vs : List Visit) → map visit_of (map visit_from vs) ≡ vs
@@ -57,9 +70,19 @@ visits_back (v ∷ vs) = ap (λ (ws : List Visit). v ∷ ws) (visits_back vs)
 
 pub store-back : (store : Store) → IsOfVisits store → stored_store (rows_of store) ≡ store
 store-back store h =
-    ap (λ (ps : List Page). record { day = store.day; ids = store.ids; pages = ps; visits = map visit_of (map visit_from store.visits); items = roots }) (pages_back store store.pages h.no_title)
-    ∙ ap (λ (vs : List Visit). record { day = store.day; ids = store.ids; pages = store.pages; visits = vs; items = roots }) (visits_back store.visits)
-    ∙ ap (λ (is : List Item). record { day = store.day; ids = store.ids; pages = store.pages; visits = store.visits; items = is }) (sym h.no_item)
+    ap (λ (ps : List Page). record {
+      day = store.day;
+      ids = store.ids;
+      pages = ps;
+      visits = map visit_of (map visit_from store.visits);
+      items = roots;
+    }) (pages_back store store.pages h.no_title)
+    ∙ ap (λ (vs : List Visit).
+    record { day = store.day; ids = store.ids; pages = store.pages; visits = vs; items = roots })
+    (visits_back store.visits)
+    ∙ ap (λ (is : List Item).
+    record { day = store.day; ids = store.ids; pages = store.pages; visits = store.visits; items = is })
+    (sym h.no_item)
 
 pub right-back : (store : Store) → IsOfVisits store → All (IsFrecencyRight (rows_of store)) (rows_of store).pages
 right-back store h =
@@ -67,23 +90,6 @@ right-back store h =
     (λ k d within.
     ap (λ (s : Store). frecency_of s (get_or store.pages k d)) (sym (store-back store h))
     ∙ ap (frecency_of (stored_store (rows_of store))) (sym (untitled (get_or store.pages k d) (h.no_title k d within))))
-
--- ids ascend, so there are fewer than the next
-climbs : (ids : List ℕ) (next k : ℕ) → AreIds 1 next ids → k < length ids → k < get_or ids k 0
-climbs ids next zero h within = (h.given 0 0 within).0
-climbs ids next (suc k) h within =
-    let below : k < get_or ids k 0 = climbs ids next k h (omega arith) in
-    let step : get_or ids k 0 < get_or ids (k + 1) 0 = h.ascending k (omega arith) in
-    let P : ℕ → Type 0 = λ j. suc k < get_or ids j 0 in
-    let next_index : k + 1 ≡ suc k = omega arith in
-    subst P next_index (omega arith)
-
-few_ids : (ids : List ℕ) (next n : ℕ) → AreIds 1 next ids → length ids ≡ n → n < 2 ^ 32
-few_ids ids next zero h len = omega arith
-few_ids ids next (suc n) h len =
-    let above : n < get_or ids n 0 = climbs ids next n h (omega arith) in
-    let below : get_or ids n 0 < next = (h.given n 0 (omega arith)).1 in
-    omega (arith, h.next_last)
 
 id_fits : (ids : List ℕ) (next k d : ℕ) → AreIds 1 next ids → k < length ids → get_or ids k d < 2 ^ 32
 id_fits ids next k d h within = omega (arith, (h.given k d within).1, h.next_last)
@@ -96,9 +102,11 @@ unvisited_fits true false false = omega arith
 unvisited_fits false typed place = omega arith
 
 product_small : (count r : ℕ) → count < 2 ^ 32 → r ≤ 20_751 → count * r ≤ 4_294_967_296 * 20_751
-product_small count r few small = mul-le-mul {n₁ = count} {m₁ = r} {n₂ = 4_294_967_296} {m₂ = 20_751} (omega arith) small
+product_small count r few small =
+    mul-le-mul {n₁ = count} {m₁ = r} {n₂ = 4_294_967_296} {m₂ = 20_751} (omega arith) small
 
-rounded_fits : (total sampled count : ℕ) → total ≤ 2_075_000 → sampled ≤ 10 → count < 2 ^ 32 → rounded_up (count * rounded_up total 100) sampled < 2 ^ 63
+rounded_fits : (total sampled count : ℕ) → total ≤ 2_075_000 → sampled ≤ 10 → count < 2 ^ 32
+    → rounded_up (count * rounded_up total 100) sampled < 2 ^ 63
 rounded_fits total sampled count small ten few =
     let r : ℕ = rounded_up total 100 in
     let r_small : r ≤ 20_751 = omega arith in
@@ -113,38 +121,72 @@ either_fits : (b : Bool) (x y : ℤ) → FitsSigned w64 x → FitsSigned w64 y �
 either_fits true x y first second = first
 either_fits false x y first second = second
 
-from_fits : (total sampled count : ℕ) (referenced typed place : Bool) → total ≤ 2_075_000 → sampled ≤ 10 → count < 2 ^ 32 → FitsSigned w64 (frecency_from total sampled count referenced typed place)
+from_fits : (total sampled count : ℕ) (referenced typed place : Bool) → total ≤ 2_075_000 → sampled ≤ 10
+    → count < 2 ^ 32 → FitsSigned w64 (frecency_from total sampled count referenced typed place)
 from_fits total sampled count referenced typed place small ten few =
     either_fits (count == 0) (unvisited_frecency referenced typed place) (visited_frecency total sampled count)
     (unvisited_fits referenced typed place)
-    (visited_fits (total == 0) (rounded_up (count * rounded_up total 100) sampled) (rounded_fits total sampled count small ten few))
+    (visited_fits (total == 0) (rounded_up (count * rounded_up total 100) sampled)
+    (rounded_fits total sampled count small ten few))
 
 ten_sampled : (store : Store) (page : PageId) → length (sample_of store page) ≤ 10
 ten_sampled store page = omega (arith, length-take 10 (latest_first (visits_of store page)))
 
-few_points : (store : Store) (page : PageId) → sum_by (λ (v : Visit). points store.day v.date (visit_bonus store v)) (sample_of store page) ≤ 2_075_000
+few_points : (store : Store) (page : PageId)
+    → sum_by (λ (v : Visit). points store.day v.date (visit_bonus store v)) (sample_of store page) ≤ 2_075_000
 few_points store page =
     let sample : List Visit = sample_of store page in
     let same = sum_by-map (λ (s : Sampled). points store.day s.date s.bonus) (sampled_of store) sample in
-    omega (arith, same, points_of-le store.day (map (sampled_of store) sample) (omega (arith, length-map sample (sampled_of store), ten_sampled store page)) (sampled-small store sample))
+    omega (
+      arith,
+      same,
+      points_of-le store.day (map (sampled_of store) sample)
+          (omega (arith, length-map sample (sampled_of store), ten_sampled store page)) (sampled-small store sample),
+    )
 
 pub frecency-fits : (store : Store) (p : Page) → length store.visits < 2 ^ 32 → FitsSigned w64 (frecency_of store p)
 frecency-fits store p few =
-    from_fits (sum_by (λ (v : Visit). points store.day v.date (visit_bonus store v)) (sample_of store p.id)) (length (sample_of store p.id)) (visit_count store p.id) (is_referenced store p.id) p.typed (is_place_url p.url)
+    from_fits (sum_by (λ (v : Visit). points store.day v.date (visit_bonus store v)) (sample_of store p.id))
+    (length (sample_of store p.id)) (visit_count store p.id) (is_referenced store p.id) p.typed (is_place_url p.url)
     (few_points store p.id) (ten_sampled store p.id)
-    (omega (arith, few, count_by-le-length (λ (v : Visit). (v.page.0 == p.id.0) && is_counted v.transition) store.visits))
+    (omega (
+      arith,
+      few,
+      count_by-le-length (λ (v : Visit). (v.page.0 == p.id.0) && is_counted v.transition)
+          store.visits,
+    ))
 
-pub stored-back : (store : Store) → IsGood store → IsOfVisits store → All (λ (p : Page). IsUtf8 p.url) store.pages → AreStored (rows_of store)
+pub stored-back : (store : Store) → IsGood store → IsOfVisits store → All (λ (p : Page). IsUtf8 p.url) store.pages
+    → AreStored (rows_of store)
 stored-back store good h texts =
-    let few_visits : length store.visits < 2 ^ 32 = few_ids (map (λ (v : Visit). v.id.0) store.visits) store.ids.visit (length store.visits) good.visit_ids (length-map store.visits (λ (v : Visit). v.id.0)) in
-    let few_pages : length store.pages < 2 ^ 32 = few_ids (map (λ (p : Page). p.id.0) store.pages) store.ids.page (length store.pages) good.page_ids (length-map store.pages (λ (p : Page). p.id.0)) in
+    let few_visits : length store.visits < 2 ^ 32 =
+    omega (
+      arith,
+      few_ids (map (λ (v : Visit). v.id.0) store.visits) store.ids.visit (length store.visits) good.visit_ids
+          (length-map store.visits (λ (v : Visit). v.id.0)),
+    ) in
+    let few_pages : length store.pages < 2 ^ 32 =
+    omega (
+      arith,
+      few_ids (map (λ (p : Page). p.id.0) store.pages) store.ids.page (length store.pages) good.page_ids
+          (length-map store.pages (λ (p : Page). p.id.0)),
+    ) in
     record {
       day = omega (arith, good.day);
-      ids = (omega (arith, good.page_ids.next_last), omega (arith, good.visit_ids.next_last), omega (arith, good.item_ids.next_last));
+      ids = (
+        omega (arith, good.page_ids.next_last),
+        omega (arith, good.visit_ids.next_last),
+        omega (arith, good.item_ids.next_last),
+      );
       pages = (
         All-map IsStoredPage (page_from store) store.pages
             (λ k d within. (
-              omega (arith, (All-from_map (λ id. (0 < id) × (id < store.ids.page)) (λ (p : Page). p.id.0) store.pages good.page_ids.given k d within).1, good.page_ids.next_last),
+              omega (
+                arith,
+                (All-from_map (λ id. (0 < id) × (id < store.ids.page)) (λ (p : Page). p.id.0) store.pages
+                    good.page_ids.given k d within).1,
+                good.page_ids.next_last,
+              ),
               frecency-fits store (get_or store.pages k d) few_visits,
               (texts k d within, (good.pages k d within).url),
             )),
@@ -156,8 +198,15 @@ stored-back store good h texts =
             let v : Visit = get_or store.visits k d in
             let at = Any-from_list_any (λ (p : Page). p.id.0 == v.page.0) store.pages (good.visits k d within).page in
             let page_below : at.1.id.0 < store.ids.page =
-            subst (λ (p : Page). p.id.0 < store.ids.page) at.3 (All-from_map (λ id. (0 < id) × (id < store.ids.page)) (λ (p : Page). p.id.0) store.pages good.page_ids.given at.0 at.1 at.2).1 in (
-              omega (arith, (All-from_map (λ id. (0 < id) × (id < store.ids.visit)) (λ (w : Visit). w.id.0) store.visits good.visit_ids.given k d within).1, good.visit_ids.next_last),
+            subst (λ (p : Page). p.id.0 < store.ids.page) at.3
+            (All-from_map (λ id. (0 < id) × (id < store.ids.page)) (λ (p : Page). p.id.0) store.pages
+            good.page_ids.given at.0 at.1 at.2).1 in (
+              omega (
+                arith,
+                (All-from_map (λ id. (0 < id) × (id < store.ids.visit)) (λ (w : Visit). w.id.0) store.visits
+                    good.visit_ids.given k d within).1,
+                good.visit_ids.next_last,
+              ),
               omega (arith, eqb-true at.1.id.0 v.page.0 at.4, page_below, good.page_ids.next_last),
               h.no_source k d within,
               omega (arith, (good.visits k d within).date),
@@ -166,7 +215,8 @@ stored-back store good h texts =
       );
     }
 
-plain_short : (store : Store) → store.items ≡ roots → live_slots store ≤ 4_194_304 → length (plain_bytes (store_rows store)) < 2 ^ 40
+plain_short : (store : Store) → store.items ≡ roots → live_slots store ≤ slot_limit
+    → length (plain_bytes (store_rows store)) < 2 ^ 40
 plain_short store items few = omega (arith, store_within store items)
 
 few_filled : (n : ℕ) → n < 2 ^ 40 → 2 + filled_pages n < 2 ^ 32
@@ -175,15 +225,17 @@ few_filled n few = omega arith
 form-back : (store : Store) → IsOfVisits store → form_rows (rows_of store) ≡ store_rows store
 form-back store h = sym (store_rows-is (rows_of store) (right-back store h)) ∙ ap store_rows (store-back store h)
 
-short-back : (store : Store) → IsOfVisits store → live_slots store ≤ 4_194_304 → IsShort (stored_bytes (rows_of store))
+short-back : (store : Store) → IsOfVisits store → live_slots store ≤ slot_limit → IsShort (stored_bytes (rows_of store))
 short-back store h few =
     few_filled (length (stored_bytes (rows_of store)))
-    (subst (λ (rows : FormRows). length (plain_bytes rows) < 2 ^ 40) (sym (form-back store h)) (plain_short store h.no_item few))
+    (subst (λ (rows : FormRows). length (plain_bytes rows) < 2 ^ 40) (sym (form-back store h))
+    (plain_short store h.no_item few))
 
 pub holds-back : (bytes : List ℕ) (store : Store) → StandsFor bytes store → HoldsRows bytes (rows_of store)
 holds-back bytes store h =
     let form : form_bytes (store_rows store) ≡ in_pages (stored_bytes (rows_of store)) =
-    ap (λ (s : Store). form_bytes (store_rows s)) (sym (store-back store h.of_visits)) ∙ ap form_bytes (store_rows-is (rows_of store) (right-back store h.of_visits)) in
+    ap (λ (s : Store). form_bytes (store_rows s)) (sym (store-back store h.of_visits))
+    ∙ ap form_bytes (store_rows-is (rows_of store) (right-back store h.of_visits)) in
     record {
       short = short-back store h.of_visits h.live;
       rest = drop (length (form_bytes (store_rows store))) bytes;
@@ -194,28 +246,35 @@ holds-back bytes store h =
 
 -- ---- what is refused
 
-pub apart : {T : Type 0} (r : Result T CheckError) (x e : CheckError) → r ≡ Err NotAStore → r ≡ Err x → x ≡ e → e ≡ NoMemory → ⊥
+pub apart : {T : Type 0} (r : Result T CheckError) (x e : CheckError) → r ≡ Err NotAStore → r ≡ Err x → x ≡ e
+    → e ≡ NoMemory → ⊥
 apart r x e refused failed same none = absurd (cc)
 
 -- the rows that were read are those of the store
-rows_read : (bytes : List ℕ) (store : Store) (got : Stored) → StandsFor bytes store → ((rows : Stored) → AreStored rows → HoldsRows bytes rows → got ≡ rows) → got ≡ rows_of store
+rows_read : (bytes : List ℕ) (store : Store) (got : Stored) → StandsFor bytes store
+    → ((rows : Stored) → AreStored rows → HoldsRows bytes rows → got ≡ rows) → got ≡ rows_of store
 rows_read bytes store got h whole =
     whole (rows_of store) (stored-back store h.good h.of_visits h.texts) (holds-back bytes store h)
 
-pub not_read : (bytes : List ℕ) (store : Store) (e : CheckError) → StandsFor bytes store → ((rows : Stored) → AreStored rows → HoldsRows bytes rows → e ≡ NoMemory) → e ≡ NoMemory
+pub not_read : (bytes : List ℕ) (store : Store) (e : CheckError) → StandsFor bytes store
+    → ((rows : Stored) → AreStored rows → HoldsRows bytes rows → e ≡ NoMemory) → e ≡ NoMemory
 not_read bytes store e h whole =
     whole (rows_of store) (stored-back store h.good h.of_visits h.texts) (holds-back bytes store h)
 
-pub good_read : (bytes : List ℕ) (store : Store) (got : Stored) → StandsFor bytes store → ((rows : Stored) → AreStored rows → HoldsRows bytes rows → got ≡ rows) → IsGood (stored_store got)
+pub good_read : (bytes : List ℕ) (store : Store) (got : Stored) → StandsFor bytes store
+    → ((rows : Stored) → AreStored rows → HoldsRows bytes rows → got ≡ rows) → IsGood (stored_store got)
 good_read bytes store got h whole =
     subst IsGood (sym (ap stored_store (rows_read bytes store got h whole) ∙ store-back store h.of_visits)) h.good
 
-pub right_read : (bytes : List ℕ) (store : Store) (got : Stored) → StandsFor bytes store → ((rows : Stored) → AreStored rows → HoldsRows bytes rows → got ≡ rows) → All (IsFrecencyRight got) got.pages
+pub right_read : (bytes : List ℕ) (store : Store) (got : Stored) → StandsFor bytes store
+    → ((rows : Stored) → AreStored rows → HoldsRows bytes rows → got ≡ rows) → All (IsFrecencyRight got) got.pages
 right_read bytes store got h whole =
     let P : Stored → Type 0 = λ rows. All (IsFrecencyRight rows) rows.pages in
     subst P (sym (rows_read bytes store got h whole)) (right-back store h.of_visits)
 
-pub live_read : (bytes : List ℕ) (store : Store) (got : Stored) → StandsFor bytes store → ((rows : Stored) → AreStored rows → HoldsRows bytes rows → got ≡ rows) → live_slots (stored_store got) ≤ 4_194_304
+pub live_read : (bytes : List ℕ) (store : Store) (got : Stored) → StandsFor bytes store
+    → ((rows : Stored) → AreStored rows → HoldsRows bytes rows → got ≡ rows)
+    → live_slots (stored_store got) ≤ slot_limit
 live_read bytes store got h whole =
-    let P : Store → Type 0 = λ s. live_slots s ≤ 4_194_304 in
+    let P : Store → Type 0 = λ s. live_slots s ≤ slot_limit in
     subst P (sym (ap stored_store (rows_read bytes store got h whole) ∙ store-back store h.of_visits)) h.live

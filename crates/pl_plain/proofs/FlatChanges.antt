@@ -1,5 +1,7 @@
 -- The rows stay well kept under changes.
-use Rattle.std.proofs.Common.{◌≡◌, ◌≢◌, ◌↔◌, ◌+◌, ◌-◌, ◌<◌, ◌≤◌, ◌==◌, ◌&&◌, ◌++◌, ◌∙◌, ℕ, All, Bool, true, false, IsTrue, List, [], ◌∷◌, ap, arith, eq-eqb, get_or, if◌then◌else◌, inl, inr, length, map, pos, refl, subst, sym}
+use Rattle.std.proofs.Common.{◌≡◌, ◌≢◌, ◌+◌, ◌-◌, ◌<◌, ◌≤◌, ◌==◌, ◌&&◌, ◌++◌, ◌∙◌, ℕ, All}
+use Rattle.std.proofs.Common.{Bool, true, false, IsTrue, List, [], ◌∷◌, ap, arith, eq-eqb}
+use Rattle.std.proofs.Common.{get_or, if◌then◌else◌, inl, inr, length, map, refl, subst, sym}
 use Rattle.std.specs.List.{list_any, sum_by}
 use Rattle.std.proofs.lemmas.Bool.{and_parts, cases_lt, eqb-true, false≢true}
 use Rattle.std.proofs.lemmas.List.{length-map, length_push, map_push}
@@ -14,20 +16,22 @@ use Rattle.pl_base.specs.declared.row.Mark.{Mark}
 use Rattle.pl_base.specs.declared.row.VisitRow.{VisitRow}
 use Rattle.pl_base.specs.Address.{is_store_url, same_origin}
 use Rattle.pl_base.specs.Date.{IsDate, IsDay}
-use Rattle.pl_base.specs.Live.{chunks, live_slots, new_origins, origin_count}
-use Rattle.pl_base.specs.Rows.{Kept, KeptOrigin, KeptPage, has_page, live_with_page, marked, store_of, with_day, with_mark, with_page, with_visit}
+use Rattle.pl_base.specs.Live.{chunks, live_slots, new_origins, origin_count, slot_limit}
+use Rattle.pl_base.specs.Rows.{Kept, KeptOrigin, KeptPage, has_page, live_with_page, marked, store_of}
+use Rattle.pl_base.specs.Rows.{next_visit, with_day, with_mark, with_new_page, with_visit, AreAlike, next_page}
 use Rattle.pl_base.specs.Store.{Item, Page, Visit}
 use Rattle.pl_base.proofs.OriginLaws.{new_origins-append, same_origin-self, same_origin-sym, same_origin-trans}
 use Rattle.std.specs.Str.{is_utf8}
 use Rattle.pl_plain.specs.FlatRows.{IsFlat}
-use Rattle.pl_plain.specs.Place.{IsPlaceOf, urls_of}
-use Rattle.pl_plain.proofs.Lists.{AllPairs-map, AreIds_push, list_any-map, list_any_last, list_any_push, map-alike, map-map, sum_by-map}
+use Rattle.pl_plain.specs.Place.{IsSlotOf, urls_of}
+use Rattle.pl_base.proofs.ListLaws.{AllPairs-map, list_any-map, list_any_last, list_any_push, map-map, sum_by-map}
+use Rattle.pl_plain.proofs.Lists.{AreIds_push, map-alike}
+use Rattle.pl_base.specs.Good.{end_of_ids}
 
 -- two pages have the same name of an origin exactly where they have the same origin
-abbrev AreAlike : KeptPage → KeptPage → Type 0
-AreAlike p q = (p.origin ≡ q.origin) ↔ IsTrue (same_origin p.page.url q.page.url)
 
-pub IsFlat-with_day : (day : Day) (kept : Kept) (origins live : ℕ) → IsDay day → IsFlat kept origins live → IsFlat (with_day day kept) origins live
+pub IsFlat-with_day : (day : Day) (kept : Kept) (origins live : ℕ) → IsDay day → IsFlat kept origins live
+    → IsFlat (with_day day kept) origins live
 IsFlat-with_day day kept origins live in_range h =
     record {
       day = in_range;
@@ -50,9 +54,16 @@ IsFlat-with_day day kept origins live in_range h =
 -- ---- a mark
 
 -- the slots, counted over the kept pages
-pub slots_of : (kept : Kept) → live_slots (store_of kept) ≡ origin_count (urls_of kept) + length kept.pages + length kept.visits + length kept.items + sum_by (λ (p : KeptPage). chunks p.page.url + chunks p.page.title) kept.pages + sum_by (λ (i : Item). chunks i.title) kept.items
+pub slots_of : (kept : Kept)
+    → live_slots (store_of kept) ≡ origin_count (urls_of kept) + length kept.pages + length kept.visits
+    + length kept.items + sum_by (λ (p : KeptPage). chunks p.page.url + chunks p.page.title) kept.pages
+    + sum_by (λ (i : Item). chunks i.title) kept.items
 slots_of kept =
-    rw (map-map (λ (p : Page). p.url) (λ (p : KeptPage). p.page) kept.pages, length-map kept.pages (λ (p : KeptPage). p.page), sum_by-map (λ (p : Page). chunks p.url + chunks p.title) (λ (p : KeptPage). p.page) kept.pages)
+    rw (
+      map-map (λ (p : Page). p.url) (λ (p : KeptPage). p.page) kept.pages,
+      length-map kept.pages (λ (p : KeptPage). p.page),
+      sum_by-map (λ (p : Page). chunks p.url + chunks p.title) (λ (p : KeptPage). p.page) kept.pages,
+    )
 
 -- a page after a mark of some page
 abbrev remarked : PageId → Mark → KeptPage → KeptPage
@@ -65,11 +76,20 @@ remarked id mark p =
       hidden = if p.page.id.0 == id.0 then mark.hidden else p.hidden;
     }
 
-remarked_at : (b : Bool) (mark : Mark) (p : KeptPage) → (if b then marked mark p else p) ≡ record { page = record p.page { typed = if b then mark.typed else p.page.typed }; origin = p.origin; frecency = if b then mark.frecency else p.frecency; count = if b then mark.count else p.count; hidden = if b then mark.hidden else p.hidden }
+remarked_at : (b : Bool) (mark : Mark) (p : KeptPage)
+    → (if b then marked mark p else p)
+    ≡ record {
+      page = record p.page { typed = if b then mark.typed else p.page.typed };
+      origin = p.origin;
+      frecency = if b then mark.frecency else p.frecency;
+      count = if b then mark.count else p.count;
+      hidden = if b then mark.hidden else p.hidden;
+    }
 remarked_at true mark p = refl
 remarked_at false mark p = refl
 
-pub IsFlat-with_mark : (id : PageId) (mark : Mark) (kept : Kept) (origins live : ℕ) → IsFlat kept origins live → IsFlat (with_mark id mark kept) origins live
+pub IsFlat-with_mark : (id : PageId) (mark : Mark) (kept : Kept) (origins live : ℕ) → IsFlat kept origins live
+    → IsFlat (with_mark id mark kept) origins live
 IsFlat-with_mark id mark kept origins live h =
     let f : KeptPage → KeptPage = remarked id mark in
     let after : Kept = record kept { pages = map f kept.pages } in
@@ -86,76 +106,87 @@ IsFlat-with_mark id mark kept origins live h =
       texts = All-map (λ (p : KeptPage). IsTrue (is_utf8 p.page.url)) f kept.pages h.texts;
       distinct_urls = AllPairs-map (λ (p q : KeptPage). p.page.url ≢ q.page.url) f kept.pages h.distinct_urls;
       visits =
-          All-weaker (λ (v : Visit). IsDate v.date × IsTrue (has_page kept v.page)) (λ (v : Visit). IsDate v.date × IsTrue (has_page after v.page))
+          All-weaker (λ (v : Visit). IsDate v.date × IsTrue (has_page kept v.page))
+          (λ (v : Visit). IsDate v.date × IsTrue (has_page after v.page))
           (λ v good. (good.0, has v good.1)) kept.visits h.visits;
       named = All-map (λ (p : KeptPage). (0 < p.origin.0) × (p.origin.0 ≤ origins)) f kept.pages h.named;
       used = λ n some few. list_any-map (λ (p : KeptPage). p.origin.0 == n) f kept.pages ∙ h.used n some few;
       same =
           All-map (λ (p : KeptPage). All (AreAlike p) (map f kept.pages)) f kept.pages
-          (All-weaker (λ (p : KeptPage). All (AreAlike p) kept.pages) (λ (p : KeptPage). All (AreAlike (f p)) (map f kept.pages))
+          (All-weaker (λ (p : KeptPage). All (AreAlike p) kept.pages)
+          (λ (p : KeptPage). All (AreAlike (f p)) (map f kept.pages))
           (λ p all. All-map (AreAlike (f p)) f kept.pages all) kept.pages h.same);
       counted = rw (map-map (λ (p : KeptPage). p.page.url) f kept.pages) h.counted;
       filled =
           h.filled ∙ slots_of kept
-          ∙ sym (slots_of after ∙ rw (map-map (λ (p : KeptPage). p.page.url) f kept.pages, length-map kept.pages f, sum_by-map (λ (p : KeptPage). chunks p.page.url + chunks p.page.title) f kept.pages) refl);
+          ∙ sym (slots_of after ∙ rw (
+            map-map (λ (p : KeptPage). p.page.url) f kept.pages,
+            length-map kept.pages f,
+            sum_by-map (λ (p : KeptPage). chunks p.page.url + chunks p.page.title) f kept.pages,
+          ) refl);
       few = h.few;
     } in
     subst (λ (pages : List KeptPage). IsFlat (record kept { pages = pages }) origins live)
-    (sym (map-alike (λ (p : KeptPage). if p.page.id.0 == id.0 then marked mark p else p) f kept.pages (λ p. remarked_at (p.page.id.0 == id.0) mark p)))
+    (sym (map-alike (λ (p : KeptPage). if p.page.id.0 == id.0 then marked mark p else p) f kept.pages
+    (λ p. remarked_at (p.page.id.0 == id.0) mark p)))
     done
 
 -- ---- a page
 
-abbrev new_page : List ℕ → Slot → Kept → KeptPage
-new_page url slot kept =
-    record {
-      page = record { id = record { 0 = kept.ids.page }; url = url; title = []; typed = false };
-      origin = slot;
-      frecency = pos 0;
-      count = 0;
-      hidden = false;
-    }
-
-origins_with_page : (url : List ℕ) (slot : Slot) (kept : Kept) → origin_count (urls_of (with_page url slot kept)) ≡ origin_count (urls_of kept) + new_origins (urls_of kept) (url ∷ [])
+origins_with_page : (url : List ℕ) (slot : Slot) (kept : Kept)
+    → origin_count (urls_of (with_new_page url slot kept)) ≡ origin_count (urls_of kept)
+    + new_origins (urls_of kept) (url ∷ [])
 origins_with_page url slot kept =
-    ap origin_count (map_push (λ (p : KeptPage). p.page.url) kept.pages (new_page url slot kept))
+    ap origin_count (map_push (λ (p : KeptPage). p.page.url) kept.pages (next_page url slot kept))
     ∙ new_origins-append [] (urls_of kept) (url ∷ [])
 
-pub slots_with_page : (url : List ℕ) (slot : Slot) (kept : Kept) → live_slots (store_of (with_page url slot kept)) ≡ live_slots (store_of kept) + new_origins (urls_of kept) (url ∷ []) + (1 + chunks url)
+pub slots_with_page : (url : List ℕ) (slot : Slot) (kept : Kept)
+    → live_slots (store_of (with_new_page url slot kept)) ≡ live_slots (store_of kept)
+    + new_origins (urls_of kept) (url ∷ []) + (1 + chunks url)
 slots_with_page url slot kept =
     omega (
       arith,
-      slots_of (with_page url slot kept),
+      slots_of (with_new_page url slot kept),
       slots_of kept,
       origins_with_page url slot kept,
-      length_push kept.pages (new_page url slot kept),
-      sum_by_push (λ (p : KeptPage). chunks p.page.url + chunks p.page.title) kept.pages (new_page url slot kept),
+      length_push kept.pages (next_page url slot kept),
+      sum_by_push (λ (p : KeptPage). chunks p.page.url + chunks p.page.title) kept.pages (next_page url slot kept),
     )
 
-pub IsFlat-with_page : (url : List ℕ) (slot : Slot) (kept : Kept) (named : List KeptOrigin) (origins after live : ℕ) → is_store_url url ≡ true → is_utf8 url ≡ true → All (λ (p : KeptPage). p.page.url ≢ url) kept.pages → IsPlaceOf kept origins url slot after → kept.ids.page < 4_294_967_295 → live_with_page url kept ≤ 4_194_304 → IsFlat kept origins live → IsFlat (record (with_page url slot kept) { origins = named }) after (live + (after - origins + (1 + chunks url)))
+pub IsFlat-with_page : (url : List ℕ) (slot : Slot) (kept : Kept) (named : List KeptOrigin) (origins after live : ℕ)
+    → is_store_url url ≡ true → is_utf8 url ≡ true → All (λ (p : KeptPage). p.page.url ≢ url) kept.pages
+    → IsSlotOf kept origins url slot after → kept.ids.page < end_of_ids → live_with_page url kept ≤ slot_limit
+    → IsFlat kept origins live
+    → IsFlat (record (with_new_page url slot kept) { origins = named }) after
+    (live + (after - origins + (1 + chunks url)))
 IsFlat-with_page url slot kept named origins after live own text absent place room fits h =
-    let new : KeptPage = new_page url slot kept in
+    let new : KeptPage = next_page url slot kept in
     let pages : List KeptPage = kept.pages ++ new ∷ [] in
-    let whole : Kept = record (with_page url slot kept) { origins = named } in
+    let whole : Kept = record (with_new_page url slot kept) { origins = named } in
     let slots : live_slots (store_of whole) ≡ live + (after - origins + (1 + chunks url)) =
     omega (arith, slots_with_page url slot kept, h.filled, place.counted) in
     record {
       day = h.day;
       page_ids =
           rw (map_push (λ (p : KeptPage). p.page.id.0) kept.pages new)
-          (AreIds_push 1 kept.ids.page (map (λ (p : KeptPage). p.page.id.0) kept.pages) (omega arith) (λ full. omega arith) h.page_ids);
+          (AreIds_push 1 kept.ids.page (map (λ (p : KeptPage). p.page.id.0) kept.pages) (omega arith)
+          (λ full. omega arith) h.page_ids);
       visit_ids = h.visit_ids;
       item_first = h.item_first;
       item_last = h.item_last;
       urls = All-push (λ (p : KeptPage). IsTrue (is_store_url p.page.url)) kept.pages new h.urls own;
       texts = All-push (λ (p : KeptPage). IsTrue (is_utf8 p.page.url)) kept.pages new h.texts text;
-      distinct_urls = all_pairs_push (λ (p q : KeptPage). p.page.url ≢ q.page.url) kept.pages new h.distinct_urls absent;
+      distinct_urls =
+          all_pairs_push (λ (p q : KeptPage). p.page.url ≢ q.page.url) kept.pages new h.distinct_urls absent;
       visits =
-          All-weaker (λ (v : Visit). IsDate v.date × IsTrue (has_page kept v.page)) (λ (v : Visit). IsDate v.date × IsTrue (has_page whole v.page))
-          (λ v good. (good.0, list_any_push (λ (p : KeptPage). p.page.id.0 == v.page.0) kept.pages new good.1)) kept.visits h.visits;
+          All-weaker (λ (v : Visit). IsDate v.date × IsTrue (has_page kept v.page))
+          (λ (v : Visit). IsDate v.date × IsTrue (has_page whole v.page))
+          (λ v good. (good.0, list_any_push (λ (p : KeptPage). p.page.id.0 == v.page.0) kept.pages new good.1))
+          kept.visits h.visits;
       named =
           All-push (λ (p : KeptPage). (0 < p.origin.0) × (p.origin.0 ≤ after)) kept.pages new
-          (All-weaker (λ (p : KeptPage). (0 < p.origin.0) × (p.origin.0 ≤ origins)) (λ (p : KeptPage). (0 < p.origin.0) × (p.origin.0 ≤ after))
+          (All-weaker (λ (p : KeptPage). (0 < p.origin.0) × (p.origin.0 ≤ origins))
+          (λ (p : KeptPage). (0 < p.origin.0) × (p.origin.0 ≤ after))
           (λ p good. (good.0, omega (arith, good.1, place.counted))) kept.pages h.named)
           (place.first, place.last);
       used =
@@ -166,7 +197,8 @@ IsFlat-with_page url slot kept named origins after live own text absent place ro
           ];
       same =
           All-push (λ (p : KeptPage). All (AreAlike p) pages) kept.pages new
-          (λ k d within. All-push (AreAlike (get_or kept.pages k d)) kept.pages new (h.same k d within) (place.same k d within))
+          (λ k d within. All-push (AreAlike (get_or kept.pages k d)) kept.pages new (h.same k d within)
+          (place.same k d within))
           (All-push (AreAlike new) kept.pages new
           (λ k d within. (
             λ same. same_origin-sym (get_or kept.pages k d).page.url url ((place.same k d within).0 (sym same)),
@@ -180,21 +212,26 @@ IsFlat-with_page url slot kept named origins after live own text absent place ro
 
 -- ---- a visit
 
-pub IsFlat-with_visit : (row : VisitRow) (kept : Kept) (origins live : ℕ) → has_page kept row.page ≡ true → IsDate row.date → kept.ids.visit < 4_294_967_295 → live_slots (store_of kept) < 4_194_304 → IsFlat kept origins live → IsFlat (with_visit row kept) origins (live + 1)
+pub IsFlat-with_visit : (row : VisitRow) (kept : Kept) (origins live : ℕ) → has_page kept row.page ≡ true
+    → IsDate row.date → kept.ids.visit < end_of_ids → live_slots (store_of kept) < slot_limit
+    → IsFlat kept origins live → IsFlat (with_visit row kept) origins (live + 1)
 IsFlat-with_visit row kept origins live there in_range room fits h =
-    let new : Visit = record { id = record { 0 = kept.ids.visit }; page = row.page; date = row.date; transition = row.transition; source = row.source } in
+    let new : Visit = next_visit row kept in
     record {
       day = h.day;
       page_ids = h.page_ids;
       visit_ids =
           rw (map_push (λ (v : Visit). v.id.0) kept.visits new)
-          (AreIds_push 1 kept.ids.visit (map (λ (v : Visit). v.id.0) kept.visits) (omega arith) (λ full. omega arith) h.visit_ids);
+          (AreIds_push 1 kept.ids.visit (map (λ (v : Visit). v.id.0) kept.visits) (omega arith) (λ full. omega arith)
+          h.visit_ids);
       item_first = h.item_first;
       item_last = h.item_last;
       urls = h.urls;
       texts = h.texts;
       distinct_urls = h.distinct_urls;
-      visits = All-push (λ (v : Visit). IsDate v.date × IsTrue (has_page kept v.page)) kept.visits new h.visits (in_range, there);
+      visits =
+          All-push (λ (v : Visit). IsDate v.date × IsTrue (has_page kept v.page)) kept.visits new h.visits
+          (in_range, there);
       named = h.named;
       used = h.used;
       same = h.same;
@@ -205,27 +242,35 @@ IsFlat-with_visit row kept origins live there in_range room fits h =
 
 -- ---- the name of a new page's origin
 
-pub origins_few : (kept : Kept) (origins live : ℕ) → IsFlat kept origins live → origins ≤ 4_194_304
+pub origins_few : (kept : Kept) (origins live : ℕ) → IsFlat kept origins live → origins ≤ slot_limit
 origins_few kept origins live h = omega (arith, slots_of kept, h.counted, h.filled, h.few)
 
-weaker_any : {X : Type 0} (p q : X → Bool) (xs : List X) → ((x : X) → p x ≡ true → q x ≡ true) → list_any p xs ≡ true → list_any q xs ≡ true
+weaker_any : {X : Type 0} (p q : X → Bool) (xs : List X) → ((x : X) → p x ≡ true → q x ≡ true) → list_any p xs ≡ true
+    → list_any q xs ≡ true
 weaker_any p q xs weaker some =
     let at = Any-from_list_any p xs some in
     list_any-from_Any q xs (at.0, at.1, at.2, at.3, weaker at.1 at.4)
 
 -- the name that a page of the same origin has
-pub place_known : (kept : Kept) (origins live : ℕ) (url : List ℕ) (slot : Slot) → IsFlat kept origins live → list_any (λ (p : KeptPage). (p.origin.0 == slot.0) && same_origin p.page.url url) kept.pages ≡ true → IsPlaceOf kept origins url slot origins
+pub place_known : (kept : Kept) (origins live : ℕ) (url : List ℕ) (slot : Slot) → IsFlat kept origins live
+    → list_any (λ (p : KeptPage). (p.origin.0 == slot.0) && same_origin p.page.url url) kept.pages ≡ true
+    → IsSlotOf kept origins url slot origins
 place_known kept origins live url slot h there =
-    let at = Any-from_list_any (λ (p : KeptPage). (p.origin.0 == slot.0) && same_origin p.page.url url) kept.pages there in
+    let at =
+    Any-from_list_any (λ (p : KeptPage). (p.origin.0 == slot.0) && same_origin p.page.url url) kept.pages
+    there in
     let one : KeptPage = at.1 in
     let parts = and_parts (one.origin.0 == slot.0) (same_origin one.page.url url) at.4 in
     let name : one.origin.0 ≡ slot.0 = eqb-true one.origin.0 slot.0 parts.0 in
     let named : one.origin ≡ slot = ap (λ n. record { 0 = n }) name in
-    let bounds : (0 < one.origin.0) × (one.origin.0 ≤ origins) = subst (λ (p : KeptPage). (0 < p.origin.0) × (p.origin.0 ≤ origins)) at.3 (h.named at.0 one at.2) in
+    let bounds : (0 < one.origin.0) × (one.origin.0 ≤ origins) =
+    subst (λ (p : KeptPage). (0 < p.origin.0) × (p.origin.0 ≤ origins)) at.3 (h.named at.0 one at.2) in
     let urls : list_any (same_origin url) (urls_of kept) ≡ true =
     list_any-map (same_origin url) (λ (p : KeptPage). p.page.url) kept.pages
-    ∙ weaker_any (λ (p : KeptPage). (p.origin.0 == slot.0) && same_origin p.page.url url) (λ (p : KeptPage). same_origin url p.page.url) kept.pages
-    (λ p both. same_origin-sym p.page.url url (and_parts (p.origin.0 == slot.0) (same_origin p.page.url url) both).1) there in
+    ∙ weaker_any (λ (p : KeptPage). (p.origin.0 == slot.0) && same_origin p.page.url url)
+    (λ (p : KeptPage). same_origin url p.page.url) kept.pages
+    (λ p both. same_origin-sym p.page.url url (and_parts (p.origin.0 == slot.0) (same_origin p.page.url url) both).1)
+    there in
     record {
       first = omega (arith, bounds.0, name);
       last = omega (arith, bounds.1, name);
@@ -235,7 +280,8 @@ place_known kept origins live url slot h there =
           let p : KeptPage = get_or kept.pages k d in
           let alike : AreAlike p one = subst (AreAlike p) at.3 (h.same k d within at.0 one at.2) in (
             λ same. same_origin-trans p.page.url one.page.url url (alike.0 (same ∙ sym named)) parts.1,
-            λ same. alike.1 (same_origin-trans p.page.url url one.page.url same (same_origin-sym one.page.url url parts.1)) ∙ named,
+            λ same. alike.1 (same_origin-trans p.page.url url one.page.url same
+                (same_origin-sym one.page.url url parts.1)) ∙ named,
           );
       counted = rw urls (omega arith);
     }
@@ -245,13 +291,17 @@ never true b so none = absurd (false≢true (sym none ∙ so refl))
 never false b so none = refl
 
 -- a new name, where no page has the origin
-pub place_new : (kept : Kept) (origins live : ℕ) (url : List ℕ) → IsFlat kept origins live → All (λ (p : KeptPage). same_origin p.page.url url ≡ false) kept.pages → IsPlaceOf kept origins url (record { 0 = origins + 1 }) (origins + 1)
+pub place_new : (kept : Kept) (origins live : ℕ) (url : List ℕ) → IsFlat kept origins live
+    → All (λ (p : KeptPage). same_origin p.page.url url ≡ false) kept.pages
+    → IsSlotOf kept origins url (record { 0 = origins + 1 }) (origins + 1)
 place_new kept origins live url h none =
     let urls : list_any (same_origin url) (urls_of kept) ≡ false =
     list_any_none (same_origin url) (urls_of kept)
     (All-map (λ (other : List ℕ). same_origin url other ≡ false) (λ (p : KeptPage). p.page.url) kept.pages
-    (All-weaker (λ (p : KeptPage). same_origin p.page.url url ≡ false) (λ (p : KeptPage). same_origin url p.page.url ≡ false)
-    (λ p apart. never (same_origin url p.page.url) (same_origin p.page.url url) (same_origin-sym url p.page.url) apart) kept.pages none)) in
+    (All-weaker (λ (p : KeptPage). same_origin p.page.url url ≡ false)
+    (λ (p : KeptPage). same_origin url p.page.url ≡ false)
+    (λ p apart. never (same_origin url p.page.url) (same_origin p.page.url url) (same_origin-sym url p.page.url) apart)
+    kept.pages none)) in
     record {
       first = omega arith;
       last = omega arith;

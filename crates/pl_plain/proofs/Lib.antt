@@ -5,7 +5,6 @@ pub mod CheckHeld
 pub mod CheckMarks
 pub mod CheckOrigins
 pub mod CheckPages
-pub mod CheckRoots
 pub mod CheckSamples
 pub mod CheckTests
 pub mod FlatChanges

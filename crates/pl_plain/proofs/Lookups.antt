@@ -1,5 +1,6 @@
 -- A row that was found, seen as what is kept.
-use Rattle.std.proofs.Common.{Bor, ◌≡◌, ◌∙◌, ◌||◌, ℕ, Bool, true, false, List, [], ◌∷◌, Option, Some, None, ap, if◌then◌else◌, find, map, nat_lt, refl, sym}
+use Rattle.std.proofs.Common.{Bor, ◌≡◌, ◌∙◌, ◌||◌, ℕ, Bool, true, false, List, [], ◌∷◌, Option}
+use Rattle.std.proofs.Common.{Some, None, ap, if◌then◌else◌, find, map, nat_lt, refl, sym}
 use Rattle.std.specs.List.{list_any}
 use Rattle.std.specs.Option.{IsSome, option_copied, option_map}
 use Rattle.pl_base.specs.declared.id.PageId.{PageId}
@@ -9,62 +10,82 @@ use Rattle.pl_base.specs.Store.{Visit}
 use Rattle.pl_plain.specs.declared.flat.row.FlatPage.{FlatPage}
 use Rattle.pl_plain.specs.FlatRows.{page_of}
 use Rattle.pl_plain.specs.Latest.{first_of}
-use Rattle.pl_plain.proofs.Lists.{list_any-map}
+use Rattle.pl_base.proofs.ListLaws.{list_any-map}
 use Rattle.pl_plain.proofs.OlderVisits.{id_of-first}
 
-find-map : {A B : Type 0} (p : B → Bool) (f : A → B) (xs : List A) → find p (map f xs) ≡ option_map f (find (λ x. p (f x)) xs)
+find-map : {A B : Type 0} (p : B → Bool) (f : A → B) (xs : List A)
+    → find p (map f xs) ≡ option_map f (find (λ x. p (f x)) xs)
 find-map p f [] = refl
 find-map p f (x ∷ xs) =
-    elim (p (f x)) as (λ b. (if b then Some (f x) else find p (map f xs)) ≡ option_map f (if b then Some x else find (λ x. p (f x)) xs)) [ true ↦ refl | false ↦ find-map p f xs ]
+    elim (p (f x)) as (λ b. (if b then Some (f x) else find p (map f xs))
+    ≡ option_map f (if b then Some x else find (λ x. p (f x)) xs)) [ true ↦ refl | false ↦ find-map p f xs ]
 
 -- none was found
-pub none-found : {A B : Type 0} (p : B → Bool) (f : A → B) (xs ys : List A) (found : Option (Bor A)) → found ≡ None → option_copied found ≡ find (λ x. p (f x)) ys → ys ≡ xs → None ≡ find p (map f xs)
+pub none-found : {A B : Type 0} (p : B → Bool) (f : A → B) (xs ys : List A) (found : Option (Bor A)) → found ≡ None
+    → option_copied found ≡ find (λ x. p (f x)) ys → ys ≡ xs → None ≡ find p (map f xs)
 none-found p f xs ys found none is same =
     let at : None ≡ find (λ x. p (f x)) xs = ap option_copied (sym none) ∙ is ∙ ap (find (λ x. p (f x))) same in
     rw (find-map p f xs, ← at) refl
 
-pub found-none : {A B C : Type 0} (p : B → Bool) (f : A → B) (g : B → C) (xs ys : List A) (found : Option (Bor A)) → found ≡ None → option_copied found ≡ find (λ x. p (f x)) ys → ys ≡ xs → None ≡ option_map g (find p (map f xs))
+pub found-none : {A B C : Type 0} (p : B → Bool) (f : A → B) (g : B → C) (xs ys : List A) (found : Option (Bor A))
+    → found ≡ None → option_copied found ≡ find (λ x. p (f x)) ys → ys ≡ xs → None ≡ option_map g (find p (map f xs))
 found-none p f g xs ys found none is same = ap (option_map g) (none-found p f xs ys found none is same)
 
 -- one was found
-pub one-found : {A B : Type 0} (p : B → Bool) (f : A → B) (xs ys : List A) (found : Option (Bor A)) (x : Bor A) → found ≡ Some x → option_copied found ≡ find (λ x. p (f x)) ys → ys ≡ xs → Some (f x.now) ≡ find p (map f xs)
+pub one-found : {A B : Type 0} (p : B → Bool) (f : A → B) (xs ys : List A) (found : Option (Bor A)) (x : Bor A)
+    → found ≡ Some x → option_copied found ≡ find (λ x. p (f x)) ys → ys ≡ xs → Some (f x.now) ≡ find p (map f xs)
 one-found p f xs ys found x some is same =
     let at : Some x.now ≡ find (λ x. p (f x)) xs = ap option_copied (sym some) ∙ is ∙ ap (find (λ x. p (f x))) same in
     rw (find-map p f xs, ← at) refl
 
-pub found-some : {A B C : Type 0} (p : B → Bool) (f : A → B) (g : B → C) (xs ys : List A) (found : Option (Bor A)) (x : Bor A) → found ≡ Some x → option_copied found ≡ find (λ x. p (f x)) ys → ys ≡ xs → Some (g (f x.now)) ≡ option_map g (find p (map f xs))
+pub found-some : {A B C : Type 0} (p : B → Bool) (f : A → B) (g : B → C) (xs ys : List A) (found : Option (Bor A))
+    (x : Bor A) → found ≡ Some x → option_copied found ≡ find (λ x. p (f x)) ys → ys ≡ xs
+    → Some (g (f x.now)) ≡ option_map g (find p (map f xs))
 found-some p f g xs ys found x some is same = ap (option_map g) (one-found p f xs ys found x some is same)
 
 found_in : {A : Type 0} (p : A → Bool) (xs : List A) → list_any p xs ≡ true → IsSome (find p xs)
 found_in p [] some = absurd (cc)
 found_in p (x ∷ xs) some = choose (p x) some (found_in p xs)
   where
-    choose : (b : Bool) → (b || list_any p xs) ≡ true → (list_any p xs ≡ true → IsSome (find p xs)) → IsSome (if b then Some x else find p xs)
+    choose : (b : Bool) → (b || list_any p xs) ≡ true → (list_any p xs ≡ true → IsSome (find p xs))
+        → IsSome (if b then Some x else find p xs)
     choose true here rest = refl
     choose false here rest = rest here
 
 -- one was found where there is one
-pub found-there : {A B : Type 0} (p : B → Bool) (f : A → B) (xs ys : List A) (found : Option (Bor A)) → option_copied found ≡ find (λ x. p (f x)) ys → ys ≡ xs → list_any p (map f xs) ≡ true → IsSome found
+pub found-there : {A B : Type 0} (p : B → Bool) (f : A → B) (xs ys : List A) (found : Option (Bor A))
+    → option_copied found ≡ find (λ x. p (f x)) ys → ys ≡ xs → list_any p (map f xs) ≡ true → IsSome found
 found-there p f xs ys found is same there =
     let some : IsSome (find (λ x. p (f x)) xs) = found_in (λ x. p (f x)) xs (sym (list_any-map p f xs) ∙ there) in
     is_some-copied found (is ∙ ap (find (λ x. p (f x))) same) some
   where
-    is_some-copied : {A : Type 0} {o : Option A} (found : Option (Bor A)) → option_copied found ≡ o → IsSome o → IsSome found
+    is_some-copied : {A : Type 0} {o : Option A} (found : Option (Bor A)) → option_copied found ≡ o → IsSome o
+        → IsSome found
     is_some-copied (Some x) is some = refl
     is_some-copied None is some = absurd (cc)
 
-behind_at : (n : ℕ) (pages : List FlatPage) → option_map (λ (p : FlatPage). p.id) (find (λ (p : FlatPage). nat_lt n p.id.0) pages) ≡ option_map (λ (p : KeptPage). p.page.id) (find (λ (p : KeptPage). nat_lt n p.page.id.0) (map page_of pages))
-behind_at n pages = rw (find-map (λ (p : KeptPage). nat_lt n p.page.id.0) page_of pages) (id_either (find (λ (p : FlatPage). nat_lt n p.id.0) pages))
+behind_at : (n : ℕ) (pages : List FlatPage)
+    → option_map (λ (p : FlatPage). p.id) (find (λ (p : FlatPage). nat_lt n p.id.0) pages)
+    ≡ option_map (λ (p : KeptPage). p.page.id) (find (λ (p : KeptPage). nat_lt n p.page.id.0) (map page_of pages))
+behind_at n pages =
+    rw (find-map (λ (p : KeptPage). nat_lt n p.page.id.0) page_of pages)
+    (id_either (find (λ (p : FlatPage). nat_lt n p.id.0) pages))
   where
-    id_either : (found : Option FlatPage) → option_map (λ (p : FlatPage). p.id) found ≡ option_map (λ (p : KeptPage). p.page.id) (option_map page_of found)
+    id_either : (found : Option FlatPage)
+        → option_map (λ (p : FlatPage). p.id) found
+        ≡ option_map (λ (p : KeptPage). p.page.id) (option_map page_of found)
     id_either None = refl
     id_either (Some p) = refl
 
 -- the page behind one, and the first
-pub page_behind-some : (kept : Kept) (pages : List FlatPage) (after : Option PageId) (page : PageId) → kept.pages ≡ map page_of pages → after ≡ Some page → option_map (λ (p : FlatPage). p.id) (find (λ (p : FlatPage). nat_lt page.0 p.id.0) pages) ≡ page_behind kept after
+pub page_behind-some : (kept : Kept) (pages : List FlatPage) (after : Option PageId) (page : PageId)
+    → kept.pages ≡ map page_of pages → after ≡ Some page
+    → option_map (λ (p : FlatPage). p.id) (find (λ (p : FlatPage). nat_lt page.0 p.id.0) pages) ≡ page_behind kept after
 page_behind-some kept pages after page rows is = rw (rows, is) (behind_at page.0 pages)
 
-pub page_behind-none : (kept : Kept) (pages : List FlatPage) (after : Option PageId) → kept.pages ≡ map page_of pages → after ≡ None → option_map (λ (p : FlatPage). p.id) (find (λ (p : FlatPage). nat_lt 0 p.id.0) pages) ≡ page_behind kept after
+pub page_behind-none : (kept : Kept) (pages : List FlatPage) (after : Option PageId) → kept.pages ≡ map page_of pages
+    → after ≡ None → option_map (λ (p : FlatPage). p.id) (find (λ (p : FlatPage). nat_lt 0 p.id.0) pages)
+    ≡ page_behind kept after
 page_behind-none kept pages after rows is = rw (rows, is) (behind_at 0 pages)
 
 pub first_id-none : (vs : List Visit) → None ≡ first_of vs → None ≡ first_id vs
@@ -77,10 +98,12 @@ pub older_visit-none : (kept : Kept) (id : VisitId) → None ≡ visit_at kept i
 older_visit-none kept id none = rw (← none) refl
 
 -- there is one where one was found
-pub there-found : {A B : Type 0} (p : A → Bool) (f : A → B) (xs : List A) (y : B) → Some y ≡ option_map f (find p xs) → list_any p xs ≡ true
+pub there-found : {A B : Type 0} (p : A → Bool) (f : A → B) (xs : List A) (y : B) → Some y ≡ option_map f (find p xs)
+    → list_any p xs ≡ true
 there-found p f [] y found = absurd (cc)
 there-found p f (x ∷ xs) y found = choose (p x) found (there-found p f xs y)
   where
-    choose : (b : Bool) → Some y ≡ option_map f (if b then Some x else find p xs) → (Some y ≡ option_map f (find p xs) → list_any p xs ≡ true) → (b || list_any p xs) ≡ true
+    choose : (b : Bool) → Some y ≡ option_map f (if b then Some x else find p xs)
+        → (Some y ≡ option_map f (find p xs) → list_any p xs ≡ true) → (b || list_any p xs) ≡ true
     choose true here rest = refl
     choose false here rest = rest here

@@ -2,16 +2,18 @@
 use Rattle.std.proofs.Common.{◌≤◌, ℕ, [], arith}
 use Rattle.std.proofs.lemmas.List.Elements.{All-nil}
 use Rattle.pl_base.specs.declared.id.Ids.{Ids}
-use Rattle.pl_base.specs.Good.{AreIds, IsGood}
+use Rattle.pl_base.specs.Good.{AreIds, IsGood, end_of_ids}
 use Rattle.pl_base.specs.Rows.{opening_with, store_of}
-use Rattle.pl_form.specs.Stored.{Stored}
+use Rattle.pl_form.specs.Stored.{Stored, stored_store}
 use Rattle.pl_plain.specs.FlatLaws.{root_ids}
-use Rattle.pl_plain.proofs.CheckRoots.{has_roots, roots_are_good, roots_tags, roots_tree}
+use Rattle.pl_base.proofs.RootsLaws.{has_roots, no_tags, roots_are_good, roots_are_tree}
 
-no_ids : (next : ℕ) → 1 ≤ next → next ≤ 4_294_967_295 → AreIds 1 next []
-no_ids next first last = record { ascending = λ k h. absurd (omega arith); given = All-nil _; next_first = first; next_last = last }
+no_ids : (next : ℕ) → 1 ≤ next → next ≤ end_of_ids → AreIds 1 next []
+no_ids next first last =
+    record { ascending = λ k h. absurd (omega arith); given = All-nil _; next_first = first; next_last = last }
 
-pub opening_is_good : (ids : Ids) → 1 ≤ ids.page → 1 ≤ ids.visit → 7 ≤ ids.item → ids.page ≤ 4_294_967_295 → ids.visit ≤ 4_294_967_295 → ids.item ≤ 4_294_967_295 → IsGood (store_of (opening_with ids))
+pub opening_is_good : (ids : Ids) → 1 ≤ ids.page → 1 ≤ ids.visit → 7 ≤ ids.item → ids.page ≤ end_of_ids
+    → ids.visit ≤ end_of_ids → ids.item ≤ end_of_ids → IsGood (store_of (opening_with ids))
 opening_is_good ids page visit item page_last visit_last item_last =
     let rows : Stored = record { day = record { 0 = 0 }; ids = ids; pages = []; visits = [] } in
     record {
@@ -22,8 +24,8 @@ opening_is_good ids page visit item page_last visit_last item_last =
       pages = All-nil _;
       urls = λ i j d before within same. absurd (omega arith);
       visits = All-nil _;
-      items = roots_are_good rows;
-      roots = has_roots rows;
-      tree = roots_tree;
-      tags = roots_tags rows;
+      items = roots_are_good (stored_store rows);
+      roots = has_roots (stored_store rows);
+      tree = roots_are_tree;
+      tags = no_tags (stored_store rows);
     }

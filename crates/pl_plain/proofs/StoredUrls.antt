@@ -1,8 +1,9 @@
 -- URLs of the store that a file's rows hold.
-use Rattle.std.proofs.Common.{◌≡◌, ℕ, ◌*◌, ◌≤◌, All, Bool, true, false, List, Option, Some, None, arith, get_or, if◌then◌else◌, length, nat_lt, refl, subst}
+use Rattle.std.proofs.Common.{◌≡◌, ℕ, ◌*◌, ◌≤◌, All, Bool, true, false, List, Option, Some}
+use Rattle.std.proofs.Common.{None, arith, get_or, if◌then◌else◌, length, nat_lt, refl, subst}
 use Rattle.std.specs.List.{sum_by}
 use Rattle.std.proofs.lemmas.List.Sums.{sum_by-le}
-use Rattle.pl_base.specs.Address.{if_store_url, is_store_url, record_of, serialized}
+use Rattle.pl_base.specs.Address.{if_store_url, is_store_url, record_of, serialized, text_limit}
 use Rattle.pl_base.specs.Live.{chunks}
 use Rattle.pl_base.proofs.OriginLaws.{store_url-fits}
 use Rattle.pl_form.specs.declared.stored.StoredPage.{StoredPage}
@@ -26,12 +27,14 @@ some_if false o u h = absurd (cc)
 pub store_url-is : (url : List ℕ) → IsUrl url → is_store_url url ≡ true
 store_url-is url one =
     store_url_if (serialized (record_of url)) url
-    (some_if (nat_lt (length url) 16_777_216) (if_store_url (serialized (record_of url))) url one.1)
+    (some_if (nat_lt (length url) text_limit) (if_store_url (serialized (record_of url))) url one.1)
 
 chunks-le : (p : StoredPage) → IsUrl p.url → chunks p.url ≤ 547
 chunks-le p one = omega (arith, store_url-fits p.url (store_url-is p.url one))
 
-pub few_chunks : (rows : Stored) → AreStored rows → sum_by (λ (p : StoredPage). chunks p.url) rows.pages ≤ 547 * 4_294_967_296
+pub few_chunks : (rows : Stored) → AreStored rows
+    → sum_by (λ (p : StoredPage). chunks p.url) rows.pages ≤ 547 * 4_294_967_296
 few_chunks rows one =
-    let each : All (λ (p : StoredPage). chunks p.url ≤ 547) rows.pages = λ k d within. chunks-le (get_or rows.pages k d) (one.pages.0 k d within).2 in
+    let each : All (λ (p : StoredPage). chunks p.url ≤ 547) rows.pages =
+    λ k d within. chunks-le (get_or rows.pages k d) (one.pages.0 k d within).2 in
     omega (arith, sum_by-le (λ (p : StoredPage). chunks p.url) 547 rows.pages each, one.pages.1)

@@ -1,9 +1,11 @@
 -- When the rows of a file are those of a good store, as tests.
-use Rattle.std.specs.Prelude.{◌&&◌, ◌||◌, ◌==◌, not, ℕ, Bool, true, List, [], ◌∷◌, bytes_eq, map, nat_le, nat_lt}
+use Rattle.std.specs.Prelude.{◌&&◌, ◌||◌, ◌==◌, not, ℕ, Bool, true, List}
+use Rattle.std.specs.Prelude.{[], ◌∷◌, bytes_eq, map, nat_le, nat_lt}
 use Rattle.std.specs.List.{list_all, list_any}
-use Rattle.pl_base.specs.declared.transition.Transition.{Transition}
+use Rattle.pl_base.specs.declared.id.PageId.{PageId}
+use Rattle.pl_base.specs.Date.{last_date, last_day}
+use Rattle.pl_base.specs.Marks.{is_typed}
 use Rattle.pl_base.specs.Touched.{ascends_above}
-use Rattle.pl_base.specs.Transition.{transition_number}
 use Rattle.pl_form.specs.declared.stored.StoredVisit.{StoredVisit}
 use Rattle.pl_form.specs.declared.stored.StoredPage.{StoredPage}
 use Rattle.pl_form.specs.Stored.{Stored}
@@ -12,40 +14,47 @@ use Rattle.pl_form.specs.Stored.{Stored}
 abbrev pub are_ids : ℕ → List ℕ → Bool
 are_ids next ids = ascends_above 0 ids && list_all (λ id. nat_lt id next) ids
 
-abbrev pub page_numbers : List StoredPage → List ℕ
-page_numbers pages = map (λ (p : StoredPage). p.id.0) pages
+-- the ids of the pages
+abbrev pub stored_page_ids : List StoredPage → List ℕ
+stored_page_ids pages = map (λ (p : StoredPage). p.id.0) pages
 
-abbrev pub visit_numbers : List StoredVisit → List ℕ
-visit_numbers visits = map (λ (v : StoredVisit). v.id.0) visits
+-- the ids of the visits
+abbrev pub stored_visit_ids : List StoredVisit → List ℕ
+stored_visit_ids visits = map (λ (v : StoredVisit). v.id.0) visits
 
 -- no URL stands twice
 abbrev pub have_own_urls : List StoredPage → Bool
 have_own_urls [] = true
-have_own_urls (p ∷ pages) = not (list_any (λ (q : StoredPage). bytes_eq q.url p.url) pages) && have_own_urls pages
+have_own_urls (p ∷ pages) =
+    not (list_any (λ (q : StoredPage). bytes_eq q.url p.url) pages) && have_own_urls pages
 
-abbrev pub is_typed : Transition → Bool
-is_typed t = transition_number t == 2
+-- a visit to the page whose address was typed
+abbrev pub is_typed_visit : PageId → StoredVisit → Bool
+is_typed_visit id v = (v.page.0 == id.0) && is_typed v.transition
 
 -- a page has a visit, and is typed where a visit to it was
 abbrev pub is_good_page : List StoredVisit → StoredPage → Bool
 is_good_page visits p =
     list_any (λ (v : StoredVisit). v.page.0 == p.id.0) visits
-    && (p.typed || not (list_any (λ (v : StoredVisit). (v.page.0 == p.id.0) && is_typed v.transition) visits))
+    && (p.typed || not (list_any (is_typed_visit p.id) visits))
 
 -- a visit has a page and a date
 abbrev pub is_good_visit : List StoredPage → StoredVisit → Bool
 is_good_visit pages v =
-    nat_le v.date.0 253_402_300_799_999_999 && list_any (λ (p : StoredPage). p.id.0 == v.page.0) pages
+    nat_le v.date.0 last_date && list_any (λ (p : StoredPage). p.id.0 == v.page.0) pages
 
+-- the day is in range, and each next id may be one
 abbrev pub are_good_numbers : Stored → Bool
 are_good_numbers rows =
-    nat_le rows.day.0 2_932_896 && nat_le 1 rows.ids.page && nat_le 1 rows.ids.visit && nat_le 7 rows.ids.item
+    nat_le rows.day.0 last_day && nat_le 1 rows.ids.page && nat_le 1 rows.ids.visit
+    && nat_le 7 rows.ids.item
 
+-- the rows are those of a good store
 abbrev pub are_good : Stored → Bool
 are_good rows =
     are_good_numbers rows
-    && are_ids rows.ids.page (page_numbers rows.pages)
-    && are_ids rows.ids.visit (visit_numbers rows.visits)
+    && are_ids rows.ids.page (stored_page_ids rows.pages)
+    && are_ids rows.ids.visit (stored_visit_ids rows.visits)
     && have_own_urls rows.pages
     && list_all (is_good_page rows.visits) rows.pages
     && list_all (is_good_visit rows.pages) rows.visits

@@ -3,7 +3,7 @@ use Rattle.std.specs.Prelude.{◌≡◌, ◌+◌, ◌≤◌, ℕ, List, length}
 use Rattle.std.specs.List.{AllZip, sum_by}
 use Rattle.pl_base.specs.Frecency.{frecency_of}
 use Rattle.pl_base.specs.Good.{IsGood}
-use Rattle.pl_base.specs.Live.{chunks}
+use Rattle.pl_base.specs.Live.{chunks, slot_limit}
 use Rattle.pl_base.specs.Marks.{is_hidden, visit_count}
 use Rattle.pl_base.specs.Rows.{Kept}
 use Rattle.pl_plain.specs.declared.flat.row.FlatPage.{FlatPage}
@@ -27,14 +27,18 @@ pub record IsAssessed (rows : Stored) (p : StoredPage) (q : FlatPage) : Type 0 w
   pub hidden : q.hidden ≡ is_hidden (stored_store rows) (stored_page p)
 
 -- what a file's rows give: a good store, and its pages with names of their origins
-pub record IsGiven (rows : Stored) (qs : List FlatPage) (keys : List Key) (origins live : ℕ) : Type 0 where
+pub record IsGiven (rows : Stored) (qs : List FlatPage) (keys : List Key)
+    (origins live : ℕ) : Type 0 where
   pub stored : AreStored rows
   pub good : IsGood (stored_store rows)
   pub pages : AllZip (IsAssessed rows) rows.pages qs
   pub named : AreNamed qs keys
   pub count : origins ≡ length keys
-  pub slots : live ≡ origins + length rows.pages + length rows.visits + 6 + sum_by (λ (p : StoredPage). chunks p.url) rows.pages
-  pub few : live ≤ 4_194_304
+  pub slots :
+      live ≡ origins + length rows.pages + length rows.visits + 6
+      + sum_by (λ (p : StoredPage). chunks p.url) rows.pages
+  pub few : live ≤ slot_limit
 
+-- the rows with these pages and so many origins
 abbrev pub kept_of_rows : Stored → List FlatPage → ℕ → Kept
 kept_of_rows rows qs origins = kept_from rows.day rows.ids qs origins rows.visits

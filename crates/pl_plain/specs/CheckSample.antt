@@ -7,8 +7,8 @@ use Rattle.pl_score.specs.declared.sample.Sampled.{Sampled}
 use Rattle.pl_form.specs.declared.stored.StoredVisit.{StoredVisit}
 
 -- what a visit without a source counts, from which no redirect came, to a page that no item has
-abbrev pub sampled_row : StoredVisit → Sampled
-sampled_row row = record { date = row.date; bonus = bonus_of row.transition None false false }
+abbrev pub sampled_stored : StoredVisit → Sampled
+sampled_stored row = record { date = row.date; bonus = bonus_of row.transition None false false }
 
 -- what a visit of the store counts in a sample
 abbrev pub sampled_of : Store → Visit → Sampled

@@ -5,6 +5,7 @@ use Rattle.pl_base.specs.Touched.{bytes_before}
 use Rattle.pl_plain.specs.declared.flat.Flat.{Flat}
 use Rattle.pl_plain.specs.FlatRows.{bytes_from, kept_from}
 
+-- what a flat store keeps
 abbrev pub kept_of : Flat → Kept
 kept_of flat = kept_from flat.day flat.ids flat.pages.items flat.origins flat.visits.items
 

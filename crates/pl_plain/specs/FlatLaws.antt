@@ -1,5 +1,7 @@
--- What holds of a flat store: its rows are well kept, and its bytes stand for a good store with right marks.
-use Rattle.std.specs.Prelude.{◌≡◌, ◌+◌, ◌≤◌, ◌<◌, ◌-◌, ◌==◌, ℕ, ℤ, Contains, List, [], ◌∷◌, length, map, take, true}
+-- What holds of a flat store: its rows are well kept, and its bytes stand for a
+-- good store with right marks.
+use Rattle.std.specs.Prelude.{◌≡◌, ◌+◌, ◌≤◌, ◌<◌, ◌-◌, ◌==◌, ℕ, ℤ, Contains}
+use Rattle.std.specs.Prelude.{List, [], ◌∷◌, length, map, take, true}
 use Rattle.std.specs.List.{All, list_any, range_with_len}
 use Rattle.std.proofs.Common.{◌∙◌, ap, arith, get_or, refl, subst, suc, sym, zero}
 use Rattle.std.specs.List.Sorted.{IsStrictlyIncreasing}
@@ -13,8 +15,9 @@ use Rattle.std.specs.Str.{IsUtf8}
 use Rattle.pl_base.specs.declared.date.Day.{Day}
 use Rattle.pl_base.specs.declared.id.Ids.{Ids}
 use Rattle.pl_base.specs.Frecency.{frecency_of}
-use Rattle.pl_base.specs.Good.{AreIds, IsGood, IsTitle}
-use Rattle.pl_base.specs.Rows.{IsOfVisits, IsRight, IsWellKept, Kept, KeptOrigin, KeptPage, NamesOrigins, store_of}
+use Rattle.pl_base.specs.Good.{AreIds, IsGood, IsTitle, end_of_ids}
+use Rattle.pl_base.specs.Rows.{IsOfVisits, IsRight, IsWellKept, Kept, KeptOrigin}
+use Rattle.pl_base.specs.Rows.{KeptPage, NamesOrigins, page_origins, store_of}
 use Rattle.pl_base.specs.Store.{Page, Store}
 use Rattle.pl_plain.specs.declared.flat.row.FlatPage.{FlatPage}
 use Rattle.pl_form.specs.declared.stored.StoredVisit.{StoredVisit}
@@ -23,39 +26,49 @@ use Rattle.pl_form.specs.Form.{FormRows, StandsFor, form_bytes, kept_rows, store
 
 -- ---- the rows are well kept
 
+-- the origins named 1 to this
 abbrev named_to : ℕ → List KeptOrigin
 named_to origins = map origin_named (range_with_len 1 origins)
 
-named_at : (origins i : ℕ) (d : KeptOrigin) → i < origins → get_or (named_to origins) i d ≡ origin_named (1 + i)
+named_at : (origins i : ℕ) (d : KeptOrigin) → i < origins
+    → get_or (named_to origins) i d ≡ origin_named (1 + i)
 named_at origins i d within =
     get_or-map origin_named (range_with_len 1 origins) i 0 d (rw length-range_with_len within)
     ∙ ap origin_named (get_or-range_with_len 1 origins i 0 within)
 
 length-named_to : (origins : ℕ) → length (named_to origins) ≡ origins
-length-named_to origins = length-map (range_with_len 1 origins) origin_named ∙ length-range_with_len 1 origins
+length-named_to origins =
+    length-map (range_with_len 1 origins) origin_named ∙ length-range_with_len 1 origins
 
-number_at : (origins i d : ℕ) → i < origins → get_or (map (λ (a : KeptOrigin). a.origin.0) (named_to origins)) i d ≡ 1 + i
+number_at : (origins i d : ℕ) → i < origins
+    → get_or (map (λ (a : KeptOrigin). a.origin.0) (named_to origins)) i d ≡ 1 + i
 number_at origins i d within =
     let inside : i < length (named_to origins) = rw (length-named_to origins) within in
     get_or-map (λ (a : KeptOrigin). a.origin.0) (named_to origins) i (origin_named 0) d inside
     ∙ ap (λ (a : KeptOrigin). a.origin.0) (named_at origins i (origin_named 0) within)
 
-contains_number : (origins n : ℕ) → 0 < n → n ≤ origins → Contains (map (λ (a : KeptOrigin). a.origin.0) (named_to origins)) n
+contains_number : (origins n : ℕ) → 0 < n → n ≤ origins
+    → Contains (map (λ (a : KeptOrigin). a.origin.0) (named_to origins)) n
 contains_number origins n some few = (
   n - 1,
-  rw (length-map (named_to origins) (λ (a : KeptOrigin). a.origin.0), length-named_to origins) (omega arith),
+  rw (length-map (named_to origins) (λ (a : KeptOrigin). a.origin.0), length-named_to origins)
+      (omega arith),
   omega (arith, number_at origins (n - 1) n (omega arith)),
 )
 
-contains_page : (kept : Kept) (n : ℕ) → list_any (λ (p : KeptPage). p.origin.0 == n) kept.pages ≡ true → Contains (map (λ (p : KeptPage). p.origin.0) kept.pages) n
+contains_page : (kept : Kept) (n : ℕ)
+    → list_any (λ (p : KeptPage). p.origin.0 == n) kept.pages ≡ true
+    → Contains (map (λ (p : KeptPage). p.origin.0) kept.pages) n
 contains_page kept n some =
     let at = Any-from_list_any (λ (p : KeptPage). p.origin.0 == n) kept.pages some in (
       at.0,
       rw (length-map kept.pages (λ (p : KeptPage). p.origin.0)) at.2,
-      get_or-map (λ (p : KeptPage). p.origin.0) kept.pages at.0 at.1 n at.2 ∙ ap (λ (p : KeptPage). p.origin.0) at.3 ∙ eqb-true at.1.origin.0 n at.4,
+      get_or-map (λ (p : KeptPage). p.origin.0) kept.pages at.0 at.1 n at.2
+          ∙ ap (λ (p : KeptPage). p.origin.0) at.3 ∙ eqb-true at.1.origin.0 n at.4,
     )
 
-origins_named : (kept : Kept) (origins live : ℕ) → IsFlat kept origins live → kept.origins ≡ named_to origins → NamesOrigins kept
+origins_named : (kept : Kept) (origins live : ℕ) → IsFlat kept origins live
+    → kept.origins ≡ named_to origins → NamesOrigins kept
 origins_named kept origins live h names =
     subst (λ (os : List KeptOrigin). NamesOrigins (record kept { origins = os })) (sym names)
     (record {
@@ -63,15 +76,28 @@ origins_named kept origins live h names =
           λ i j d before within same.
           let last : j < origins = rw (length-named_to origins) at within in
           let numbers : 1 + i ≡ 1 + j =
-          ap (λ (a : KeptOrigin). a.origin.0) (sym (named_at origins i d (omega arith))) ∙ ap (λ s. s.0) same ∙ ap (λ (a : KeptOrigin). a.origin.0) (named_at origins j d last) in
+          ap (λ (a : KeptOrigin). a.origin.0) (sym (named_at origins i d (omega arith)))
+          ∙ ap (λ s. s.0) same ∙ ap (λ (a : KeptOrigin). a.origin.0)
+          (named_at origins j d last) in
           omega arith;
-      some = All-map (λ (a : KeptOrigin). 0 < a.origin.0) origin_named (range_with_len 1 origins) (λ k d within. omega (arith, get_or-range_with_len 1 origins k d (rw length-range_with_len at within)));
-      known = λ k d within. contains_number origins (get_or kept.pages k d).origin.0 (h.named k d within).0 (h.named k d within).1;
+      some =
+          All-map (λ (a : KeptOrigin). 0 < a.origin.0) origin_named (range_with_len 1 origins)
+          (λ k d within. omega (
+            arith,
+            get_or-range_with_len 1 origins k d (rw length-range_with_len at within),
+          ));
+      known =
+          λ k d within. contains_number origins (get_or kept.pages k d).origin.0
+          (h.named k d within).0 (h.named k d within).1;
       used =
-          All-map (λ (a : KeptOrigin). Contains (map (λ (p : KeptPage). p.origin.0) kept.pages) a.origin.0) origin_named (range_with_len 1 origins)
+          All-map (λ (a : KeptOrigin). Contains (page_origins kept) a.origin.0) origin_named
+          (range_with_len 1 origins)
           (λ k d within.
           let inside : k < origins = rw length-range_with_len at within in
-          contains_page kept (get_or (range_with_len 1 origins) k d) (h.used (get_or (range_with_len 1 origins) k d) (omega (arith, get_or-range_with_len 1 origins k d inside)) (omega (arith, get_or-range_with_len 1 origins k d inside))));
+          contains_page kept (get_or (range_with_len 1 origins) k d)
+          (h.used (get_or (range_with_len 1 origins) k d)
+          (omega (arith, get_or-range_with_len 1 origins k d inside))
+          (omega (arith, get_or-range_with_len 1 origins k d inside))));
       same = h.same;
     })
 
@@ -83,18 +109,35 @@ roots_ascend (suc (suc (suc zero))) h = omega arith
 roots_ascend (suc (suc (suc (suc zero)))) h = omega arith
 roots_ascend (suc (suc (suc (suc (suc k))))) h = absurd (omega arith)
 
-pub root_ids : (next : ℕ) → 7 ≤ next → next ≤ 4_294_967_295 → AreIds 7 next (1 ∷ 2 ∷ 3 ∷ 4 ∷ 5 ∷ 6 ∷ [])
+-- the roots have the ids 1 to 6
+pub root_ids : (next : ℕ) → 7 ≤ next → next ≤ end_of_ids
+    → AreIds 7 next (1 ∷ 2 ∷ 3 ∷ 4 ∷ 5 ∷ 6 ∷ [])
 root_ids next first last =
     record {
       ascending = roots_ascend;
       given =
-          All-from_recursion (λ id. (0 < id) × (id < next)) (1 ∷ 2 ∷ 3 ∷ 4 ∷ 5 ∷ 6 ∷ [])
-          ((omega arith, omega arith), ((omega arith, omega arith), ((omega arith, omega arith), ((omega arith, omega arith), ((omega arith, omega arith), ((omega arith, omega arith), tt))))));
+          All-from_recursion (λ id. (0 < id) × (id < next)) (1 ∷ 2 ∷ 3 ∷ 4 ∷ 5 ∷ 6 ∷ []) (
+            (omega arith, omega arith),
+            (
+              (omega arith, omega arith),
+              (
+                (omega arith, omega arith),
+                (
+                  (omega arith, omega arith),
+                  ((omega arith, omega arith), ((omega arith, omega arith), tt)),
+                ),
+              ),
+            ),
+          );
       next_first = first;
       next_last = last;
     }
 
-pub well_kept : (day : Day) (ids : Ids) (pages : List FlatPage) (origins : ℕ) (visits : List StoredVisit) (live : ℕ) → IsFlat (kept_from day ids pages origins visits) origins live → IsWellKept (kept_from day ids pages origins visits)
+-- a flat store's rows are well kept
+pub well_kept : (day : Day) (ids : Ids) (pages : List FlatPage) (origins : ℕ)
+    (visits : List StoredVisit) (live : ℕ)
+    → IsFlat (kept_from day ids pages origins visits) origins live
+    → IsWellKept (kept_from day ids pages origins visits)
 well_kept day ids pages origins visits live h =
     let kept : Kept = kept_from day ids pages origins visits in
     record {
@@ -104,7 +147,9 @@ well_kept day ids pages origins visits live h =
       item_ids = root_ids ids.item h.item_first h.item_last;
       urls = h.urls;
       distinct_urls = h.distinct_urls;
-      titles = All-map (λ (p : KeptPage). IsTitle p.page.title) page_of pages (λ k d within. (IsUtf8-nil, omega arith));
+      titles =
+          All-map (λ (p : KeptPage). IsTitle p.page.title) page_of pages
+          (λ k d within. (IsUtf8-nil, omega arith));
       visits = h.visits;
       origins = origins_named kept origins live h refl;
       live = omega (arith, h.filled, h.few);
@@ -112,27 +157,42 @@ well_kept day ids pages origins visits live h =
 
 -- ---- the bytes stand for the store
 
-right_rows : (store : Store) (pages : List KeptPage) → All (λ (p : KeptPage). p.frecency ≡ frecency_of store p.page) pages → map {B = Page × ℤ} (λ (p : KeptPage). (p.page, p.frecency)) pages ≡ map {B = Page × ℤ} (λ (p : Page). (p, frecency_of store p)) (map (λ (p : KeptPage). p.page) pages)
+right_rows : (store : Store) (pages : List KeptPage)
+    → All (λ (p : KeptPage). p.frecency ≡ frecency_of store p.page) pages
+    → map {B = Page × ℤ} (λ (p : KeptPage). (p.page, p.frecency)) pages
+    ≡ map {B = Page × ℤ} (λ (p : Page). (p, frecency_of store p))
+    (map (λ (p : KeptPage). p.page) pages)
 right_rows store [] right = refl
 right_rows store (p ∷ pages) right =
-    rw (All-head (λ (p : KeptPage). p.frecency ≡ frecency_of store p.page) p pages right, right_rows store pages (All-tail (λ (p : KeptPage). p.frecency ≡ frecency_of store p.page) p pages right))
+    rw (
+      All-head (λ (p : KeptPage). p.frecency ≡ frecency_of store p.page) p pages right,
+      right_rows store pages (All-tail (λ (p : KeptPage). p.frecency ≡ frecency_of store p.page) p
+          pages right),
+    )
 
+-- rows with right marks are those of their store
 pub rows_are_right : (kept : Kept) → IsRight kept → kept_rows kept ≡ store_rows (store_of kept)
 rows_are_right kept right =
-    ap (λ (pages : List (Page × ℤ)). record { day = kept.day; ids = kept.ids; pages = pages; visits = kept.visits; items = kept.items })
+    ap (λ (pages : List (Page × ℤ)). record (kept_rows kept) { pages = pages })
     (right_rows (store_of kept) kept.pages right.frecencies)
 
 whole : (bytes : List ℕ) → take (length bytes) bytes ≡ bytes
 whole bytes = take_all (length bytes) bytes (omega arith)
 
-pub stands : (kept : Kept) (origins live : ℕ) → IsFlat kept origins live → IsGood (store_of kept) → IsOfVisits (store_of kept) → IsRight kept → StandsFor (form_bytes (kept_rows kept)) (store_of kept)
+-- the bytes of right rows of a good store stand for it
+pub stands : (kept : Kept) (origins live : ℕ) → IsFlat kept origins live → IsGood (store_of kept)
+    → IsOfVisits (store_of kept) → IsRight kept
+    → StandsFor (form_bytes (kept_rows kept)) (store_of kept)
 stands kept origins live h good of_visits right =
     record {
       good = good;
       of_visits = of_visits;
-      texts = All-map (λ (p : Page). IsUtf8 p.url) (λ (p : KeptPage). p.page) kept.pages (λ k d within. IsUtf8-from_is_utf8 (get_or kept.pages k d).page.url (h.texts k d within));
+      texts =
+          All-map (λ (p : Page). IsUtf8 p.url) (λ (p : KeptPage). p.page) kept.pages
+          (λ k d within. IsUtf8-from_is_utf8 (get_or kept.pages k d).page.url (h.texts k d within));
       live = omega (arith, h.filled, h.few);
       begins =
-          ap (λ (rows : FormRows). take (length (form_bytes (store_rows (store_of kept)))) (form_bytes rows)) (rows_are_right kept right)
+          ap (λ (rows : FormRows). take (length (form_bytes (store_rows (store_of kept))))
+          (form_bytes rows)) (rows_are_right kept right)
           ∙ whole (form_bytes (store_rows (store_of kept)));
     }

@@ -1,16 +1,17 @@
 -- The parts of a flat store seen as what is kept of a store, and what holds of them.
-use Rattle.std.specs.Prelude.{◌≡◌, ◌≢◌, ◌↔◌, ◌≤◌, ◌<◌, ◌==◌, ℕ, ℤ, IsTrue, List, [], map, true, if◌then◌else◌}
+use Rattle.std.specs.Prelude.{◌≡◌, ◌≢◌, ◌≤◌, ◌<◌, ◌==◌, ℕ, ℤ, IsTrue}
+use Rattle.std.specs.Prelude.{List, [], map, true, if◌then◌else◌}
 use Rattle.std.specs.List.{All, AllPairs, list_any, range_with_len}
 use Rattle.std.specs.Str.{is_utf8}
 use Rattle.pl_base.specs.declared.date.Day.{Day}
 use Rattle.pl_base.specs.declared.id.Ids.{Ids}
 use Rattle.pl_base.specs.declared.id.PageId.{PageId}
 use Rattle.pl_base.specs.declared.row.Mark.{Mark}
-use Rattle.pl_base.specs.Address.{is_store_url, same_origin}
+use Rattle.pl_base.specs.Address.{is_store_url}
 use Rattle.pl_base.specs.Date.{IsDate, IsDay}
-use Rattle.pl_base.specs.Good.{AreIds}
-use Rattle.pl_base.specs.Live.{live_slots, origin_count}
-use Rattle.pl_base.specs.Rows.{Kept, KeptOrigin, KeptPage, has_page, store_of}
+use Rattle.pl_base.specs.Good.{AreIds, end_of_ids}
+use Rattle.pl_base.specs.Live.{live_slots, origin_count, slot_limit}
+use Rattle.pl_base.specs.Rows.{AreAlike, Kept, KeptOrigin, KeptPage, has_page, store_of}
 use Rattle.pl_base.specs.Store.{Page, Visit, roots}
 use Rattle.pl_plain.specs.declared.flat.row.FlatPage.{FlatPage}
 use Rattle.pl_form.specs.declared.stored.StoredVisit.{StoredVisit}
@@ -32,15 +33,24 @@ page_of p =
 abbrev pub form_row : FlatPage → Page × ℤ
 form_row p = ((page_of p).page, p.frecency)
 
--- the page has a mark
+-- a page with this mark
+abbrev pub with_mark_of : Mark → FlatPage → FlatPage
+with_mark_of mark p =
+    record p {
+      typed = mark.typed;
+      frecency = mark.frecency;
+      count = mark.count;
+      hidden = mark.hidden;
+    }
+
+-- the page with this id has the mark
 abbrev pub marked_row : PageId → Mark → FlatPage → FlatPage
 marked_row id mark p =
-    if p.id.0 == id.0
-    then record p { typed = mark.typed; frecency = mark.frecency; count = mark.count; hidden = mark.hidden }
-    else p
+    if p.id.0 == id.0 then with_mark_of mark p else p
 
-abbrev pub page_numbers : List FlatPage → List ℕ
-page_numbers pages = map (λ (p : FlatPage). p.id.0) pages
+-- the ids of the pages
+abbrev pub flat_page_ids : List FlatPage → List ℕ
+flat_page_ids pages = map (λ (p : FlatPage). p.id.0) pages
 
 -- an origin by its name, with no total yet
 abbrev pub origin_named : ℕ → KeptOrigin
@@ -60,22 +70,25 @@ kept_from day ids pages origins visits =
 
 -- the bytes that a file of these rows holds from page 1 on
 abbrev pub bytes_from : Day → Ids → List FlatPage → ℕ → List StoredVisit → List ℕ
-bytes_from day ids pages origins visits = form_bytes (kept_rows (kept_from day ids pages origins visits))
+bytes_from day ids pages origins visits =
+    form_bytes (kept_rows (kept_from day ids pages origins visits))
 
--- the rows are well kept, where the names of the origins are 1 to `origins`, and they take so many slots
+-- the rows are well kept, where the names of the origins are 1 to `origins`,
+-- and they take so many slots
 pub record IsFlat (kept : Kept) (origins live : ℕ) : Type 0 where
   pub day : IsDay kept.day
   pub page_ids : AreIds 1 kept.ids.page (map (λ (p : KeptPage). p.page.id.0) kept.pages)
   pub visit_ids : AreIds 1 kept.ids.visit (map (λ (v : Visit). v.id.0) kept.visits)
   pub item_first : 7 ≤ kept.ids.item
-  pub item_last : kept.ids.item ≤ 4_294_967_295
+  pub item_last : kept.ids.item ≤ end_of_ids
   pub urls : All (λ (p : KeptPage). IsTrue (is_store_url p.page.url)) kept.pages
   pub texts : All (λ (p : KeptPage). IsTrue (is_utf8 p.page.url)) kept.pages
   pub distinct_urls : AllPairs (λ (p q : KeptPage). p.page.url ≢ q.page.url) kept.pages
   pub visits : All (λ (v : Visit). IsDate v.date × IsTrue (has_page kept v.page)) kept.visits
   pub named : All (λ (p : KeptPage). (0 < p.origin.0) × (p.origin.0 ≤ origins)) kept.pages
-  pub used : (n : ℕ) → 0 < n → n ≤ origins → list_any (λ (p : KeptPage). p.origin.0 == n) kept.pages ≡ true
-  pub same : All (λ (p : KeptPage). All (λ (q : KeptPage). (p.origin ≡ q.origin) ↔ IsTrue (same_origin p.page.url q.page.url)) kept.pages) kept.pages
+  pub used : (n : ℕ) → 0 < n → n ≤ origins
+      → list_any (λ (p : KeptPage). p.origin.0 == n) kept.pages ≡ true
+  pub same : All (λ (p : KeptPage). All (AreAlike p) kept.pages) kept.pages
   pub counted : origins ≡ origin_count (map (λ (p : KeptPage). p.page.url) kept.pages)
   pub filled : live ≡ live_slots (store_of kept)
-  pub few : live ≤ 4_194_304
+  pub few : live ≤ slot_limit

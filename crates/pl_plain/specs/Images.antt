@@ -3,10 +3,15 @@ use Rattle.std.specs.Prelude.{◌+◌, ◌/◌, ℕ, List, drop, length, map, ta
 use Rattle.std.specs.List.{range_with_len}
 use Rattle.pl_base.specs.Touched.{Change, PageImage, bytes_before, page_size}
 
+-- a page of the bytes
+abbrev pub image_at : List ℕ → ℕ → PageImage
+image_at bytes page =
+    record { page = page; image = take page_size (drop (bytes_before page) bytes) }
+
 -- the first pages of the bytes, from page 1 on
 abbrev pub images_of : ℕ → List ℕ → List PageImage
 images_of count bytes =
-    map (λ page. record { page = page; image = take page_size (drop (bytes_before page) bytes) }) (range_with_len 1 count)
+    map (image_at bytes) (range_with_len 1 count)
 
 -- the change from so many pages to these bytes, in whole pages, each of which is touched
 abbrev pub whole_change : ℕ → List ℕ → Change

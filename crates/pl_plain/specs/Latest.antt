@@ -4,6 +4,7 @@ use Rattle.pl_base.specs.declared.id.PageId.{PageId}
 use Rattle.pl_base.specs.Store.{Visit}
 use Rattle.pl_base.specs.Visits.{is_later}
 
+-- the first of some visits, if there is one
 abbrev pub first_of : List Visit → Option Visit
 first_of [] = None
 first_of (v ∷ vs) = Some v

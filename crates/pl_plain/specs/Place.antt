@@ -6,13 +6,17 @@ use Rattle.pl_base.specs.Address.{same_origin}
 use Rattle.pl_base.specs.Live.{new_origins}
 use Rattle.pl_base.specs.Rows.{Kept, KeptPage}
 
+-- the URLs of the pages
 abbrev pub urls_of : Kept → List (List ℕ)
 urls_of kept = map (λ (p : KeptPage). p.page.url) kept.pages
 
--- of origins named 1 to `origins`, or of one more, `slot` is that of the URL, and with it there are `after`
-pub record IsPlaceOf (kept : Kept) (origins : ℕ) (url : List ℕ) (slot : Slot) (after : ℕ) : Type 0 where
+-- of origins named 1 to `origins`, or of one more, `slot` is that of the URL, and
+-- with it there are `after`
+pub record IsSlotOf (kept : Kept) (origins : ℕ) (url : List ℕ) (slot : Slot)
+    (after : ℕ) : Type 0 where
   pub first : 0 < slot.0
   pub last : slot.0 ≤ after
   pub others : (n : ℕ) → n ≤ after → (n ≤ origins) ⊎ (slot.0 ≡ n)
-  pub same : All (λ (p : KeptPage). (p.origin ≡ slot) ↔ IsTrue (same_origin p.page.url url)) kept.pages
+  pub same : All (λ (p : KeptPage). (p.origin ≡ slot) ↔ IsTrue (same_origin p.page.url url))
+      kept.pages
   pub counted : after ≡ origins + new_origins (urls_of kept) (url ∷ [])

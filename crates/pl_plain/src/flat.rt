@@ -4,7 +4,8 @@ mod mark;
 pub(crate) mod row;
 mod rows;
 mod search;
-// That no page has a URL yet, which an insertion asks for, only a look at the rows themselves shows.
+// That no page has a URL yet, which an insertion asks for, only a look at
+// the rows themselves shows.
 #[cfg(test)]
 mod tests;
 mod touched;
@@ -22,8 +23,8 @@ use std::alloc::Global;
 
 /// A store over vectors of its rows.
 ///
-/// A page or a visit is found by its id by halves. A page's latest visits are found by a scan of all visits, and
-/// `touched` gives the whole store.
+/// A page or a visit is found by its id by halves. A page's latest visits are found by a scan of
+/// all visits, and `touched` gives the whole store.
 #[derive(Debug, Drop)]
 pub struct Flat {
     alloc: Global,
@@ -41,9 +42,11 @@ pub struct Flat {
     before: u32,
     // Whether the rows may differ from those of the last `touched`.
     is_changed: bool,
-    ghost rows: { IsFlat (kept_from day ids pages.items origins visits.items) origins live } by { Prim.hlevel props },
+    ghost rows: { IsFlat (kept_from day ids pages.items origins visits.items)
+        origins live } by { Prim.hlevel props },
     ghost some_page: { 1 ≤ before },
-    ghost settled: { is_changed ≡ false → length (bytes_from day ids pages.items origins visits.items) ≡ bytes_before before },
+    ghost settled: { is_changed ≡ false
+        → length (bytes_from day ids pages.items origins visits.items) ≡ bytes_before before },
 }
 
 impl Flat {
@@ -98,7 +101,8 @@ impl Flat {
     ) -> Flat
         requires rows { IsFlat (kept_from day ids pages.items origins visits.items) origins live }
         requires some_page { 1 ≤ before }
-        requires settled { length (bytes_from day ids pages.items origins visits.items) ≡ bytes_before before }
+        requires settled { length (bytes_from day ids pages.items origins visits.items)
+            ≡ bytes_before before }
         ensures kept { kept_of result ≡ kept_from day ids pages.items origins visits.items }
         ensures base { (bytes : List ℕ) → IsBase result bytes ↔ (bytes ≡ bytes_of result) }
     {
@@ -116,5 +120,5 @@ impl Flat {
     }
 }
 
-// The six roots, which have no titles.
-const ROOT_SLOTS: u64 = 6;
+/// The six roots, which have no titles.
+pub(crate) const ROOT_SLOTS: u64 = 6;

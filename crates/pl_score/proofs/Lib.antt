@@ -1,2 +1,3 @@
+mod ConstantRows
 pub mod Points
 pub mod Rounding

@@ -5,5 +5,5 @@
 mod sample;
 mod table;
 
-pub use sample::{Sampled, score};
+pub use sample::{SAMPLE_SIZE, Sampled, score};
 pub use table::{bonus, weight};

@@ -1,9 +1,15 @@
 ghost use Rattle.std.specs.Prelude.{◌≡◌, ◌<◌, ◌≤◌, length, All};
-ghost use Rattle.pl_base.specs.Frecency.{points, frecency_from, unvisited_frecency, visited_frecency};
-ghost use Rattle.pl_score.specs.Sample.{points_of};
+ghost use Rattle.pl_base.specs.Frecency.{points, frecency_from};
+ghost use Rattle.pl_base.specs.Frecency.{unvisited_frecency, visited_frecency};
+ghost use Rattle.pl_base.specs.Tables.{greatest_bonus};
+ghost use Rattle.pl_base.specs.Visits.{sample_size};
+ghost use Rattle.pl_score.specs.Sample.{most_points, points_of};
 
 use crate::table::weight;
 use pl_base::{Day, Micros};
+
+/// How many of its latest visits a page is scored by.
+pub const SAMPLE_SIZE: usize = 10;
 
 /// A visit of a page's sample: its date and what it counts.
 #[derive(Clone, Copy, Debug, PartialEq, Eq)]
@@ -14,8 +20,8 @@ pub struct Sampled {
 }
 
 /// The frecency of a page on a day, by a sample of its visits, its `visit_count`, whether the
-/// bookmark tree refers to it, whether it was typed, and whether its address holds a query. It is -1
-/// where some visit counts and the sample adds nothing, and else at least 0.
+/// bookmark tree refers to it, whether it was typed, and whether its address holds a query. It is
+/// -1 where some visit counts and the sample adds nothing, and else at least 0.
 pub fn score(
     sample: &[Sampled],
     day: Day,
@@ -24,11 +30,11 @@ pub fn score(
     typed: bool,
     is_place: bool,
 ) -> i64
-    requires ten { length sample.now ≤ 10 }
-    requires bonuses { All (λ v. v.bonus ≤ 2075) sample.now }
+    requires ten { length sample.now ≤ sample_size }
+    requires bonuses { All (λ v. v.bonus ≤ greatest_bonus) sample.now }
     requires sampled { 0 < count → 0 < length sample.now }
-    ensures { result ≡
-        frecency_from (points_of day sample.now) (length sample.now) count referenced typed is_place }
+    ensures { result ≡ frecency_from (points_of day sample.now) (length sample.now)
+        count referenced typed is_place }
 {
     if count == 0 {
         unvisited_score(referenced, typed, is_place)
@@ -50,7 +56,7 @@ fn unvisited_score(referenced: bool, typed: bool, is_place: bool) -> i64
 }
 
 fn visited_score(total: u64, sampled: u64, count: u32) -> i64
-    requires total { total ≤ 2_075_000 }
+    requires total { total ≤ most_points }
     requires sampled { 0 < sampled }
     ensures { result ≡ visited_frecency total sampled count }
 {
@@ -62,10 +68,10 @@ fn visited_score(total: u64, sampled: u64, count: u32) -> i64
 }
 
 fn total_points(sample: &[Sampled], day: Day) -> u64
-    requires ten { length sample.now ≤ 10 }
-    requires bonuses { All (λ v. v.bonus ≤ 2075) sample.now }
+    requires ten { length sample.now ≤ sample_size }
+    requires bonuses { All (λ v. v.bonus ≤ greatest_bonus) sample.now }
     ensures exact { result ≡ points_of day sample.now }
-    ensures greatest { result ≤ 2_075_000 }
+    ensures greatest { result ≤ most_points }
 {
     sample.iter().map(|visit| points(visit, day)).sum()
 }

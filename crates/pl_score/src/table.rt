@@ -1,5 +1,5 @@
 ghost use Rattle.std.specs.Prelude.{◌≡◌, ◌≤◌};
-ghost use Rattle.pl_base.specs.Tables.{weight_of, transition_bonus, bonus_of};
+ghost use Rattle.pl_base.specs.Tables.{bonus_of, greatest_bonus, transition_bonus, weight_of};
 
 use pl_base::Transition;
 
@@ -9,8 +9,8 @@ const REDIRECT_SOURCE_BONUS: u32 = 25;
 /// What each visit counts more where the bookmark tree refers to its page.
 const REFERENCED_BONUS: u32 = 75;
 
-/// The weight of a visit of this age in days, from 10 to 100. The age of a visit on a later day is
-/// negative.
+/// The weight of a visit of this age in days, from 10 to 100. The age of a visit
+/// on a later day is negative.
 pub fn weight(age: i64) -> u32
     ensures { result ≡ weight_of age }
 {
@@ -27,7 +27,7 @@ pub fn weight(age: i64) -> u32
 /// redirect, whether it led to a redirect itself, and whether the bookmark tree refers to its page.
 pub fn bonus(own: Transition, source: Option<Transition>, is_source: bool, referenced: bool) -> u32
     ensures exact { result ≡ bonus_of own source is_source referenced }
-    ensures greatest { result ≤ 2075 }
+    ensures greatest { result ≤ greatest_bonus }
 {
     let visited = if is_source {
         REDIRECT_SOURCE_BONUS

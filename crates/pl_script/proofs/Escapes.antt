@@ -1,5 +1,6 @@
 -- Escapes in text fields.
-use Rattle.std.proofs.Common.{◌≡◌, subst, sym, ◌≢◌, ⊎_elim, eq-eqb, ◌<◌, ◌+◌, ℕ, true, false, List, [], ◌∷◌, ◌++◌, length, get_or, drop, Some, None, Option, refl, ap, add-one, append_assoc, drop-cons}
+use Rattle.std.proofs.Common.{◌≡◌, subst, sym, ◌≢◌, ⊎_elim, eq-eqb, ◌<◌, ◌+◌, ℕ, true, false, List, [], ◌∷◌, ◌++◌}
+use Rattle.std.proofs.Common.{length, get_or, drop, Some, None, Option, refl, ap, add-one, append_assoc, drop-cons}
 use Rattle.std.specs.Option.{option_map}
 use Rattle.std.proofs.lemmas.Bool.{cases_Bool, cases_eq, cond-false, cond-true, ne_eqb}
 use Rattle.std.proofs.lemmas.Str.{IsUtf8-from_is_utf8, is_utf8-from_IsUtf8}
@@ -7,43 +8,55 @@ use Rattle.std.specs.Str.{IsUtf8, is_utf8}
 use Rattle.pl_script.specs.Script.{before_text, escape_of, escaped, escaped_as, escaped_byte, text_of, unescaped}
 
 -- a byte that is put behind what was read
-behind : (xs : List ℕ) (b : ℕ) (text : Option (List ℕ)) → option_map (λ more. (xs ++ b ∷ []) ++ more) text ≡ option_map (λ more. xs ++ more) (before_text (Some b) text)
+behind : (xs : List ℕ) (b : ℕ) (text : Option (List ℕ))
+    → option_map (λ more. (xs ++ b ∷ []) ++ more) text ≡ option_map (λ more. xs ++ more) (before_text (Some b) text)
 behind xs b None = refl
 behind xs b (Some more) = ap Some (append_assoc xs (b ∷ []) more)
 
 rest_at : (field : List ℕ) (i : ℕ) → i < length field → drop i field ≡ get_or field i 0 ∷ drop (i + 1) field
 rest_at field i within = rw (add-one, drop-cons field i 0)
 
-pub escaped_at : (field xs : List ℕ) (i b : ℕ) → i < length field → escaped_byte (get_or field i 0) ≡ Some b → option_map (λ more. (xs ++ b ∷ []) ++ more) (unescaped false (drop (i + 1) field)) ≡ option_map (λ more. xs ++ more) (unescaped true (drop i field))
+pub escaped_at : (field xs : List ℕ) (i b : ℕ) → i < length field → escaped_byte (get_or field i 0) ≡ Some b
+    → option_map (λ more. (xs ++ b ∷ []) ++ more) (unescaped false (drop (i + 1) field))
+    ≡ option_map (λ more. xs ++ more) (unescaped true (drop i field))
 escaped_at field xs i b within known =
     rw (rest_at field i within, known) (behind xs b (unescaped false (drop (i + 1) field)))
 
-pub unknown_at : (field xs : List ℕ) (i : ℕ) → i < length field → escaped_byte (get_or field i 0) ≡ None → option_map (λ more. xs ++ more) (unescaped true (drop i field)) ≡ None
+pub unknown_at : (field xs : List ℕ) (i : ℕ) → i < length field → escaped_byte (get_or field i 0) ≡ None
+    → option_map (λ more. xs ++ more) (unescaped true (drop i field)) ≡ None
 unknown_at field xs i within unknown = rw (rest_at field i within, unknown)
 
-pub backslash_at : (field xs : List ℕ) (i : ℕ) → i < length field → get_or field i 0 ≡ 92 → option_map (λ more. xs ++ more) (unescaped true (drop (i + 1) field)) ≡ option_map (λ more. xs ++ more) (unescaped false (drop i field))
+pub backslash_at : (field xs : List ℕ) (i : ℕ) → i < length field → get_or field i 0 ≡ 92
+    → option_map (λ more. xs ++ more) (unescaped true (drop (i + 1) field))
+    ≡ option_map (λ more. xs ++ more) (unescaped false (drop i field))
 backslash_at field xs i within backslash = rw (rest_at field i within, eq-eqb _ _ backslash)
 
-pub plain_at : (field xs : List ℕ) (i : ℕ) → i < length field → get_or field i 0 ≢ 92 → option_map (λ more. (xs ++ get_or field i 0 ∷ []) ++ more) (unescaped false (drop (i + 1) field)) ≡ option_map (λ more. xs ++ more) (unescaped false (drop i field))
+pub plain_at : (field xs : List ℕ) (i : ℕ) → i < length field → get_or field i 0 ≢ 92
+    → option_map (λ more. (xs ++ get_or field i 0 ∷ []) ++ more) (unescaped false (drop (i + 1) field))
+    ≡ option_map (λ more. xs ++ more) (unescaped false (drop i field))
 plain_at field xs i within plain =
     rw (rest_at field i within, ne_eqb _ _ plain) (behind xs (get_or field i 0) (unescaped false (drop (i + 1) field)))
 
 pub text_of-utf8 : (field text : List ℕ) → Some text ≡ unescaped false field → IsUtf8 text → text_of field ≡ Some text
 text_of-utf8 field text e utf8 = rw (← e) (cond-true _ _ _ (is_utf8-from_IsUtf8 text utf8))
 
-pub text_of-not_utf8 : (field text : List ℕ) → Some text ≡ unescaped false field → ¬ (IsUtf8 text) → text_of field ≡ None
+pub text_of-not_utf8 : (field text : List ℕ) → Some text ≡ unescaped false field → ¬ (IsUtf8 text)
+    → text_of field ≡ None
 text_of-not_utf8 field text e other =
-    rw (← e) (cond-false _ _ _ (⊎_elim (λ yes. absurd (other (IsUtf8-from_is_utf8 text yes))) (λ no. no) (cases_Bool (is_utf8 text))))
+    rw (← e) (cond-false _ _ _
+    (⊎_elim (λ yes. absurd (other (IsUtf8-from_is_utf8 text yes))) (λ no. no) (cases_Bool (is_utf8 text))))
 
 -- ---- what is written reads back
 
 ReadsOne : ℕ → List ℕ → List ℕ → Type 0
 ReadsOne b more text = unescaped false (escaped_as b (escape_of b) ++ more) ≡ Some (b ∷ text)
 
-reads_plain : (b : ℕ) (more text : List ℕ) → b ≢ 92 → b ≢ 9 → b ≢ 10 → b ≢ 13 → unescaped false more ≡ Some text → ReadsOne b more text
+reads_plain : (b : ℕ) (more text : List ℕ) → b ≢ 92 → b ≢ 9 → b ≢ 10 → b ≢ 13 → unescaped false more ≡ Some text
+    → ReadsOne b more text
 unfolding ReadsOne
 reads_plain b more text backslash tab lf cr read =
-    rw (ne_eqb b 92 backslash, ne_eqb b 9 tab, ne_eqb b 10 lf, ne_eqb b 13 cr) (rw (ne_eqb b 92 backslash) (ap (option_map (λ bytes. b ∷ bytes)) read))
+    rw (ne_eqb b 92 backslash, ne_eqb b 9 tab, ne_eqb b 10 lf, ne_eqb b 13 cr)
+    (rw (ne_eqb b 92 backslash) (ap (option_map (λ bytes. b ∷ bytes)) read))
 
 -- a byte and what is read behind it
 reads_one : (b : ℕ) (more text : List ℕ) → unescaped false more ≡ Some text → ReadsOne b more text

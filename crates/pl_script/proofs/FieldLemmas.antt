@@ -1,5 +1,6 @@
 -- The next field of a line.
-use Rattle.std.proofs.Common.{◌≡◌, not, leb, ◌≤◌, ◌+◌, ◌-◌, ℕ, Bool, cond, eqb, List, [], ◌∷◌, length, take, drop, None, ap, sym, ◌∙◌, arith, length-drop, ⊎_elim}
+use Rattle.std.proofs.Common.{◌≡◌, not, leb, ◌≤◌, ◌+◌, ◌-◌, ℕ, Bool, cond, eqb, List, [], ◌∷◌}
+use Rattle.std.proofs.Common.{length, take, drop, None, ap, sym, ◌∙◌, arith, length-drop, ⊎_elim}
 use Rattle.std.specs.List.{position, position_or_len, slice_split}
 use Rattle.std.proofs.lemmas.Bool.{cases_lt, cond-true, cond-false, le-leb, lt-leb, lt-ltb}
 use Rattle.std.proofs.lemmas.Bool.Decides.{nat_tests}
@@ -20,28 +21,41 @@ no_tab bytes none =
     (cases_lt (position_or_len is_tab bytes) (length bytes))
 
 -- the parts at TABs, the first apart
-split_field : (bytes : List ℕ) → slice_split is_tab bytes ≡ take (position_or_len is_tab bytes) bytes ∷ cond (leb (position_or_len is_tab bytes + 1) (length bytes)) (slice_split is_tab (drop (position_or_len is_tab bytes + 1) bytes)) []
+split_field : (bytes : List ℕ)
+    → slice_split is_tab bytes ≡ take (position_or_len is_tab bytes) bytes
+    ∷ cond (leb (position_or_len is_tab bytes + 1) (length bytes))
+    (slice_split is_tab (drop (position_or_len is_tab bytes + 1) bytes)) []
 split_field bytes =
     ⊎_elim
-    (λ some. slice_split_first is_tab bytes 0 some ∙ ap (λ rest. take (position_or_len is_tab bytes) bytes ∷ rest) (sym (cond-true _ _ _ (le-leb (position_or_len is_tab bytes + 1) (length bytes) (omega arith)))))
+    (λ some. slice_split_first is_tab bytes 0 some
+    ∙ ap (λ rest. take (position_or_len is_tab bytes) bytes ∷ rest)
+    (sym (cond-true _ _ _ (le-leb (position_or_len is_tab bytes + 1) (length bytes) (omega arith)))))
     (λ all.
-    let whole : length bytes ≡ position_or_len is_tab bytes = (let most = prefix_len-le-length (λ b. not (is_tab b)) bytes in omega arith) in
-    let first : take (position_or_len is_tab bytes) bytes ≡ bytes = ap (λ n. take n bytes) (sym whole) ∙ take-length bytes in
+    let whole : length bytes ≡ position_or_len is_tab bytes =
+    (let most = prefix_len-le-length (λ b. not (is_tab b)) bytes in omega arith) in
+    let first : take (position_or_len is_tab bytes) bytes ≡ bytes =
+    ap (λ n. take n bytes) (sym whole) ∙ take-length bytes in
     slice_split_none is_tab bytes (λ k d below. fails_before_first is_tab bytes k d (omega arith))
     ∙ ap (λ front. front ∷ []) (sym first)
-    ∙ ap (λ rest. take (position_or_len is_tab bytes) bytes ∷ rest) (sym (cond-false _ _ _ (lt-leb (position_or_len is_tab bytes + 1) (length bytes) (omega arith)))))
+    ∙ ap (λ rest. take (position_or_len is_tab bytes) bytes ∷ rest)
+    (sym (cond-false _ _ _ (lt-leb (position_or_len is_tab bytes + 1) (length bytes) (omega arith)))))
     (cases_lt (position_or_len is_tab bytes) (length bytes))
 
-pub next_field_at : (line : List ℕ) (next : ℕ) → next ≤ length line → (fields_from line next).left ≡ take (position_or_len is_tab (drop next line)) (drop next line) ∷ (fields_from line (next + (position_or_len is_tab (drop next line) + 1))).left
+pub next_field_at : (line : List ℕ) (next : ℕ) → next ≤ length line
+    → (fields_from line next).left ≡ take (position_or_len is_tab (drop next line)) (drop next line)
+    ∷ (fields_from line (next + (position_or_len is_tab (drop next line) + 1))).left
 next_field_at line next within =
     let len = position_or_len is_tab (drop next line) in
     let shorter = length-drop next line in
-    let bound : leb (len + 1) (length (drop next line)) ≡ leb (next + (len + 1)) (length line) = grind (arith, nat_tests) in
+    let bound : leb (len + 1) (length (drop next line)) ≡ leb (next + (len + 1)) (length line) =
+    grind (arith, nat_tests) in
     cond-true _ _ _ (le-leb _ _ within) ∙ split_field (drop next line)
     ∙ ap (λ rest. take len (drop next line) ∷ rest) (rw (bound, drop-drop))
 
 -- what `take` answers and leaves, with the rest of the line as a slice gives it
-pub takes_field : (line : List ℕ) (next len : ℕ) (old : Fields) → fields_from line next ≡ old → next ≤ length line → len ≡ position_or_len is_tab (take (length line - next) (drop next line)) → TakesField old (take len (take (length line - next) (drop next line))) (fields_from line (next + (len + 1)))
+pub takes_field : (line : List ℕ) (next len : ℕ) (old : Fields) → fields_from line next ≡ old → next ≤ length line
+    → len ≡ position_or_len is_tab (take (length line - next) (drop next line))
+    → TakesField old (take len (take (length line - next) (drop next line))) (fields_from line (next + (len + 1)))
 takes_field line next len old shown within is =
     let shorter = length-drop next line in
     let whole : take (length line - next) (drop next line) ≡ drop next line = take_all _ _ (omega arith) in

@@ -1,3 +1,4 @@
+mod ConstantRows
 mod Escapes
 mod FieldLemmas
 mod Numbers

@@ -1,4 +1,5 @@
--- What a reader of lines gives: what the grammar says, but that want of memory is free where a text is read.
+-- What a reader of lines gives: what the grammar says, but that want of memory is
+-- free where a text is read.
 use Rattle.std.specs.Prelude.{◌≡◌, ◌≤◌, ℕ, List, length, Option, Some, None, Result, Ok, Err, IsOk}
 use Rattle.pl_base.specs.declared.refusal.Refusal.TheVariants as refusal
 use Rattle.pl_link.specs.declared.canon.CanonError.{CanonError}
@@ -7,16 +8,17 @@ use Rattle.pl_engine.specs.declared.command.Command.{Command}
 use Rattle.pl_engine.specs.Parsed.{Parsed}
 use Rattle.pl_script.specs.declared.lines.LineError.{LineError}
 use Rattle.pl_script.specs.declared.lines.LineError.TheVariants.{Refused, NoMemory}
-use Rattle.pl_script.specs.Script.{fields_of, next_field, word_of}
+use Rattle.pl_script.specs.Script.{fields_of, longest_line, next_field, word_of}
 
+-- the line is refused so, and want of memory says nothing
 abbrev pub Fails : {A : Type 0} → LineError → Parsed A → Type 0
 Fails (Refused refusal) expected = expected ≡ Err refusal
 Fails NoMemory expected = Unit {0}
 
 -- the result, seen by view, is the expected one
-abbrev pub Reads : {X A : Type 0} → (X → A) → Result X LineError → Parsed A → Type 0
-Reads view (Ok x) expected = expected ≡ Ok (view x)
-Reads view (Err e) expected = Fails e expected
+abbrev pub ReadsAs : {X A : Type 0} → (X → A) → Result X LineError → Parsed A → Type 0
+ReadsAs view (Ok x) expected = expected ≡ Ok (view x)
+ReadsAs view (Err e) expected = Fails e expected
 
 -- the same, and memory is never wanted
 abbrev pub ReadsInPlace : {X A : Type 0} → (X → A) → Result X LineError → Parsed A → Type 0
@@ -33,10 +35,10 @@ ReadsEntry (Err NoMemory) expected = Unit {0}
 
 -- the line is not too long, and begins with a word that is known
 pub record HasWord (line : List ℕ) : Type 0 where
-  pub short : length line ≤ 262_144
+  pub short : length line ≤ longest_line
   pub word : IsOk (next_field word_of (fields_of line))
 
 -- the error of a line whose address is refused
-abbrev pub Becomes : CanonError → LineError → Type 0
-Becomes canon.BadUrl e = e ≡ Refused refusal.BadUrl
-Becomes canon.NoMemory e = e ≡ NoMemory
+abbrev pub BecomesLineError : CanonError → LineError → Type 0
+BecomesLineError canon.BadUrl e = e ≡ Refused refusal.BadUrl
+BecomesLineError canon.NoMemory e = e ≡ NoMemory

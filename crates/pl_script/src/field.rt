@@ -34,7 +34,8 @@ pub fn text(alloc: Global, field: &[u8]) -> Result<Option<Txt>, NoMemory>
 }
 
 fn unescaped(alloc: Global, field: &[u8]) -> Result<Option<Vec<u8>>, NoMemory>
-    ensures { IfOk result (λ bytes. option_map (λ v. v.items) bytes ≡ spec.unescaped false field.now) }
+    ensures { IfOk result (λ bytes.
+        option_map (λ v. v.items) bytes ≡ spec.unescaped false field.now) }
 {
     let mut bytes = Vec::new(alloc);
     let mut after_backslash = false;

@@ -1,11 +1,10 @@
 // The fields of a line, one after another, and the columns at which they stand.
-ghost use Rattle.std.specs.Prelude.{◌≡◌, ◌+◌, ◌-◌, ◌<◌, ◌≤◌, [], length, IfOk, IfErr};
-ghost use Rattle.std.specs.Prelude.{◌==◌};
+ghost use Rattle.std.specs.Prelude.{◌≡◌, ◌+◌, ◌-◌, ◌<◌, ◌≤◌, [], length, IfOk, IfErr, ◌==◌};
 ghost use Rattle.std.specs.Option.{ok_or};
 ghost use Rattle.std.specs.List.{position, position_or_len};
 ghost use Rattle.pl_base.specs.Date.{IsDate};
 ghost use Rattle.pl_script.specs.Fields.{GivesField, TakesField};
-ghost use Rattle.pl_script.specs.LineError.{Reads, ReadsInPlace};
+ghost use Rattle.pl_script.specs.LineError.{ReadsAs, ReadsInPlace};
 ghost use Rattle.pl_script.specs.Script as spec;
 
 use crate::field;
@@ -35,12 +34,13 @@ impl<'a> Model for Fields<'a> {
 
     ghost view = { λ f. fields_from f.line.now f.next };
 
-    ghost invariant = { λ f. (f.next ≤ length f.line.now + 1) × (length f.line.now ≤ 262144) };
+    ghost invariant = { λ f. (f.next ≤ length f.line.now + 1)
+        × (length f.line.now ≤ spec.longest_line) };
 }
 
 impl<'a> Fields<'a> {
     pub fn new(line: &'a [u8]) -> Self
-        requires { length line.now ≤ 262144 }
+        requires { length line.now ≤ spec.longest_line }
         ensures { result ≡ spec.fields_of line.now }
     {
         Fields { line, next: 0 }
@@ -69,8 +69,10 @@ impl<'a> Fields<'a> {
 
     // The column and the bytes of the next field. A missing one is refused behind the line's end.
     fn next(&mut self) -> Result<(u32, &'a [u8]), LineError>
-        ensures field { IfOk result (λ f. TakesField self.old f.1.now self.new × (f.0 ≡ self.old.column)) }
-        ensures none { IfErr result (λ e. (self.old.left ≡ []) × (e ≡ LineError.Refused (Refusal.BadLine (self.old.column - 1)))) }
+        ensures field { IfOk result (λ f.
+            TakesField self.old f.1.now self.new × (f.0 ≡ self.old.column)) }
+        ensures none { IfErr result (λ e. (self.old.left ≡ [])
+            × (e ≡ LineError.Refused (Refusal.BadLine (self.old.column - 1)))) }
     {
         let column = self.column();
         match self.take() {
@@ -80,28 +82,32 @@ impl<'a> Fields<'a> {
     }
 
     pub fn word(&mut self) -> Result<Word, LineError>
-        ensures { ReadsInPlace (λ word. (word, self.new)) result (spec.next_field spec.word_of self.old) }
+        ensures { ReadsInPlace (λ word. (word, self.new)) result
+            (spec.next_field spec.word_of self.old) }
     {
         let (column, bytes) = self.next()?;
         formed(field::word(bytes), column)
     }
 
     pub fn text(&mut self, alloc: Global) -> Result<Txt, LineError>
-        ensures { Reads (λ text. (text, self.new)) result (spec.next_field spec.text_of self.old) }
+        ensures { ReadsAs (λ text. (text, self.new)) result
+            (spec.next_field spec.text_of self.old) }
     {
         let (column, bytes) = self.next()?;
         formed(field::text(alloc, bytes)?, column)
     }
 
     pub fn transition(&mut self) -> Result<Transition, LineError>
-        ensures { ReadsInPlace (λ transition. (transition, self.new)) result (spec.next_field spec.transition_of self.old) }
+        ensures { ReadsInPlace (λ transition. (transition, self.new)) result
+            (spec.next_field spec.transition_of self.old) }
     {
         let (column, bytes) = self.next()?;
         formed(field::transition(bytes), column)
     }
 
     pub fn date(&mut self) -> Result<Micros, LineError>
-        ensures date { ReadsInPlace (λ date. (date, self.new)) result (spec.next_field spec.date_of self.old) }
+        ensures date { ReadsInPlace (λ date. (date, self.new)) result
+            (spec.next_field spec.date_of self.old) }
         ensures range { IfOk result IsDate }
     {
         let (column, bytes) = self.next()?;

@@ -1,5 +1,5 @@
-//! The text of the script: the command of a line, the text of a reply, and in `specs/` the grammar of
-//! both.
+//! The text of the script: the command of a line, the text of a reply, and in
+//! `specs/` the grammar of both.
 #![tactic(auto)]
 
 mod field;

@@ -1,9 +1,10 @@
 // One line.
 ghost use Rattle.std.specs.Prelude.{◌≡◌, IfOk, IfSome, IsErrOf};
 ghost use Rattle.pl_engine.specs.Step.{HasDates};
-ghost use Rattle.pl_script.specs.LineError.{Becomes, HasWord, Reads, ReadsEntry};
+ghost use Rattle.pl_script.specs.LineError.{BecomesLineError, HasWord, ReadsAs, ReadsEntry};
 ghost use Rattle.pl_script.specs.Script as spec;
-ghost use Rattle.pl_script.specs.declared.lines.LineError.TheVariants.{Refused, NoMemory as OutOfMemory};
+ghost use Rattle.pl_script.specs.declared.lines.LineError.TheVariants.{Refused};
+ghost use Rattle.pl_script.specs.declared.lines.LineError.TheVariants.{NoMemory as OutOfMemory};
 
 use crate::fields::{Fields, LONGEST_LINE};
 use crate::word::Word;
@@ -34,7 +35,7 @@ impl From<NoMemory> for LineError {
 }
 
 impl From<CanonError> for LineError {
-    ghost from_gives = { Becomes };
+    ghost from_gives = { BecomesLineError };
 
     fn from(error: CanonError) -> Self {
         match error {
@@ -59,7 +60,7 @@ pub fn line(alloc: Global, bytes: &[u8]) -> Result<Option<Command>, LineError>
 }
 
 fn command_line(alloc: Global, bytes: &[u8]) -> Result<Command, LineError>
-    ensures command { Reads (λ command. command) result (spec.command_line bytes.now) }
+    ensures command { ReadsAs (λ command. command) result (spec.command_line bytes.now) }
     ensures dates { IfOk result HasDates }
     ensures no_memory { IsErrOf result LineError.NoMemory → HasWord bytes.now }
 {
@@ -73,7 +74,7 @@ fn command_line(alloc: Global, bytes: &[u8]) -> Result<Command, LineError>
 }
 
 fn visit_line(alloc: Global, mut fields: Fields<'_>) -> Result<Command, LineError>
-    ensures command { Reads (λ command. command) result (spec.visit_line fields.entry) }
+    ensures command { ReadsAs (λ command. command) result (spec.visit_line fields.entry) }
     ensures dates { IfOk result HasDates }
 {
     let address = fields.text(alloc)?;

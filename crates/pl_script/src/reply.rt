@@ -25,7 +25,8 @@ pub fn reply_text(alloc: Global, reply: &Reply) -> Result<Txt, NoMemory>
 }
 
 fn refusal_text(alloc: Global, refusal: &Refusal) -> Result<String, NoMemory>
-    ensures { IfOk result (λ text. string_bytes text ≡ spec.reply_text (Reply.Refused refusal.now)) }
+    ensures { IfOk result (λ text.
+        string_bytes text ≡ spec.reply_text (Reply.Refused refusal.now)) }
 {
     let number = refusal.number();
     Ok(match refusal {

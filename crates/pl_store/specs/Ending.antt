@@ -6,7 +6,7 @@ use Rattle.pl_desk.specs.Shown.{Rests}
 use Rattle.pl_desk.specs.declared.desk.Desk.{Ghosts}
 use Rattle.pl_gate.specs.Gate.{has_gate, is_set}
 use Rattle.pl_store.specs.Session.{IsSettled, Stands, StandsAlike, limit_of, store_of}
-use Rattle.pl_store.specs.Keeper.{slot_limit}
+use Rattle.pl_base.specs.Live.{slot_limit}
 use Rattle.pl_store.specs.declared.ended.Ended.{Ended}
 use Rattle.pl_store.specs.declared.ended.Ended.TheVariants as ended
 use Rattle.pl_store.specs.declared.session.Session.{Session}

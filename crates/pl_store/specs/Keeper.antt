@@ -11,10 +11,6 @@ use Rattle.pl_store.specs.declared.keeper.Keeper.TheVariants.{Memory, File}
 use Rattle.pl_store.specs.declared.keeper.Ready.{Ready}
 use Rattle.pl_store.specs.declared.keeper.Ready.TheVariants as ready
 
--- how many slots of 128 bytes a store of the program may take
-abbrev pub slot_limit : ℕ
-slot_limit = 4_194_304
-
 abbrev pub store_of : Keeper → Store
 store_of (Memory memory) = memory_store memory
 store_of (File s) = session.store_of s

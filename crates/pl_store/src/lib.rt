@@ -16,6 +16,7 @@ mod write;
 
 pub use ended::Ended;
 pub use keeper::{Keeper, Ready};
-pub use memory::{Memory, SLOT_LIMIT};
+pub use memory::Memory;
 pub use open::{create, reopen};
+pub use pl_base::SLOT_LIMIT;
 pub use session::{Prepared, Session};

@@ -1,7 +1,7 @@
 ghost use Rattle.std.specs.Prelude.{◌≡◌, ◌≤◌, IfOk};
 ghost use Rattle.pl_base.specs.Store.{opening};
 ghost use Rattle.pl_engine.specs.Step.{HasDates, perform};
-ghost use Rattle.pl_store.specs.Keeper.{slot_limit};
+ghost use Rattle.pl_base.specs.Live.{slot_limit};
 ghost use Rattle.pl_store.specs.Session.{memory_limit, memory_store};
 
 use crate::uncounted;
@@ -9,9 +9,6 @@ use pl_base::NoMemory;
 use pl_engine::{Command, Engine, Reply};
 use pl_plain::Flat;
 use std::alloc::Global;
-
-/// How many slots of 128 bytes the program's stores may take: 512 MiB.
-pub const SLOT_LIMIT: u32 = 4_194_304;
 
 /// A store in memory alone.
 #[derive(Drop)]

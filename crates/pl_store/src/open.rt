@@ -3,15 +3,15 @@ ghost use Rattle.pl_desk.specs.Calls.{KeepsLine};
 ghost use Rattle.pl_desk.specs.Counts.{CountsAt};
 ghost use Rattle.pl_desk.specs.Settling.{Settles};
 ghost use Rattle.pl_store.specs.Ending.{KeepsFinished, Makes, Opens};
-ghost use Rattle.pl_store.specs.Keeper.{slot_limit};
+ghost use Rattle.pl_base.specs.Live.{slot_limit};
 ghost use Rattle.pl_store.specs.Session.{StandsAlike};
 
 use crate::ended::Ended;
-use crate::memory::SLOT_LIMIT;
 use crate::read::{read_session, settle};
 use crate::session::Session;
 use crate::start::start;
 use crate::write::write_change;
+use pl_base::SLOT_LIMIT;
 use pl_desk::Desk;
 use std::alloc::Global;
 

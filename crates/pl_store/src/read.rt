@@ -7,7 +7,7 @@ ghost use Rattle.pl_desk.specs.Settling.{Settles};
 ghost use Rattle.pl_desk.specs.Shown.{Rests};
 ghost use Rattle.pl_gate.specs.Gate.{has_gate, is_set};
 ghost use Rattle.pl_gate.specs.Recovery.{IsSettledAs, StandsAs, written_by};
-ghost use Rattle.pl_store.specs.Keeper.{slot_limit};
+ghost use Rattle.pl_base.specs.Live.{slot_limit};
 ghost use Rattle.pl_store.specs.Reading.{HoldNone, IsReadFrom, Reads, TellsPages};
 ghost use Rattle.pl_store.specs.Session.{limit_of};
 

@@ -2,7 +2,7 @@ ghost use Rattle.std.specs.Prelude.{◌≡◌, ◌≤◌, ◌<◌, [], IfOk};
 ghost use Rattle.pl_base.specs.Store.{opening};
 ghost use Rattle.pl_base.specs.Touched.{IsWithin, changed};
 ghost use Rattle.pl_form.specs.Form.{StandsFor};
-ghost use Rattle.pl_store.specs.Keeper.{slot_limit};
+ghost use Rattle.pl_base.specs.Live.{slot_limit};
 ghost use Rattle.pl_store.specs.Session.{bytes_of, limit_of, store_of};
 
 use crate::session::Session;

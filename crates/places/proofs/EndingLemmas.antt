@@ -18,7 +18,8 @@ use Rattle.places.specs.declared.status.Status.TheVariants as status
 use Rattle.places.specs.declared.stop.Stop.{Stop}
 use Rattle.places.specs.declared.stop.Stop.TheVariants as stop
 use Rattle.places.specs.Ending.{Becomes, LeavesAtEnd, LeavesWithin, SaysAll, SaysEnded}
-use Rattle.pl_store.specs.Keeper.{IsKept, Keeps, is_file, slot_limit}
+use Rattle.pl_base.specs.Live.{slot_limit}
+use Rattle.pl_store.specs.Keeper.{IsKept, Keeps, is_file}
 use Rattle.places.specs.Status.{EndsIn}
 use Rattle.places.specs.Progress.{HasRead, IsAt, ended_entries, entries_read}
 use Rattle.places.specs.Said.{Says, texts}

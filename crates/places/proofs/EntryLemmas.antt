@@ -7,7 +7,8 @@ use Rattle.pl_engine.specs.declared.command.Command.{Command}
 use Rattle.pl_engine.specs.Parsed.{Parsed}
 use Rattle.pl_engine.specs.Run.{replies, after}
 use Rattle.pl_script.specs.Script.{entry, script}
-use Rattle.pl_store.specs.Keeper.{IsKept, Keeps, is_file, limit_of, slot_limit, store_of}
+use Rattle.pl_base.specs.Live.{slot_limit}
+use Rattle.pl_store.specs.Keeper.{IsKept, Keeps, is_file, limit_of, store_of}
 use Rattle.pl_store.specs.KeeperLaws.{kept_keeps}
 use Rattle.places.specs.declared.answer_error.AnswerError.{AnswerError}
 use Rattle.places.specs.declared.answer_error.AnswerError.TheVariants.{NoMemory}

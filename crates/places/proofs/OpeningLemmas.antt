@@ -22,7 +22,8 @@ use Rattle.places.specs.declared.stop.Stop.{Stop}
 use Rattle.places.specs.declared.stop.Stop.TheVariants as stop
 use Rattle.places.specs.Ending.{BeginsWith, EndsScript, LeavesAtEnd, LeavesWithin, MayEnd, SaysFront}
 use Rattle.places.specs.Progress.{HasRead, entries_read}
-use Rattle.pl_store.specs.Keeper.{Keeps, slot_limit}
+use Rattle.pl_base.specs.Live.{slot_limit}
+use Rattle.pl_store.specs.Keeper.{Keeps}
 use Rattle.places.specs.Said.{Says, SaysOfAnswer, SaysPart, SaysUntil, SaysWhole, texts}
 use Rattle.places.specs.Status.{EndsAs, without_session}
 use Rattle.places.specs.Stops.{LeavesAtEntry, LeavesOfAnswer, ShowsAnswered, ShowsUnopened}

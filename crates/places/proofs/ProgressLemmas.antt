@@ -13,7 +13,8 @@ use Rattle.pl_engine.specs.Step.{step}
 use Rattle.pl_script.specs.Reply.{reply_text}
 use Rattle.pl_script.specs.Script.{script}
 use Rattle.places.specs.declared.script_run.ScriptRun.{ScriptRun}
-use Rattle.pl_store.specs.Keeper.{limit_of, slot_limit, store_of}
+use Rattle.pl_base.specs.Live.{slot_limit}
+use Rattle.pl_store.specs.Keeper.{limit_of, store_of}
 use Rattle.places.specs.Lines.{ended_lines, entries_of, entries_in, open_line}
 use Rattle.places.specs.Progress.{IsAt, ended_entries}
 use Rattle.places.specs.Said.{Says, texts}

@@ -8,7 +8,8 @@ use Rattle.pl_engine.specs.Parsed.{Parsed}
 use Rattle.pl_engine.specs.Run.{replies, after}
 use Rattle.pl_script.specs.Script.{entry, script}
 use Rattle.places.specs.declared.script_run.ScriptRun.{ScriptRun}
-use Rattle.pl_store.specs.Keeper.{IsKept, Leaves, is_file, limit_of, slot_limit, store_of}
+use Rattle.pl_base.specs.Live.{slot_limit}
+use Rattle.pl_store.specs.Keeper.{IsKept, Leaves, is_file, limit_of, store_of}
 use Rattle.places.specs.Lines.{entries_in, open_line}
 use Rattle.places.specs.Progress.{IsAt, ended_entries}
 use Rattle.places.specs.Said.{texts}

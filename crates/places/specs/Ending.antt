@@ -10,7 +10,8 @@ use Rattle.pl_desk.specs.declared.source.Source as sources
 use Rattle.pl_engine.specs.Run.{replies, after}
 use Rattle.pl_script.specs.Script.{script}
 use Rattle.pl_store.specs.Ending.{FindsBytes, IsFinished, SparesBytes}
-use Rattle.pl_store.specs.Keeper.{Keeps, slot_limit}
+use Rattle.pl_base.specs.Live.{slot_limit}
+use Rattle.pl_store.specs.Keeper.{Keeps}
 use Rattle.pl_store.specs.Session.{Stands}
 use Rattle.places.specs.declared.answer_error.AnswerError.{AnswerError}
 use Rattle.places.specs.declared.answer_error.AnswerError.TheVariants as answer

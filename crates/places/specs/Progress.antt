@@ -9,7 +9,8 @@ use Rattle.places.specs.declared.script_run.ScriptRun.{ScriptRun}
 use Rattle.pl_desk.specs.Shown.{ShowsOnly}
 use Rattle.pl_desk.specs.declared.desk.Desk.{Ghosts}
 use Rattle.pl_store.specs.declared.keeper.Keeper.{Keeper}
-use Rattle.pl_store.specs.Keeper.{IsKept, is_file, limit_of, slot_limit, store_of}
+use Rattle.pl_base.specs.Live.{slot_limit}
+use Rattle.pl_store.specs.Keeper.{IsKept, is_file, limit_of, store_of}
 use Rattle.places.specs.declared.answer_error.AnswerError.{AnswerError}
 use Rattle.places.specs.Limits.{script_limit}
 use Rattle.places.specs.Lines.{ended_lines, entries_of, open_line}

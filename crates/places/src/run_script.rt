@@ -2,7 +2,8 @@
 ghost use Rattle.std.specs.Prelude.{◌≡◌, false, Err};
 ghost use Rattle.pl_script.specs.Script.{script};
 ghost use Rattle.places.specs.Ending.{IfTold, LeavesAtEnd};
-ghost use Rattle.pl_store.specs.Keeper.{IsKept, is_file, limit_of, slot_limit, store_of};
+ghost use Rattle.pl_base.specs.Live.{slot_limit};
+ghost use Rattle.pl_store.specs.Keeper.{IsKept, is_file, limit_of, store_of};
 ghost use Rattle.places.specs.declared.status.Status.{Status};
 ghost use Rattle.places.specs.Status.{EndsAs};
 ghost use Rattle.places.specs.Stops.{ShowsAnswered};

@@ -6,7 +6,7 @@ ghost use Rattle.pl_desk.specs.Counts.{CountsAt};
 ghost use Rattle.pl_desk.specs.Settling.{ShowsThen};
 ghost use Rattle.pl_script.specs.Script.{script};
 ghost use Rattle.pl_store.specs.Ending.{KeepsFinished, RefusesFile, StandsForNone};
-ghost use Rattle.pl_store.specs.Keeper.{slot_limit};
+ghost use Rattle.pl_base.specs.Live.{slot_limit};
 ghost use Rattle.pl_store.specs.Session.{Stands};
 ghost use Rattle.places.specs.Ending.{EndsUnopened, IfTold, LeavesAtEnd, MayEnd};
 ghost use Rattle.places.specs.Status.{EndsAs};

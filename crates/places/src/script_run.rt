@@ -27,7 +27,8 @@ impl ScriptRun {
     ghost use Rattle.pl_desk.specs.Counts.{CountsAt};
     ghost use Rattle.pl_engine.specs.Run.{replies, after};
     ghost use Rattle.pl_script.specs.Script.{script};
-    ghost use Rattle.pl_store.specs.Keeper.{is_file, limit_of, slot_limit, store_of};
+    ghost use Rattle.pl_base.specs.Live.{slot_limit};
+    ghost use Rattle.pl_store.specs.Keeper.{is_file, limit_of, store_of};
     ghost use Rattle.places.specs.Progress.{GoesOn, IsAt, ShowsIn, StaysKept, StopsIn, ended_entries};
     ghost use Rattle.places.specs.Said.{Says, texts};
 

@@ -6,7 +6,7 @@ use Rattle.pl_engine.specs.declared.command.Command.{Command}
 use Rattle.pl_engine.specs.Parsed.{Parsed}
 use Rattle.pl_engine.specs.Run.{replies, after}
 use Rattle.pl_script.specs.Script.{script}
-use Rattle.pl_store.specs.Keeper.{slot_limit}
+use Rattle.pl_base.specs.Live.{slot_limit}
 use Rattle.pl_store.specs.Session.{Stands}
 use Rattle.places.specs.Said.{texts}
 

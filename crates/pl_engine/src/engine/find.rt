@@ -48,7 +48,8 @@ fn find_page<R: Rows, L: Ledger>(
     steps: &mut Steps<L>,
 ) -> Result<Option<PageId>, NoMemory>
     ensures { IfOk result (λ page. page
-        ≡ option_map (λ (p : Page). p.id) (spec.find_page url.now (store_of (R.kept rows.now)).pages)) }
+        ≡ option_map (λ (p : Page). p.id)
+        (spec.find_page url.now (store_of (R.kept rows.now)).pages)) }
 {
     let mut next = rows.page_after(None, steps);
     while let Some(page) = next {
@@ -72,7 +73,8 @@ fn parts_of(alloc: Global, url: &str) -> Result<Parts, NoMemory>
 }
 
 fn have_same_origin(parts: &Parts, other: &Parts) -> bool
-    ensures { result ≡ (bytes_eq parts.now.prefix other.now.prefix && bytes_eq parts.now.host other.now.host) }
+    ensures { result
+        ≡ (bytes_eq parts.now.prefix other.now.prefix && bytes_eq parts.now.host other.now.host) }
 {
     parts.prefix.as_str() == other.prefix.as_str() && parts.host.as_str() == other.host.as_str()
 }
@@ -87,7 +89,8 @@ fn has_origin<R: Rows, L: Ledger>(
 ) -> Result<bool, NoMemory>
     requires { has_page (R.kept rows.now) page ≡ true }
     ensures { IfOk result (λ has. (url : List ℕ) → HasParts url parts.now
-        → Some has ≡ option_map (λ (text : List ℕ). address.same_origin text url) (url_of (R.kept rows.now) page)) }
+        → Some has ≡ option_map (λ (text : List ℕ). address.same_origin text url)
+        (url_of (R.kept rows.now) page)) }
 {
     let text = rows.url(page, steps)?;
     let own = parts_of(alloc, text.as_str())?;

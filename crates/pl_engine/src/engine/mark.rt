@@ -1,23 +1,23 @@
 // What is kept of a page, before and after a visit to it.
 ghost use Rattle.std.specs.Prelude.{◌≡◌, ◌<◌, true, map, take, IfOk};
 ghost use Rattle.pl_base.specs.Frecency.{frecency_of};
+ghost use Rattle.pl_base.specs.Good.{end_of_ids};
 ghost use Rattle.pl_base.specs.Marks as marks;
 ghost use Rattle.pl_base.specs.Rows.{IsOfVisits, has_page, page_visits, store_of};
 ghost use Rattle.pl_base.specs.Store.{Page};
+ghost use Rattle.pl_base.specs.Visits.{sample_size};
 ghost use Rattle.pl_engine.specs.Sampled.{sampled_row, sampled_visit};
 ghost use Rattle.pl_engine.specs.Target as target;
 ghost use Rattle.pl_engine.specs.Target.{IsKnownIn, IsMarkBefore};
 
 use crate::engine::find::Target;
 use pl_base::{Mark, NoMemory, PageId, Rows, Steps, Transition, VisitRow};
-use pl_score::{Sampled, bonus, score};
+use pl_score::{SAMPLE_SIZE, Sampled, bonus, score};
 use std::alloc::Global;
 use std::sync::ledger::Ledger;
 
-/// How many of its latest visits a page is scored by.
-const SAMPLE_SIZE: u32 = 10;
-
-/// What is kept of the page before the visit. No visit shows a new page yet, so it counts as hidden.
+/// What is kept of the page before the visit. No visit shows a new page
+/// yet, so it counts as hidden.
 pub fn mark_before<R: Rows, L: Ledger>(rows: &R, target: Target, steps: &mut Steps<L>) -> Mark
     requires { IsKnownIn (R.kept rows.now) target }
     ensures { IsMarkBefore (R.kept rows.now) target result }
@@ -35,7 +35,7 @@ pub fn mark_before<R: Rows, L: Ledger>(rows: &R, target: Target, steps: &mut Ste
 
 /// The mark after a visit of this transition, but for the frecency.
 pub fn visited_mark(mark: Mark, transition: Transition, is_place: bool) -> Mark
-    requires { mark.count < 4_294_967_295 }
+    requires { mark.count < end_of_ids }
     ensures { result ≡ target.visited_mark transition is_place mark }
 {
     let counted = u32::from(transition.is_counted());
@@ -64,7 +64,8 @@ fn sample<R: Rows, L: Ledger>(
     steps: &mut Steps<L>,
 ) -> Result<Vec<Sampled>, NoMemory>
     requires { has_page (R.kept rows.now) page ≡ true }
-    ensures { IfOk result (λ sample. sample.items ≡ map sampled_visit (take 10 (page_visits (R.kept rows.now) page))) }
+    ensures { IfOk result (λ sample. sample.items
+        ≡ map sampled_visit (take sample_size (page_visits (R.kept rows.now) page))) }
 {
     let mut sample = Vec::new(alloc);
     let mut next = rows.latest(page, steps);

@@ -1,8 +1,10 @@
 // A visit, performed on rows.
-ghost use Rattle.std.specs.Prelude.{◌≡◌, ◌≤◌, ◌<◌, ◌+◌, ℕ, List, None, false, true, is_none, if◌then◌else◌, IfOk, IsErr, OnOk};
+ghost use Rattle.std.specs.Prelude.{◌≡◌, ◌≤◌, ◌<◌, ◌+◌, ℕ, List, None, false, true};
+ghost use Rattle.std.specs.Prelude.{is_none, if◌then◌else◌, IfOk, IsErr, OnOk};
 ghost use Rattle.pl_base.specs.Address.{is_unrecorded_url};
 ghost use Rattle.pl_base.specs.Date.{IsDate};
-ghost use Rattle.pl_base.specs.Live.{chunks, live_slots};
+ghost use Rattle.pl_base.specs.Good.{end_of_ids};
+ghost use Rattle.pl_base.specs.Live.{chunks, live_slots, slot_limit};
 ghost use Rattle.pl_base.specs.Marks as marks;
 ghost use Rattle.pl_base.specs.Rows.{IsOfVisits, has_page, store_of, with_visit};
 ghost use Rattle.pl_engine.specs.Engine.{IsSound};
@@ -40,8 +42,8 @@ fn slots_after<R: Rows, L: Ledger>(
     steps: &mut Steps<L>,
 ) -> u64
     requires { IsTargetOf (R.kept rows.now) url.now target }
-    ensures after { (transition : Transition) → (date : Micros)
-        → result ≡ live_slots (spec.after_visit (store_of (R.kept rows.now)) url.now transition date) }
+    ensures after { (transition : Transition) → (date : Micros) → result
+        ≡ live_slots (spec.after_visit (store_of (R.kept rows.now)) url.now transition date) }
     ensures grows { live_slots (store_of (R.kept rows.now)) < result }
 {
     let live = rows.live(steps);
@@ -51,7 +53,8 @@ fn slots_after<R: Rows, L: Ledger>(
     }
 }
 
-// The first cause to refuse a visit that would be recorded. Neither its transition nor its date matters.
+// The first cause to refuse a visit that would be recorded. Neither its
+// transition nor its date matters.
 fn refusal<R: Rows, L: Ledger>(
     rows: &R,
     limit: u32,
@@ -106,10 +109,11 @@ fn add_visit<R: Rows, L: Ledger>(
     requires page { has_page (R.kept rows.old) row.now.page ≡ true }
     requires date { IsDate row.now.date }
     requires source { row.now.source ≡ None }
-    requires id { (R.kept rows.old).ids.visit < 4_294_967_295 }
-    requires live { live_slots (store_of (R.kept rows.old)) < 4_194_304 }
+    requires id { (R.kept rows.old).ids.visit < end_of_ids }
+    requires live { live_slots (store_of (R.kept rows.old)) < slot_limit }
     requires of_visits { IsOfVisits (store_of (R.kept rows.old)) }
-    requires count { mark.count ≡ marks.visit_count (store_of (with_visit row.now (R.kept rows.old))) row.now.page }
+    requires count { mark.count
+        ≡ marks.visit_count (store_of (with_visit row.now (R.kept rows.old))) row.now.page }
     ensures added { IfOk result (AddsVisit row.now mark (R.kept rows.old) (R.kept rows.new)) }
     ensures base { OnOk result ((bytes : List ℕ) → R.base rows.old bytes → R.base rows.new bytes) }
 {
@@ -136,10 +140,11 @@ pub fn visit<R: Rows, L: Ledger>(
 ) -> Result<Reply, NoMemory>
     requires date { IsDate date }
     requires sound { IsSound (R.kept rows.old) }
-    requires most { limit ≤ 4_194_304 }
+    requires most { limit ≤ slot_limit }
     ensures step { IfOk result (λ reply. (reply, store_of (R.kept rows.new))
         ≡ spec.perform limit (store_of (R.kept rows.old)) (Command.Visit url.now transition date)) }
-    ensures refused { IfOk result (λ reply. (refusal : Refusal) → reply ≡ Reply.Refused refusal → rows.new ≡ rows.old) }
+    ensures refused { IfOk result (λ reply. (refusal : Refusal)
+        → reply ≡ Reply.Refused refusal → rows.new ≡ rows.old) }
     ensures base { OnOk result ((bytes : List ℕ) → R.base rows.old bytes → R.base rows.new bytes) }
     ensures sound { OnOk result (IsSound (R.kept rows.new)) }
     ensures no_memory { IsErr result → is_unrecorded_url url.now ≡ false }

@@ -2,6 +2,7 @@
 ghost use Rattle.std.specs.Prelude.{◌≡◌, ◌↔◌, ◌&&◌, ◌==◌, IsTrue, bytes_eq, nat_lt};
 ghost use Rattle.std.specs.List.{list_all, list_any};
 ghost use Rattle.pl_base.specs.Good.{IsGood};
+ghost use Rattle.pl_base.specs.Marks as marks;
 ghost use Rattle.pl_base.specs.Touched.{ascends_above};
 ghost use Rattle.pl_plain.specs.Check as good;
 ghost use Rattle.pl_form.specs.Stored.{AreStored, stored_store};
@@ -54,19 +55,19 @@ fn have_good_visits(rows: &StoredRows) -> bool
 }
 
 fn are_page_ids(pages: &[StoredPage], next: u32) -> bool
-    ensures { result ≡ good.are_ids next (good.page_numbers pages.now) }
+    ensures { result ≡ good.are_ids next (good.stored_page_ids pages.now) }
 {
     pages_ascend(pages) && pages_lie_below(pages, next)
 }
 
 fn pages_lie_below(pages: &[StoredPage], next: u32) -> bool
-    ensures { result ≡ list_all (λ id. nat_lt id next) (good.page_numbers pages.now) }
+    ensures { result ≡ list_all (λ id. nat_lt id next) (good.stored_page_ids pages.now) }
 {
     pages.iter().map(|page| page.id.0).all(|id| id < next)
 }
 
 fn pages_ascend(pages: &[StoredPage]) -> bool
-    ensures { result ≡ ascends_above 0 (good.page_numbers pages.now) }
+    ensures { result ≡ ascends_above 0 (good.stored_page_ids pages.now) }
 {
     let mut last = 0;
     for page in pages {
@@ -79,19 +80,19 @@ fn pages_ascend(pages: &[StoredPage]) -> bool
 }
 
 fn are_visit_ids(visits: &[StoredVisit], next: u32) -> bool
-    ensures { result ≡ good.are_ids next (good.visit_numbers visits.now) }
+    ensures { result ≡ good.are_ids next (good.stored_visit_ids visits.now) }
 {
     visits_ascend(visits) && visits_lie_below(visits, next)
 }
 
 fn visits_lie_below(visits: &[StoredVisit], next: u32) -> bool
-    ensures { result ≡ list_all (λ id. nat_lt id next) (good.visit_numbers visits.now) }
+    ensures { result ≡ list_all (λ id. nat_lt id next) (good.stored_visit_ids visits.now) }
 {
     visits.iter().map(|visit| visit.id.0).all(|id| id < next)
 }
 
 fn visits_ascend(visits: &[StoredVisit]) -> bool
-    ensures { result ≡ ascends_above 0 (good.visit_numbers visits.now) }
+    ensures { result ≡ ascends_above 0 (good.stored_visit_ids visits.now) }
 {
     let mut last = 0;
     for visit in visits {
@@ -133,13 +134,13 @@ fn is_visited(visits: &[StoredVisit], page: &StoredPage) -> bool
 }
 
 fn is_visited_by_typing(visits: &[StoredVisit], page: &StoredPage) -> bool
-    ensures { result ≡ list_any (λ v. (v.page.0 == page.now.id.0) && good.is_typed v.transition) visits.now }
+    ensures { result ≡ list_any (good.is_typed_visit page.now.id) visits.now }
 {
     visits.iter().any(|visit| visit.page.0 == page.id.0 && is_typed(visit.transition))
 }
 
 fn is_typed(transition: Transition) -> bool
-    ensures { result ≡ good.is_typed transition }
+    ensures { result ≡ marks.is_typed transition }
 {
     matches!(transition, Transition::Typed)
 }

@@ -4,6 +4,7 @@ ghost use Rattle.std.specs.List.{sum_by};
 ghost use Rattle.pl_base.specs.Live as live;
 ghost use Rattle.pl_form.specs.Stored.{AreStored};
 
+use crate::flat::ROOT_SLOTS;
 use pl_form::{StoredPage, StoredRows};
 
 /// The slots of 128 bytes that the store takes with so many origins.
@@ -21,15 +22,12 @@ fn url_slots(rows: &StoredRows) -> u64
     ensures exact { result ≡ sum_by (λ p. live.chunks p.url) rows.now.pages }
     ensures greatest { result ≤ 547 * 4_294_967_296 }
 {
-    rows.pages.iter().map(chunks).sum()
+    rows.pages.iter().map(url_chunks).sum()
 }
 
 // The slots of the URL, one for each 120 bytes.
-fn chunks(page: &StoredPage) -> u64
+fn url_chunks(page: &StoredPage) -> u64
     ensures { result ≡ live.chunks page.now.url }
 {
     (page.url.text().len() as u64 + 119) / 120
 }
-
-// The six roots, which have no titles.
-const ROOT_SLOTS: u64 = 6;

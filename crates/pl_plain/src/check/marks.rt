@@ -4,18 +4,15 @@ ghost use Rattle.std.specs.List.{list_all, list_any};
 ghost use Rattle.pl_base.specs.Address.{is_place_url};
 ghost use Rattle.pl_base.specs.Frecency.{frecency_of};
 ghost use Rattle.pl_base.specs.Marks as marks;
-ghost use Rattle.pl_base.specs.Visits.{in_place, sample_of};
-ghost use Rattle.pl_plain.specs.CheckSample.{sampled_of, sampled_row};
+ghost use Rattle.pl_base.specs.Visits.{in_place, sample_of, sample_size};
+ghost use Rattle.pl_plain.specs.CheckSample.{sampled_of, sampled_stored};
 ghost use Rattle.pl_form.specs.Stored.{AreStored, stored_page, stored_store, visit_of};
 
 use crate::visit::is_later;
 use pl_base::{Mark, NoMemory, PageId, Transition};
 use pl_form::{StoredPage, StoredRows, StoredVisit};
-use pl_score::{Sampled, bonus, score};
+use pl_score::{SAMPLE_SIZE, Sampled, bonus, score};
 use std::alloc::Global;
-
-/// How many of its latest visits a page is scored by.
-const SAMPLE_SIZE: usize = 10;
 
 /// What the definitions give of a page with a visit, whose address is told to hold a query or not.
 pub fn mark(
@@ -27,10 +24,13 @@ pub fn mark(
     requires stored { AreStored rows.now }
     requires place { is_place ≡ is_place_url page.now.url }
     requires visited { list_any (λ v. v.page.0 == page.now.id.0) rows.now.visits ≡ true }
-    ensures frecency { IfOk result (λ mark. mark.frecency ≡ frecency_of (stored_store rows.now) (stored_page page.now)) }
-    ensures count { IfOk result (λ mark. mark.count ≡ marks.visit_count (stored_store rows.now) page.now.id) }
+    ensures frecency { IfOk result (λ mark.
+        mark.frecency ≡ frecency_of (stored_store rows.now) (stored_page page.now)) }
+    ensures count { IfOk result (λ mark.
+        mark.count ≡ marks.visit_count (stored_store rows.now) page.now.id) }
     ensures typed { IfOk result (λ mark. mark.typed ≡ page.now.typed) }
-    ensures hidden { IfOk result (λ mark. mark.hidden ≡ marks.is_hidden (stored_store rows.now) (stored_page page.now)) }
+    ensures hidden { IfOk result (λ mark.
+        mark.hidden ≡ marks.is_hidden (stored_store rows.now) (stored_page page.now)) }
 {
     let count = visit_count(rows, page.id);
     let sampled = sampled(alloc, rows, page.id)?;
@@ -39,7 +39,7 @@ pub fn mark(
         frecency,
         count,
         typed: page.typed,
-        hidden: is_place || is_framed(rows, page.id),
+        hidden: is_place || is_within_frames(rows, page.id),
     })
 }
 
@@ -50,7 +50,7 @@ fn sampled(alloc: Global, rows: &StoredRows, page: PageId) -> Result<Vec<Sampled
         ≡ map (sampled_of (stored_store rows.now)) (sample_of (stored_store rows.now) page)) }
 {
     let sample = sample(alloc, rows, page)?;
-    Ok(sample.iter().map(sampled_visit).collect(alloc)?)
+    Ok(sample.iter().map(sampled_stored).collect(alloc)?)
 }
 
 // The ten latest visits of a page, the latest first.
@@ -75,8 +75,9 @@ fn visit_count(rows: &StoredRows, page: PageId) -> u32
 }
 
 // Whether each visit of the page was within a frame.
-fn is_framed(rows: &StoredRows, page: PageId) -> bool
-    ensures { result ≡ list_all (λ v. marks.is_framed v.transition) (filter (λ v. v.page.0 == page.0) rows.now.visits) }
+fn is_within_frames(rows: &StoredRows, page: PageId) -> bool
+    ensures { result ≡ list_all (λ v. marks.is_framed v.transition)
+        (filter (λ v. v.page.0 == page.0) rows.now.visits) }
 {
     rows.visits
         .iter()
@@ -86,7 +87,7 @@ fn is_framed(rows: &StoredRows, page: PageId) -> bool
 
 fn put_in_place(sample: &mut Vec<StoredVisit>, visit: StoredVisit) -> Result<(), NoMemory>
     ensures { OnOk result (map visit_of sample.new.items
-        ≡ take 10 (in_place (visit_of visit) (map visit_of sample.old.items))) }
+        ≡ take sample_size (in_place (visit_of visit) (map visit_of sample.old.items))) }
 {
     let earlier = sample.iter().position(|other| is_later(&visit, other));
     sample.insert(earlier.unwrap_or(sample.len()), visit)?;
@@ -95,8 +96,8 @@ fn put_in_place(sample: &mut Vec<StoredVisit>, visit: StoredVisit) -> Result<(),
 }
 
 // What a visit counts in the sample of its page.
-fn sampled_visit(visit: &StoredVisit) -> Sampled
-    ensures { result ≡ sampled_row visit.now }
+fn sampled_stored(visit: &StoredVisit) -> Sampled
+    ensures { result ≡ sampled_stored visit.now }
 {
     Sampled {
         date: visit.date,

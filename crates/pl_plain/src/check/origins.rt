@@ -1,5 +1,6 @@
 // The names of origins.
-ghost use Rattle.std.specs.Prelude.{◌≡◌, ◌<◌, ◌&&◌, [], bytes_eq, length, IfOk};
+ghost use Rattle.std.specs.Prelude.{◌≡◌, ◌<◌, ◌^◌, ◌&&◌, [], bytes_eq, length, IfOk};
+ghost use Rattle.pl_base.specs.Good.{end_of_ids};
 ghost use Rattle.pl_plain.specs.CheckOrigins.{Names, key_of};
 
 use pl_base::{NoMemory, Slot};
@@ -33,7 +34,7 @@ impl Origins {
 
     /// How many origins there are.
     pub fn count(&self) -> u32
-        requires { length self.now < 4_294_967_296 }
+        requires { length self.now < 2 ^ 32 }
         ensures { result ≡ length self.now }
     {
         self.parts.len() as u32
@@ -41,7 +42,7 @@ impl Origins {
 
     /// The name of the origin with these parts, which is a new one where none has them yet.
     pub fn name(&mut self, parts: Parts) -> Result<Slot, NoMemory>
-        requires { length self.old < 4_294_967_295 }
+        requires { length self.old < end_of_ids }
         ensures { IfOk result (λ slot. Names self.old (key_of parts) slot.0 self.new) }
     {
         let known = self.parts.iter().position(|other| is_same(other, &parts));
@@ -54,7 +55,8 @@ impl Origins {
 }
 
 fn is_same(parts: &Parts, other: &Parts) -> bool
-    ensures { result ≡ (bytes_eq parts.now.prefix other.now.prefix && bytes_eq parts.now.host other.now.host) }
+    ensures { result
+        ≡ (bytes_eq parts.now.prefix other.now.prefix && bytes_eq parts.now.host other.now.host) }
 {
     parts.prefix.as_str() == other.prefix.as_str() && parts.host.as_str() == other.host.as_str()
 }

@@ -25,14 +25,17 @@ pub struct NamedPages {
     pub origins: u32,
 }
 
-/// The pages with what the definitions give of them. A frecency of the file that is another is
-/// refused.
-pub fn named_pages(alloc: Global, rows: &StoredRows) -> Result<NamedPages, CheckError>
+/// The pages with what the definitions give of them. A frecency of the file
+/// that is another is refused.
+pub fn name_origins(alloc: Global, rows: &StoredRows) -> Result<NamedPages, CheckError>
     requires stored { AreStored rows.now }
     requires good { IsGood (stored_store rows.now) }
-    ensures pages { IfOk result (λ named. AllZip (IsAssessed rows.now) rows.now.pages named.pages.items) }
-    ensures origins { IfOk result (λ named. (keys : List Key) × AreNamed named.pages.items keys × (named.origins ≡ length keys)) }
-    ensures right { All (IsFrecencyRight rows.now) rows.now.pages → IfErr result (λ e. e ≡ CheckError.NoMemory) }
+    ensures pages { IfOk result (λ named.
+        AllZip (IsAssessed rows.now) rows.now.pages named.pages.items) }
+    ensures origins { IfOk result (λ named.
+        (keys : List Key) × AreNamed named.pages.items keys × (named.origins ≡ length keys)) }
+    ensures right { All (IsFrecencyRight rows.now) rows.now.pages
+        → IfErr result (λ e. e ≡ CheckError.NoMemory) }
 {
     let mut origins = Origins::new(alloc);
     let mut pages = Vec::new(alloc);
@@ -61,7 +64,8 @@ fn flat_page(
     requires visited { list_any (λ v. v.page.0 == page.now.id.0) rows.now.visits ≡ true }
     ensures page { IfOk result (IsAssessed rows.now page.now) }
     ensures origin { IfOk result (λ q. q.origin ≡ origin) }
-    ensures right { IsFrecencyRight rows.now page.now → IfErr result (λ e. e ≡ CheckError.NoMemory) }
+    ensures right { IsFrecencyRight rows.now page.now
+        → IfErr result (λ e. e ≡ CheckError.NoMemory) }
 {
     let mark = mark(alloc, rows, page, is_place)?;
     if mark.frecency != page.frecency {

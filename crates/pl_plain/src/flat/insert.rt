@@ -1,9 +1,11 @@
 ghost use Rattle.std.specs.Prelude.{◌≡◌, ◌≢◌, ◌≤◌, ◌<◌, ℕ, List, map, true, IfOk, OnOk};
 ghost use Rattle.std.specs.List.{All, range_with_len};
 ghost use Rattle.pl_base.specs.Address.{is_store_url};
+ghost use Rattle.pl_base.specs.Good.{end_of_ids};
 ghost use Rattle.pl_base.specs.Live as live;
-ghost use Rattle.pl_base.specs.Rows.{KeptPage, live_with_page, with_page};
-ghost use Rattle.pl_plain.specs.Place.{IsPlaceOf};
+ghost use Rattle.pl_base.specs.Live.{slot_limit};
+ghost use Rattle.pl_base.specs.Rows.{KeptPage, live_with_page, with_new_page};
+ghost use Rattle.pl_plain.specs.Place.{IsSlotOf};
 
 use crate::Flat;
 use crate::flat::row::FlatPage;
@@ -24,12 +26,12 @@ impl Flat {
     pub fn add_page(&mut self, url: &str, origin: Slot, origins: u32) -> Result<PageId, NoMemory>
         requires url { is_store_url url.now ≡ true }
         requires absent { All (λ (p : KeptPage). p.page.url ≢ url.now) (kept_of self.old).pages }
-        requires place { IsPlaceOf (kept_of self.old) self.old.origins url.now origin origins }
-        requires id { self.old.ids.page < 4_294_967_295 }
-        requires live { live_with_page url.now (kept_of self.old) ≤ 4_194_304 }
+        requires place { IsSlotOf (kept_of self.old) self.old.origins url.now origin origins }
+        requires id { self.old.ids.page < end_of_ids }
+        requires live { live_with_page url.now (kept_of self.old) ≤ slot_limit }
         ensures page { IfOk result (λ page. page.0 ≡ self.old.ids.page) }
         ensures kept { OnOk result (kept_of self.new
-            ≡ record (with_page url.now origin (kept_of self.old))
+            ≡ record (with_new_page url.now origin (kept_of self.old))
             { origins = map origin_named (range_with_len 1 origins) }) }
         ensures base { OnOk result
             ((bytes : List ℕ) → IsBase self.old bytes → IsBase self.new bytes) }

@@ -1,6 +1,6 @@
 ghost use Rattle.std.specs.Prelude.{◌≡◌};
 ghost use Rattle.pl_base.specs.Rows.{mark_of};
-ghost use Rattle.pl_plain.specs.FlatRows.{page_of};
+ghost use Rattle.pl_plain.specs.FlatRows.{page_of, with_mark_of};
 
 use pl_base::{Mark, PageId, Slot, Txt};
 
@@ -20,7 +20,7 @@ pub struct FlatPage {
 
 impl FlatPage {
     pub fn set_mark(&mut self, mark: Mark)
-        ensures { self.new ≡ record self.old { typed = mark.typed; frecency = mark.frecency; count = mark.count; hidden = mark.hidden } }
+        ensures { self.new ≡ with_mark_of mark self.old }
     {
         self.frecency = mark.frecency;
         self.count = mark.count;

@@ -127,7 +127,8 @@ impl Rows for Flat {
 
     ghost based = { based };
 
-    ghost well_kept = { λ flat. laws.well_kept flat.day flat.ids flat.pages.items flat.origins flat.visits.items flat.live flat.rows };
+    ghost well_kept = { λ flat. laws.well_kept flat.day flat.ids flat.pages.items flat.origins
+        flat.visits.items flat.live flat.rows };
 
     ghost stands = { λ flat. laws.stands (kept_of flat) flat.origins flat.live flat.rows };
 }

@@ -5,8 +5,8 @@ ghost use Rattle.std.specs.Option.{option_copied, option_map};
 ghost use Rattle.pl_base.specs.Visits.{latest_first};
 ghost use Rattle.pl_form.specs.Stored.{visit_of};
 ghost use Rattle.pl_plain.specs.declared.flat.row.FlatPage.{FlatPage};
-ghost use Rattle.pl_plain.specs.Check.{visit_numbers};
-ghost use Rattle.pl_plain.specs.FlatRows.{page_numbers};
+ghost use Rattle.pl_plain.specs.Check.{stored_visit_ids};
+ghost use Rattle.pl_plain.specs.FlatRows.{flat_page_ids};
 ghost use Rattle.pl_plain.specs.Latest.{first_of, is_within};
 
 use crate::flat::row::FlatPage;
@@ -16,14 +16,14 @@ use pl_form::StoredVisit;
 
 /// Where the page with this id stands.
 pub fn page_index(pages: &[FlatPage], id: PageId) -> Option<usize>
-    requires { IsStrictlyIncreasing (page_numbers pages.now) }
+    requires { IsStrictlyIncreasing (flat_page_ids pages.now) }
     ensures { result ≡ position (λ p. p.id.0 == id.0) pages.now }
 {
     pages.binary_search_by_key(&id.0, |page| page.id.0).ok()
 }
 
 pub fn find_page(pages: &[FlatPage], id: PageId) -> Option<&FlatPage>
-    requires { IsStrictlyIncreasing (page_numbers pages.now) }
+    requires { IsStrictlyIncreasing (flat_page_ids pages.now) }
     ensures { option_copied result ≡ find (λ p. p.id.0 == id.0) pages.now }
 {
     pages.get(page_index(pages, id)?)
@@ -31,22 +31,23 @@ pub fn find_page(pages: &[FlatPage], id: PageId) -> Option<&FlatPage>
 
 /// The first page with a greater id.
 pub fn behind(pages: &[FlatPage], id: u32) -> Option<PageId>
-    requires { IsStrictlyIncreasing (page_numbers pages.now) }
-    ensures { result ≡ option_map (λ (p : FlatPage). p.id) (find (λ p. nat_lt id p.id.0) pages.now) }
+    requires { IsStrictlyIncreasing (flat_page_ids pages.now) }
+    ensures { result
+        ≡ option_map (λ (p : FlatPage). p.id) (find (λ p. nat_lt id p.id.0) pages.now) }
 {
     let page = pages.get(pages.partition_point(|page| page.id.0 <= id))?;
     Some(page.id)
 }
 
 fn visit_index(visits: &[StoredVisit], id: VisitId) -> Option<usize>
-    requires { IsStrictlyIncreasing (visit_numbers visits.now) }
+    requires { IsStrictlyIncreasing (stored_visit_ids visits.now) }
     ensures { result ≡ position (λ v. v.id.0 == id.0) visits.now }
 {
     visits.binary_search_by_key(&id.0, |visit| visit.id.0).ok()
 }
 
 pub fn find_visit(visits: &[StoredVisit], id: VisitId) -> Option<&StoredVisit>
-    requires { IsStrictlyIncreasing (visit_numbers visits.now) }
+    requires { IsStrictlyIncreasing (stored_visit_ids visits.now) }
     ensures { option_copied result ≡ find (λ v. v.id.0 == id.0) visits.now }
 {
     visits.get(visit_index(visits, id)?)

@@ -13,7 +13,8 @@ use std::process::Abort;
 use std::sync::ledger::{Blank, Ledger};
 use std::test::Fail;
 
-// Each page with the name of its origin, the dates of its visits, and their ids with the latest first.
+// Each page with the name of its origin, the dates of its visits, and their
+// ids with the latest first.
 const PAGES: [(&str, u32, &[u8], &[u32]); 4] = [
     ("https://a.example/", 1, &[1, 2, 3], &[3, 2, 1]),
     ("https://a.example/x", 1, &[3, 2, 1], &[4, 5, 6]),
@@ -55,7 +56,8 @@ fn origin_of(flat: &Flat, url: &Canon) -> Result<Option<Slot>, Fail>
 }
 
 fn is_new(flat: &Flat, url: &str) -> bool
-    ensures { IsTrue result → All (λ (p : KeptPage). p.page.url ≢ url.now) (kept_of flat.now).pages }
+    ensures { IsTrue result
+        → All (λ (p : KeptPage). p.page.url ≢ url.now) (kept_of flat.now).pages }
 {
     for page in &flat.pages {
         if page.url.as_str() == url {

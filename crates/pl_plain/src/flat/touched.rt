@@ -1,4 +1,5 @@
-ghost use Rattle.std.specs.Prelude.{◌≡◌, ◌+◌, ◌-◌, ◌*◌, ◌≤◌, ◌<◌, ◌^◌, ◌++◌, length, replicate, IfOk, OnOk};
+ghost use Rattle.std.specs.Prelude.{◌≡◌, ◌+◌, ◌-◌, ◌*◌, ◌≤◌, ◌<◌, ◌^◌};
+ghost use Rattle.std.specs.Prelude.{◌++◌, length, replicate, IfOk, OnOk};
 ghost use Rattle.pl_base.specs.Touched.{bytes_before};
 ghost use Rattle.pl_form.specs.Form as form;
 ghost use Rattle.pl_plain.specs.Images as spec;
@@ -6,6 +7,7 @@ ghost use Rattle.pl_plain.specs.Images.{images_of};
 
 use crate::flat::write::{put_eight, put_four};
 use pl_base::{NoMemory, PAGE_SIZE, Touched};
+use pl_form::HEADER_REST;
 use std::alloc::Global;
 
 /// How many pages so many plain bytes fill.
@@ -32,7 +34,7 @@ fn put_header(out: &mut Vec<u8>, len: usize) -> Result<(), NoMemory>
     out.extend_from_slice(b"PLFLAT01")?;
     put_four(out, 2 + filled_pages(len))?;
     put_eight(out, len as u64)?;
-    put_zeros(out, 1004)?;
+    put_zeros(out, HEADER_REST)?;
     Ok(())
 }
 

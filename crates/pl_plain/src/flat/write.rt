@@ -1,8 +1,11 @@
-ghost use Rattle.std.specs.Prelude.{◌≡◌, ◌+◌, ◌≤◌, ◌<◌, ◌^◌, ◌∷◌, ◌++◌, [], codes, length, map, replicate, All, OnOk};
+ghost use Rattle.std.specs.Prelude.{◌≡◌, ◌+◌, ◌≤◌, ◌<◌, ◌^◌, ◌∷◌, ◌++◌, []};
+ghost use Rattle.std.specs.Prelude.{codes, length, map, replicate, All, OnOk};
+ghost use Rattle.pl_base.specs.Address.{longest_url};
 ghost use Rattle.pl_base.specs.Store.{item_id, root_folder, roots};
 ghost use Rattle.pl_form.specs.Stored.{visit_of};
 ghost use Rattle.pl_plain.specs.FlatRows.{form_row};
-ghost use Rattle.pl_form.specs.Form.{eight, filled_pages, four, header, item_bytes, listed, page_bytes, text, visit_bytes, visit_or_zero};
+ghost use Rattle.pl_form.specs.Form.{eight, filled_pages, four, header, item_bytes, listed};
+ghost use Rattle.pl_form.specs.Form.{page_bytes, text_bytes, visit_bytes, visit_or_zero};
 ghost use Rattle.pl_form.specs.Form as form;
 
 use crate::Flat;
@@ -26,7 +29,7 @@ pub fn put_eight(out: &mut Vec<u8>, n: u64) -> Result<(), NoMemory>
 
 fn put_text(out: &mut Vec<u8>, bytes: &str) -> Result<(), NoMemory>
     requires { length bytes.now < 2 ^ 32 }
-    ensures { OnOk result (out.new.items ≡ out.old.items ++ text bytes.now) }
+    ensures { OnOk result (out.new.items ≡ out.old.items ++ text_bytes bytes.now) }
 {
     put_four(out, bytes.len() as u32)?;
     out.extend_from_slice(bytes.as_bytes())?;
@@ -34,26 +37,26 @@ fn put_text(out: &mut Vec<u8>, bytes: &str) -> Result<(), NoMemory>
 }
 
 fn put_page(out: &mut Vec<u8>, page: &FlatPage) -> Result<(), NoMemory>
-    requires { length page.now.url ≤ 65536 }
+    requires { length page.now.url ≤ longest_url }
     ensures { OnOk result (out.new.items ≡ out.old.items ++ page_bytes (form_row page.now)) }
 {
     put_four(out, page.id.0)?;
-    out.push(mark(page.typed))?;
+    out.push(flag(page.typed))?;
     put_eight(out, page.frecency.cast_unsigned())?;
     put_text(out, page.url.as_str())?;
     put_text(out, "")?;
     Ok(())
 }
 
-fn mark(is_so: bool) -> u8
-    ensures { result ≡ form.mark is_so }
+fn flag(is_so: bool) -> u8
+    ensures { result ≡ form.flag is_so }
 {
     u8::from(is_so)
 }
 
 pub fn put_pages(out: &mut Vec<u8>, pages: &[FlatPage]) -> Result<(), NoMemory>
     requires few { length pages.now < 2 ^ 32 }
-    requires urls { All (λ p. length p.url ≤ 65536) pages.now }
+    requires urls { All (λ p. length p.url ≤ longest_url) pages.now }
     ensures { OnOk result (out.new.items
         ≡ out.old.items ++ listed page_bytes (map form_row pages.now)) }
 {

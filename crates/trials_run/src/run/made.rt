@@ -5,7 +5,7 @@ ghost use Rattle.std.specs.Prelude.{◌≡◌, ℕ, List, [], ◌++◌, Some, Ok
 ghost use Rattle.pl_base.specs.Store.{Store, opening};
 ghost use Rattle.pl_engine.specs.Run.{after, replies};
 ghost use Rattle.pl_script.specs.Script.{script};
-ghost use Rattle.pl_store.specs.Keeper.{slot_limit};
+ghost use Rattle.pl_base.specs.Live.{slot_limit};
 ghost use Rattle.pl_store.specs.Session.{Stands};
 ghost use Rattle.places.specs.Ending.{made_text};
 ghost use Rattle.places.specs.Said.{texts};

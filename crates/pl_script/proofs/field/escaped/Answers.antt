@@ -6,5 +6,7 @@ use Rattle.pl_script.proofs.field.escaped.Goals as goal
 
 pub returns-clause-reads_back : goal.returns-clause-reads_back
 returns-clause-reads_back c =
-    let whole = take_all c.loop-byte.byte-index c.as_bytes-byte-items.result.now c.loop-byte-test.false ∙ c.as_bytes-byte-items.ensures.value in
+    let whole =
+    take_all c.loop-byte.byte-index c.as_bytes-byte-items.result.now c.loop-byte-test.false
+    ∙ c.as_bytes-byte-items.ensures.value in
     ap text_of (c.loop-byte.invariant ∙ ap escaped whole) ∙ text_of-escaped c.args.text.now c.utf8.text

@@ -1,7 +1,8 @@
 use Rattle.std.proofs.Common.{◌≡◌, ◌≤◌, ◌-◌, false}
 use Rattle.pl_script.specs.Script.{script}
 use Rattle.places.specs.Ending.{IfTold}
-use Rattle.pl_store.specs.Keeper.{IsKept, is_file, slot_limit, store_of}
+use Rattle.pl_base.specs.Live.{slot_limit}
+use Rattle.pl_store.specs.Keeper.{IsKept, is_file, store_of}
 use Rattle.places.specs.Limits.{script_limit}
 use Rattle.places.specs.Stops.{ShowsAnswered}
 use Rattle.places.proofs.EndingLemmas.{IsBehind}

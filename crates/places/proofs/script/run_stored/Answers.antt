@@ -6,7 +6,7 @@ use Rattle.pl_desk.specs.Settling.{settles_on}
 use Rattle.pl_script.specs.Script.{script}
 use Rattle.pl_store.specs.Session.{store_of}
 use Rattle.places.specs.Ending.{LeavesAtEnd}
-use Rattle.pl_store.specs.Keeper.{slot_limit}
+use Rattle.pl_base.specs.Live.{slot_limit}
 use Rattle.places.specs.Stops.{ShowsAnswered, ShowsUnopened}
 use Rattle.places.proofs.OpeningLemmas.{ends_without, no_refusal, opening_may_end, script_may_end, shows_opening}
 use Rattle.places.proofs.script.run_stored.Goals as goal

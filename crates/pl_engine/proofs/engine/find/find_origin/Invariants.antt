@@ -8,7 +8,8 @@ abbrev pub invariant-loop-next : goal.invariant-loop-next
 invariant-loop-next g l =
     record {
       at_a_page : Walk (λ _. false) (g.R.Rows.kept l.rows) l.next;
-      origins_differ : (url : List ℕ) → HasParts url l.parts → Walk (λ text. same_origin text url) (g.R.Rows.kept l.rows) l.next;
+      origins_differ : (url : List ℕ) → HasParts url l.parts
+          → Walk (λ text. same_origin text url) (g.R.Rows.kept l.rows) l.next;
     }
 
 abbrev pub decreases-loop-next : goal.decreases-loop-next

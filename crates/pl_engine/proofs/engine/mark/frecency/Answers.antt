@@ -6,14 +6,18 @@ use Rattle.pl_engine.proofs.engine.mark.frecency.Goals as goal
 
 pub score-requires-clause-bonuses : goal.score-requires-clause-bonuses
 score-requires-clause-bonuses g c =
-    small_bonuses (take 10 (page_visits (g.R.Rows.kept c.args.rows.now) c.args.page)) c.deref.result.now (c.deref.ensures.value ∙ c.in_ok-sample.ensures)
+    small_bonuses (take 10 (page_visits (g.R.Rows.kept c.args.rows.now) c.args.page)) c.deref.result.now
+    (c.deref.ensures.value ∙ c.in_ok-sample.ensures)
 
 pub score-requires-clause-sampled : goal.score-requires-clause-sampled
 score-requires-clause-sampled g c some =
-    sample_filled (g.R.Rows.kept c.args.rows.now) c.args.page c.deref.result.now c.args.mark.count (c.deref.ensures.value ∙ c.in_ok-sample.ensures) c.requires.count some
+    sample_filled (g.R.Rows.kept c.args.rows.now) c.args.page c.deref.result.now c.args.mark.count
+    (c.deref.ensures.value ∙ c.in_ok-sample.ensures) c.requires.count some
 
 pub returns : goal.returns
 returns g c p same =
     to_z-of_z w64 c.score.result (search rules)
     ∙ c.score.ensures
-    ∙ score_is (g.R.Rows.kept c.args.rows.now) c.args.page p c.deref.result.now c.day-day.result c.args.mark.count c.args.mark.typed false c.requires.of_visits (c.deref.ensures.value ∙ c.in_ok-sample.ensures) c.day-day.ensures.day c.requires.count same
+    ∙ score_is (g.R.Rows.kept c.args.rows.now) c.args.page p c.deref.result.now c.day-day.result c.args.mark.count
+    c.args.mark.typed false c.requires.of_visits (c.deref.ensures.value ∙ c.in_ok-sample.ensures)
+    c.day-day.ensures.day c.requires.count same

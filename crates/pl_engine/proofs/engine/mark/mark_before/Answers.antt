@@ -6,5 +6,6 @@ use Rattle.pl_engine.proofs.engine.mark.mark_before.Goals as goal
 
 pub unwrap-requires : goal.unwrap-requires
 unwrap-requires g c =
-    found_where (λ (p : KeptPage). p.page.id.0 == c.in-Known.page.0) mark_of (g.R.Rows.kept c.args.rows.now).pages c.page_at.result
+    found_where (λ (p : KeptPage). p.page.id.0 == c.in-Known.page.0) mark_of (g.R.Rows.kept c.args.rows.now).pages
+    c.page_at.result
     (subst (IsKnownIn (g.R.Rows.kept c.args.rows.now)) c.in-Known.is c.requires) c.page_at.ensures.mark

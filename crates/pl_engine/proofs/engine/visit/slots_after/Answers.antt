@@ -12,7 +12,8 @@ returns-in-Known-clause-after g c transition date =
     omega (
       arith,
       c.live-live.ensures.live,
-      slots_known (g.R.Rows.kept c.args.rows.now) c.args.url.now c.in-Known.field-0 transition date (subst (IsTargetOf (g.R.Rows.kept c.args.rows.now) c.args.url.now) c.in-Known.is c.requires),
+      slots_known (g.R.Rows.kept c.args.rows.now) c.args.url.now c.in-Known.field-0 transition date
+          (subst (IsTargetOf (g.R.Rows.kept c.args.rows.now) c.args.url.now) c.in-Known.is c.requires),
     )
 
 pub returns-in-New-clause-after : goal.returns-in-New-clause-after
@@ -21,5 +22,6 @@ returns-in-New-clause-after g c transition date =
       arith,
       c.live-live.ensures.live,
       c.new_slots.ensures.slots,
-      slots_new (g.R.Rows.kept c.args.rows.now) c.args.url.now c.in-New.origin transition date (subst (IsTargetOf (g.R.Rows.kept c.args.rows.now) c.args.url.now) c.in-New.is c.requires),
+      slots_new (g.R.Rows.kept c.args.rows.now) c.args.url.now c.in-New.origin transition date
+          (subst (IsTargetOf (g.R.Rows.kept c.args.rows.now) c.args.url.now) c.in-New.is c.requires),
     )

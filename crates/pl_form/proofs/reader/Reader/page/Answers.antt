@@ -9,14 +9,18 @@ use Rattle.pl_form.proofs.reader.Reader.page.Goals as goal
 pub returns-in_err-constant : goal.returns-in_err-constant
 returns-in_err-constant c =
     let p = err_from_is_err_and c.from_residual-in_err-constant.result c.from_residual-in_err-constant.ensures.1 in
-    rw (p.1, p.2) (page_stopped c.args.self.now c.four.new.self c.mark.new.self c.signed_eight.new.self c.url.new.self c.constant.new.self
+    rw (p.1, p.2) (page_stopped c.args.self.now c.four.new.self c.flag.new.self c.signed_eight.new.self c.url.new.self
+    c.constant.new.self
     c.in_ok-four.field-0 c.in_ok-typed.typed c.in_ok-frecency.frecency c.in_ok-url.url c.in_err-constant.field-0.0
-    c.in_ok-four.ensures.number c.in_ok-typed.ensures.mark c.in_ok-frecency.ensures.number c.in_ok-url.ensures.url c.in_err-constant.ensures.bytes)
+    c.in_ok-four.ensures.number c.in_ok-typed.ensures.flag c.in_ok-frecency.ensures.number c.in_ok-url.ensures.url
+    c.in_err-constant.ensures.bytes)
 
 pub returns : goal.returns
 returns c =
-    page_arrived c.args.self.now c.four.new.self c.mark.new.self c.signed_eight.new.self c.url.new.self c.constant.new.self c.in_ok-four.field-0 c.in_ok-typed.typed _ c.in_ok-url.url
-    c.in_ok-four.ensures.number c.in_ok-typed.ensures.mark
-    (subst (λ (z : ℤ). Reads signed_eight IsSignedEight c.mark.new.self (Ok z) c.signed_eight.new.self)
-    (sym (to_z-of_z w64 c.in_ok-frecency.frecency c.in_ok-frecency.ensures.number.ok.0)) c.in_ok-frecency.ensures.number)
+    page_arrived c.args.self.now c.four.new.self c.flag.new.self c.signed_eight.new.self c.url.new.self
+    c.constant.new.self c.in_ok-four.field-0 c.in_ok-typed.typed _ c.in_ok-url.url
+    c.in_ok-four.ensures.number c.in_ok-typed.ensures.flag
+    (subst (λ (z : ℤ). Reads signed_eight IsSignedEight c.flag.new.self (Ok z) c.signed_eight.new.self)
+    (sym (to_z-of_z w64 c.in_ok-frecency.frecency c.in_ok-frecency.ensures.number.ok.0))
+    c.in_ok-frecency.ensures.number)
     c.in_ok-url.ensures.url c.in_ok-constant.ensures.bytes

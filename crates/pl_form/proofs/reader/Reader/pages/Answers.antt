@@ -12,17 +12,22 @@ loop-index-init c =
 pub loop-index-preserved : goal.loop-index-preserved
 loop-index-preserved c =
     rw c.in_ok-push.ensures.items (
-      one_more_read stored_page_bytes IsStoredPage c.four.new.self c.loop-index.pages.items c.in_ok-page.field-0 c.loop-index.self c.page.new.self c.loop-index.invariant.0 c.in_ok-page.ensures,
+      one_more_read stored_page_bytes IsStoredPage c.four.new.self c.loop-index.pages.items c.in_ok-page.field-0
+          c.loop-index.self c.page.new.self c.loop-index.invariant.0 c.in_ok-page.ensures,
       length_push c.loop-index.pages.items c.in_ok-page.field-0 ∙ ap (λ n. n + 1) c.loop-index.invariant.1,
     )
 
 pub returns-in_err-page : goal.returns-in_err-page
 returns-in_err-page c =
     let p = err_from_is_err_and c.from_residual-in_err-page.result c.from_residual-in_err-page.ensures.1 in
-    rw (p.1, p.2) (list_stopped stored_page_bytes IsStoredPage c.args.self.now c.four.new.self c.loop-index.pages.items c.in_ok-count.count c.loop-index.self c.page.new.self c.in_err-page.field-0.0
-    c.in_ok-count.ensures.number c.loop-index.invariant.0 (omega (arith, c.loop-index.invariant.1, c.loop-index-test.true)) c.in_err-page.ensures)
+    rw (p.1, p.2) (list_stopped stored_page_bytes IsStoredPage c.args.self.now c.four.new.self c.loop-index.pages.items
+    c.in_ok-count.count c.loop-index.self c.page.new.self c.in_err-page.field-0.0
+    c.in_ok-count.ensures.number c.loop-index.invariant.0
+    (omega (arith, c.loop-index.invariant.1, c.loop-index-test.true)) c.in_err-page.ensures)
 
 pub returns : goal.returns
 returns c =
-    let last : length c.loop-index.pages.items ≡ c.in_ok-count.count = omega (arith, c.loop-index.invariant.1, c.loop-index-test.false) in
-    list_read stored_page_bytes IsStoredPage c.args.self.now c.four.new.self c.loop-index.pages.items c.in_ok-count.count c.loop-index.self c.in_ok-count.ensures.number c.loop-index.invariant.0 last
+    let last : length c.loop-index.pages.items ≡ c.in_ok-count.count =
+    omega (arith, c.loop-index.invariant.1, c.loop-index-test.false) in
+    list_read stored_page_bytes IsStoredPage c.args.self.now c.four.new.self c.loop-index.pages.items
+    c.in_ok-count.count c.loop-index.self c.in_ok-count.ensures.number c.loop-index.invariant.0 last

@@ -11,22 +11,29 @@ returns-in_err-ids c =
 pub returns-in_err-pages : goal.returns-in_err-pages
 returns-in_err-pages c =
     let p = err_from_is_err_and c.from_residual-in_err-pages.result c.from_residual-in_err-pages.ensures.1 in
-    rw (p.1, p.2) (no_pages c.args.self.now c.four.new.self c.ids.new.self c.pages.new.self c.in_ok-four.field-0 c.in_ok-ids.ids c.in_err-pages.field-0.0
+    rw (p.1, p.2) (no_pages c.args.self.now c.four.new.self c.ids.new.self c.pages.new.self c.in_ok-four.field-0
+    c.in_ok-ids.ids c.in_err-pages.field-0.0
     c.in_ok-four.ensures.number c.in_ok-ids.ensures c.in_err-pages.ensures)
 
 pub returns-in_err-visits : goal.returns-in_err-visits
 returns-in_err-visits c =
     let p = err_from_is_err_and c.from_residual-in_err-visits.result c.from_residual-in_err-visits.ensures.1 in
-    rw (p.1, p.2) (no_visits c.args.self.now c.four.new.self c.ids.new.self c.pages.new.self c.visits.new.self c.in_ok-four.field-0 c.in_ok-ids.ids c.in_ok-pages.pages.items c.in_err-visits.field-0.0
+    rw (p.1, p.2) (no_visits c.args.self.now c.four.new.self c.ids.new.self c.pages.new.self c.visits.new.self
+    c.in_ok-four.field-0 c.in_ok-ids.ids c.in_ok-pages.pages.items c.in_err-visits.field-0.0
     c.in_ok-four.ensures.number c.in_ok-ids.ensures c.in_ok-pages.ensures c.in_err-visits.ensures)
 
 pub returns-in_err-constant : goal.returns-in_err-constant
 returns-in_err-constant c =
     let p = err_from_is_err_and c.from_residual-in_err-constant.result c.from_residual-in_err-constant.ensures.1 in
-    rw (p.1, p.2) (no_roots c.args.self.now c.four.new.self c.ids.new.self c.pages.new.self c.visits.new.self c.constant.new.self c.in_ok-four.field-0 c.in_ok-ids.ids c.in_ok-pages.pages.items c.in_ok-visits.visits.items c.in_err-constant.field-0.0
-    c.in_ok-four.ensures.number c.in_ok-ids.ensures c.in_ok-pages.ensures c.in_ok-visits.ensures c.in_err-constant.ensures.bytes)
+    rw (p.1, p.2) (no_roots c.args.self.now c.four.new.self c.ids.new.self c.pages.new.self c.visits.new.self
+    c.constant.new.self c.in_ok-four.field-0 c.in_ok-ids.ids c.in_ok-pages.pages.items c.in_ok-visits.visits.items
+    c.in_err-constant.field-0.0
+    c.in_ok-four.ensures.number c.in_ok-ids.ensures c.in_ok-pages.ensures c.in_ok-visits.ensures
+    c.in_err-constant.ensures.bytes)
 
 pub returns : goal.returns
 returns c =
-    rows_read c.args.self.now c.four.new.self c.ids.new.self c.pages.new.self c.visits.new.self c.constant.new.self c.in_ok-four.field-0 c.in_ok-ids.ids c.in_ok-pages.pages.items c.in_ok-visits.visits.items
-    c.in_ok-four.ensures.number c.in_ok-ids.ensures c.in_ok-pages.ensures c.in_ok-visits.ensures c.in_ok-constant.ensures.bytes
+    rows_read c.args.self.now c.four.new.self c.ids.new.self c.pages.new.self c.visits.new.self c.constant.new.self
+    c.in_ok-four.field-0 c.in_ok-ids.ids c.in_ok-pages.pages.items c.in_ok-visits.visits.items
+    c.in_ok-four.ensures.number c.in_ok-ids.ensures c.in_ok-pages.ensures c.in_ok-visits.ensures
+    c.in_ok-constant.ensures.bytes

@@ -9,7 +9,10 @@ use Rattle.pl_plain.proofs.check.marks.put_in_place.Goals as goal
 
 pub returns : goal.returns
 returns c =
-    let found : c.position-earlier.result ≡ position (λ (w : StoredVisit). is_later (visit_of c.args.visit) (visit_of w)) c.args.sample.now.items =
-    position_from_yields_List (λ (w : StoredVisit). is_later (visit_of c.args.visit) (visit_of w)) _ _ c.position-earlier.result c.position-earlier.ensures.ran (YieldsList-from_slice c.args.sample.now.items cc) (λ x b q k. search (rules, tests)) in
+    let found : c.position-earlier.result
+    ≡ position (λ (w : StoredVisit). is_later (visit_of c.args.visit) (visit_of w)) c.args.sample.now.items =
+    position_from_yields_List (λ (w : StoredVisit). is_later (visit_of c.args.visit) (visit_of w)) _ _
+    c.position-earlier.result c.position-earlier.ensures.ran (YieldsList-from_slice c.args.sample.now.items cc)
+    (λ x b q k. search (rules, tests)) in
     rw (c.truncate.ensures.items, c.in_ok-insert.ensures.items, c.unwrap_or.ensures, found)
     (put_in_place-rows c.args.visit c.args.sample.now.items c.len.result (cc))

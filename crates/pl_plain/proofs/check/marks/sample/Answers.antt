@@ -10,9 +10,13 @@ loop-visit-preserved c =
 
 pub returns : goal.returns
 returns c =
-    let road = YieldsList-at c.filter-visit-items.ensures.source (YieldsList-from_rev_slice c.args.rows.now.visits cc) in
+    let road =
+    YieldsList-at c.filter-visit-items.ensures.source (YieldsList-from_rev_slice c.args.rows.now.visits cc) in
     let all =
     YieldsList-end
-    (YieldsList-at c.into_iter-visit-iterator.ensures.into_iter_gives (YieldsList-from_filter _ (of_page c.args.page) road c.filter-visit-items.ensures.closure (λ x b q k. search (rules, tests))))
-    c.loop-visit.yielded c.loop-visit.visit-iterator c.loop-visit.yielded_by c.next.result c.next.new.self c.in-None.is c.next.ensures.steps in
+    (YieldsList-at c.into_iter-visit-iterator.ensures.into_iter_gives
+    (YieldsList-from_filter _ (of_page c.args.page) road c.filter-visit-items.ensures.closure
+    (λ x b q k. search (rules, tests))))
+    c.loop-visit.yielded c.loop-visit.visit-iterator c.loop-visit.yielded_by c.next.result c.next.new.self c.in-None.is
+    c.next.ensures.steps in
     c.loop-visit.invariant ∙ sample_all c.args.page c.args.rows.now.visits c.loop-visit.yielded all.0

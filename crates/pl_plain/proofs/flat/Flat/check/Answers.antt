@@ -8,11 +8,13 @@ use Rattle.pl_plain.proofs.CheckFlat.{begins-right, is-right, slots-by, stands-f
 use Rattle.pl_plain.proofs.CheckHeld.{apart, good_read, live_read, not_read, right_read}
 use Rattle.pl_plain.proofs.OneStore.{one_store}
 use Rattle.pl_plain.proofs.flat.Flat.check.Goals as goal
+use Rattle.pl_base.specs.Touched.{behind_gate}
 
 pub returns-clause-stands : goal.returns-clause-stands
 returns-clause-stands c =
-    subst (λ (kept : Kept). StandsFor (drop 1024 c.args.bytes.now) (store_of kept)) (sym c.into_flat.ensures.kept)
-    (stands-for (drop 1024 c.args.bytes.now) c.in_ok-rows.field-0.rows c.in_ok-named.named.pages.items c.in_ok-named.ensures.origins.0 c.in_ok-named.named.origins c.live-live.result
+    subst (λ (kept : Kept). StandsFor (behind_gate c.args.bytes.now) (store_of kept)) (sym c.into_flat.ensures.kept)
+    (stands-for (behind_gate c.args.bytes.now) c.in_ok-rows.field-0.rows c.in_ok-named.named.pages.items
+    c.in_ok-named.ensures.origins.0 c.in_ok-named.named.origins c.live-live.result
     c.in_ok-rows.ensures.holds
     (record {
       stored = c.in_ok-rows.ensures.stored;
@@ -21,55 +23,64 @@ returns-clause-stands c =
       named = c.in_ok-named.ensures.origins.1;
       count = c.in_ok-named.ensures.origins.2;
       slots = c.live-live.ensures;
-      few = c.if-live-gt-SLOT_LIMIT.false;
+      few = omega (arith, c.if-live-from.false);
     }))
 
 pub returns-clause-right : goal.returns-clause-right
 returns-clause-right c =
-    subst IsRight (sym c.into_flat.ensures.kept) (is-right c.in_ok-rows.field-0.rows c.in_ok-named.named.pages.items c.in_ok-named.named.origins c.in_ok-named.ensures.pages)
+    subst IsRight (sym c.into_flat.ensures.kept)
+    (is-right c.in_ok-rows.field-0.rows c.in_ok-named.named.pages.items c.in_ok-named.named.origins
+    c.in_ok-named.ensures.pages)
 
 pub returns-clause-begins : goal.returns-clause-begins
 returns-clause-begins c =
-    begins-right (drop 1024 c.args.bytes.now) (kept_of c.into_flat.result) (returns-clause-stands c) (returns-clause-right c)
+    begins-right (behind_gate c.args.bytes.now) (kept_of c.into_flat.result) (returns-clause-stands c)
+    (returns-clause-right c)
 
 pub returns-in_err-rows-clause-not_a_store : goal.returns-in_err-rows-clause-not_a_store
 returns-in_err-rows-clause-not_a_store c refused store held =
     let p = err_from_is_err_and c.from_residual.result c.from_residual.ensures.1 in
-    let memory = not_read (drop 1024 c.args.bytes.now) store c.in_err-rows.field-0.0 held c.in_err-rows.ensures.whole in
+    let memory =
+    not_read (behind_gate c.args.bytes.now) store c.in_err-rows.field-0.0 held c.in_err-rows.ensures.whole in
     apart c.from_residual.result p.0 c.in_err-rows.field-0.0 refused p.1 p.2 memory
 
 pub returns-then-not-are_good-clause-not_a_store : goal.returns-then-not-are_good-clause-not_a_store
 returns-then-not-are_good-clause-not_a_store c refused store held =
-    let good = good_read (drop 1024 c.args.bytes.now) store c.in_ok-rows.field-0.rows held c.in_ok-rows.ensures.whole in
+    let good =
+    good_read (behind_gate c.args.bytes.now) store c.in_ok-rows.field-0.rows held c.in_ok-rows.ensures.whole in
     true≢false (sym (c.are_good.ensures.1 good) ∙ c.if-not-are_good.true)
 
 pub returns-in_err-named-clause-not_a_store : goal.returns-in_err-named-clause-not_a_store
 returns-in_err-named-clause-not_a_store c refused store held =
     let p = err_from_is_err_and c.from_residual-in_err-named.result c.from_residual-in_err-named.ensures.1 in
-    let memory = c.in_err-named.ensures.right (right_read (drop 1024 c.args.bytes.now) store c.in_ok-rows.field-0.rows held c.in_ok-rows.ensures.whole) in
+    let memory =
+    c.in_err-named.ensures.right
+    (right_read (behind_gate c.args.bytes.now) store c.in_ok-rows.field-0.rows held c.in_ok-rows.ensures.whole) in
     apart c.from_residual-in_err-named.result p.0 c.in_err-named.field-0.0 refused p.1 p.2 memory
 
-pub returns-then-live-gt-SLOT_LIMIT-clause-not_a_store : goal.returns-then-live-gt-SLOT_LIMIT-clause-not_a_store
-returns-then-live-gt-SLOT_LIMIT-clause-not_a_store c refused store held =
-    let few = live_read (drop 1024 c.args.bytes.now) store c.in_ok-rows.field-0.rows held c.in_ok-rows.ensures.whole in
+pub returns-then-live-from-clause-not_a_store : goal.returns-then-live-from-clause-not_a_store
+returns-then-live-from-clause-not_a_store c refused store held =
+    let few =
+    live_read (behind_gate c.args.bytes.now) store c.in_ok-rows.field-0.rows held c.in_ok-rows.ensures.whole in
     let slots =
-    slots-by c.in_ok-rows.field-0.rows c.in_ok-named.named.pages.items c.in_ok-named.ensures.origins.0 c.in_ok-named.named.origins c.live-live.result
+    slots-by c.in_ok-rows.field-0.rows c.in_ok-named.named.pages.items c.in_ok-named.ensures.origins.0
+    c.in_ok-named.named.origins c.live-live.result
     c.in_ok-named.ensures.pages c.in_ok-named.ensures.origins.1 c.in_ok-named.ensures.origins.2 c.live-live.ensures in
-    omega (arith, few, slots, c.if-live-gt-SLOT_LIMIT.true)
+    omega (arith, few, slots, c.if-live-from.true)
 
 -- ---- one store at most, at each exit
 
 pub returns-in_err-rows-clause-one : goal.returns-in_err-rows-clause-one
-returns-in_err-rows-clause-one c = one_store (drop 1024 c.args.bytes.now) c.in_err-rows.ensures.one
+returns-in_err-rows-clause-one c = one_store (behind_gate c.args.bytes.now) c.in_err-rows.ensures.one
 
 pub returns-then-not-are_good-clause-one : goal.returns-then-not-are_good-clause-one
-returns-then-not-are_good-clause-one c = one_store (drop 1024 c.args.bytes.now) c.in_ok-rows.ensures.one
+returns-then-not-are_good-clause-one c = one_store (behind_gate c.args.bytes.now) c.in_ok-rows.ensures.one
 
 pub returns-in_err-named-clause-one : goal.returns-in_err-named-clause-one
-returns-in_err-named-clause-one c = one_store (drop 1024 c.args.bytes.now) c.in_ok-rows.ensures.one
+returns-in_err-named-clause-one c = one_store (behind_gate c.args.bytes.now) c.in_ok-rows.ensures.one
 
-pub returns-then-live-gt-SLOT_LIMIT-clause-one : goal.returns-then-live-gt-SLOT_LIMIT-clause-one
-returns-then-live-gt-SLOT_LIMIT-clause-one c = one_store (drop 1024 c.args.bytes.now) c.in_ok-rows.ensures.one
+pub returns-then-live-from-clause-one : goal.returns-then-live-from-clause-one
+returns-then-live-from-clause-one c = one_store (behind_gate c.args.bytes.now) c.in_ok-rows.ensures.one
 
 pub returns-clause-one : goal.returns-clause-one
-returns-clause-one c = one_store (drop 1024 c.args.bytes.now) c.in_ok-rows.ensures.one
+returns-clause-one c = one_store (behind_gate c.args.bytes.now) c.in_ok-rows.ensures.one

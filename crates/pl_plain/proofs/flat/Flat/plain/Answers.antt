@@ -7,19 +7,30 @@ use Rattle.pl_plain.specs.FlatRows.{form_row, page_of}
 use Rattle.pl_form.specs.Form.{four, item_bytes, kept_rows, listed, page_bytes, plain_bytes, visit_bytes}
 use Rattle.pl_plain.proofs.Appends.{seven_writes}
 use Rattle.pl_plain.proofs.Lengths.{plain_is_short, urls_fit}
-use Rattle.pl_plain.proofs.Lists.{map-map}
+use Rattle.pl_base.proofs.ListLaws.{map-map}
 use Rattle.pl_plain.proofs.flat.Flat.plain.Goals as goal
 
 pub put_pages-requires-clause-urls : goal.put_pages-requires-clause-urls
-put_pages-requires-clause-urls c = rw c.deref.ensures.value (urls_fit c.args.self.now.pages.items c.args.self.now.rows.urls)
+put_pages-requires-clause-urls c =
+    rw c.deref.ensures.value (urls_fit c.args.self.now.pages.items c.args.self.now.rows.urls)
 
 pub returns-clause-plain : goal.returns-clause-plain
 returns-clause-plain c =
     let f = c.args.self.now in
-    let pages = c.in_ok-put_pages.ensures ∙ ap (λ rows. c.put_four-4.new.out.items ++ listed page_bytes rows) (ap (map form_row) c.deref.ensures.value ∙ sym (map-map (λ (p : KeptPage). (p.page, p.frecency)) page_of f.pages.items)) in
-    let visits = c.in_ok-put_visits.ensures ∙ ap (λ rows. c.put_pages.new.out.items ++ listed visit_bytes (map visit_of rows)) c.deref-2.ensures.value in
-    seven_writes c.new-out.result.items (four f.day.0) (four f.ids.page) (four f.ids.visit) (four f.ids.item) (listed page_bytes (kept_rows (kept_of f)).pages) (listed visit_bytes (map visit_of f.visits.items)) (listed item_bytes roots)
-    c.in_ok-put_four.ensures c.in_ok-put_four-2.ensures c.in_ok-put_four-3.ensures c.in_ok-put_four-4.ensures pages visits c.in_ok-put_roots.ensures
+    let pages =
+    c.in_ok-put_pages.ensures
+    ∙ ap (λ rows. c.put_four-4.new.out.items ++ listed page_bytes rows)
+    (ap (map form_row) c.deref.ensures.value
+    ∙ sym (map-map (λ (p : KeptPage). (p.page, p.frecency)) page_of f.pages.items)) in
+    let visits =
+    c.in_ok-put_visits.ensures
+    ∙ ap (λ rows. c.put_pages.new.out.items ++ listed visit_bytes (map visit_of rows))
+    c.deref-2.ensures.value in
+    seven_writes c.new-out.result.items (four f.day.0) (four f.ids.page) (four f.ids.visit) (four f.ids.item)
+    (listed page_bytes (kept_rows (kept_of f)).pages) (listed visit_bytes (map visit_of f.visits.items))
+    (listed item_bytes roots)
+    c.in_ok-put_four.ensures c.in_ok-put_four-2.ensures c.in_ok-put_four-3.ensures c.in_ok-put_four-4.ensures pages
+    visits c.in_ok-put_roots.ensures
     ∙ ap (λ start. start ++ plain_bytes (kept_rows (kept_of f))) c.new-out.ensures.items
 
 pub returns-clause-few : goal.returns-clause-few

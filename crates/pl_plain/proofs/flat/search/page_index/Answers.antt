@@ -8,5 +8,6 @@ pub returns : goal.returns
 returns c =
     let facts = c.binary_search_by_key.ensures in
     c.ok.ensures.value
-    ∙ place_searched (λ (p : FlatPage). p.id.0) c.args.pages.now c.requires c.args.id.0 c.binary_search_by_key.result facts.bound
+    ∙ place_searched (λ (p : FlatPage). p.id.0) c.args.pages.now c.requires c.args.id.0 c.binary_search_by_key.result
+    facts.bound
     (facts.position (λ (p : FlatPage). p.id.0) (answers_always _ _ _ (λ f a r g called. search rules)))

@@ -7,5 +7,6 @@ use Rattle.pl_plain.proofs.flat.tests.add_visit.Goals as goal
 
 pub insert_visit-requires-clause-page : goal.insert_visit-requires-clause-page
 insert_visit-requires-clause-page g c =
-    there-found (λ (p : KeptPage). p.page.id.0 == c.args.page.0) mark_of (kept_of c.args.flat.now).pages c.in_ok-ok_or.field-0
+    there-found (λ (p : KeptPage). p.page.id.0 == c.args.page.0) mark_of (kept_of c.args.flat.now).pages
+    c.in_ok-ok_or.field-0
     (ap result_ok (sym c.in_ok-ok_or.was) ∙ sym c.ok_or.ensures.ok_part ∙ c.page_at.ensures.mark)

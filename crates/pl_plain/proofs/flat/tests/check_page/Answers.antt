@@ -7,10 +7,12 @@ use Rattle.pl_plain.proofs.flat.tests.check_page.Goals as goal
 
 pub origin_of-name-requires : goal.origin_of-name-requires
 origin_of-name-requires g c =
-    there-found (λ (p : KeptPage). p.page.id.0 == c.args.page.0) mark_of (kept_of c.args.flat.now).pages c.in_ok-ok_or.field-0
+    there-found (λ (p : KeptPage). p.page.id.0 == c.args.page.0) mark_of (kept_of c.args.flat.now).pages
+    c.in_ok-ok_or.field-0
     (ap result_ok (sym c.in_ok-ok_or.was) ∙ sym c.ok_or.ensures.ok_part ∙ c.page_at.ensures.mark)
 
 pub url-requires : goal.url-requires
 url-requires g c =
-    there-found (λ (p : KeptPage). p.page.id.0 == c.args.page.0) mark_of (kept_of c.args.flat.now).pages c.in_ok-ok_or.field-0
+    there-found (λ (p : KeptPage). p.page.id.0 == c.args.page.0) mark_of (kept_of c.args.flat.now).pages
+    c.in_ok-ok_or.field-0
     (ap result_ok (sym c.in_ok-ok_or.was) ∙ sym c.ok_or.ensures.ok_part ∙ c.page_at.ensures.mark)

@@ -5,4 +5,5 @@ use Rattle.pl_form.specs.Stored.{visit_of}
 use Rattle.pl_plain.proofs.flat.write.put_visits.Given as goal
 
 abbrev pub invariant-loop-visit : goal.invariant-loop-visit
-invariant-loop-visit l = l.out.items ≡ l.initial.out.items ++ flat_map visit_bytes (map visit_of (take l.visit-index l.visits))
+invariant-loop-visit l =
+    l.out.items ≡ l.initial.out.items ++ flat_map visit_bytes (map visit_of (take l.visit-index l.visits))

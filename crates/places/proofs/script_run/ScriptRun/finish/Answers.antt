@@ -3,7 +3,8 @@ use Rattle.std.proofs.lemmas.Result.{IfOk-weaker, on_ok_weaker}
 use Rattle.pl_desk.specs.Moments.{shows_less}
 use Rattle.pl_engine.specs.Run.{replies}
 use Rattle.pl_script.specs.Script.{script}
-use Rattle.pl_store.specs.Keeper.{is_file, slot_limit, store_of}
+use Rattle.pl_base.specs.Live.{slot_limit}
+use Rattle.pl_store.specs.Keeper.{is_file, store_of}
 use Rattle.places.specs.Progress.{ended_entries}
 use Rattle.places.specs.Said.{texts}
 use Rattle.places.specs.Stops.{ShowsAnswered}

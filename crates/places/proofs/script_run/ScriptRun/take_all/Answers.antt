@@ -3,7 +3,8 @@ use Rattle.std.proofs.lemmas.Option.{none-some}
 use Rattle.std.proofs.lemmas.Result.{err_from_is_err_and}
 use Rattle.std.specs.Result.{result_err}
 use Rattle.pl_desk.specs.Moments.{shows_less}
-use Rattle.pl_store.specs.Keeper.{is_file, slot_limit}
+use Rattle.pl_base.specs.Live.{slot_limit}
+use Rattle.pl_store.specs.Keeper.{is_file}
 use Rattle.places.specs.Progress.{IsAt, ended_entries}
 use Rattle.places.specs.Stops.{ShowsAnswered}
 use Rattle.places.proofs.EntryLemmas.{leaves_within}

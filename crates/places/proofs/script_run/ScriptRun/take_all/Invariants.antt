@@ -1,6 +1,7 @@
 use Rattle.std.proofs.Common.{◌≡◌, ◌++◌, List, Option, ℕ, Some, false, take}
 use Rattle.pl_base.specs.Store.{Store}
-use Rattle.pl_store.specs.Keeper.{IsKept, is_file, slot_limit}
+use Rattle.pl_base.specs.Live.{slot_limit}
+use Rattle.pl_store.specs.Keeper.{IsKept, is_file}
 use Rattle.places.specs.Progress.{IsAt, ended_entries}
 use Rattle.places.specs.Stops.{ShowsAnswered}
 use Rattle.places.proofs.script_run.ScriptRun.take_all.Given as goal

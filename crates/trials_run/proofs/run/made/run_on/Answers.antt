@@ -2,7 +2,7 @@ use Rattle.std.proofs.Common.{◌++◌, inr, refl, true}
 use Rattle.std.specs.Prelude.{codes}
 use Rattle.pl_engine.specs.Run.{after, replies}
 use Rattle.pl_script.specs.Script.{script}
-use Rattle.pl_store.specs.Keeper.{slot_limit}
+use Rattle.pl_base.specs.Live.{slot_limit}
 use Rattle.places.specs.Ending.{LeavesAtEnd, SaysAll}
 use Rattle.places.specs.declared.status.Status.TheVariants as status
 use Rattle.places.specs.Said.{texts}

@@ -11,10 +11,13 @@ returns-in_err-latest-clause-latest g c =
     c.from_residual.ensures
     ∙ first_id-none (latest_first (filter (is_within c.args.page None) (map visit_of c.args.self.now.visits.items)))
     (ap (option_map visit_of) (sym c.in_err-latest.was) ∙ c.latest_visit.ensures
-    ∙ ap (λ rows. first_of (latest_first (filter (is_within c.args.page None) (map visit_of rows)))) c.deref.ensures.value)
+    ∙ ap (λ rows. first_of (latest_first (filter (is_within c.args.page None) (map visit_of rows))))
+    c.deref.ensures.value)
 
 pub returns-clause-latest : goal.returns-clause-latest
 returns-clause-latest g c =
-    first_id-some (latest_first (filter (is_within c.args.page None) (map visit_of c.args.self.now.visits.items))) (visit_of c.in_ok-latest.latest)
+    first_id-some (latest_first (filter (is_within c.args.page None) (map visit_of c.args.self.now.visits.items)))
+    (visit_of c.in_ok-latest.latest)
     (ap (option_map visit_of) (sym c.in_ok-latest.was) ∙ c.latest_visit.ensures
-    ∙ ap (λ rows. first_of (latest_first (filter (is_within c.args.page None) (map visit_of rows)))) c.deref.ensures.value)
+    ∙ ap (λ rows. first_of (latest_first (filter (is_within c.args.page None) (map visit_of rows))))
+    c.deref.ensures.value)

@@ -6,12 +6,17 @@ use Rattle.pl_plain.proofs.Searches.{pages_ascend}
 use Rattle.pl_plain.proofs.flat.rows.FlatRows.origin_of.Goals as goal
 
 pub find_page-requires : goal.find_page-requires
-find_page-requires g c = pages_ascend c.args.self.now.pages.items c.deref.result.now c.args.self.now.rows.page_ids.ascending c.deref.ensures.value
+find_page-requires g c =
+    pages_ascend c.args.self.now.pages.items c.deref.result.now c.args.self.now.rows.page_ids.ascending
+    c.deref.ensures.value
 
 pub unwrap-requires : goal.unwrap-requires
 unwrap-requires g c =
-    found-there (λ (p : KeptPage). p.page.id.0 == c.args.page.0) page_of c.args.self.now.pages.items c.deref.result.now c.find_page.result c.find_page.ensures c.deref.ensures.value c.requires
+    found-there (λ (p : KeptPage). p.page.id.0 == c.args.page.0) page_of c.args.self.now.pages.items c.deref.result.now
+    c.find_page.result c.find_page.ensures c.deref.ensures.value c.requires
 
 pub returns-clause-origin : goal.returns-clause-origin
 returns-clause-origin g c =
-    found-some (λ (p : KeptPage). p.page.id.0 == c.args.page.0) page_of (λ (p : KeptPage). p.origin) c.args.self.now.pages.items c.deref.result.now c.find_page.result c.unwrap.result c.unwrap.ensures c.find_page.ensures c.deref.ensures.value
+    found-some (λ (p : KeptPage). p.page.id.0 == c.args.page.0) page_of (λ (p : KeptPage). p.origin)
+    c.args.self.now.pages.items c.deref.result.now c.find_page.result c.unwrap.result c.unwrap.ensures
+    c.find_page.ensures c.deref.ensures.value

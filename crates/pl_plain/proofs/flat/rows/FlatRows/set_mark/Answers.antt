@@ -11,19 +11,24 @@ use Rattle.pl_plain.proofs.Searches.{pages_ascend}
 use Rattle.pl_plain.proofs.flat.rows.FlatRows.set_mark.Goals as goal
 
 pub mark_page-requires : goal.mark_page-requires
-mark_page-requires g c = pages_ascend c.args.self.now.pages.items c.deref_mut.result.now c.args.self.now.rows.page_ids.ascending c.deref_mut.ensures.value
+mark_page-requires g c =
+    pages_ascend c.args.self.now.pages.items c.deref_mut.result.now c.args.self.now.rows.page_ids.ascending
+    c.deref_mut.ensures.value
 
 pub invariant_of-self : goal.invariant_of-self
 invariant_of-self g c =
     let f = c.args.self.now in
     let marks : List FlatPage = map (marked_row c.args.page c.args.mark) f.pages.items in
     let same : take f.pages.len (c.mark_page.new.pages ++ drop (length c.mark_page.new.pages) f.pages.items) ≡ marks =
-    all_written f.pages.len f.pages.items marks c.mark_page.new.pages (c.mark_page.ensures ∙ ap (map (marked_row c.args.page c.args.mark)) c.deref_mut.ensures.value)
+    all_written f.pages.len f.pages.items marks c.mark_page.new.pages
+    (c.mark_page.ensures ∙ ap (map (marked_row c.args.page c.args.mark)) c.deref_mut.ensures.value)
     (length-map f.pages.items (marked_row c.args.page c.args.mark)) (omega arith) in
     record {
       rows =
-          subst (λ (pages : List FlatPage). IsFlat (kept_from f.day f.ids pages f.origins f.visits.items) f.origins f.live) (sym same)
-          (subst (λ (pages : List KeptPage). IsFlat (record (kept_of f) { pages = pages }) f.origins f.live) (sym (kept_marked c.args.page c.args.mark f.pages.items))
+          subst (λ (pages : List FlatPage). IsFlat (kept_from f.day f.ids pages f.origins f.visits.items) f.origins
+          f.live) (sym same)
+          (subst (λ (pages : List KeptPage). IsFlat (record (kept_of f) { pages = pages }) f.origins f.live)
+          (sym (kept_marked c.args.page c.args.mark f.pages.items))
           (IsFlat-with_mark c.args.page c.args.mark (kept_of f) f.origins f.live f.rows));
       some_page = f.some_page;
       settled = λ settled. absurd (true≢false settled);
@@ -34,6 +39,8 @@ returns-clause-kept g c =
     let f = c.args.self.now in
     let marks : List FlatPage = map (marked_row c.args.page c.args.mark) f.pages.items in
     let same : take f.pages.len (c.mark_page.new.pages ++ drop (length c.mark_page.new.pages) f.pages.items) ≡ marks =
-    all_written f.pages.len f.pages.items marks c.mark_page.new.pages (c.mark_page.ensures ∙ ap (map (marked_row c.args.page c.args.mark)) c.deref_mut.ensures.value)
+    all_written f.pages.len f.pages.items marks c.mark_page.new.pages
+    (c.mark_page.ensures ∙ ap (map (marked_row c.args.page c.args.mark)) c.deref_mut.ensures.value)
     (length-map f.pages.items (marked_row c.args.page c.args.mark)) (omega arith) in
-    ap (λ (pages : List KeptPage). record (kept_of f) { pages = pages }) (ap (map page_of) same ∙ kept_marked c.args.page c.args.mark f.pages.items)
+    ap (λ (pages : List KeptPage). record (kept_of f) { pages = pages })
+    (ap (map page_of) same ∙ kept_marked c.args.page c.args.mark f.pages.items)

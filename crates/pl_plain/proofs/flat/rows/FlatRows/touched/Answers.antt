@@ -12,4 +12,5 @@ returns-clause-whole g c base _ =
 
 pub returns-clause-within : goal.returns-clause-within
 returns-clause-within g c =
-    subst IsWithin (sym c.in_ok-change.ensures) (whole_change-within c.args.self.now.before c.deref.result.now c.args.self.now.some_page)
+    subst IsWithin (sym c.in_ok-change.ensures)
+    (whole_change-within c.args.self.now.before c.deref.result.now c.args.self.now.some_page)

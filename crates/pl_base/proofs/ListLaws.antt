@@ -1,6 +1,7 @@
--- Facts of lists, and of the engine's rows as lists.
-use Rattle.std.proofs.Common.{◌≡◌, ◌+◌, ◌<◌, ◌++◌, ◌||◌, ◌∙◌, ℕ, All, Bool, true, false, List, [], ◌∷◌, ap, arith, length, map, refl, subst}
-use Rattle.std.specs.List.{AllPairs, list_all, list_any, sum_by}
+-- Facts of lists.
+use Rattle.std.proofs.Common.{◌≡◌, ◌+◌, ◌<◌, ◌≤◌, ◌++◌, ◌&&◌, ◌||◌, ◌∙◌, ℕ, All, Bool, true, false, List}
+use Rattle.std.proofs.Common.{[], ◌∷◌, ap, arith, count_by, filter, if◌then◌else◌, length, map, refl, subst}
+use Rattle.std.specs.List.{AllByRecursion, AllPairs, list_all, list_any, sum_by}
 use Rattle.std.proofs.lemmas.Bool.{or_left, or_right}
 use Rattle.std.proofs.lemmas.List.{get_or-map, length-map}
 use Rattle.std.proofs.lemmas.List.Elements.{All-head, All-tail}
@@ -15,14 +16,16 @@ pub All-from_map : {X Y : Type 0} (P : Y → Type 0) (f : X → Y) (xs : List X)
 All-from_map P f xs all k d within =
     subst P (get_or-map f xs k d (f d) within) (all k (f d) (rw (length-map xs f) within))
 
-pub AllPairs-map : {X Y : Type 0} (R : Y → Y → Type 0) (f : X → Y) (xs : List X) → AllPairs (λ x y. R (f x) (f y)) xs → AllPairs R (map f xs)
+pub AllPairs-map : {X Y : Type 0} (R : Y → Y → Type 0) (f : X → Y) (xs : List X) → AllPairs (λ x y. R (f x) (f y)) xs
+    → AllPairs R (map f xs)
 AllPairs-map R f [] pairs i j d before within = absurd (omega arith)
 AllPairs-map R f (x ∷ xs) pairs i j d before within =
     let last : j < length (x ∷ xs) = rw (length-map (x ∷ xs) f) at within in
     let first : i < length (x ∷ xs) = omega arith in
     rw (get_or-map f (x ∷ xs) i x d first, get_or-map f (x ∷ xs) j x d last) (pairs i j x before last)
 
-pub AllPairs-from_map : {X Y : Type 0} (R : Y → Y → Type 0) (f : X → Y) (xs : List X) → AllPairs R (map f xs) → AllPairs (λ x y. R (f x) (f y)) xs
+pub AllPairs-from_map : {X Y : Type 0} (R : Y → Y → Type 0) (f : X → Y) (xs : List X) → AllPairs R (map f xs)
+    → AllPairs (λ x y. R (f x) (f y)) xs
 AllPairs-from_map R f xs pairs i j d before within =
     let last : j < length (map f xs) = rw (length-map xs f) within in
     let first : i < length xs = omega arith in
@@ -42,7 +45,8 @@ sum_by-agree f g (x ∷ xs) agree =
       sum_by-agree f g xs (All-tail (λ y. f y ≡ g y) x xs agree),
     )
 
-pub list_any-map : {X Y : Type 0} (p : Y → Bool) (f : X → Y) (xs : List X) → list_any p (map f xs) ≡ list_any (λ x. p (f x)) xs
+pub list_any-map : {X Y : Type 0} (p : Y → Bool) (f : X → Y) (xs : List X)
+    → list_any p (map f xs) ≡ list_any (λ x. p (f x)) xs
 list_any-map p f [] = refl
 list_any-map p f (x ∷ xs) = ap (λ b. p (f x) || b) (list_any-map p f xs)
 
@@ -50,7 +54,8 @@ pub list_any-alike : {X : Type 0} (p q : X → Bool) (xs : List X) → ((x : X) 
 list_any-alike p q [] alike = refl
 list_any-alike p q (x ∷ xs) alike = rw (alike x, list_any-alike p q xs alike)
 
-pub list_any_push : {X : Type 0} (p : X → Bool) (xs : List X) (x : X) → list_any p xs ≡ true → list_any p (xs ++ x ∷ []) ≡ true
+pub list_any_push : {X : Type 0} (p : X → Bool) (xs : List X) (x : X) → list_any p xs ≡ true
+    → list_any p (xs ++ x ∷ []) ≡ true
 list_any_push p xs x some = list_any-append p xs (x ∷ []) ∙ or_left (list_any p xs) (p x || false) some
 
 pub list_any_last : {X : Type 0} (p : X → Bool) (xs : List X) (x : X) → p x ≡ true → list_any p (xs ++ x ∷ []) ≡ true
@@ -60,3 +65,41 @@ list_any_last p xs x passes =
 pub list_all-alike : {X : Type 0} (p q : X → Bool) (xs : List X) → ((x : X) → p x ≡ q x) → list_all p xs ≡ list_all q xs
 list_all-alike p q [] alike = refl
 list_all-alike p q (x ∷ xs) alike = rw (alike x, list_all-alike p q xs alike)
+
+both-le : (a b : Bool) → (if a && b then 1 else 0) ≤ (if a then 1 else 0)
+both-le true true = omega arith
+both-le true false = omega arith
+both-le false b = omega arith
+
+-- fewer pass two tests than one of them
+pub count_by-and-le : {X : Type 0} (p q : X → Bool) (xs : List X) → count_by (λ x. p x && q x) xs ≤ count_by p xs
+count_by-and-le p q [] = omega arith
+count_by-and-le p q (x ∷ xs) =
+    omega (
+      arith,
+      both-le (p x) (q x),
+      sum_by-cons (λ y. if p y && q y then 1 else 0) x xs,
+      sum_by-cons (λ y. if p y then 1 else 0) x xs,
+      count_by-and-le p q xs,
+    )
+
+-- ---- what holds of each element, by recursion
+
+pub weaker : {X : Type 0} (P Q : X → Type 0) (xs : List X) → ((x : X) → P x → Q x) → AllByRecursion P xs
+    → AllByRecursion Q xs
+weaker P Q [] f all = tt
+weaker P Q (x ∷ xs) f all = (f x all.0, weaker P Q xs f all.1)
+
+pub from_map : {X Y : Type 0} (P : Y → Type 0) (f : X → Y) (xs : List X) → AllByRecursion P (map f xs)
+    → AllByRecursion (λ x. P (f x)) xs
+from_map P f [] all = tt
+from_map P f (x ∷ xs) all = (all.0, from_map P f xs all.1)
+
+pub all-filter : {X : Type 0} (P : X → Type 0) (q : X → Bool) (xs : List X) → AllByRecursion P xs
+    → AllByRecursion P (filter q xs)
+all-filter P q [] all = tt
+all-filter P q (x ∷ xs) all = choose (q x) (all-filter P q xs all.1)
+  where
+    choose : (b : Bool) → AllByRecursion P (filter q xs) → AllByRecursion P (if b then x ∷ filter q xs else filter q xs)
+    choose true rest = (all.0, rest)
+    choose false rest = rest

@@ -7,11 +7,14 @@ use Rattle.std.proofs.lemmas.List.Sorted.{IsPermutation-refl}
 use Rattle.std.proofs.lemmas.Str.{IsUtf8-nil}
 use Rattle.pl_base.specs.declared.id.ItemId.{ItemId}
 use Rattle.pl_base.specs.Good.{HasRoots, HasTags, IsGoodItem, IsTree, item_at}
-use Rattle.pl_base.specs.Store.{Item, root_folder, roots, top_folders}
-use Rattle.pl_form.specs.Stored.{Stored, stored_store}
+use Rattle.pl_base.specs.Store.{Item, Store, root_folder, roots, top_folders}
 
-root_is_good : (rows : Stored) (n : ℕ) (children : List ItemId) → IsGoodItem (stored_store rows) (root_folder n children)
-root_is_good rows n children =
+-- the store with the six roots as its only items
+abbrev pub with_roots : Store → Store
+with_roots store = record store { items = roots }
+
+root_is_good : (store : Store) (n : ℕ) (children : List ItemId) → IsGoodItem store (root_folder n children)
+root_is_good store n children =
     record {
       title = (IsUtf8-nil, omega arith);
       added = omega arith;
@@ -27,23 +30,26 @@ each_root P root top =
     All-cons P (root_folder 1 top_folders) (map (λ n. root_folder n []) (range_with_len 2 5)) root
     (All-map P (λ n. root_folder n []) (range_with_len 2 5) (λ k d within. top (get_or (range_with_len 2 5) k d)))
 
-pub roots_are_good : (rows : Stored) → All (IsGoodItem (stored_store rows)) roots
-roots_are_good rows = each_root (IsGoodItem (stored_store rows)) (root_is_good rows 1 top_folders) (λ n. root_is_good rows n [])
+pub roots_are_good : (store : Store) → All (IsGoodItem store) roots
+roots_are_good store = each_root (IsGoodItem store) (root_is_good store 1 top_folders) (λ n. root_is_good store n [])
 
-pub has_roots : (rows : Stored) → HasRoots (stored_store rows)
-has_roots rows =
+pub has_roots : (store : Store) → HasRoots (with_roots store)
+has_roots store =
     record {
       root = refl;
-      top = All-from_recursion (λ n. IsSomeAnd (item_at (stored_store rows) (record { 0 = n })) (λ i. i ≡ root_folder n i.children)) (range_with_len 2 5) (refl, (refl, (refl, (refl, (refl, tt)))));
+      top =
+          All-from_recursion
+          (λ n. IsSomeAnd (item_at (with_roots store) (record { 0 = n })) (λ i. i ≡ root_folder n i.children))
+          (range_with_len 2 5) (refl, (refl, (refl, (refl, (refl, tt)))));
     }
 
 -- the root lies at depth 0, and the other roots at depth 1
 depth : ℕ → ℕ
 depth n = if n == 1 then 0 else 1
 
-pub roots_tree : IsTree roots
+pub roots_are_tree : IsTree roots
 unfolding depth
-roots_tree =
+roots_are_tree =
     record {
       one_parent = IsPermutation-refl (1 ∷ 2 ∷ 3 ∷ 4 ∷ 5 ∷ 6 ∷ []);
       depth = depth;
@@ -53,5 +59,5 @@ roots_tree =
           (λ n. All-nil _);
     }
 
-pub roots_tags : (rows : Stored) → HasTags (stored_store rows)
-roots_tags rows = record { folders = All-nil _; names = λ i j d before within same. absurd (omega arith) }
+pub no_tags : (store : Store) → HasTags (with_roots store)
+no_tags store = record { folders = All-nil _; names = λ i j d before within same. absurd (omega arith) }

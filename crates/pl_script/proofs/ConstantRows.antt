@@ -1,0 +1,11 @@
+-- The constants of the crate are those of the definitions.
+use Rattle.std.proofs.Common.{◌≡◌, ◌+◌, refl}
+use Rattle.pl_script.specs.declared.fields.TheConstants.{LONGEST_LINE}
+use Rattle.pl_script.specs.declared.lines.TheConstants.{BEHIND_LONGEST_LINE}
+use Rattle.pl_script.specs.Script.{longest_line}
+
+longest_line_is : LONGEST_LINE ≡ longest_line
+longest_line_is = refl
+
+behind_longest_line_is : BEHIND_LONGEST_LINE ≡ longest_line + 1
+behind_longest_line_is = refl
