@@ -1,12 +1,12 @@
 -- What a second run goes on from.
-use Rattle.std.proofs.Common.{◌≡◌, ◌⊎◌, ℕ, true, false, List, [], ◌∷◌, ◌++◌, length, Option, None, Some, IsSome, append-nil, arith, inl, inr, refl, sym, ap, subst, ◌∙◌}
+use Rattle.std.proofs.Common.{◌≡◌, ℕ, true, false, List, [], ◌∷◌, ◌++◌, Option, None, Some, IsSome, append-nil, arith, inl, inr, refl, sym, ap, subst, ◌∙◌}
 use Rattle.std.proofs.lemmas.Bool.{both_ways}
 use Rattle.pl_base.specs.Store.{Store}
+use Rattle.pl_desk.specs.declared.desk.Desk.{Ghosts}
 use Rattle.pl_engine.specs.declared.command.Command.{Command}
 use Rattle.pl_engine.specs.Parsed.{Parsed}
 use Rattle.pl_engine.specs.Run.{replies, after}
 use Rattle.pl_engine.specs.Step.{step}
-use Rattle.pl_script.specs.Script.{script}
 use Rattle.pl_base.specs.Live.{slot_limit}
 use Rattle.pl_store.specs.Session.{Stands}
 use Rattle.places.specs.declared.status.Status.TheVariants as status
@@ -26,32 +26,55 @@ pub record Left (start : Store) (before : List ℕ) (said : Option (List ℕ)) (
   pub text : said ≡ Some (before ++ texts (replies slot_limit start answered))
   pub stands : Stands file (after slot_limit start done)
 
-pub left_by : (first : List ℕ → Type 0) (start : Store) (bytes before : List ℕ) (left said held : Option (List ℕ)) (may_leave : List ℕ → Type 0) → ((file : List ℕ) → first file → Stands file start)
-    → LeavesAtEnd status.DeviceFault true first start bytes before left said held may_leave → (file : List ℕ) → may_leave file → Left start before said file
-left_by first start bytes before left said held may_leave stands (inl open_) file is_left =
-    record { answered = []; done = []; are_done = ([], omega arith, refl); text = open_.unsaid ∙ ap Some (sym (append-nil before)); stands = stands file (open_.as_before file is_left) }
-left_by first start bytes before left said held may_leave stands (inr within) file is_left =
-    let leaves = within.leaves in elim (leaves.file file is_left) [
-      | inl before_it ↦ record { answered = leaves.answered; done = leaves.answered; are_done = ([], omega arith, sym (append-nil leaves.answered)); text = leaves.text; stands = before_it }
-      | inr after_it ↦ record {
-        answered = leaves.answered;
-        done = leaves.answered ++ leaves.next;
-        are_done = (leaves.next, leaves.one, refl);
-        text = leaves.text;
-        stands = subst (Stands file) (sym (after-append start leaves.answered leaves.next)) after_it;
-      }
-    ]
+module _ {D : Type 0} (desk : Ghosts D) (first : D) (start : Store) where
+  pub left_by : (bytes before : List ℕ) (left : Option (List ℕ)) (now : D)
+      → ((file : List ℕ) → desk.may_leave first file → Stands file start)
+      → LeavesAtEnd desk status.DeviceFault true first start bytes before left now
+      → (file : List ℕ) → desk.may_leave now file → Left start before (desk.said now) file
+  left_by bytes before left now stands (inl open_) file is_left = record {
+    answered = [];
+    done = [];
+    are_done = ([], omega arith, refl);
+    text = open_.unsaid ∙ ap Some (sym (append-nil before));
+    stands = stands file (open_.as_before file is_left);
+  }
+  left_by bytes before left now stands (inr within) file is_left =
+      let leaves = within.leaves in elim (leaves.file file is_left) [
+        | inl before_it ↦ record {
+          answered = leaves.answered;
+          done = leaves.answered;
+          are_done = ([], omega arith, sym (append-nil leaves.answered));
+          text = leaves.text;
+          stands = before_it;
+        }
+        | inr after_it ↦ record {
+          answered = leaves.answered;
+          done = leaves.answered ++ leaves.next;
+          are_done = (leaves.next, leaves.one, refl);
+          text = leaves.text;
+          stands = subst (Stands file) (sym (after-append start leaves.answered leaves.next)) after_it;
+        }
+      ]
 
--- what was said is told still
-pub said_by : (first : List ℕ → Type 0) (start : Store) (bytes before : List ℕ) (left said held : Option (List ℕ)) (may_leave : List ℕ → Type 0) → LeavesAtEnd status.DeviceFault true first start bytes before left said held may_leave → IsSome said
-said_by first start bytes before left said held may_leave (inl open_) = subst IsSome (sym open_.unsaid) refl
-said_by first start bytes before left said held may_leave (inr within) = subst IsSome (sym within.leaves.text) refl
+  -- what was said is told still
+  pub said_by : (bytes before : List ℕ) (left : Option (List ℕ)) (now : D)
+      → LeavesAtEnd desk status.DeviceFault true first start bytes before left now → IsSome (desk.said now)
+  said_by bytes before left now (inl open_) = subst IsSome (sym open_.unsaid) refl
+  said_by bytes before left now (inr within) = subst IsSome (sym within.leaves.text) refl
+
+  pub goes_on : (two before : List ℕ) (said : Option (List ℕ)) (file : List ℕ) (here : Left start before said file)
+      (left : Option (List ℕ)) (now : D)
+      → LeavesAtEnd desk status.Done true first (after slot_limit start here.done) two
+      (before ++ texts (replies slot_limit start here.answered)) left now
+      → GoesOn desk start two before now
+  goes_on two before said file here left now ends = record {
+    answered = here.answered;
+    done = here.done;
+    are_done = here.are_done;
+    text = ends.0.all_said;
+    rests = ends.1;
+  }
 
 pub some_is : (o : Option (List ℕ)) → IsSome o → (x : List ℕ) × (o ≡ Some x)
 some_is None some = absurd (both_ways false refl some)
 some_is (Some x) some = (x, refl)
-
-pub goes_on : (start : Store) (two before : List ℕ) (said : Option (List ℕ)) (file : List ℕ) (here : Left start before said file) (first : List ℕ → Type 0) (left said_now held_now : Option (List ℕ)) (may_leave_now : List ℕ → Type 0)
-    → LeavesAtEnd status.Done true first (after slot_limit start here.done) two (before ++ texts (replies slot_limit start here.answered)) left said_now held_now may_leave_now → GoesOn start two before said_now held_now may_leave_now
-goes_on start two before said file here first left said_now held_now may_leave_now ends =
-    record { answered = here.answered; done = here.done; are_done = here.are_done; text = ends.0.all_said; rests = ends.1 }

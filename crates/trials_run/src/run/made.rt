@@ -10,6 +10,7 @@ ghost use Rattle.pl_store.specs.Session.{Stands};
 ghost use Rattle.places.specs.Ending.{made_text};
 ghost use Rattle.places.specs.Said.{texts};
 ghost use Rattle.trials_run.specs.Again.{GoesOn};
+ghost use Rattle.pl_desk.specs.Moments.{goes_on};
 
 use pl_desk::{Desk, MemDesk, MemSource, Source};
 use places::{Status, run};
@@ -19,8 +20,10 @@ use std::test::Fail;
 
 // `run` on each source, one after the other.
 fn run_on<S: Source, D: Desk>(alloc: Global, first: &mut S, second: &mut S, desk: &mut D) -> Status
-    ensures said { result ≡ Status.Done → (file : List ℕ) (start : Store) → D.held desk.old ≡ Some file → Stands file start
-        → (one two before : List ℕ) → S.left first.old ≡ Some one → S.left second.old ≡ Some two → D.said desk.old ≡ Some before
+    ensures said { result ≡ Status.Done
+        → (file : List ℕ) (start : Store) → D.held desk.old ≡ Some file → Stands file start
+        → (one two before : List ℕ) → S.left first.old ≡ Some one → S.left second.old ≡ Some two
+        → D.said desk.old ≡ Some before
         → D.said desk.new ≡ Some ((before ++ texts (replies slot_limit start (script one)))
         ++ texts (replies slot_limit (after slot_limit start (script one)) (script two))) }
 {
@@ -37,8 +40,11 @@ fn made_and_run<S: Source, D: Desk>(
     second: &mut S,
     desk: &mut D,
 ) -> Status
-    ensures said { result ≡ Status.Done → (one two before : List ℕ) → S.left first.old ≡ Some one → S.left second.old ≡ Some two → D.said desk.old ≡ Some before → D.held desk.old ≡ Some []
-        → D.said desk.new ≡ Some (((before ++ made_text) ++ texts (replies slot_limit opening (script one)))
+    ensures said { result ≡ Status.Done
+        → (one two before : List ℕ) → S.left first.old ≡ Some one → S.left second.old ≡ Some two
+        → D.said desk.old ≡ Some before → D.held desk.old ≡ Some []
+        → D.said desk.new ≡ Some (((before ++ made_text)
+        ++ texts (replies slot_limit opening (script one)))
         ++ texts (replies slot_limit (after slot_limit opening (script one)) (script two))) }
 {
     match run(alloc, &["new", "s"], first, desk) {
@@ -58,7 +64,7 @@ fn run_again<S: Source, D: Desk>(
         → ((file : List ℕ) → D.may_leave desk.old file → Stands file start)
         → (one two before : List ℕ) → S.left first.old ≡ Some one → S.left second.old ≡ Some two
         → D.said desk.old ≡ Some before
-        → GoesOn start two before (D.said desk.new) (D.held desk.new) (D.may_leave desk.new) }
+        → GoesOn D.Desk start two before desk.new }
 {
     match run(alloc, &["run", "s"], first, desk) {
         Status::DeviceFault => Ok(run(alloc, &["run", "s"], second, desk)),

@@ -1,5 +1,5 @@
 // A store in a file: its words, faults of the device, and a stop of the machine in each call.
-ghost use Rattle.std.specs.Prelude.{◌<◌, length};
+ghost use Rattle.std.specs.Prelude.{◌<◌};
 
 use pl_base::NoMemory;
 use pl_desk::{MemDesk, MemSource};

@@ -7,12 +7,13 @@ use Rattle.places.specs.Ending.{LeavesAtEnd, SaysAll}
 use Rattle.places.specs.declared.status.Status.TheVariants as status
 use Rattle.places.specs.Said.{texts}
 use Rattle.trials_run.proofs.run.made.run_on.Goals as goal
+use Rattle.pl_desk.specs.AnyMoment.{begun}
 
 pub returns-in-Done : goal.returns-in-Done
 returns-in-Done g c = record {
   said =
       λ done file start is stands one two before told told_too begun.
-      let ends : LeavesAtEnd status.Done true (g.D.Desk.may_leave c.args.desk.now) start one before (g.S.Source.left c.run.new.input) (g.D.Desk.said c.run.new.desk) (g.D.Desk.held c.run.new.desk) (g.D.Desk.may_leave c.run.new.desk) =
+      let ends : LeavesAtEnd g.D.Desk status.Done true c.args.desk.now start one before (g.S.Source.left c.run.new.input) c.run.new.desk =
       rw c.in-Done.is at (c.run.ensures.ends true start (inr ((codes "s", refl), refl, (file, is, stands))) one before told begun) in
       let next = c.run-in-Done.ensures.replies true (after slot_limit start (script one)) (inr ((codes "s", refl), refl, (ends.1.file, ends.1.is_held, ends.1.has))) two (before ++ texts (replies slot_limit start (script one))) told_too ends.0.all_said in
       let all : SaysAll (after slot_limit start (script one)) two (before ++ texts (replies slot_limit start (script one))) (g.S.Source.left c.run-in-Done.new.input) (g.D.Desk.said c.run-in-Done.new.desk) = rw done at next in
