@@ -1,5 +1,6 @@
 -- What a stop at any moment of several calls shows of a file, where the line stays as it was.
-use Rattle.std.proofs.Common.{◌≡◌, ◌↔◌, ◌≤◌, false, ℕ, List, Option, Some, None, IfSome, IsSome, inr, ⊎_elim}
+use Rattle.std.proofs.Common.{◌≡◌, ◌↔◌, ◌≤◌, false, ℕ, List, Option, Some, None, IfSome, IsSome}
+use Rattle.std.proofs.Common.{inr, ⊎_elim}
 use Rattle.std.proofs.Common.{refl, sym, ◌∙◌, ap, subst, arith}
 use Rattle.std.proofs.lemmas.Bool.{both_ways}
 use Rattle.std.proofs.lemmas.Option.{MatchOption-at_some}
@@ -14,10 +15,12 @@ module _ {D : Type 0} (desk : Ghosts D) where
 
   abbrev pub OnlyNow : Type 0
   OnlyNow = (now : D) (line_now file line : List ℕ) → desk.said now ≡ Some line_now
-      → desk.shown_since now (desk.moment now) file line → desk.may_leave now file × (line ≡ line_now)
+      → desk.shown_since now (desk.moment now) file line
+      → desk.may_leave now file × (line ≡ line_now)
 
   abbrev pub ShownNow : Type 0
-  ShownNow = (now : D) (t : ℕ) (file line : List ℕ) → t ≤ desk.moment now → desk.held now ≡ Some file
+  ShownNow =
+      (now : D) (t : ℕ) (file line : List ℕ) → t ≤ desk.moment now → desk.held now ≡ Some file
       → desk.said now ≡ Some line → desk.shown_since now t file line
 
   abbrev pub CountsNow : Type 0
@@ -41,8 +44,10 @@ module _ {D : Type 0} (desk : Ghosts D) where
     has = has;
   }
 
-  pub rests_synced : (before now : D) (P : List ℕ → Type 0) (file : List ℕ) → desk.held now ≡ desk.held before
-      → desk.held before ≡ Some file → IfSome (desk.held before) (λ f. Only f (desk.may_leave now)) → P file
+  pub rests_synced : (before now : D) (P : List ℕ → Type 0) (file : List ℕ)
+      → desk.held now ≡ desk.held before
+      → desk.held before ≡ Some file → IfSome (desk.held before) (λ f. Only f (desk.may_leave now))
+      → P file
       → Rests desk now P
   rests_synced before now P file same is durable has = record {
     file = file;
@@ -52,7 +57,8 @@ module _ {D : Type 0} (desk : Ghosts D) where
   }
 
   -- calls that leave the file leave it at rest
-  pub still_rests : (old new : D) (P : List ℕ → Type 0) → desk.held new ≡ desk.held old → LeavesNoMore desk old new
+  pub still_rests : (old new : D) (P : List ℕ → Type 0) → desk.held new ≡ desk.held old
+      → LeavesNoMore desk old new
       → Rests desk old P → Rests desk new P
   still_rests old new P same left rests = record {
     file = rests.file;
@@ -61,7 +67,8 @@ module _ {D : Type 0} (desk : Ghosts D) where
     has = rests.has;
   }
 
-  pub rests_less : (now : D) (P Q : List ℕ → Type 0) → Rests desk now P → ((file : List ℕ) → P file → Q file)
+  pub rests_less : (now : D) (P Q : List ℕ → Type 0) → Rests desk now P
+      → ((file : List ℕ) → P file → Q file)
       → Rests desk now Q
   rests_less now P Q rests to = record {
     file = rests.file;
@@ -77,26 +84,34 @@ module _ {D : Type 0} (desk : Ghosts D) where
       → ((file : List ℕ) → desk.may_leave old file → Q file) → AtAnyMoment desk old old Q
   begun only_now old Q some left = at (desk.said old) refl some
     where
-      at : (line : Option (List ℕ)) → desk.said old ≡ line → IsSome line → AtAnyMoment desk old old Q
+      at : (line : Option (List ℕ)) → desk.said old ≡ line → IsSome line
+          → AtAnyMoment desk old old Q
       at None is some = absurd (both_ways false refl some)
       at (Some before) is some = started desk old (Unsaid desk old Q) (λ file line shown.
-          let now = only_now old before file line is shown in (left file now.0, is ∙ ap Some (sym now.1)))
+          let now = only_now old before file line is shown in
+          (left file now.0, is ∙ ap Some (sym now.1)))
 
   -- one call more
-  pub and_call : (old mid new : D) (Q : List ℕ → Type 0) → desk.said mid ≡ desk.said old → AtAnyMoment desk old mid Q
+  pub and_call : (old mid new : D) (Q : List ℕ → Type 0) → desk.said mid ≡ desk.said old
+      → AtAnyMoment desk old mid Q
       → Elapses (desk.moment mid) (desk.moment new) (desk.shown_since mid) (desk.shown_since new)
       (Shows (desk.may_leave new) (desk.said mid))
       → ((file : List ℕ) → desk.may_leave new file → Q file) → AtAnyMoment desk old new Q
   and_call old mid new Q unsaid so_far time left =
-      goes_on desk old mid new (Unsaid desk old Q) (Shows (desk.may_leave new) (desk.said mid)) so_far time
+      goes_on desk old mid new (Unsaid desk old Q) (Shows (desk.may_leave new) (desk.said mid))
+      so_far time
       (λ file line shows. (left file shows.0, sym unsaid ∙ shows.1))
 
   -- further calls, of which as much is known
-  pub and_more : (old mid new : D) (Q R : List ℕ → Type 0) → desk.said mid ≡ desk.said old → AtAnyMoment desk old mid Q
-      → AtAnyMoment desk mid new R → ((file : List ℕ) → R file → Q file) → AtAnyMoment desk old new Q
+  pub and_more : (old mid new : D) (Q R : List ℕ → Type 0) → desk.said mid ≡ desk.said old
+      → AtAnyMoment desk old mid Q
+      → AtAnyMoment desk mid new R → ((file : List ℕ) → R file → Q file)
+      → AtAnyMoment desk old new Q
   and_more old mid new Q R unsaid first second to = record {
     later = omega (arith, first.later, second.later);
-    each = λ file line shown. ⊎_elim (first.each file line) (λ has. (to file has.0, sym unsaid ∙ has.1))
+    each =
+        λ file line shown. ⊎_elim (first.each file line)
+        (λ has. (to file has.0, sym unsaid ∙ has.1))
         (second.before (desk.moment old) file line first.later shown);
     before = λ t file line le shown. ⊎_elim (first.before t file line le)
         (λ has. inr (to file has.0, sym unsaid ∙ has.1))
@@ -106,20 +121,24 @@ module _ {D : Type 0} (desk : Ghosts D) where
   pub weaker : (old new : D) (Q R : List ℕ → Type 0) → AtAnyMoment desk old new Q
       → ((file : List ℕ) → Q file → R file) → AtAnyMoment desk old new R
   weaker old new Q R shows to =
-      shows_less desk old new (Unsaid desk old Q) (Unsaid desk old R) shows (λ file line has. (to file has.0, has.1))
+      shows_less desk old new (Unsaid desk old Q) (Unsaid desk old R) shows
+      (λ file line has. (to file has.0, has.1))
 
   -- what a read gives is one of the files that a stop may leave
-  pub held_left : OnlyNow → ShownNow → (now : D) (file : List ℕ) → IsSome (desk.said now) → desk.held now ≡ Some file
+  pub held_left : OnlyNow → ShownNow → (now : D) (file : List ℕ) → IsSome (desk.said now)
+      → desk.held now ≡ Some file
       → desk.may_leave now file
   held_left only_now shown_now now file some is = at (desk.said now) refl some
     where
       at : (line : Option (List ℕ)) → desk.said now ≡ line → IsSome line → desk.may_leave now file
       at None none some = absurd (both_ways false refl some)
       at (Some line) said_is some =
-          (only_now now line file line said_is (shown_now now (desk.moment now) file line (omega arith) is said_is)).0
+          (only_now now line file line said_is
+          (shown_now now (desk.moment now) file line (omega arith) is said_is)).0
 
   -- what a stop may leave now is one of the files that a stop shows
-  pub left_now : CountsNow → (old new : D) (P : List ℕ → Type 0) → IsSome (desk.said new) → AtAnyMoment desk old new P
+  pub left_now : CountsNow → (old new : D) (P : List ℕ → Type 0) → IsSome (desk.said new)
+      → AtAnyMoment desk old new P
       → (file : List ℕ) → desk.may_leave new file → P file
   left_now counts_now old new P some shows file left = at (desk.said new) refl some
     where
@@ -152,12 +171,14 @@ module _ {D : Type 0} (desk : Ghosts D) where
       left = λ f may. so_far.file.left f (left f may);
     };
     line = record { said = said ∙ so_far.line.said; faults = line ∙ so_far.line.faults };
-    shows = λ some. and_call old mid new (desk.may_leave old) so_far.line.said (so_far.shows some) time
+    shows =
+        λ some. and_call old mid new (desk.may_leave old) so_far.line.said (so_far.shows some) time
         (λ f may. so_far.file.left f (left f may));
   }
 
   -- further reads
-  pub read_on : (old mid new : D) → OnlyReads desk old mid → OnlyReads desk mid new → OnlyReads desk old new
+  pub read_on : (old mid new : D) → OnlyReads desk old mid → OnlyReads desk mid new
+      → OnlyReads desk old new
   read_on old mid new first second = record {
     file = record {
       held = second.file.held ∙ first.file.held;
@@ -168,7 +189,9 @@ module _ {D : Type 0} (desk : Ghosts D) where
       said = second.line.said ∙ first.line.said;
       faults = second.line.faults ∙ first.line.faults;
     };
-    shows = λ some. and_more old mid new (desk.may_leave old) (desk.may_leave mid) first.line.said (first.shows some)
+    shows =
+        λ some. and_more old mid new (desk.may_leave old) (desk.may_leave mid) first.line.said
+        (first.shows some)
         (second.shows (subst IsSome (sym first.line.said) some)) first.file.left;
   }
 
@@ -180,7 +203,8 @@ module _ {D : Type 0} (desk : Ghosts D) where
     faults = refl;
   }
 
-  pub alone_on : (old mid new : D) → LeavesFile desk old mid → LeavesFile desk mid new → LeavesFile desk old new
+  pub alone_on : (old mid new : D) → LeavesFile desk old mid → LeavesFile desk mid new
+      → LeavesFile desk old new
   alone_on old mid new first second = record {
     kept = record {
       held = second.kept.held ∙ first.kept.held;

@@ -23,7 +23,8 @@ pub record LeavesFile {D : Type 0} (desk : Ghosts D) (old new : D) : Type 0 wher
   pub kept : KeepsFile desk old new
   pub faults : desk.device_faults new ≡ desk.device_faults old
 
--- only reads were made: file and line are as they were, and a stop shows no file that it might not have left before
+-- only reads were made: file and line are as they were, and a stop shows no file that it might not
+-- have left before
 pub record OnlyReads {D : Type 0} (desk : Ghosts D) (old new : D) : Type 0 where
   pub file : KeepsFile desk old new
   pub line : KeepsLine desk old new

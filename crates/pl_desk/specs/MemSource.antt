@@ -2,8 +2,8 @@
 use Rattle.std.specs.Prelude.{ℕ, List, drop}
 use Rattle.pl_desk.specs.Counts.{next_count}
 
--- the bytes that are left, the most bytes of a read, the numbers of the reads that are to fail, and how
--- many reads there were and how many of them failed
+-- the bytes that are left, the most bytes of a read, the numbers of the reads that are to fail, and
+-- how many reads there were and how many of them failed
 pub record SourceState : Type 0 where
   pub left : List ℕ
   pub piece : ℕ

@@ -6,7 +6,8 @@ use Rattle.pl_desk.specs.Shown.{AtAnyMoment, ShowsOnly, Unsaid}
 use Rattle.pl_desk.specs.declared.desk.Desk.{Ghosts}
 
 -- A stop shows what has P up to some moment, and what has Q from then on.
-pub record TurnsTo {D : Type 0} (desk : Ghosts D) (old new : D) (P Q : List ℕ → List ℕ → Type 0) : Type 0 where
+pub record TurnsTo {D : Type 0} (desk : Ghosts D) (old new : D)
+    (P Q : List ℕ → List ℕ → Type 0) : Type 0 where
   pub turn : D
   pub before : ShowsOnly desk old turn P
   pub since : ShowsOnly desk turn new Q
@@ -16,7 +17,8 @@ abbrev pub ShowsThen : {D : Type 0} (desk : Ghosts D) → D → D → (List ℕ 
     → (List ℕ → List ℕ → Type 0) → Type 0
 ShowsThen desk old new P Q = ShowsOnly desk old new P ⊎ TurnsTo desk old new P Q
 
--- A stop shows a file that it might have left at first, and from some moment on one that has P; what was said stays.
+-- A stop shows a file that it might have left at first, and from some moment on one that has P;
+-- what was said stays.
 abbrev pub Settles : {D : Type 0} (desk : Ghosts D) → D → D → (List ℕ → Type 0) → Type 0
 Settles desk old new P =
     ShowsThen desk old new (Unsaid desk old (desk.may_leave old)) (Unsaid desk old P)
@@ -29,7 +31,8 @@ LeavesSettled first P may_leave =
 module _ {D : Type 0} (desk : Ghosts D) where
   -- up to this desk what a stop might have left at first, and then what has P
   pub settles_at : (old turn new : D) (P : List ℕ → Type 0) → desk.said turn ≡ desk.said old
-      → AtAnyMoment desk old turn (desk.may_leave old) → AtAnyMoment desk turn new P → Settles desk old new P
+      → AtAnyMoment desk old turn (desk.may_leave old) → AtAnyMoment desk turn new P
+      → Settles desk old new P
   settles_at old turn new P unsaid before since = inr (record {
     turn = turn;
     before = before;
@@ -38,8 +41,10 @@ module _ {D : Type 0} (desk : Ghosts D) where
   })
 
   -- less is known of what is shown before and after
-  pub shows_then_less : (old new : D) (P Q P' Q' : List ℕ → List ℕ → Type 0) → ShowsThen desk old new P Q
-      → ((file line : List ℕ) → P file line → P' file line) → ((file line : List ℕ) → Q file line → Q' file line)
+  pub shows_then_less : (old new : D) (P Q P' Q' : List ℕ → List ℕ → Type 0)
+      → ShowsThen desk old new P Q
+      → ((file line : List ℕ) → P file line → P' file line)
+      → ((file line : List ℕ) → Q file line → Q' file line)
       → ShowsThen desk old new P' Q'
   shows_then_less old new P Q P' Q' shows before since =
       ⊎_elim (λ open_. inl (shows_less desk old new P P' open_ before))
@@ -76,5 +81,6 @@ module _ {D : Type 0} (desk : Ghosts D) where
       ⊎_elim (λ before. inl (λ file left.
       (before.each file line (counts_now new (desk.moment old) file line before.later left is)).0))
       (λ turned. inr (λ file left.
-      (turned.since.each file line (counts_now new (desk.moment turned.turn) file line turned.since.later left is)).0))
+      (turned.since.each file line
+      (counts_now new (desk.moment turned.turn) file line turned.since.later left is)).0))
       settles

@@ -4,7 +4,8 @@ use Rattle.pl_desk.specs.Desk.{Only}
 use Rattle.pl_desk.specs.declared.desk.Desk.{Ghosts}
 
 -- A stop at any moment from old to new shows a file and a line that have P.
-pub record ShowsOnly {D : Type 0} (desk : Ghosts D) (old new : D) (P : List ℕ → List ℕ → Type 0) : Type 0 where
+pub record ShowsOnly {D : Type 0} (desk : Ghosts D) (old new : D)
+    (P : List ℕ → List ℕ → Type 0) : Type 0 where
   pub later : desk.moment old ≤ desk.moment new
   pub each : (file line : List ℕ) → desk.shown_since new (desk.moment old) file line → P file line
   -- for a run that began earlier
@@ -12,7 +13,8 @@ pub record ShowsOnly {D : Type 0} (desk : Ghosts D) (old new : D) (P : List ℕ 
       → desk.shown_since old t file line ⊎ P file line
 
 -- a file that has P, with nothing said that was not said before
-abbrev pub Unsaid : {D : Type 0} (desk : Ghosts D) → D → (List ℕ → Type 0) → List ℕ → List ℕ → Type 0
+abbrev pub Unsaid : {D : Type 0} (desk : Ghosts D) → D → (List ℕ → Type 0) → List ℕ → List ℕ
+    → Type 0
 Unsaid desk old P file line = P file × (desk.said old ≡ Some line)
 
 -- A stop at any moment from old to new shows a file that has P, and the line as it was.
@@ -30,8 +32,8 @@ pub record Rests {D : Type 0} (desk : Ghosts D) (now : D) (P : List ℕ → Type
 abbrev pub LeftBy : (List ℕ → List ℕ → Type 0) → (List ℕ → Type 0) → List ℕ → Type 0
 LeftBy step may_leave file = (before : List ℕ) × may_leave before × step before file
 
--- Where the line is told, a stop at any moment from old to new shows a file that is left by the step, and the line as
--- it was.
+-- Where the line is told, a stop at any moment from old to new shows a file that is left by the
+-- step, and the line as it was.
 abbrev pub ShowsStep : {D : Type 0} (desk : Ghosts D) → D → D → (List ℕ → List ℕ → Type 0) → Type 0
 ShowsStep desk old new step =
     IsSome (desk.said old) → AtAnyMoment desk old new (LeftBy step (desk.may_leave old))

@@ -1,6 +1,9 @@
-ghost use Rattle.std.specs.Prelude.{◌≡◌, ℕ, ◌+◌, ◌<◌, ◌≤◌, List, Option, Some, None, ◌++◌, length, take, slice_range, IfOk, OnOk, OnErr, IfSome, IsSome, MatchOption, ◌↔◌};
+ghost use Rattle.std.specs.Prelude.{◌≡◌, ℕ, ◌+◌, ◌<◌, ◌≤◌, List, Option, Some, None, ◌++◌, length};
+ghost use Rattle.std.specs.Prelude.{take, slice_range, IfOk, OnOk, OnErr, IfSome, IsSome};
+ghost use Rattle.std.specs.Prelude.{MatchOption, ◌↔◌};
 ghost use Rattle.std.specs.Option.{option_map};
-ghost use Rattle.pl_desk.specs.Desk.{last_offset, overwritten, Torn, Follows, Only, Shows, ShowsSaying, said_by, Elapses};
+ghost use Rattle.pl_desk.specs.Desk.{last_offset, overwritten, Torn, Follows, Only, Shows};
+ghost use Rattle.pl_desk.specs.Desk.{ShowsSaying, said_by, Elapses};
 ghost use Rattle.pl_desk.specs.Counts.{Counts, Writes};
 
 use crate::Failed;
@@ -48,11 +51,12 @@ pub trait Desk {
         ensures counted { Counts result (device_faults self.old) (device_faults self.new) }
 
         ensures leaves { (file : List ℕ) → may_leave self.new file → may_leave self.old file }
-        ensures time { Elapses (moment self.old) (moment self.new) (shown_since self.old) (shown_since self.new)
+        ensures time { Elapses (moment self.old) (moment self.new) (shown_since self.old)
+            (shown_since self.new)
             (Shows (may_leave self.new) (said self.old)) };
 
-    /// Reads as many bytes from the offset on as `out` has room for. After an `Err`, `out` holds any
-    /// bytes.
+    /// Reads as many bytes from the offset on as `out` has room for. After an `Err`, `out` holds
+    /// any bytes.
     fn read_at(&mut self, at: u64, out: &mut [u8]) -> Result<(), Failed>
         requires range { at + length out.old ≤ last_offset }
         requires within { IfSome (held self.old) (λ file. at + length out.old ≤ length file) }
@@ -66,15 +70,17 @@ pub trait Desk {
         ensures counted { Counts result (device_faults self.old) (device_faults self.new) }
 
         ensures leaves { (file : List ℕ) → may_leave self.new file → may_leave self.old file }
-        ensures time { Elapses (moment self.old) (moment self.new) (shown_since self.old) (shown_since self.new)
+        ensures time { Elapses (moment self.old) (moment self.new) (shown_since self.old)
+            (shown_since self.new)
             (Shows (may_leave self.new) (said self.old)) };
 
-    /// Writes over what is there, and past the end, where a gap reads as zero bytes. Until a sync, a
-    /// stop may leave any bytes in the range and past the old end, and after an `Err` a read may give
-    /// them too.
+    /// Writes over what is there, and past the end, where a gap reads as zero bytes. Until a sync,
+    /// a stop may leave any bytes in the range and past the old end, and after an `Err` a read may
+    /// give them too.
     fn write_at(&mut self, at: u64, bytes: &[u8]) -> Result<(), Failed>
         requires range { at + length bytes.now ≤ last_offset }
-        ensures held { OnOk result (held self.new ≡ option_map (overwritten 0 at bytes.now) (held self.old)) }
+        ensures held { OnOk result
+            (held self.new ≡ option_map (overwritten 0 at bytes.now) (held self.old)) }
         ensures torn { OnErr result (MatchOption (held self.old) (held self.new ≡ None) (λ old.
             (new : List ℕ) × (held self.new ≡ Some new) × Torn at (length bytes.now) old new)) }
 
@@ -84,13 +90,16 @@ pub trait Desk {
         ensures line { line_faults self.new ≡ line_faults self.old }
         ensures counted { Counts result (device_faults self.old) (device_faults self.new) }
 
-        ensures leaves { Follows (Torn at (length bytes.now)) (may_leave self.old) (may_leave self.new) }
-        ensures time { Elapses (moment self.old) (moment self.new) (shown_since self.old) (shown_since self.new)
+        ensures leaves { Follows (Torn at (length bytes.now)) (may_leave self.old)
+            (may_leave self.new) }
+        ensures time { Elapses (moment self.old) (moment self.new) (shown_since self.old)
+            (shown_since self.new)
             (Shows (may_leave self.new) (said self.old)) };
 
     /// After it, a stop leaves just what a read gives. An `Err` closes nothing.
     fn sync(&mut self) -> Result<(), Failed>
-        ensures durable { OnOk result (IfSome (held self.old) (λ file. Only file (may_leave self.new))) }
+        ensures durable { OnOk result
+            (IfSome (held self.old) (λ file. Only file (may_leave self.new))) }
 
         ensures held { held self.new ≡ held self.old }
         ensures said { said self.new ≡ said self.old }
@@ -99,7 +108,8 @@ pub trait Desk {
         ensures counted { Counts result (device_faults self.old) (device_faults self.new) }
 
         ensures leaves { (file : List ℕ) → may_leave self.new file → may_leave self.old file }
-        ensures time { Elapses (moment self.old) (moment self.new) (shown_since self.old) (shown_since self.new)
+        ensures time { Elapses (moment self.old) (moment self.new) (shown_since self.old)
+            (shown_since self.new)
             (Shows (may_leave self.new) (said self.old)) };
 
     /// Says some bytes of the front of the piece, at least one, and says how many. A stop within it
@@ -117,18 +127,21 @@ pub trait Desk {
         ensures counted { Counts result (line_faults self.old) (line_faults self.new) }
 
         ensures leaves { (file : List ℕ) → may_leave self.new file → may_leave self.old file }
-        ensures time { Elapses (moment self.old) (moment self.new) (shown_since self.old) (shown_since self.new)
+        ensures time { Elapses (moment self.old) (moment self.new) (shown_since self.old)
+            (shown_since self.new)
             (ShowsSaying (may_leave self.new) (said self.old) bytes.now (said_by result)) };
 
     /// What a read gives and what was said are told together.
     ghost told_together: { (desk : Self) → IsSome (held desk) ↔ IsSome (said desk) };
 
     /// This moment is one of those since an earlier one.
-    ghost counts_now: { (desk : Self) (t : ℕ) (file line : List ℕ) → t ≤ moment desk → may_leave desk file →
+    ghost counts_now: { (desk : Self) (t : ℕ) (file line : List ℕ) → t ≤ moment desk
+        → may_leave desk file →
         said desk ≡ Some line → shown_since desk t file line };
 
     /// A stop may always show what a read gives now, and what was said.
-    ghost shown_now: { (desk : Self) (t : ℕ) (file line : List ℕ) → t ≤ moment desk → held desk ≡ Some file →
+    ghost shown_now: { (desk : Self) (t : ℕ) (file line : List ℕ) → t ≤ moment desk
+        → held desk ≡ Some file →
         said desk ≡ Some line → shown_since desk t file line };
 
     /// Since this moment there is no other.

@@ -1,7 +1,13 @@
-ghost use Rattle.std.specs.Prelude.{◌≡◌, ◌↔◌, ℕ, ◌+◌, ◌<◌, ◌≤◌, List, Some, [], ◌++◌, length, take, slice_get, slice_range, IsTrue, IfOk, OnOk, OnErr, IsErr};
+ghost use Rattle.std.specs.Prelude.{◌≡◌, ◌↔◌, ℕ, ◌+◌, ◌<◌, ◌≤◌, List, Some, [], ◌++◌, length, take};
+ghost use Rattle.std.specs.Prelude.{slice_get, slice_range, IsTrue, IfOk, OnOk, OnErr, IsErr};
 ghost use Rattle.pl_desk.specs.Counts.{Counts, Rose, Writes};
-ghost use Rattle.pl_desk.specs.Desk.{last_offset, overwritten, Torn, Follows, Only, Shows, ShowsSaying, said_by, Elapses};
-ghost use Rattle.pl_desk.specs.MemDesk.{nothing, wrote, tore, synced, desk_holding, begun_at, line_at, held_by, written_in, MayLeave, ShownSince, after_deed, written_by, Takes, IsOfFailure, IsRefused, with_call, with_call_if_room, after_say, after_failed_call, after_failed_say};
+ghost use Rattle.pl_desk.specs.Desk.{last_offset, overwritten, Torn, Follows, Only, Shows};
+ghost use Rattle.pl_desk.specs.Desk.{ShowsSaying, said_by, Elapses};
+ghost use Rattle.pl_desk.specs.MemDesk.{nothing, wrote, tore, synced, desk_holding, begun_at};
+ghost use Rattle.pl_desk.specs.MemDesk.{line_at, held_by, written_in, MayLeave, ShownSince};
+ghost use Rattle.pl_desk.specs.MemDesk.{after_deed, written_by, Takes, IsOfFailure, IsRefused};
+ghost use Rattle.pl_desk.specs.MemDesk.{with_call, with_call_if_room, after_say, after_failed_call};
+ghost use Rattle.pl_desk.specs.MemDesk.{after_failed_say};
 ghost use Rattle.pl_desk.specs.Record.{deed_of};
 ghost use Rattle.pl_desk.specs.Replay.{told_together, counts_now, shown_now, only_now};
 ghost use Rattle.pl_desk.specs.Stopped.{stopped_in, LeftIn};
@@ -59,8 +65,8 @@ impl Model for MemDesk {
 }
 
 impl MemDesk {
-    /// A desk with a file of these bytes. The calls with the numbers of `fails` fail, and so does each
-    /// call that the record has no room for. It takes the memory of the whole record at once.
+    /// A desk with a file of these bytes. The calls with the numbers of `fails` fail, and so does
+    /// each call that the record has no room for. It takes the memory of the whole record at once.
     pub fn holding(alloc: Global, bytes: &[u8], fails: &[u32]) -> Result<MemDesk, NoMemory>
         ensures { IfOk result (λ desk. desk ≡ desk_holding bytes.now fails.now) }
     {
@@ -105,13 +111,16 @@ impl MemDesk {
         self.calls[call as usize].said_before
     }
 
-    /// A desk with the file that a stop within the call with this number may leave, with `filler` in
-    /// each byte that may hold anything. Nothing was said to it, and none of its calls is to fail.
+    /// A desk with the file that a stop within the call with this number may leave, with `filler`
+    /// in each byte that may hold anything. Nothing was said to it, and none of its calls is to
+    /// fail.
     pub fn stopped(&self, alloc: Global, call: u32, filler: u8) -> Result<MemDesk, NoMemory>
         requires { call < length self.now.calls }
-        ensures left { IfOk result (λ desk. desk ≡ desk_holding (stopped_in self.now call filler) []) }
+        ensures left { IfOk result
+            (λ desk. desk ≡ desk_holding (stopped_in self.now call filler) []) }
         ensures allowed { LeftIn self.now call (stopped_in self.now call filler) }
-        ensures shown { ShownSince self.now call (stopped_in self.now call filler) (line_at self.now call) }
+        ensures shown { ShownSince self.now call (stopped_in self.now call filler)
+            (line_at self.now call) }
     {
         let call = call as usize;
         let mut image = image_of(alloc, &self.first, &self.calls[..call], filler)?;
@@ -136,8 +145,10 @@ impl MemDesk {
         ensures after { self.new ≡ with_call self.old (deed_of deed) }
         ensures held { held_by self.new ≡ held_by self.old }
         ensures written { written_in self.new.calls ≡ written_in self.old.calls }
-        ensures leaves { Follows (Takes (deed_of deed) (held_by self.old)) (MayLeave self.old) (MayLeave self.new) }
-        ensures time { Elapses (length self.old.calls) (length self.new.calls) (ShownSince self.old) (ShownSince self.new)
+        ensures leaves { Follows (Takes (deed_of deed) (held_by self.old)) (MayLeave self.old)
+            (MayLeave self.new) }
+        ensures time { Elapses (length self.old.calls) (length self.new.calls) (ShownSince self.old)
+            (ShownSince self.new)
             (Shows (MayLeave self.new) (Some self.old.said)) }
     {
         let said_before = self.said.len();
@@ -154,8 +165,10 @@ impl MemDesk {
         ensures written { written_in self.new.calls ≡ written_in self.old.calls }
         ensures device { self.new.device_faults ≡ self.old.device_faults }
         ensures line { self.new.line_faults ≡ self.old.line_faults }
-        ensures leaves { Follows (Takes (deed_of deed) (held_by self.old)) (MayLeave self.old) (MayLeave self.new) }
-        ensures time { Elapses (length self.old.calls) (length self.new.calls) (ShownSince self.old) (ShownSince self.new)
+        ensures leaves { Follows (Takes (deed_of deed) (held_by self.old)) (MayLeave self.old)
+            (MayLeave self.new) }
+        ensures time { Elapses (length self.old.calls) (length self.new.calls) (ShownSince self.old)
+            (ShownSince self.new)
             (Shows (MayLeave self.new) (Some self.old.said)) }
     {
         if self.calls.len() < RECORD_ROOM {
@@ -174,8 +187,10 @@ impl MemDesk {
         ensures line { self.new.line_faults ≡ self.old.line_faults }
         ensures counted { self.old.device_faults ≤ self.new.device_faults }
         ensures cause { Rose self.old.device_faults self.new.device_faults }
-        ensures leaves { Follows (Takes (deed_of deed) (held_by self.old)) (MayLeave self.old) (MayLeave self.new) }
-        ensures time { Elapses (length self.old.calls) (length self.new.calls) (ShownSince self.old) (ShownSince self.new)
+        ensures leaves { Follows (Takes (deed_of deed) (held_by self.old)) (MayLeave self.old)
+            (MayLeave self.new) }
+        ensures time { Elapses (length self.old.calls) (length self.new.calls) (ShownSince self.old)
+            (ShownSince self.new)
             (Shows (MayLeave self.new) (Some self.old.said)) }
     {
         self.record_failure(deed);
@@ -192,8 +207,10 @@ impl MemDesk {
         ensures device { self.new.device_faults ≡ self.old.device_faults }
         ensures counted { self.old.line_faults ≤ self.new.line_faults }
         ensures cause { Rose self.old.line_faults self.new.line_faults }
-        ensures leaves { Follows (Takes nothing (held_by self.old)) (MayLeave self.old) (MayLeave self.new) }
-        ensures time { Elapses (length self.old.calls) (length self.new.calls) (ShownSince self.old) (ShownSince self.new)
+        ensures leaves { Follows (Takes nothing (held_by self.old)) (MayLeave self.old)
+            (MayLeave self.new) }
+        ensures time { Elapses (length self.old.calls) (length self.new.calls) (ShownSince self.old)
+            (ShownSince self.new)
             (Shows (MayLeave self.new) (Some self.old.said)) }
     {
         self.record_failure(Deed::Nothing);
@@ -254,7 +271,8 @@ impl Desk for MemDesk {
         ensures line { self.new.line_faults ≡ self.old.line_faults }
         ensures counted { Counts result self.old.device_faults self.new.device_faults }
         ensures leaves { (file : List ℕ) → MayLeave self.new file → MayLeave self.old file }
-        ensures time { Elapses (length self.old.calls) (length self.new.calls) (ShownSince self.old) (ShownSince self.new)
+        ensures time { Elapses (length self.old.calls) (length self.new.calls) (ShownSince self.old)
+            (ShownSince self.new)
             (Shows (MayLeave self.new) (Some self.old.said)) }
     {
         if self.is_refused() {
@@ -276,14 +294,16 @@ impl Desk for MemDesk {
         ensures out_kept { OnErr result (out.new ≡ out.old) }
 
         // What each desk promises.
-        ensures read { OnOk result (out.new ≡ slice_range (held_by self.old) at (at + length out.old)) }
+        ensures read { OnOk result
+            (out.new ≡ slice_range (held_by self.old) at (at + length out.old)) }
         ensures held { held_by self.new ≡ held_by self.old }
         ensures said { self.new.said ≡ self.old.said }
         ensures written { written_in self.new.calls ≡ written_in self.old.calls }
         ensures line { self.new.line_faults ≡ self.old.line_faults }
         ensures counted { Counts result self.old.device_faults self.new.device_faults }
         ensures leaves { (file : List ℕ) → MayLeave self.new file → MayLeave self.old file }
-        ensures time { Elapses (length self.old.calls) (length self.new.calls) (ShownSince self.old) (ShownSince self.new)
+        ensures time { Elapses (length self.old.calls) (length self.new.calls) (ShownSince self.old)
+            (ShownSince self.new)
             (Shows (MayLeave self.new) (Some self.old.said)) }
     {
         if self.is_refused() {
@@ -295,24 +315,31 @@ impl Desk for MemDesk {
         Ok(())
     }
 
-    /// Fails where the call is to fail, where there is no memory, and where the record has no room. In
-    /// the last case alone the call is not recorded. A call that fails writes nothing.
+    /// Fails where the call is to fail, where there is no memory, and where the record has no room.
+    /// In the last case alone the call is not recorded. A call that fails writes nothing.
     fn write_at(&mut self, at: u64, bytes: &[u8]) -> Result<(), Failed>
         requires range { at + length bytes.now ≤ last_offset }
 
         ensures refused { IsRefused self.old → IsErr result }
         ensures after { OnOk result (self.new ≡ with_call self.old (wrote at bytes.now)) }
-        ensures after_failed { OnErr result (self.new ≡ after_failed_call self.old (tore at (length bytes.now))) }
+        ensures after_failed { OnErr result
+            (self.new ≡ after_failed_call self.old (tore at (length bytes.now))) }
 
         // What each desk promises.
-        ensures held { OnOk result (held_by self.new ≡ overwritten 0 at bytes.now (held_by self.old)) }
-        ensures torn { OnErr result ((new : List ℕ) × (Some (held_by self.new) ≡ Some new) × Torn at (length bytes.now) (held_by self.old) new) }
-        ensures written { Writes result (length bytes.now) (written_in self.old.calls) (written_in self.new.calls) }
+        ensures held { OnOk result
+            (held_by self.new ≡ overwritten 0 at bytes.now (held_by self.old)) }
+        ensures torn { OnErr result
+            ((new : List ℕ) × (Some (held_by self.new) ≡ Some new)
+            × Torn at (length bytes.now) (held_by self.old) new) }
+        ensures written { Writes result (length bytes.now) (written_in self.old.calls)
+            (written_in self.new.calls) }
         ensures said { self.new.said ≡ self.old.said }
         ensures line { self.new.line_faults ≡ self.old.line_faults }
         ensures counted { Counts result self.old.device_faults self.new.device_faults }
-        ensures leaves { Follows (Torn at (length bytes.now)) (MayLeave self.old) (MayLeave self.new) }
-        ensures time { Elapses (length self.old.calls) (length self.new.calls) (ShownSince self.old) (ShownSince self.new)
+        ensures leaves { Follows (Torn at (length bytes.now)) (MayLeave self.old)
+            (MayLeave self.new) }
+        ensures time { Elapses (length self.old.calls) (length self.new.calls) (ShownSince self.old)
+            (ShownSince self.new)
             (Shows (MayLeave self.new) (Some self.old.said)) }
     {
         if self.is_refused() {
@@ -347,7 +374,8 @@ impl Desk for MemDesk {
         ensures line { self.new.line_faults ≡ self.old.line_faults }
         ensures counted { Counts result self.old.device_faults self.new.device_faults }
         ensures leaves { (file : List ℕ) → MayLeave self.new file → MayLeave self.old file }
-        ensures time { Elapses (length self.old.calls) (length self.new.calls) (ShownSince self.old) (ShownSince self.new)
+        ensures time { Elapses (length self.old.calls) (length self.new.calls) (ShownSince self.old)
+            (ShownSince self.new)
             (Shows (MayLeave self.new) (Some self.old.said)) }
     {
         if self.is_refused() {
@@ -357,8 +385,8 @@ impl Desk for MemDesk {
         Ok(())
     }
 
-    /// Says the whole piece, or nothing: it fails where the call is to fail, where there is no memory,
-    /// and where the record has no room. In the last case alone the call is not recorded.
+    /// Says the whole piece, or nothing: it fails where the call is to fail, where there is no
+    /// memory, and where the record has no room. In the last case alone the call is not recorded.
     fn say(&mut self, bytes: &[u8]) -> Result<usize, Failed>
         requires { 0 < length bytes.now }
 
@@ -376,7 +404,8 @@ impl Desk for MemDesk {
         ensures device { self.new.device_faults ≡ self.old.device_faults }
         ensures counted { Counts result self.old.line_faults self.new.line_faults }
         ensures leaves { (file : List ℕ) → MayLeave self.new file → MayLeave self.old file }
-        ensures time { Elapses (length self.old.calls) (length self.new.calls) (ShownSince self.old) (ShownSince self.new)
+        ensures time { Elapses (length self.old.calls) (length self.new.calls) (ShownSince self.old)
+            (ShownSince self.new)
             (ShowsSaying (MayLeave self.new) (Some self.old.said) bytes.now (said_by result)) }
     {
         if self.is_refused() {

@@ -1,4 +1,5 @@
-ghost use Rattle.std.specs.Prelude.{◌≡◌, ◌↔◌, ◌<◌, ◌≤◌, Some, [], ◌++◌, length, take, drop, min, IfOk, OnErr, IsErr, Contains};
+ghost use Rattle.std.specs.Prelude.{◌≡◌, ◌↔◌, ◌<◌, ◌≤◌, Some, [], ◌++◌, length, take, drop, min};
+ghost use Rattle.std.specs.Prelude.{IfOk, OnErr, IsErr, Contains};
 ghost use Rattle.pl_desk.specs.MemSource.{source_over, after_read, after_failed_read};
 ghost use Rattle.pl_desk.specs.Counts.{Counts};
 
@@ -37,8 +38,8 @@ impl Model for MemSource {
 }
 
 impl MemSource {
-    /// A source of these bytes. A read takes at most `piece` of them, and the reads with the numbers
-    /// of `fails`, counted from 0, fail.
+    /// A source of these bytes. A read takes at most `piece` of them, and the reads with the
+    /// numbers of `fails`, counted from 0, fail.
     pub fn over(
         alloc: Global,
         bytes: &[u8],

@@ -1,4 +1,5 @@
-ghost use Rattle.std.specs.Prelude.{◌≡◌, ◌+◌, ◌-◌, ◌≤◌, ◌++◌, length, take, drop, replicate, IfOk, OnOk, OnErr};
+ghost use Rattle.std.specs.Prelude.{◌≡◌, ◌+◌, ◌-◌, ◌≤◌, ◌++◌, length, take, drop, replicate, IfOk};
+ghost use Rattle.std.specs.Prelude.{OnOk, OnErr};
 ghost use Rattle.pl_desk.specs.Desk.{overwritten};
 ghost use Rattle.pl_desk.specs.MemDesk.{after_deed};
 ghost use Rattle.pl_desk.specs.Stopped.{filled_by, closed_by, image_after};
@@ -9,7 +10,8 @@ use std::alloc::{AllocError, Global};
 
 // Makes the file as long as this with bytes `pad`, if it is shorter.
 fn lengthen(file: &mut Vec<u8>, pad: u8, len: usize) -> Result<(), AllocError>
-    ensures ok { OnOk result (file.new.items ≡ file.old.items ++ replicate (len - length file.old.items) pad) }
+    ensures ok { OnOk result (file.new.items ≡ file.old.items
+        ++ replicate (len - length file.old.items) pad) }
     ensures err { OnErr result (file.new.items ≡ file.old.items) }
 {
     if file.len() < len {
@@ -71,7 +73,8 @@ fn replay(
     filler: u8,
 ) -> Result<(), AllocError>
     ensures file { OnOk result (file.new.items ≡ after_deed (deed_of deed.now) file.old.items) }
-    ensures image { OnOk result (image.new.items ≡ closed_by filler (deed_of deed.now) file.old.items image.old.items) }
+    ensures image { OnOk result
+        (image.new.items ≡ closed_by filler (deed_of deed.now) file.old.items image.old.items) }
 {
     fill(alloc, image, deed, filler)?;
     match deed {
@@ -92,7 +95,8 @@ pub(crate) fn image_of(
     calls: &[Recorded],
     filler: u8,
 ) -> Result<Vec<u8>, AllocError>
-    ensures { IfOk result (λ image. image.items ≡ image_after filler first.now first.now (calls_of calls.now)) }
+    ensures { IfOk result (λ image. image.items
+        ≡ image_after filler first.now first.now (calls_of calls.now)) }
 {
     let mut file = Vec::from_slice(alloc, first)?;
     let mut image = Vec::from_slice(alloc, first)?;

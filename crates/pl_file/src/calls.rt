@@ -1,4 +1,5 @@
-ghost use Rattle.std.specs.Prelude.{◌≡◌, ◌↔◌, ℕ, ◌≤◌, ◌+◌, Ok, OnOk, OnErr, IfOk, IsErr, IsTrue, ◌<◌};
+ghost use Rattle.std.specs.Prelude.{◌≡◌, ◌↔◌, ℕ, ◌≤◌, ◌+◌, Ok, OnOk, OnErr, IfOk, IsErr, IsTrue};
+ghost use Rattle.std.specs.Prelude.{◌<◌};
 ghost use Rattle.pl_desk.specs.Counts.{Rose, last_count};
 ghost use Rattle.pl_file.specs.Calls.{no_calls, after_write, after_failed_call, after_failed_say};
 

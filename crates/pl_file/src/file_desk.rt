@@ -1,8 +1,12 @@
-ghost use Rattle.std.specs.Prelude.{◌≡◌, ◌↔◌, ℕ, ◌≤◌, ◌<◌, ◌+◌, List, Some, None, ◌++◌, length, take, slice_range, IsTrue, IsErr, IfOk, IfSome, OnOk, OnErr, MatchOption};
+ghost use Rattle.std.specs.Prelude.{◌≡◌, ◌↔◌, ℕ, ◌≤◌, ◌<◌, ◌+◌, List, Some, None, ◌++◌, length};
+ghost use Rattle.std.specs.Prelude.{take, slice_range, IsTrue, IsErr, IfOk, IfSome, OnOk, OnErr};
+ghost use Rattle.std.specs.Prelude.{MatchOption};
 ghost use Rattle.std.specs.Option.{option_map};
 ghost use Rattle.std.proofs.lemmas.Option.{none-some};
-ghost use Rattle.pl_desk.specs.Desk.{last_offset, overwritten, Torn, Follows, Only, Shows, ShowsSaying, said_by, Elapses};
-ghost use Rattle.pl_file.specs.Calls.{new_file, after_write, after_failed_call, after_failed_say, after_failed_access, untold, AnyFile, AnyShown};
+ghost use Rattle.pl_desk.specs.Desk.{last_offset, overwritten, Torn, Follows, Only, Shows};
+ghost use Rattle.pl_desk.specs.Desk.{ShowsSaying, said_by, Elapses};
+ghost use Rattle.pl_file.specs.Calls.{new_file, after_write, after_failed_call, after_failed_say};
+ghost use Rattle.pl_file.specs.Calls.{after_failed_access, untold, AnyFile, AnyShown};
 ghost use Rattle.pl_desk.specs.Counts.{Counts, Writes};
 
 use crate::calls::Calls;
@@ -13,8 +17,8 @@ use std::fs::{File, Files};
 use std::io::{self, ErrorKind, Write};
 use std::marker::Model;
 
-/// A store's file, which no other desk holds meanwhile, and standard output. It tells nothing of its
-/// content. After a sync that failed each later one fails too.
+/// A store's file, which no other desk holds meanwhile, and standard output. It tells nothing of
+/// its content. After a sync that failed each later one fails too.
 #[derive(Drop)]
 pub struct FileDesk<'a, R> {
     rt: &'a R,
@@ -31,8 +35,8 @@ impl<'a, R> Model for FileDesk<'a, R> {
 }
 
 impl<'a, R: AllocGlobal> FileDesk<'a, R> {
-    /// The file is opened and locked at first need, before a byte of it is read or written. A missing file
-    /// reads as empty, and the first write makes it.
+    /// The file is opened and locked at first need, before a byte of it is read or written. A
+    /// missing file reads as empty, and the first write makes it.
     pub fn at(rt: &'a R, path: &str) -> Result<FileDesk<'a, R>, NoMemory>
         ensures { IfOk result (λ desk. desk ≡ new_file) }
     {
@@ -85,8 +89,10 @@ impl<R: Files<File = File> + Print + AllocGlobal> Desk for FileDesk<'_, R> {
         ensures most { IfOk result (λ n. n ≤ last_offset) }
         ensures written { self.new.counts.written ≡ self.old.counts.written }
         ensures line { self.new.counts.line_faults ≡ self.old.counts.line_faults }
-        ensures counted { Counts result self.old.counts.device_faults self.new.counts.device_faults }
-        ensures time { Elapses 0 0 (AnyShown self.old) (AnyShown self.new) (Shows (AnyFile self.new) (untold self.old)) }
+        ensures counted { Counts result
+            self.old.counts.device_faults self.new.counts.device_faults }
+        ensures time { Elapses 0 0 (AnyShown self.old) (AnyShown self.new)
+            (Shows (AnyFile self.new) (untold self.old)) }
     {
         let answer = self.file.len(self.rt);
         self.calls.count(answer)
@@ -97,11 +103,15 @@ impl<R: Files<File = File> + Print + AllocGlobal> Desk for FileDesk<'_, R> {
         ensures after_failed { OnErr result (self.new ≡ after_failed_access self.old) }
 
         // What each desk promises.
-        ensures read { OnOk result (IfSome (untold self.old) (λ file. out.new ≡ slice_range file at (at + length out.old))) }
+        ensures read { OnOk result
+            (IfSome (untold self.old)
+            (λ file. out.new ≡ slice_range file at (at + length out.old))) }
         ensures written { self.new.counts.written ≡ self.old.counts.written }
         ensures line { self.new.counts.line_faults ≡ self.old.counts.line_faults }
-        ensures counted { Counts result self.old.counts.device_faults self.new.counts.device_faults }
-        ensures time { Elapses 0 0 (AnyShown self.old) (AnyShown self.new) (Shows (AnyFile self.new) (untold self.old)) }
+        ensures counted { Counts result
+            self.old.counts.device_faults self.new.counts.device_faults }
+        ensures time { Elapses 0 0 (AnyShown self.old) (AnyShown self.new)
+            (Shows (AnyFile self.new) (untold self.old)) }
     {
         let answer = self.file.read_at(self.rt, at, out);
         self.calls.count(answer)
@@ -109,18 +119,27 @@ impl<R: Files<File = File> + Print + AllocGlobal> Desk for FileDesk<'_, R> {
 
     /// A write with which the bytes written would pass 2^64 - 1 is a failed call.
     fn write_at(&mut self, at: u64, bytes: &[u8]) -> Result<(), Failed>
-        ensures after { OnOk result (self.new.counts ≡ after_write self.old.counts (length bytes.now)) }
+        ensures after { OnOk result
+            (self.new.counts ≡ after_write self.old.counts (length bytes.now)) }
         ensures after_failed { OnErr result (self.new ≡ after_failed_access self.old) }
         ensures doubt { self.new.is_in_doubt ≡ self.old.is_in_doubt }
 
         // What each desk promises.
-        ensures held { OnOk result (untold self.new ≡ option_map (overwritten 0 at bytes.now) (untold self.old)) }
-        ensures torn { OnErr result (MatchOption (untold self.old) (untold self.new ≡ None) (λ old. (new : List ℕ) × (untold self.new ≡ Some new) × Torn at (length bytes.now) old new)) }
-        ensures written { Writes result (length bytes.now) self.old.counts.written self.new.counts.written }
+        ensures held { OnOk result
+            (untold self.new ≡ option_map (overwritten 0 at bytes.now) (untold self.old)) }
+        ensures torn { OnErr result
+            (MatchOption (untold self.old) (untold self.new ≡ None)
+            (λ old. (new : List ℕ) × (untold self.new ≡ Some new)
+            × Torn at (length bytes.now) old new)) }
+        ensures written { Writes result (length bytes.now) self.old.counts.written
+            self.new.counts.written }
         ensures line { self.new.counts.line_faults ≡ self.old.counts.line_faults }
-        ensures counted { Counts result self.old.counts.device_faults self.new.counts.device_faults }
-        ensures leaves { Follows (Torn at (length bytes.now)) (AnyFile self.old) (AnyFile self.new) }
-        ensures time { Elapses 0 0 (AnyShown self.old) (AnyShown self.new) (Shows (AnyFile self.new) (untold self.old)) }
+        ensures counted { Counts result
+            self.old.counts.device_faults self.new.counts.device_faults }
+        ensures leaves { Follows (Torn at (length bytes.now))
+            (AnyFile self.old) (AnyFile self.new) }
+        ensures time { Elapses 0 0 (AnyShown self.old) (AnyShown self.new)
+            (Shows (AnyFile self.new) (untold self.old)) }
     {
         if !self.calls.has_room(bytes.len()) {
             return self.calls.count(Err(ErrorKind::QuotaExceeded.into()));
@@ -136,11 +155,14 @@ impl<R: Files<File = File> + Print + AllocGlobal> Desk for FileDesk<'_, R> {
         ensures after_failed { OnErr result (self.new.counts ≡ after_failed_call self.old.counts) }
 
         // What each desk promises.
-        ensures durable { OnOk result (IfSome (untold self.old) (λ file. Only file (AnyFile self.new))) }
+        ensures durable { OnOk result
+            (IfSome (untold self.old) (λ file. Only file (AnyFile self.new))) }
         ensures written { self.new.counts.written ≡ self.old.counts.written }
         ensures line { self.new.counts.line_faults ≡ self.old.counts.line_faults }
-        ensures counted { Counts result self.old.counts.device_faults self.new.counts.device_faults }
-        ensures time { Elapses 0 0 (AnyShown self.old) (AnyShown self.new) (Shows (AnyFile self.new) (untold self.old)) }
+        ensures counted { Counts result
+            self.old.counts.device_faults self.new.counts.device_faults }
+        ensures time { Elapses 0 0 (AnyShown self.old) (AnyShown self.new)
+            (Shows (AnyFile self.new) (untold self.old)) }
     {
         let answer = self.file.sync(self.rt);
         self.calls.count(answer)
@@ -152,13 +174,16 @@ impl<R: Files<File = File> + Print + AllocGlobal> Desk for FileDesk<'_, R> {
         ensures doubt { self.new.is_in_doubt ≡ self.old.is_in_doubt }
 
         // What each desk promises.
-        ensures said { IfOk result (λ n. untold self.new ≡ option_map (λ before. before ++ take n bytes.now) (untold self.old)) }
+        ensures said { IfOk result
+            (λ n. untold self.new ≡ option_map (λ before. before ++ take n bytes.now)
+            (untold self.old)) }
         ensures kept { OnErr result (untold self.new ≡ untold self.old) }
         ensures within { IfOk result (λ n. (0 < n) × (n ≤ length bytes.now)) }
         ensures written { self.new.counts.written ≡ self.old.counts.written }
         ensures device { self.new.counts.device_faults ≡ self.old.counts.device_faults }
         ensures counted { Counts result self.old.counts.line_faults self.new.counts.line_faults }
-        ensures time { Elapses 0 0 (AnyShown self.old) (AnyShown self.new) (ShowsSaying (AnyFile self.new) (untold self.old) bytes.now (said_by result)) }
+        ensures time { Elapses 0 0 (AnyShown self.old) (AnyShown self.new)
+            (ShowsSaying (AnyFile self.new) (untold self.old) bytes.now (said_by result)) }
     {
         let answer = io::writer(self.rt).write(bytes);
         self.calls.count_say(answer)

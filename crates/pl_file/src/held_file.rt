@@ -11,9 +11,9 @@ pub struct HeldFile {
 }
 
 impl HeldFile {
-    /// Locks the file that was opened at the path. It is an error where another open of it holds the lock,
-    /// where its system has no locks, where the path leads elsewhere by now, and where it is standard output or
-    /// standard error.
+    /// Locks the file that was opened at the path. It is an error where another open of it holds
+    /// the lock, where its system has no locks, where the path leads elsewhere by now, and where it
+    /// is standard output or standard error.
     pub fn hold(rt: &impl Files, path: &str, file: File) -> io::Result<HeldFile> {
         let file = above_streams(file)?;
         file.try_lock()?;

@@ -1,7 +1,7 @@
 //! The edge: the file and the streams of this process, as the desk and the source of `pl_desk`.
 //!
-//! Neither tells its content, so no clause says what a file or a stream holds. That the file of this
-//! system keeps the words of `Desk` on what a stop may leave is a premise.
+//! Neither tells its content, so no clause says what a file or a stream holds. That the file of
+//! this system keeps the words of `Desk` on what a stop may leave is a premise.
 #![tactic(auto)]
 
 mod calls;

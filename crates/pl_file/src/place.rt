@@ -19,8 +19,8 @@ pub struct Place {
 }
 
 impl Place {
-    /// Where the path leads. The folder is opened here, so that one whose names can't be synced is an
-    /// error before the file is read or written. So is anything there but a regular file.
+    /// Where the path leads. The folder is opened here, so that one whose names can't be synced is
+    /// an error before the file is read or written. So is anything there but a regular file.
     pub fn at(rt: &(impl Files<File = File> + AllocGlobal), path: &str) -> io::Result<Place> {
         let has_file = has_file(rt, path)?;
         let name = behind_links(rt, path)?;

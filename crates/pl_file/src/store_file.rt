@@ -12,8 +12,8 @@ use std::os::unix::fs::FileExt;
 
 const LAST_OFFSET: u64 = (1 << 63) - 1;
 
-/// A file that is opened at first need, and made by the first write where it was missing then. It is held
-/// while it is open.
+/// A file that is opened at first need, and made by the first write where it was missing then. It
+/// is held while it is open.
 #[derive(Drop)]
 pub struct StoreFile {
     path: String,
@@ -91,8 +91,8 @@ impl StoreFile {
         }
     }
 
-    /// Writes all of the bytes at the offset. It makes the file where it is missing, and no bytes past
-    /// the end make it longer too.
+    /// Writes all of the bytes at the offset. It makes the file where it is missing, and no bytes
+    /// past the end make it longer too.
     pub fn write_at(
         &mut self,
         rt: &(impl Files<File = File> + AllocGlobal),
@@ -110,8 +110,9 @@ impl StoreFile {
         }
     }
 
-    /// Syncs the content and the length, and the first time the file's name in its folder. After a sync
-    /// that failed each later one fails too: the system then keeps no record of what it didn't write.
+    /// Syncs the content and the length, and the first time the file's name in its folder. After a
+    /// sync that failed each later one fails too: the system then keeps no record of what it didn't
+    /// write.
     pub fn sync(&mut self, rt: &(impl Files<File = File> + AllocGlobal)) -> io::Result<()>
         ensures refused { IsTrue self.old → IsErr result }
         ensures doubt { IsTrue self.new ↔ IsErr result }
@@ -142,8 +143,8 @@ impl StoreFile {
         Ok(())
     }
 
-    // Opens the file, if it is there and wasn't asked for yet. One that was missing stays so until it is
-    // made: what was made meanwhile is another's.
+    // Opens the file, if it is there and wasn't asked for yet. One that was missing stays so until
+    // it is made: what was made meanwhile is another's.
     fn open(&mut self, rt: &(impl Files<File = File> + AllocGlobal)) -> io::Result<()>
         ensures doubt { self.new ≡ self.old }
     {

@@ -30,7 +30,8 @@ module _ {D : Type 0} (desk : Ghosts D) where
       → LeftBy step (desk.may_leave old) next)
       → ShowsStep desk old new step
   went_on old mid new step more so_far unsaid further leaves = λ some.
-      and_more desk old mid new (LeftBy step (desk.may_leave old)) (LeftBy more (desk.may_leave mid)) unsaid (so_far some)
+      and_more desk old mid new (LeftBy step (desk.may_leave old)) (LeftBy more (desk.may_leave mid)) unsaid
+      (so_far some)
       (further (subst IsSome (sym unsaid) some)) (λ file by. leaves by.0 by.1 file by.2)
 
   -- reads show what a step shows that a stop may cut short at once
@@ -48,7 +49,8 @@ module _ {D : Type 0} (desk : Ghosts D) where
       → ((file : List ℕ) → desk.may_leave old file → (next : List ℕ) → step file next → Q next)
       → AtAnyMoment desk old new Q
   from_rest old new P Q step told rests shows to =
-      weaker desk old new (LeftBy step (desk.may_leave old)) Q (shows (some_said desk old rests.file told rests.is_held))
+      weaker desk old new (LeftBy step (desk.may_leave old)) Q
+      (shows (some_said desk old rests.file told rests.is_held))
       (λ file by. to by.0 by.1 file by.2)
 
   -- further calls
@@ -58,5 +60,6 @@ module _ {D : Type 0} (desk : Ghosts D) where
       → ((file : List ℕ) → desk.may_leave mid file → (next : List ℕ) → step file next → Q next)
       → AtAnyMoment desk old new Q
   and_then old mid new Q step unsaid some so_far shows to =
-      and_more desk old mid new Q (LeftBy step (desk.may_leave mid)) unsaid so_far (shows (subst IsSome (sym unsaid) some))
+      and_more desk old mid new Q (LeftBy step (desk.may_leave mid)) unsaid so_far
+      (shows (subst IsSome (sym unsaid) some))
       (λ file by. to by.0 by.1 file by.2)

@@ -1,5 +1,6 @@
 -- Files whose journal is installed by a recovery.
-use Rattle.std.proofs.Common.{◌≡◌, ℕ, true, false, List, [], ◌∷◌, length, drop, slice_index, inl, inr, refl, sym, ◌∙◌, ap, subst, arith}
+use Rattle.std.proofs.Common.{◌≡◌, ℕ, true, false, List, [], ◌∷◌, length, drop, slice_index, inl, inr, refl, sym, ◌∙◌}
+use Rattle.std.proofs.Common.{ap, subst, arith}
 use Rattle.std.proofs.lemmas.Bool.{cases_eq}
 use Rattle.std.proofs.lemmas.List.{drop_more, take_all}
 use Rattle.std.proofs.lemmas.Map.Views.{exact_unsigned_eq}
@@ -28,7 +29,14 @@ module _ (file : List ℕ) (set : is_set file ≡ true) (gate : has_gate file �
   change = record { before = 0; after = pages_after file; pages = journal file }
 
   armed : IsArmed change (laid file) file
-  armed = record { set = set; journal = refl; after = refl; holds = record { gate = gate; begins = take_all (length (laid file)) (laid file) (omega arith) } }
+  armed =
+      record {
+        set = set;
+        journal = refl;
+        after = refl;
+        holds =
+            record { gate = gate; begins = take_all (length (laid file)) (laid file) (omega arith) };
+      }
 
   abbrev now : List ℕ
   now = with_images (journal file) file
@@ -36,12 +44,14 @@ module _ (file : List ℕ) (set : is_set file ≡ true) (gate : has_gate file �
   stays : StaysSet file now
   stays =
       torn_all (journal file) file now set gate (all_in_self (journal file))
-      (torn_images (journal file) file (entries_whole (journal_len file) (journal_start file) file (gate_journal file gate set).within))
+      (torn_images (journal file) file
+      (entries_whole (journal_len file) (journal_start file) file (gate_journal file gate set).within))
 
   in_place : drop page_size now ≡ laid file
   in_place = (installed change (laid file) file armed).in_place ∙ stays.laid
 
-  cleared : (later : List ℕ) (byte : ℕ) → (byte ≡ 1 → ⊥) → later ≡ byte ∷ drop 1 now → length later ≡ length now → IsSettledAs file later
+  cleared : (later : List ℕ) (byte : ℕ) → (byte ≡ 1 → ⊥) → later ≡ byte ∷ drop 1 now → length later ≡ length now
+      → IsSettledAs file later
   cleared later byte other is len =
       let closed : is_set later ≡ false = ap is_set is ∙ unset byte (drop 1 now) other in
       let le = long now stays.gate in
@@ -49,7 +59,9 @@ module _ (file : List ℕ) (set : is_set file ≡ true) (gate : has_gate file �
         closed = closed;
         stands = record {
           gate = gate_closed later (omega (arith, len, le)) closed ∙ sym gate;
-          laid = laid_closed later closed ∙ ap (drop page_size) is ∙ behind_gate byte now page_size (omega arith) ∙ in_place;
+          laid =
+              laid_closed later closed ∙ ap (drop page_size) is ∙ behind_gate byte now page_size (omega arith)
+              ∙ in_place;
         };
       }
 
@@ -61,12 +73,15 @@ module _ (file : List ℕ) (set : is_set file ≡ true) (gate : has_gate file �
       let byte = exact_unsigned_eq (slice_index now 0) 1 stays.set in
       elim (cases_eq (slice_index later 0) 1) [
         | inl one ↦
-            let whole : now ≡ 1 ∷ drop 1 now = drop_more now 0 0 (omega (arith, le)) ∙ ap (λ (b : ℕ). b ∷ drop 1 now) byte in
+            let whole : now ≡ 1 ∷ drop 1 now =
+            drop_more now 0 0 (omega (arith, le)) ∙ ap (λ (b : ℕ). b ∷ drop 1 now) byte in
             subst (StandsAs file) (whole ∙ ap (λ (b : ℕ). b ∷ drop 1 now) (sym one) ∙ sym is.0) (stands now stays)
         | inr other ↦ (cleared later (slice_index later 0) other is.0 is.1).stands
       ]
 
   pub settled : IsSettledAs file (with_gate 0 now)
   settled =
-      let is = torn_gate now (with_gate 0 now) (omega (arith, long now stays.gate)) (torn_overwritten 0 0 (0 ∷ []) now) in
+      let is =
+      torn_gate now (with_gate 0 now) (omega (arith, long now stays.gate))
+      (torn_overwritten 0 0 (0 ∷ []) now) in
       cleared (with_gate 0 now) 0 (λ (one : 0 ≡ 1). omega (arith, one)) (with_gate_is 0 now) is.1

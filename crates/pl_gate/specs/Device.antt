@@ -1,4 +1,5 @@
--- What the calls of a commit and of a recovery make of a file, and what a stop within them may leave.
+-- What the calls of a commit and of a recovery make of a file, and what a stop within them may
+-- leave.
 use Rattle.std.specs.Prelude.{◌≡◌, ℕ, ◌+◌, ◌*◌, max, List, [], ◌∷◌, ◌++◌, map}
 use Rattle.std.specs.Int.{w32, w64, to_le_bytes}
 use Rattle.pl_base.specs.Touched.{Change, PageImage, page_size}
@@ -14,12 +15,14 @@ start_of change = page_size * max change.before change.after
 
 -- bytes 8 to 23 of the gate's page
 abbrev pub place_bytes : ℕ → ℕ → ℕ → List ℕ
-place_bytes start count after = to_le_bytes w64 start ++ to_le_bytes w32 count ++ to_le_bytes w32 after
+place_bytes start count after =
+    to_le_bytes w64 start ++ to_le_bytes w32 count ++ to_le_bytes w32 after
 
 -- the file with entries of these pages from an offset on
 abbrev pub with_entries : ℕ → List PageImage → List ℕ → List ℕ
 with_entries at [] file = file
-with_entries at (p ∷ pages) file = with_entries (at + entry_size) pages (overwritten 0 at (entry_bytes p) file)
+with_entries at (p ∷ pages) file =
+    with_entries (at + entry_size) pages (overwritten 0 at (entry_bytes p) file)
 
 -- the file with the images of these pages in their places
 abbrev pub with_images : List PageImage → List ℕ → List ℕ
@@ -45,4 +48,5 @@ image_ranges pages = map (λ (p : PageImage). (page_size * p.page, page_size)) p
 -- what writes of these ranges, one after another, may leave where a stop cuts them short
 abbrev pub TornIn : List Range → List ℕ → List ℕ → Type 0
 TornIn [] old new = new ≡ old
-TornIn (range ∷ ranges) old new = (mid : List ℕ) × Torn range.0 range.1 old mid × TornIn ranges mid new
+TornIn (range ∷ ranges) old new =
+    (mid : List ℕ) × Torn range.0 range.1 old mid × TornIn ranges mid new

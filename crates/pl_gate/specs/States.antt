@@ -20,8 +20,8 @@ pub record IsArmed (change : Change) (pages file : List ℕ) : Type 0 where
   pub after : pages_after file ≡ change.after
   pub holds : Holds pages file
 
--- the gate is not set, the journal begins behind the pages, old and new, and the file would be armed with the
--- gate set
+-- the gate is not set, the journal begins behind the pages, old and new, and the file would be
+-- armed with the gate set
 pub record IsStaged (change : Change) (pages file : List ℕ) : Type 0 where
   pub closed : IsClosed pages file
   pub start : journal_start file ≡ start_of change

@@ -5,7 +5,8 @@ ghost use Rattle.std.specs.Option.{option_map};
 ghost use Rattle.pl_base.specs.Touched.{page_size};
 ghost use Rattle.pl_desk.specs.Desk.{last_offset, overwritten, Follows, Torn, Only};
 ghost use Rattle.pl_gate.specs.Gate.{entry_size};
-ghost use Rattle.pl_gate.specs.Device.{entry_ranges, image_ranges, place_bytes, with_entries, with_gate, with_images, TornIn};
+ghost use Rattle.pl_gate.specs.Device.{entry_ranges, image_ranges, place_bytes, with_entries};
+ghost use Rattle.pl_gate.specs.Device.{with_gate, with_images, TornIn};
 ghost use Rattle.pl_desk.specs.Shown.{ShowsStep};
 ghost use Rattle.pl_desk.specs.Counts.{Counts, Writes};
 ghost use Rattle.pl_desk.specs.Calls.{KeepsLine};
@@ -22,11 +23,15 @@ const PLACE: u64 = 8;
 /// Writes the journal's entries, one write each.
 pub fn write_entries<D: Desk>(desk: &mut D, start: u64, touched: &Touched) -> Result<(), Failed>
     requires range { start + entry_size * length touched.now.pages ≤ last_offset }
-    ensures held { OnOk result (D.held desk.new ≡ option_map (with_entries start touched.now.pages) (D.held desk.old)) }
-    ensures leaves { Follows (TornIn (entry_ranges start touched.now.pages)) (D.may_leave desk.old) (D.may_leave desk.new) }
-    ensures moments { ShowsStep D.Desk desk.old desk.new (TornIn (entry_ranges start touched.now.pages)) }
+    ensures held { OnOk result
+        (D.held desk.new ≡ option_map (with_entries start touched.now.pages) (D.held desk.old)) }
+    ensures leaves { Follows (TornIn (entry_ranges start touched.now.pages))
+        (D.may_leave desk.old) (D.may_leave desk.new) }
+    ensures moments { ShowsStep D.Desk desk.old desk.new
+        (TornIn (entry_ranges start touched.now.pages)) }
     ensures line { KeepsLine D.Desk desk.old desk.new }
-    ensures written { Writes result (entry_size * length touched.now.pages) (D.written desk.old) (D.written desk.new) }
+    ensures written { Writes result (entry_size * length touched.now.pages)
+        (D.written desk.old) (D.written desk.new) }
     ensures counted { Counts result (D.device_faults desk.old) (D.device_faults desk.new) }
 {
     let mut index = 0;
@@ -49,9 +54,12 @@ fn entry_bytes(page: u32, image: &[u8]) -> [u8; ENTRY_SIZE]
     entry
 }
 
-/// Writes where the journal begins, how many entries it has, and the store's length in pages after it.
+/// Writes where the journal begins, how many entries it has, and the store's length in pages after
+/// it.
 pub fn write_place<D: Desk>(desk: &mut D, start: u64, count: u32, after: u32) -> Result<(), Failed>
-    ensures held { OnOk result (D.held desk.new ≡ option_map (overwritten 0 8 (place_bytes start count after)) (D.held desk.old)) }
+    ensures held { OnOk result
+        (D.held desk.new ≡ option_map (overwritten 0 8 (place_bytes start count after))
+        (D.held desk.old)) }
     ensures leaves { Follows (Torn 8 16) (D.may_leave desk.old) (D.may_leave desk.new) }
     ensures moments { ShowsStep D.Desk desk.old desk.new (Torn 8 16) }
     ensures line { KeepsLine D.Desk desk.old desk.new }
@@ -73,11 +81,14 @@ fn place_bytes(start: u64, count: u32, after: u32) -> [u8; 16]
 
 /// Writes each image in its page's place.
 pub fn write_images<D: Desk>(desk: &mut D, touched: &Touched) -> Result<(), Failed>
-    ensures held { OnOk result (D.held desk.new ≡ option_map (with_images touched.now.pages) (D.held desk.old)) }
-    ensures leaves { Follows (TornIn (image_ranges touched.now.pages)) (D.may_leave desk.old) (D.may_leave desk.new) }
+    ensures held { OnOk result
+        (D.held desk.new ≡ option_map (with_images touched.now.pages) (D.held desk.old)) }
+    ensures leaves { Follows (TornIn (image_ranges touched.now.pages))
+        (D.may_leave desk.old) (D.may_leave desk.new) }
     ensures moments { ShowsStep D.Desk desk.old desk.new (TornIn (image_ranges touched.now.pages)) }
     ensures line { KeepsLine D.Desk desk.old desk.new }
-    ensures written { Writes result (page_size * length touched.now.pages) (D.written desk.old) (D.written desk.new) }
+    ensures written { Writes result (page_size * length touched.now.pages)
+        (D.written desk.old) (D.written desk.new) }
     ensures counted { Counts result (D.device_faults desk.old) (D.device_faults desk.new) }
 {
     let mut index = 0;
@@ -92,7 +103,8 @@ pub fn write_images<D: Desk>(desk: &mut D, touched: &Touched) -> Result<(), Fail
 /// Writes the gate's byte and syncs, after which a stop leaves just what a read gives.
 pub fn write_gate<D: Desk>(desk: &mut D, byte: u8) -> Result<(), Failed>
     ensures held { OnOk result (D.held desk.new ≡ option_map (with_gate byte) (D.held desk.old)) }
-    ensures durable { OnOk result (IfSome (D.held desk.new) (λ file. Only file (D.may_leave desk.new))) }
+    ensures durable { OnOk result
+        (IfSome (D.held desk.new) (λ file. Only file (D.may_leave desk.new))) }
     ensures leaves { Follows (Torn 0 1) (D.may_leave desk.old) (D.may_leave desk.new) }
     ensures moments { ShowsStep D.Desk desk.old desk.new (Torn 0 1) }
     ensures line { KeepsLine D.Desk desk.old desk.new }

@@ -15,8 +15,8 @@ use pl_desk::Desk;
 
 /// The gate of a desk's file. It holds the desk for itself until it goes.
 ///
-/// A commit takes a change through the states `Closed`, `Staged`, `Armed`, `Installed` and `Closed` again. From
-/// a call that fails there is no state to go on from.
+/// A commit takes a change through the states `Closed`, `Staged`, `Armed`, `Installed` and `Closed`
+/// again. From a call that fails there is no state to go on from.
 #[derive(Drop)]
 pub struct Gate<'d, D> {
     pub(crate) desk: &'d mut D,
@@ -35,23 +35,29 @@ impl<'d, D: Desk> Gate<'d, D> {
         Closed { seal: () }
     }
 
-    /// Writes the journal of the change behind the store's pages, old and new, and tells the gate's page of
-    /// it: one write for each entry, one for the page, and a sync.
+    /// Writes the journal of the change behind the store's pages, old and new, and tells the gate's
+    /// page of it: one write for each entry, one for the page, and a sync.
     pub fn stage<'t>(&mut self, _: Closed, touched: &'t Touched) -> Result<Staged<'t>, DeviceFault>
         requires within { IsWithin touched.now }
         requires some { 1 ≤ touched.now.before }
 
         ensures change { IfOk result (λ staged. staged ≡ touched.now) }
-        ensures staged { OnOk result ((pages : List ℕ) → Rests D.Desk self.old.desk.now (IsClosed pages) → length pages ≡ bytes_before touched.now.before
+        ensures staged { OnOk result
+            ((pages : List ℕ) → Rests D.Desk self.old.desk.now (IsClosed pages)
+            → length pages ≡ bytes_before touched.now.before
             → Rests D.Desk self.new.desk.now (IsStaged touched.now pages)) }
-        ensures staged_empty { OnOk result (D.held self.old.desk.now ≡ Some [] → touched.now.before ≡ 1 → 1 < touched.now.after
+        ensures staged_empty { OnOk result
+            (D.held self.old.desk.now ≡ Some [] → touched.now.before ≡ 1 → 1 < touched.now.after
             → Rests D.Desk self.new.desk.now (IsStaged touched.now [])) }
-        ensures any_moment { (pages : List ℕ) → Rests D.Desk self.old.desk.now (IsClosed pages) → length pages ≡ bytes_before touched.now.before
+        ensures any_moment { (pages : List ℕ) → Rests D.Desk self.old.desk.now (IsClosed pages)
+            → length pages ≡ bytes_before touched.now.before
             → AtAnyMoment D.Desk self.old.desk.now self.new.desk.now (Holds pages) }
 
-        ensures written { Writes result (entry_size * length touched.now.pages + 16) (D.written self.old.desk.now) (D.written self.new.desk.now) }
+        ensures written { Writes result (entry_size * length touched.now.pages + 16)
+            (D.written self.old.desk.now) (D.written self.new.desk.now) }
         ensures line { KeepsLine D.Desk self.old.desk.now self.new.desk.now }
-        ensures counted { Counts result (D.device_faults self.old.desk.now) (D.device_faults self.new.desk.now) }
+        ensures counted { Counts result
+            (D.device_faults self.old.desk.now) (D.device_faults self.new.desk.now) }
         ensures same_desk { self.new.desk.ghost_name ≡ self.old.desk.ghost_name }
     {
         let after = touched.after();
@@ -66,15 +72,21 @@ impl<'d, D: Desk> Gate<'d, D> {
     /// Sets the gate and syncs.
     pub fn arm<'t>(&mut self, staged: Staged<'t>) -> Result<Armed<'t>, DeviceFault>
         ensures change { IfOk result (λ armed. armed ≡ staged.entry) }
-        ensures armed { OnOk result ((pages : List ℕ) → Rests D.Desk self.old.desk.now (IsStaged staged.entry pages)
+        ensures armed { OnOk result
+            ((pages : List ℕ) → Rests D.Desk self.old.desk.now (IsStaged staged.entry pages)
             → Rests D.Desk self.new.desk.now (IsArmed staged.entry (changed staged.entry pages))) }
-        ensures set { OnOk result (D.held self.new.desk.now ≡ option_map (with_gate 1) (D.held self.old.desk.now)) }
-        ensures any_moment { (pages : List ℕ) → Rests D.Desk self.old.desk.now (IsStaged staged.entry pages)
-            → AtAnyMoment D.Desk self.old.desk.now self.new.desk.now (HoldsEither staged.entry pages) }
+        ensures set { OnOk result
+            (D.held self.new.desk.now ≡ option_map (with_gate 1) (D.held self.old.desk.now)) }
+        ensures any_moment { (pages : List ℕ)
+            → Rests D.Desk self.old.desk.now (IsStaged staged.entry pages)
+            → AtAnyMoment D.Desk self.old.desk.now self.new.desk.now
+            (HoldsEither staged.entry pages) }
 
-        ensures written { Writes result 1 (D.written self.old.desk.now) (D.written self.new.desk.now) }
+        ensures written { Writes result 1
+            (D.written self.old.desk.now) (D.written self.new.desk.now) }
         ensures line { KeepsLine D.Desk self.old.desk.now self.new.desk.now }
-        ensures counted { Counts result (D.device_faults self.old.desk.now) (D.device_faults self.new.desk.now) }
+        ensures counted { Counts result
+            (D.device_faults self.old.desk.now) (D.device_faults self.new.desk.now) }
         ensures same_desk { self.new.desk.ghost_name ≡ self.old.desk.ghost_name }
     {
         write_gate(self.desk, 1)?;
@@ -86,15 +98,21 @@ impl<'d, D: Desk> Gate<'d, D> {
     /// Writes each image in its page's place and syncs.
     pub fn install<'t>(&mut self, armed: Armed<'t>) -> Result<Installed<'t>, DeviceFault>
         ensures change { IfOk result (λ installed. installed ≡ armed.entry) }
-        ensures installed { OnOk result ((pages : List ℕ) → Rests D.Desk self.old.desk.now (IsArmed armed.entry pages)
+        ensures installed { OnOk result
+            ((pages : List ℕ) → Rests D.Desk self.old.desk.now (IsArmed armed.entry pages)
             → Rests D.Desk self.new.desk.now (IsInstalled armed.entry pages)) }
-        ensures placed { OnOk result (D.held self.new.desk.now ≡ option_map (with_images armed.entry.pages) (D.held self.old.desk.now)) }
-        ensures any_moment { (pages : List ℕ) → Rests D.Desk self.old.desk.now (IsArmed armed.entry pages)
+        ensures placed { OnOk result
+            (D.held self.new.desk.now
+            ≡ option_map (with_images armed.entry.pages) (D.held self.old.desk.now)) }
+        ensures any_moment { (pages : List ℕ)
+            → Rests D.Desk self.old.desk.now (IsArmed armed.entry pages)
             → AtAnyMoment D.Desk self.old.desk.now self.new.desk.now (Holds pages) }
 
-        ensures written { Writes result (page_size * length armed.entry.pages) (D.written self.old.desk.now) (D.written self.new.desk.now) }
+        ensures written { Writes result (page_size * length armed.entry.pages)
+            (D.written self.old.desk.now) (D.written self.new.desk.now) }
         ensures line { KeepsLine D.Desk self.old.desk.now self.new.desk.now }
-        ensures counted { Counts result (D.device_faults self.old.desk.now) (D.device_faults self.new.desk.now) }
+        ensures counted { Counts result
+            (D.device_faults self.old.desk.now) (D.device_faults self.new.desk.now) }
         ensures same_desk { self.new.desk.ghost_name ≡ self.old.desk.ghost_name }
     {
         write_images(self.desk, armed.touched)?;
@@ -106,15 +124,20 @@ impl<'d, D: Desk> Gate<'d, D> {
 
     /// Clears the gate and syncs.
     pub fn disarm(&mut self, installed: Installed<'_>) -> Result<Closed, DeviceFault>
-        ensures closed { OnOk result ((pages : List ℕ) → Rests D.Desk self.old.desk.now (IsInstalled installed.entry pages)
+        ensures closed { OnOk result
+            ((pages : List ℕ) → Rests D.Desk self.old.desk.now (IsInstalled installed.entry pages)
             → Rests D.Desk self.new.desk.now (IsClosed pages)) }
-        ensures cleared { OnOk result (D.held self.new.desk.now ≡ option_map (with_gate 0) (D.held self.old.desk.now)) }
-        ensures any_moment { (pages : List ℕ) → Rests D.Desk self.old.desk.now (IsInstalled installed.entry pages)
+        ensures cleared { OnOk result
+            (D.held self.new.desk.now ≡ option_map (with_gate 0) (D.held self.old.desk.now)) }
+        ensures any_moment { (pages : List ℕ)
+            → Rests D.Desk self.old.desk.now (IsInstalled installed.entry pages)
             → AtAnyMoment D.Desk self.old.desk.now self.new.desk.now (Holds pages) }
 
-        ensures written { Writes result 1 (D.written self.old.desk.now) (D.written self.new.desk.now) }
+        ensures written { Writes result 1
+            (D.written self.old.desk.now) (D.written self.new.desk.now) }
         ensures line { KeepsLine D.Desk self.old.desk.now self.new.desk.now }
-        ensures counted { Counts result (D.device_faults self.old.desk.now) (D.device_faults self.new.desk.now) }
+        ensures counted { Counts result
+            (D.device_faults self.old.desk.now) (D.device_faults self.new.desk.now) }
         ensures same_desk { self.new.desk.ghost_name ≡ self.old.desk.ghost_name }
     {
         write_gate(self.desk, 0)?;

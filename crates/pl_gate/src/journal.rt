@@ -1,6 +1,7 @@
 // The journal of a set gate: whether it keeps to its format, and its pages put into their places.
 ghost use Rattle.std.specs.Option.{option_map};
-ghost use Rattle.std.specs.Prelude.{◌≡◌, ◌≤◌, ◌<◌, ◌⊎◌, ◌↔◌, ◌+◌, ◌*◌, ℕ, List, Some, None, Err, true, false, length, IfOk, IfSome, OnOk};
+ghost use Rattle.std.specs.Prelude.{◌≡◌, ◌≤◌, ◌<◌, ◌⊎◌, ◌↔◌, ◌+◌, ◌*◌, ℕ, List, Some, None, Err};
+ghost use Rattle.std.specs.Prelude.{true, false, length, IfOk, IfSome, OnOk};
 ghost use Rattle.pl_base.specs.Touched.{page_size};
 ghost use Rattle.pl_desk.specs.Desk.{last_offset, overwritten, Follows, Torn};
 ghost use Rattle.pl_gate.specs.Device.{image_ranges, with_images, TornIn};
@@ -22,10 +23,12 @@ pub fn check_journal<D: Desk>(desk: &mut D, place: &Place, len: u64) -> Result<(
     requires range { len ≤ last_offset }
     requires place { IfSome (D.held desk.old) (IsPlaceOf place.now) }
     ensures journal { OnOk result (IfSome (D.held desk.old) (λ file. is_journal file ≡ true)) }
-    ensures bad { result ≡ Err GateError.BadGate → IfSome (D.held desk.old) (λ file. is_journal file ≡ false) }
+    ensures bad { result ≡ Err GateError.BadGate
+        → IfSome (D.held desk.old) (λ file. is_journal file ≡ false) }
     ensures bound { OnOk result (place.now.start + entry_size * place.now.count ≤ len) }
     ensures reads { OnlyReads D.Desk desk.old desk.new }
-    ensures counted { CountsAt (result ≡ Err GateError.DeviceFault) (D.device_faults desk.old) (D.device_faults desk.new) }
+    ensures counted { CountsAt (result ≡ Err GateError.DeviceFault)
+        (D.device_faults desk.old) (D.device_faults desk.new) }
 {
     if !lies_behind(place, len) {
         return Err(GateError::BadGate);
@@ -42,7 +45,9 @@ pub fn check_journal<D: Desk>(desk: &mut D, place: &Place, len: u64) -> Result<(
 
 // Whether the journal lies within a file of this length, behind the store's pages.
 fn lies_behind(place: &Place, len: u64) -> bool
-    ensures { (result ≡ true) ↔ ((place.now.start + entry_size * place.now.count ≤ len) × (page_size * place.now.after ≤ place.now.start)) }
+    ensures { (result ≡ true)
+        ↔ ((place.now.start + entry_size * place.now.count ≤ len)
+        × (page_size * place.now.after ≤ place.now.start)) }
 {
     let Some(end) = place
         .start
@@ -57,12 +62,16 @@ fn lies_behind(place: &Place, len: u64) -> bool
 fn read_page<D: Desk>(desk: &mut D, at: u64, last: u64, after: u32) -> Result<u64, GateError>
     requires range { at + 8 ≤ last_offset }
     requires within { IfSome (D.held desk.old) (λ file. at + 8 ≤ length file) }
-    ensures page { IfOk result (λ page. IfSome (D.held desk.old) (λ file. page ≡ (entry_at at file).page)) }
+    ensures page { IfOk result
+        (λ page. IfSome (D.held desk.old) (λ file. page ≡ (entry_at at file).page)) }
     ensures above { IfOk result (λ page. last < page) }
     ensures below { IfOk result (λ page. page < after) }
-    ensures bad { result ≡ Err GateError.BadGate → IfSome (D.held desk.old) (λ file. ((entry_at at file).page ≤ last) ⊎ (after ≤ (entry_at at file).page)) }
+    ensures bad { result ≡ Err GateError.BadGate
+        → IfSome (D.held desk.old)
+        (λ file. ((entry_at at file).page ≤ last) ⊎ (after ≤ (entry_at at file).page)) }
     ensures reads { OnlyReads D.Desk desk.old desk.new }
-    ensures counted { CountsAt (result ≡ Err GateError.DeviceFault) (D.device_faults desk.old) (D.device_faults desk.new) }
+    ensures counted { CountsAt (result ≡ Err GateError.DeviceFault)
+        (D.device_faults desk.old) (D.device_faults desk.new) }
 {
     let page = read_u64(desk, at)?;
     if page <= last || page >= after as u64 {
@@ -77,12 +86,18 @@ pub fn install_journal<D: Desk>(desk: &mut D, place: &Place) -> Result<(), GateE
     requires place { IfSome (D.held desk.old) (IsPlaceOf place.now) }
     requires set { IfSome (D.held desk.old) (λ file. is_set file ≡ true) }
     requires gate { IfSome (D.held desk.old) (λ file. has_gate file ≡ true) }
-    ensures held { OnOk result (D.held desk.new ≡ option_map (λ file. with_images (journal file) file) (D.held desk.old)) }
-    ensures leaves { (file : List ℕ) → D.held desk.old ≡ Some file → Follows (TornIn (image_ranges (journal file))) (D.may_leave desk.old) (D.may_leave desk.new) }
-    ensures moments { (file : List ℕ) → D.held desk.old ≡ Some file → ShowsStep D.Desk desk.old desk.new (TornIn (image_ranges (journal file))) }
+    ensures held { OnOk result
+        (D.held desk.new ≡ option_map (λ file. with_images (journal file) file) (D.held desk.old)) }
+    ensures leaves { (file : List ℕ) → D.held desk.old ≡ Some file
+        → Follows (TornIn (image_ranges (journal file)))
+        (D.may_leave desk.old) (D.may_leave desk.new) }
+    ensures moments { (file : List ℕ) → D.held desk.old ≡ Some file
+        → ShowsStep D.Desk desk.old desk.new (TornIn (image_ranges (journal file))) }
     ensures line { KeepsLine D.Desk desk.old desk.new }
-    ensures written { Writes result (page_size * place.now.count) (D.written desk.old) (D.written desk.new) }
-    ensures counted { CountsAt (result ≡ Err GateError.DeviceFault) (D.device_faults desk.old) (D.device_faults desk.new) }
+    ensures written { Writes result (page_size * place.now.count)
+        (D.written desk.old) (D.written desk.new) }
+    ensures counted { CountsAt (result ≡ Err GateError.DeviceFault)
+        (D.device_faults desk.old) (D.device_faults desk.new) }
     ensures good { result ≡ Err GateError.BadGate → D.held desk.old ≡ None }
 {
     let mut last = 0;
@@ -99,14 +114,25 @@ pub fn install_journal<D: Desk>(desk: &mut D, place: &Place) -> Result<(), GateE
 fn install_entry<D: Desk>(desk: &mut D, at: u64, last: u64, after: u32) -> Result<u64, GateError>
     requires range { at + entry_size ≤ last_offset }
     requires within { IfSome (D.held desk.old) (λ file. at + entry_size ≤ length file) }
-    ensures page { IfOk result (λ page. IfSome (D.held desk.old) (λ file. page ≡ (entry_at at file).page)) }
-    ensures held { OnOk result (D.held desk.new ≡ option_map (λ file. overwritten 0 (page_size * (entry_at at file).page) (entry_at at file).image file) (D.held desk.old)) }
-    ensures bad { result ≡ Err GateError.BadGate → IfSome (D.held desk.old) (λ file. ((entry_at at file).page ≤ last) ⊎ (after ≤ (entry_at at file).page)) }
-    ensures leaves { (file : List ℕ) → D.held desk.old ≡ Some file → Follows (Torn (page_size * (entry_at at file).page) page_size) (D.may_leave desk.old) (D.may_leave desk.new) }
-    ensures moments { (file : List ℕ) → D.held desk.old ≡ Some file → ShowsStep D.Desk desk.old desk.new (Torn (page_size * (entry_at at file).page) page_size) }
+    ensures page { IfOk result
+        (λ page. IfSome (D.held desk.old) (λ file. page ≡ (entry_at at file).page)) }
+    ensures held { OnOk result
+        (D.held desk.new ≡ option_map
+        (λ file. overwritten 0 (page_size * (entry_at at file).page) (entry_at at file).image file)
+        (D.held desk.old)) }
+    ensures bad { result ≡ Err GateError.BadGate
+        → IfSome (D.held desk.old)
+        (λ file. ((entry_at at file).page ≤ last) ⊎ (after ≤ (entry_at at file).page)) }
+    ensures leaves { (file : List ℕ) → D.held desk.old ≡ Some file
+        → Follows (Torn (page_size * (entry_at at file).page) page_size)
+        (D.may_leave desk.old) (D.may_leave desk.new) }
+    ensures moments { (file : List ℕ) → D.held desk.old ≡ Some file
+        → ShowsStep D.Desk desk.old desk.new
+        (Torn (page_size * (entry_at at file).page) page_size) }
     ensures line { KeepsLine D.Desk desk.old desk.new }
     ensures written { Writes result page_size (D.written desk.old) (D.written desk.new) }
-    ensures counted { CountsAt (result ≡ Err GateError.DeviceFault) (D.device_faults desk.old) (D.device_faults desk.new) }
+    ensures counted { CountsAt (result ≡ Err GateError.DeviceFault)
+        (D.device_faults desk.old) (D.device_faults desk.new) }
 {
     let page = read_page(desk, at, last, after)?;
     let mut image = [0; PAGE_SIZE];

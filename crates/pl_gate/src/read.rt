@@ -9,8 +9,8 @@ ghost use Rattle.pl_desk.specs.Calls.{OnlyReads};
 
 use pl_desk::{Desk, Failed};
 
-/// What the gate's page tells: whether the gate is set, where the journal begins, how many entries it has,
-/// and the store's length in pages once it is installed.
+/// What the gate's page tells: whether the gate is set, where the journal begins, how many entries
+/// it has, and the store's length in pages once it is installed.
 #[derive(Clone, Copy, Debug)]
 pub struct Place {
     pub is_set: bool,
@@ -42,7 +42,9 @@ pub fn read_place<D: Desk>(desk: &mut D) -> Result<Place, Failed>
 pub fn read_u64<D: Desk>(desk: &mut D, at: u64) -> Result<u64, Failed>
     requires range { at + 8 ≤ last_offset }
     requires within { IfSome (D.held desk.old) (λ file. at + 8 ≤ length file) }
-    ensures number { IfOk result (λ n. IfSome (D.held desk.old) (λ file. n ≡ from_le_bytes w64 (slice_range file at (at + 8)))) }
+    ensures number { IfOk result
+        (λ n. IfSome (D.held desk.old)
+        (λ file. n ≡ from_le_bytes w64 (slice_range file at (at + 8)))) }
     ensures reads { OnlyReads D.Desk desk.old desk.new }
     ensures counted { Counts result (D.device_faults desk.old) (D.device_faults desk.new) }
 {
@@ -55,7 +57,9 @@ pub fn read_u64<D: Desk>(desk: &mut D, at: u64) -> Result<u64, Failed>
 fn read_u32<D: Desk>(desk: &mut D, at: u64) -> Result<u32, Failed>
     requires range { at + 4 ≤ last_offset }
     requires within { IfSome (D.held desk.old) (λ file. at + 4 ≤ length file) }
-    ensures number { IfOk result (λ n. IfSome (D.held desk.old) (λ file. n ≡ from_le_bytes w32 (slice_range file at (at + 4)))) }
+    ensures number { IfOk result
+        (λ n. IfSome (D.held desk.old)
+        (λ file. n ≡ from_le_bytes w32 (slice_range file at (at + 4)))) }
     ensures reads { OnlyReads D.Desk desk.old desk.new }
     ensures counted { Counts result (D.device_faults desk.old) (D.device_faults desk.new) }
 {

@@ -1,4 +1,5 @@
-ghost use Rattle.std.specs.Prelude.{◌≡◌, ◌≤◌, ◌+◌, ◌*◌, ℕ, List, Some, None, Err, true, false, IfSome, OnOk};
+ghost use Rattle.std.specs.Prelude.{◌≡◌, ◌≤◌, ◌+◌, ◌*◌, ℕ, List, Some, None, Err, true, false};
+ghost use Rattle.std.specs.Prelude.{IfSome, OnOk};
 ghost use Rattle.pl_base.specs.Touched.{page_size};
 ghost use Rattle.pl_desk.specs.Desk.{last_offset, Only};
 ghost use Rattle.pl_desk.specs.Settling.{Settles};
@@ -18,31 +19,43 @@ use pl_base::PAGE_SIZE;
 use pl_desk::Desk;
 
 impl<'d, D: Desk> Gate<'d, D> {
-    /// Settles the gate of a file that a stop may have left: it syncs, and installs a journal whose gate is
-    /// set. `BadGate` comes just where the file has less than 1,024 bytes, and where the gate is set over a
-    /// journal that breaks its format.
+    /// Settles the gate of a file that a stop may have left: it syncs, and installs a journal whose
+    /// gate is set. `BadGate` comes just where the file has less than 1,024 bytes, and where the
+    /// gate is set over a journal that breaks its format.
     pub fn recover(&mut self) -> Result<Closed, GateError>
-        // Where the desk tells its content, the file is at rest then, and stands for what it stood for.
+        // Where the desk tells its content, the file is at rest then, and stands for what it stood
+        // for.
         ensures settled { OnOk result ((file : List ℕ) → D.held self.old.desk.now ≡ Some file
             → Rests D.Desk self.new.desk.now (IsSettledAs file)) }
-        ensures good { OnOk result (IfSome (D.held self.old.desk.now) (λ file. has_gate file ≡ true)) }
-        ensures bad { result ≡ Err GateError.BadGate → IfSome (D.held self.old.desk.now) (λ file. has_gate file ≡ false) }
-        ensures untouched { result ≡ Err GateError.BadGate → D.held self.new.desk.now ≡ D.held self.old.desk.now }
+        ensures good { OnOk result
+            (IfSome (D.held self.old.desk.now) (λ file. has_gate file ≡ true)) }
+        ensures bad { result ≡ Err GateError.BadGate
+            → IfSome (D.held self.old.desk.now) (λ file. has_gate file ≡ false) }
+        ensures untouched { result ≡ Err GateError.BadGate
+            → D.held self.new.desk.now ≡ D.held self.old.desk.now }
         // A file whose gate is not set is left as it was.
-        ensures unset { (file : List ℕ) → D.held self.old.desk.now ≡ Some file → is_set file ≡ false → D.held self.new.desk.now ≡ D.held self.old.desk.now }
-        ensures unwritten { result ≡ Err GateError.BadGate → (file : List ℕ) → D.held self.old.desk.now ≡ Some file → D.written self.new.desk.now ≡ D.written self.old.desk.now }
-        ensures at_rest { result ≡ Err GateError.BadGate → (file : List ℕ) → D.held self.old.desk.now ≡ Some file → Only file (D.may_leave self.new.desk.now) }
+        ensures unset { (file : List ℕ) → D.held self.old.desk.now ≡ Some file → is_set file ≡ false
+            → D.held self.new.desk.now ≡ D.held self.old.desk.now }
+        ensures unwritten { result ≡ Err GateError.BadGate → (file : List ℕ)
+            → D.held self.old.desk.now ≡ Some file
+            → D.written self.new.desk.now ≡ D.written self.old.desk.now }
+        ensures at_rest { result ≡ Err GateError.BadGate → (file : List ℕ)
+            → D.held self.old.desk.now ≡ Some file → Only file (D.may_leave self.new.desk.now) }
 
-        // Before the first sync ends, a stop shows a file that it might have left at first; from then on each file
-        // that it shows stands for the one that a read gave.
+        // Before the first sync ends, a stop shows a file that it might have left at first; from
+        // then on each file that it shows stands for the one that a read gave.
         ensures any_moment { (file : List ℕ) → D.held self.old.desk.now ≡ Some file
             → Settles D.Desk self.old.desk.now self.new.desk.now (StandsAs file) }
 
-        ensures written { OnOk result ((file : List ℕ) → D.held self.old.desk.now ≡ Some file → D.written self.new.desk.now ≡ D.written self.old.desk.now + written_by file) }
-        ensures no_more { (file : List ℕ) → D.held self.old.desk.now ≡ Some file → D.written self.new.desk.now ≤ D.written self.old.desk.now + written_by file }
+        ensures written { OnOk result
+            ((file : List ℕ) → D.held self.old.desk.now ≡ Some file
+            → D.written self.new.desk.now ≡ D.written self.old.desk.now + written_by file) }
+        ensures no_more { (file : List ℕ) → D.held self.old.desk.now ≡ Some file
+            → D.written self.new.desk.now ≤ D.written self.old.desk.now + written_by file }
         ensures no_less { D.written self.old.desk.now ≤ D.written self.new.desk.now }
         ensures line { KeepsLine D.Desk self.old.desk.now self.new.desk.now }
-        ensures counted { CountsAt (result ≡ Err GateError.DeviceFault) (D.device_faults self.old.desk.now) (D.device_faults self.new.desk.now) }
+        ensures counted { CountsAt (result ≡ Err GateError.DeviceFault)
+            (D.device_faults self.old.desk.now) (D.device_faults self.new.desk.now) }
         ensures same_desk { self.new.desk.ghost_name ≡ self.old.desk.ghost_name }
     {
         self.desk.sync()?;
@@ -66,13 +79,18 @@ fn clear_gate<D: Desk>(desk: &mut D, place: &Place) -> Result<(), GateError>
     requires set { IfSome (D.held desk.old) (λ file. is_set file ≡ true) }
     requires gate { IfSome (D.held desk.old) (λ file. has_gate file ≡ true) }
     requires only { IfSome (D.held desk.old) (λ file. Only file (D.may_leave desk.old)) }
-    ensures settled { OnOk result ((file : List ℕ) → D.held desk.old ≡ Some file → Rests D.Desk desk.new (IsSettledAs file)) }
-    ensures any_moment { (file : List ℕ) → D.held desk.old ≡ Some file → AtAnyMoment D.Desk desk.old desk.new (StandsAs file) }
-    ensures left { (file : List ℕ) → D.held desk.old ≡ Some file → (later : List ℕ) → D.may_leave desk.new later → StandsAs file later }
+    ensures settled { OnOk result
+        ((file : List ℕ) → D.held desk.old ≡ Some file → Rests D.Desk desk.new (IsSettledAs file)) }
+    ensures any_moment { (file : List ℕ) → D.held desk.old ≡ Some file
+        → AtAnyMoment D.Desk desk.old desk.new (StandsAs file) }
+    ensures left { (file : List ℕ) → D.held desk.old ≡ Some file → (later : List ℕ)
+        → D.may_leave desk.new later → StandsAs file later }
     ensures good { result ≡ Err GateError.BadGate → D.held desk.old ≡ None }
-    ensures written { Writes result (page_size * place.now.count + 1) (D.written desk.old) (D.written desk.new) }
+    ensures written { Writes result (page_size * place.now.count + 1)
+        (D.written desk.old) (D.written desk.new) }
     ensures line { KeepsLine D.Desk desk.old desk.new }
-    ensures counted { CountsAt (result ≡ Err GateError.DeviceFault) (D.device_faults desk.old) (D.device_faults desk.new) }
+    ensures counted { CountsAt (result ≡ Err GateError.DeviceFault)
+        (D.device_faults desk.old) (D.device_faults desk.new) }
 {
     install_journal(desk, place)?;
     desk.sync()?;

@@ -28,8 +28,16 @@ if_some (Some x) P holds = holds x refl
 -- files that stand for the same pages stand for the same store
 pub stands_alike : (file later : List ℕ) → StandsAs file later → StandsAlike file later
 stands_alike file later as_file store = (
-  λ stands. record { gate = as_file.gate ∙ stands.gate; form = subst (λ (bytes : List ℕ). StandsFor bytes store) (sym as_file.laid) stands.form },
-  λ stands. record { gate = sym as_file.gate ∙ stands.gate; form = subst (λ (bytes : List ℕ). StandsFor bytes store) as_file.laid stands.form },
+  λ stands. record {
+    gate = as_file.gate ∙ stands.gate;
+    form =
+        subst (λ (bytes : List ℕ). StandsFor bytes store) (sym as_file.laid) stands.form;
+  },
+  λ stands. record {
+    gate = sym as_file.gate ∙ stands.gate;
+    form =
+        subst (λ (bytes : List ℕ). StandsFor bytes store) as_file.laid stands.form;
+  },
 )
 
 module _ (file later : List ℕ) (settled : IsSettledAs file later) where
@@ -43,12 +51,14 @@ module _ (file later : List ℕ) (settled : IsSettledAs file later) where
   }
 
   pub settled_form : (store : Store) → Stands file store → StandsFor (drop 1024 later) store
-  settled_form store stands = subst (λ (bytes : List ℕ). StandsFor bytes store) (sym settled.stands.laid ∙ lies) stands.form
+  settled_form store stands =
+      subst (λ (bytes : List ℕ). StandsFor bytes store) (sym settled.stands.laid ∙ lies) stands.form
 
   pub later_form : (store : Store) → Stands later store → StandsFor (drop 1024 later) store
   later_form store stands = subst (λ (bytes : List ℕ). StandsFor bytes store) lies stands.form
 
-  pub closed : (bytes : List ℕ) → has_gate file ≡ true → take (length bytes) (drop 1024 later) ≡ bytes → IsClosed bytes later
+  pub closed : (bytes : List ℕ) → has_gate file ≡ true → take (length bytes) (drop 1024 later) ≡ bytes
+      → IsClosed bytes later
   closed bytes gate begins = record {
     closed = settled.closed;
     holds = record {
@@ -58,7 +68,8 @@ module _ (file later : List ℕ) (settled : IsSettledAs file later) where
   }
 
 -- a recovery of a file whose gate is not set writes nothing
-pub writes_none : (file : List ℕ) (old new : ℕ) → is_set file ≡ false → old ≤ new → new ≤ old + written_by file → new ≡ old
+pub writes_none : (file : List ℕ) (old new : ℕ) → is_set file ≡ false → old ≤ new → new ≤ old + written_by file
+    → new ≡ old
 writes_none file old new unset no_less no_more = let most = rw unset at no_more in omega (arith, no_less, most)
 
 -- ---- how an opening ends, from the settling of the file and the reading behind it
@@ -67,11 +78,16 @@ some_is : {X : Type 0} (o : Option X) → IsSome o → (x : X) × (o ≡ Some x)
 some_is None some = absurd (both_ways false refl some)
 some_is (Some x) some = (x, refl)
 
-module _ {D : Type 0} (desk : Ghosts D) (told : (now : D) → IsSome (desk.held now) ↔ IsSome (desk.said now)) (old mid new : D) (settled : (file : List ℕ) → desk.held old ≡ Some file → Rests desk mid (IsSettledAs file)) (good : IfSome (desk.held old) (λ file. has_gate file ≡ true)) (line : KeepsLine desk old mid) (reads : OnlyReads desk mid new) where
-  opens_store : (session : Session) → IfSome (desk.held mid) (λ file. IsReadFrom session (drop page_size file)) → OpensStore desk session old new
+module _ {D : Type 0} (desk : Ghosts D) (told : (now : D) → IsSome (desk.held now) ↔ IsSome (desk.said now))
+    (old mid new : D) (settled : (file : List ℕ) → desk.held old ≡ Some file → Rests desk mid (IsSettledAs file))
+    (good : IfSome (desk.held old) (λ file. has_gate file ≡ true)) (line : KeepsLine desk old mid)
+    (reads : OnlyReads desk mid new) where
+  opens_store : (session : Session) → IfSome (desk.held mid) (λ file. IsReadFrom session (drop page_size file))
+      → OpensStore desk session old new
   opens_store session read = record {
     stands = if_some (desk.held old) _ (λ file is. let has = read_of file is in
-        stands_settled file (settled file is).file (settled file is).has (MatchOption-at_some _ _ file is good) (store_of session) has.stands);
+        stands_settled file (settled file is).file (settled file is).has (MatchOption-at_some _ _ file is good)
+        (store_of session) has.stands);
     only = if_some (desk.held old) _ (λ file is store stands.
         (read_of file is).only store (settled_form file (settled file is).file (settled file is).has store stands));
     settled = λ file is. record {
@@ -79,19 +95,23 @@ module _ {D : Type 0} (desk : Ghosts D) (told : (now : D) → IsSome (desk.held 
         file = (settled file is).file;
         is_held = (settled file is).is_held;
         only = (settled file is).only;
-        has = closed file (settled file is).file (settled file is).has (bytes_of session) (MatchOption-at_some _ _ file is good) (read_of file is).begins;
+        has =
+            closed file (settled file is).file (settled file is).has (bytes_of session)
+            (MatchOption-at_some _ _ file is good) (read_of file is).begins;
       });
       stands = (read_of file is).own;
     };
   }
     where
-      read_of : (file : List ℕ) (is : desk.held old ≡ Some file) → IsReadFrom session (drop page_size (settled file is).file)
+      read_of : (file : List ℕ) (is : desk.held old ≡ Some file)
+          → IsReadFrom session (drop page_size (settled file is).file)
       read_of file is = MatchOption-at_some _ _ (settled file is).file (settled file is).is_held read
 
   refuses_file : IfSome (desk.held mid) (λ file. HoldNone (drop page_size file)) → RefusesFile desk old new
   refuses_file none = record {
     was_none = if_some (desk.held old) _ (λ file is store stands. let rests = settled file is in
-        (MatchOption-at_some _ _ rests.file rests.is_held none) store (settled_form file rests.file rests.has store stands));
+        (MatchOption-at_some _ _ rests.file rests.is_held none) store
+        (settled_form file rests.file rests.has store stands));
     still_none = if_some (desk.held new) _ (λ later is store stands.
         let is_mid = sym reads.file.held ∙ is in
         let said = (told mid).0 (subst IsSome (sym is_mid) refl) in
@@ -102,11 +122,13 @@ module _ {D : Type 0} (desk : Ghosts D) (told : (now : D) → IsSome (desk.held 
     bad_gate = λ file is lacks. absurd (both_ways (has_gate file) lacks (MatchOption-at_some _ _ file is good));
   }
 
-  pub opens : (limit : ℕ) (result : Result Session Ended) → Reads limit (desk.held mid) result → Opens desk limit result old new
+  pub opens : (limit : ℕ) (result : Result Session Ended) → Reads limit (desk.held mid) result
+      → Opens desk limit result old new
   opens limit (Ok session) read = (read.0, opens_store session read.1)
   opens limit (Err ended.DeviceFault) read = tt
   opens limit (Err ended.NoMemory) read =
       λ file is. still_rests desk mid new (StandsAlike file) reads.file.held reads.file.left
-      (rests_less desk mid (IsSettledAs file) (StandsAlike file) (settled file is) (λ later has. stands_alike file later has.stands))
+      (rests_less desk mid (IsSettledAs file) (StandsAlike file) (settled file is)
+      (λ later has. stands_alike file later has.stands))
   opens limit (Err ended.NotAStore) none = refuses_file none
   opens limit (Err (ended.NotEmpty len)) read = read

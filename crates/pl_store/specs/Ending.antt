@@ -1,5 +1,6 @@
 -- How the making of a store and the opening of a file end.
-use Rattle.std.specs.Prelude.{◌≡◌, ⊤, ℕ, ◌<◌, false, List, [], Some, length, Result, Ok, Err, IfSome}
+use Rattle.std.specs.Prelude.{◌≡◌, ⊤, ℕ, ◌<◌, false, List, [], Some, length, Result, Ok, Err}
+use Rattle.std.specs.Prelude.{IfSome}
 use Rattle.pl_base.specs.Store.{Store, opening}
 use Rattle.pl_desk.specs.Calls.{KeepsFile}
 use Rattle.pl_desk.specs.Shown.{Rests}
@@ -17,7 +18,8 @@ use Rattle.pl_store.specs.declared.session.Session.{Session}
 abbrev pub StandsForNone : List ℕ → Type 0
 StandsForNone file = (store : Store) → Stands file store → ⊥
 
--- the file is too short for a gate, or its gate is set over a journal that breaks the format; no stop leaves either
+-- the file is too short for a gate, or its gate is set over a journal that breaks the format; no
+-- stop leaves either
 abbrev pub LacksGate : List ℕ → Type 0
 LacksGate file = has_gate file ≡ false
 
@@ -28,11 +30,12 @@ IsFinished file = is_set file ≡ false
 -- ---- a new store
 
 -- the session is that of the store before its first command, which an empty file holds now
-pub record MakesStore {D : Type 0} (desk : Ghosts D) (session : Session) (old new : D) : Type 0 where
-  pub store : store_of session ≡ opening
-  pub limit : limit_of session ≡ slot_limit
-  pub was_empty : IfSome (desk.held old) (λ file. file ≡ [])
-  pub settled : (file : List ℕ) → desk.held old ≡ Some file → IsSettled desk session new
+pub record MakesStore {D : Type 0} (desk : Ghosts D) (session : Session) (old new : D) : Type 0
+  where
+    pub store : store_of session ≡ opening
+    pub limit : limit_of session ≡ slot_limit
+    pub was_empty : IfSome (desk.held old) (λ file. file ≡ [])
+    pub settled : (file : List ℕ) → desk.held old ≡ Some file → IsSettled desk session new
 
 -- the file has so many bytes, and is left as it was
 pub record FindsBytes {D : Type 0} (desk : Ghosts D) (n : ℕ) (old new : D) : Type 0 where
@@ -56,16 +59,19 @@ Makes desk (Err (ended.NotEmpty len)) old new = FindsBytes desk len old new
 -- ---- a file that is opened
 
 -- the session is that of the one store that the file stands for, which holds it still
-pub record OpensStore {D : Type 0} (desk : Ghosts D) (session : Session) (old new : D) : Type 0 where
-  pub stands : IfSome (desk.held old) (λ file. Stands file (store_of session))
-  pub only : IfSome (desk.held old) (λ file. (store : Store) → Stands file store → store ≡ store_of session)
-  pub settled : (file : List ℕ) → desk.held old ≡ Some file → IsSettled desk session new
+pub record OpensStore {D : Type 0} (desk : Ghosts D) (session : Session) (old new : D) : Type 0
+  where
+    pub stands : IfSome (desk.held old) (λ file. Stands file (store_of session))
+    pub only : IfSome (desk.held old)
+        (λ file. (store : Store) → Stands file store → store ≡ store_of session)
+    pub settled : (file : List ℕ) → desk.held old ≡ Some file → IsSettled desk session new
 
 -- the file stands for no store, and still for none; one that no stop left is as it was
 pub record RefusesFile {D : Type 0} (desk : Ghosts D) (old new : D) : Type 0 where
   pub was_none : IfSome (desk.held old) StandsForNone
   pub still_none : IfSome (desk.held new) StandsForNone
-  pub bad_gate : (file : List ℕ) → desk.held old ≡ Some file → LacksGate file → desk.held new ≡ desk.held old
+  pub bad_gate : (file : List ℕ) → desk.held old ≡ Some file → LacksGate file
+      → desk.held new ≡ desk.held old
 
 -- how an opening of a file ends; it never tells how many bytes there are
 abbrev pub Opens : {D : Type 0} (desk : Ghosts D) → ℕ → Result Session Ended → D → D → Type 0

@@ -5,7 +5,8 @@ use Rattle.pl_desk.specs.Calls.{LeavesNoMore}
 use Rattle.pl_desk.specs.Shown.{Rests}
 use Rattle.pl_desk.specs.declared.desk.Desk.{Ghosts}
 use Rattle.pl_store.specs.Session as session
-use Rattle.pl_store.specs.Session.{IsPreparedFrom, IsSettled, Stands, memory_limit, memory_store, next_limit, next_store}
+use Rattle.pl_store.specs.Session.{IsPreparedFrom, IsSettled, Stands, memory_limit, memory_store}
+use Rattle.pl_store.specs.Session.{next_limit, next_store}
 use Rattle.pl_store.specs.declared.keeper.Keeper.{Keeper}
 use Rattle.pl_store.specs.declared.keeper.Keeper.TheVariants.{Memory, File}
 use Rattle.pl_store.specs.declared.keeper.Ready.{Ready}
@@ -38,14 +39,15 @@ IsReadyFrom (Memory memory) (ready.File prepared) = ⊥
 IsReadyFrom (File s) (ready.Memory next) = ⊥
 IsReadyFrom (File s) (ready.File prepared) = IsPreparedFrom s prepared
 
--- Which files a stop may leave: where the store is in a file those that stand for it, and else those that a
--- stop might have left at first.
+-- Which files a stop may leave: where the store is in a file those that stand for it, and else
+-- those that a stop might have left at first.
 abbrev pub Leaves : {D : Type 0} (desk : Ghosts D) → Bool → D → Store → List ℕ → Type 0
 Leaves desk true first store file = Stands file store
 Leaves desk false first store file = desk.may_leave first file
 
 -- the same of one store or another
-abbrev pub LeavesEither : {D : Type 0} (desk : Ghosts D) → Bool → D → Store → Store → List ℕ → Type 0
+abbrev pub LeavesEither : {D : Type 0} (desk : Ghosts D) → Bool → D → Store → Store → List ℕ
+    → Type 0
 LeavesEither desk is_file first before after file =
     Leaves desk is_file first before file ⊎ Leaves desk is_file first after file
 
@@ -54,8 +56,8 @@ abbrev pub IsKept : {D : Type 0} (desk : Ghosts D) → Keeper → D → D → Ty
 IsKept desk (Memory memory) first now = LeavesNoMore desk first now
 IsKept desk (File s) first now = IsSettled desk s now
 
--- the file holds this store: it is at rest and stands for it; without a file a stop leaves a file that it might
--- have left at first
+-- the file holds this store: it is at rest and stands for it; without a file a stop leaves a file
+-- that it might have left at first
 abbrev pub Keeps : {D : Type 0} (desk : Ghosts D) → Bool → D → Store → D → Type 0
 Keeps desk true first store now = Rests desk now (λ file. Stands file store)
 Keeps desk false first store now = LeavesNoMore desk first now

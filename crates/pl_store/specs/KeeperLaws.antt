@@ -13,9 +13,11 @@ use Rattle.pl_store.specs.Session.{Stands}
 module _ {D : Type 0} (desk : Ghosts D) where
   -- the file that a stop leaves is one of the keeper's
   pub kept_leaves : (keeper : Keeper) (first now : D) → IsKept desk keeper first now
-      → (file : List ℕ) → desk.may_leave now file → Leaves desk (is_file keeper) first (store_of keeper) file
+      → (file : List ℕ) → desk.may_leave now file
+      → Leaves desk (is_file keeper) first (store_of keeper) file
   kept_leaves (Memory memory) first now kept file left = kept file left
-  kept_leaves (File session) first now kept file left = settled_stands desk session now kept file left
+  kept_leaves (File session) first now kept file left =
+      settled_stands desk session now kept file left
 
   -- a keeper's file holds its store
   pub kept_keeps : (keeper : Keeper) (first now : D) → IsKept desk keeper first now
@@ -26,15 +28,18 @@ module _ {D : Type 0} (desk : Ghosts D) where
       (λ file closed. stands_by _ file (store_of (File session)) kept.stands closed.holds)
 
   -- calls that leave the file as it was leave it kept
-  pub still_kept : (keeper : Keeper) (first old new : D) → desk.held new ≡ desk.held old → LeavesNoMore desk old new
+  pub still_kept : (keeper : Keeper) (first old new : D) → desk.held new ≡ desk.held old
+      → LeavesNoMore desk old new
       → IsKept desk keeper first old → IsKept desk keeper first new
   still_kept (Memory memory) first old new same left kept = λ file may. kept file (left file may)
   still_kept (File session) first old new same left kept =
       record { rests = still_rests desk old new _ same left kept.rests; stands = kept.stands }
 
   -- and the same store in it
-  pub still_keeps : (kind : Bool) (first : D) (store : Store) (old new : D) → desk.held new ≡ desk.held old
-      → LeavesNoMore desk old new → Keeps desk kind first store old → Keeps desk kind first store new
+  pub still_keeps : (kind : Bool) (first : D) (store : Store) (old new : D)
+      → desk.held new ≡ desk.held old
+      → LeavesNoMore desk old new → Keeps desk kind first store old
+      → Keeps desk kind first store new
   still_keeps true first store old new same left keeps =
       still_rests desk old new (λ file. Stands file store) same left keeps
   still_keeps false first store old new same left keeps = λ file may. keeps file (left file may)

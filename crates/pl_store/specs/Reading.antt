@@ -1,5 +1,6 @@
 -- What an opening reads of a file, and what a session is to the bytes that it was read from.
-use Rattle.std.specs.Prelude.{◌≡◌, ⊤, ◌≤◌, ℕ, ◌*◌, List, length, take, drop, Option, Some, None, Result, Ok, Err, IfSome}
+use Rattle.std.specs.Prelude.{◌≡◌, ⊤, ◌≤◌, ℕ, ◌*◌, List, length, take, drop, Option, Some, None}
+use Rattle.std.specs.Prelude.{Result, Ok, Err, IfSome}
 use Rattle.pl_base.specs.Store.{Store}
 use Rattle.pl_base.specs.Touched.{bytes_before, page_size}
 use Rattle.pl_form.specs.Form.{StandsFor, form_bytes, most_pages, store_rows}
@@ -15,14 +16,16 @@ HoldNone bytes = (store : Store) → StandsFor bytes store → ⊥
 -- each store that they stand for has so many pages, with the gate's and the header's
 abbrev pub HoldPages : ℕ → List ℕ → Type 0
 HoldPages pages bytes =
-    (store : Store) → StandsFor bytes store → length (form_bytes (store_rows store)) ≡ bytes_before pages
+    (store : Store) → StandsFor bytes store
+    → length (form_bytes (store_rows store)) ≡ bytes_before pages
 
 -- so many pages of a file are its store's, with the gate's and the header's
 pub record ArePagesOf (pages : ℕ) (file : List ℕ) : Type 0 where
   pub within : page_size * pages ≤ length file
   pub whole : HoldPages pages (drop page_size file)
 
--- what a file's header tells: the number of its store's pages, which no store exceeds, or that there is none
+-- what a file's header tells: the number of its store's pages, which no store exceeds, or that
+-- there is none
 abbrev pub TellsPages : Option ℕ → Option (List ℕ) → Type 0
 TellsPages (Some pages) held = (2 ≤ pages) × (pages ≤ most_pages) × IfSome held (ArePagesOf pages)
 TellsPages None held = IfSome held (λ file. HoldNone (drop page_size file))
@@ -32,14 +35,16 @@ pub record IsStoreOf (bytes front : List ℕ) : Type 0 where
   pub begins : take (length front) bytes ≡ front
   pub whole : (store : Store) → StandsFor bytes store → StandsFor front store
 
--- the bytes from page 1 on stand for the session's store and for no other, and begin with its own bytes
+-- the bytes from page 1 on stand for the session's store and for no other, and begin with its own
+-- bytes
 pub record IsReadFrom (session : Session) (bytes : List ℕ) : Type 0 where
   pub stands : StandsFor bytes (store_of session)
   pub only : (store : Store) → StandsFor bytes store → store ≡ store_of session
   pub begins : take (length (bytes_of session)) bytes ≡ bytes_of session
   pub own : StandsFor (bytes_of session) (store_of session)
 
--- how the reading of a store ends, of a file whose gate is not set; it never tells how many bytes there are
+-- how the reading of a store ends, of a file whose gate is not set; it never tells how many bytes
+-- there are
 abbrev pub Reads : ℕ → Option (List ℕ) → Result Session Ended → Type 0
 Reads limit held (Ok session) =
     (limit_of session ≡ limit) × IfSome held (λ file. IsReadFrom session (drop page_size file))

@@ -17,7 +17,8 @@ use Rattle.pl_store.specs.declared.session.Session.{Session}
 
 -- ---- files
 
--- the file has a gate, and with the journal laid over its pages where the gate is set they stand for the store
+-- the file has a gate, and with the journal laid over its pages where the gate is set they stand
+-- for the store
 pub record Stands (file : List ℕ) (store : Store) : Type 0 where
   pub gate : has_gate file ≡ true
   pub form : StandsFor (laid file) store
@@ -50,8 +51,8 @@ bytes_of session = flat.bytes_of session.engine.rows
 abbrev pub limit_of : Session → ℕ
 limit_of session = session.engine.limit
 
--- The desk's file holds the session's store: its gate is not set, it begins with the store's pages, and a stop
--- leaves just what a read gives.
+-- The desk's file holds the session's store: its gate is not set, it begins with the store's pages,
+-- and a stop leaves just what a read gives.
 pub record IsSettled {D : Type 0} (desk : Ghosts D) (session : Session) (now : D) : Type 0 where
   pub rests : Rests desk now (IsClosed (bytes_of session))
   pub stands : StandsFor (bytes_of session) (store_of session)
@@ -82,7 +83,8 @@ bytes_to_write prepared = bytes_of_change prepared.change
 -- the change makes of the bytes before it the ones after it
 abbrev LeadsTo : List ℕ → Option Pending → List ℕ → Type 0
 LeadsTo before None after = after ≡ before
-LeadsTo before (Some pending) after = (changed pending.touched before ≡ after) × (length before ≡ bytes_before pending.touched.before)
+LeadsTo before (Some pending) after =
+    (changed pending.touched before ≡ after) × (length before ≡ bytes_before pending.touched.before)
 
 -- the command was prepared in this session
 pub record IsPreparedFrom (session : Session) (prepared : Prepared) : Type 0 where

@@ -1,5 +1,6 @@
 -- Which files stand for a session's store.
-use Rattle.std.proofs.Common.{◌≡◌, ℕ, List, length, take, inl, inr, ⊎_elim, sym, ◌∙◌, ap, subst, arith}
+use Rattle.std.proofs.Common.{◌≡◌, ℕ, List, length, take, inl, inr, ⊎_elim, sym, ◌∙◌, ap, subst}
+use Rattle.std.proofs.Common.{arith}
 use Rattle.std.proofs.lemmas.List.{length-take, take-take}
 use Rattle.pl_base.specs.Store.{Store}
 use Rattle.pl_base.specs.Touched.{Change, changed}
@@ -11,12 +12,16 @@ use Rattle.pl_store.specs.declared.session.Session.{Session}
 use Rattle.pl_store.specs.Session.{IsSettled, Stands, StandsForEither, store_of}
 
 -- bytes that begin with bytes that begin with a front, begin with it
-begins_by : (front bytes more : List ℕ) → take (length front) bytes ≡ front → take (length bytes) more ≡ bytes → take (length front) more ≡ front
+begins_by : (front bytes more : List ℕ) → take (length front) bytes ≡ front
+    → take (length bytes) more ≡ bytes → take (length front) more ≡ front
 begins_by front bytes more first second =
-    sym (take-take (length front) (length bytes) more (omega (arith, length-take (length front) bytes, ap length first))) ∙ ap (take (length front)) second ∙ first
+    sym (take-take (length front) (length bytes) more
+    (omega (arith, length-take (length front) bytes, ap length first)))
+    ∙ ap (take (length front)) second ∙ first
 
 -- bytes that begin with bytes that stand for a store, stand for it
-pub stands_for_more : (bytes more : List ℕ) (store : Store) → StandsFor bytes store → take (length bytes) more ≡ bytes → StandsFor more store
+pub stands_for_more : (bytes more : List ℕ) (store : Store) → StandsFor bytes store
+    → take (length bytes) more ≡ bytes → StandsFor more store
 stands_for_more bytes more store stands begins = record {
   good = stands.good;
   of_visits = stands.of_visits;
@@ -25,16 +30,22 @@ stands_for_more bytes more store stands begins = record {
   begins = begins_by (form_bytes (store_rows store)) bytes more stands.begins begins;
 }
 
-pub stands_by : (bytes file : List ℕ) (store : Store) → StandsFor bytes store → Holds bytes file → Stands file store
-stands_by bytes file store stands holds = record { gate = holds.gate; form = stands_for_more bytes (laid file) store stands holds.begins }
+pub stands_by : (bytes file : List ℕ) (store : Store) → StandsFor bytes store → Holds bytes file
+    → Stands file store
+stands_by bytes file store stands holds =
+    record { gate = holds.gate; form = stands_for_more bytes (laid file) store stands holds.begins }
 
-pub stands_by_either : (change : Change) (bytes later : List ℕ) (before after : Store) → changed change bytes ≡ later → StandsFor bytes before → StandsFor later after
+pub stands_by_either : (change : Change) (bytes later : List ℕ) (before after : Store)
+    → changed change bytes ≡ later → StandsFor bytes before → StandsFor later after
     → (file : List ℕ) → HoldsEither change bytes file → StandsForEither before after file
 stands_by_either change bytes later before after is first second file either =
-    ⊎_elim (λ holds. inl (stands_by bytes file before first holds)) (λ holds. inr (stands_by later file after second (subst (λ (b : List ℕ). Holds b file) is holds))) either
+    ⊎_elim (λ holds. inl (stands_by bytes file before first holds))
+    (λ holds. inr (stands_by later file after second
+    (subst (λ (b : List ℕ). Holds b file) is holds))) either
 
 -- a stop leaves files that stand for the session's store where the file is settled for it
-pub settled_stands : {D : Type 0} (desk : Ghosts D) (session : Session) (now : D) → IsSettled desk session now
+pub settled_stands : {D : Type 0} (desk : Ghosts D) (session : Session) (now : D)
+    → IsSettled desk session now
     → (file : List ℕ) → desk.may_leave now file → Stands file (store_of session)
 settled_stands desk session now settled file left =
     stands_by _ file (store_of session) settled.stands

@@ -1,7 +1,8 @@
 // A store in memory alone, or in a file too.
 ghost use Rattle.std.specs.Prelude.{◌≡◌, ◌≤◌, List, ℕ, Some, false, IfOk, OnErr};
 ghost use Rattle.pl_engine.specs.Step.{HasDates, perform};
-ghost use Rattle.pl_store.specs.Keeper.{IsKept, IsReadyFrom, LeavesEither, is_file, limit_of, ready_limit, ready_store, store_of};
+ghost use Rattle.pl_store.specs.Keeper.{IsKept, IsReadyFrom, LeavesEither, is_file, limit_of};
+ghost use Rattle.pl_store.specs.Keeper.{ready_limit, ready_store, store_of};
 ghost use Rattle.pl_desk.specs.Shown.{AtAnyMoment};
 ghost use Rattle.pl_desk.specs.Counts.{Counts};
 ghost use Rattle.pl_desk.specs.Calls.{KeepsLine};
@@ -53,17 +54,23 @@ impl Ready {
     pub fn commit<D: Desk>(self, desk: &mut D) -> Result<Keeper, DeviceFault>
         ensures store { IfOk result (λ keeper. store_of keeper ≡ ready_store self) }
         ensures limit { IfOk result (λ keeper. limit_of keeper ≡ ready_limit self) }
-        ensures kept { IfOk result (λ keeper. (before : Keeper) (first : D) → IsReadyFrom before self
+        ensures kept { IfOk result
+            (λ keeper. (before : Keeper) (first : D) → IsReadyFrom before self
             → IsKept D.Desk before first desk.old → IsKept D.Desk keeper first desk.new) }
-        ensures kind { IfOk result (λ keeper. (before : Keeper) → IsReadyFrom before self → is_file keeper ≡ is_file before) }
+        ensures kind { IfOk result
+            (λ keeper. (before : Keeper) → IsReadyFrom before self
+            → is_file keeper ≡ is_file before) }
         ensures any_moment { (before : Keeper) (first : D) (line : List ℕ) → IsReadyFrom before self
             → IsKept D.Desk before first desk.old → D.said desk.old ≡ Some line
             → AtAnyMoment D.Desk desk.old desk.new
             (LeavesEither D.Desk (is_file before) first (store_of before) (ready_store self)) }
-        ensures left { OnErr result ((before : Keeper) (first : D) (file : List ℕ) → IsReadyFrom before self
+        ensures left { OnErr result
+            ((before : Keeper) (first : D) (file : List ℕ) → IsReadyFrom before self
             → IsKept D.Desk before first desk.old → D.may_leave desk.new file
-            → LeavesEither D.Desk (is_file before) first (store_of before) (ready_store self) file) }
-        ensures alone { (before : Keeper) → IsReadyFrom before self → is_file before ≡ false → desk.new ≡ desk.old }
+            → LeavesEither D.Desk (is_file before) first
+            (store_of before) (ready_store self) file) }
+        ensures alone { (before : Keeper) → IsReadyFrom before self → is_file before ≡ false
+            → desk.new ≡ desk.old }
         ensures no_less { D.written desk.old ≤ D.written desk.new }
         ensures line { KeepsLine D.Desk desk.old desk.new }
         ensures counted { Counts result (D.device_faults desk.old) (D.device_faults desk.new) }

@@ -1,5 +1,5 @@
-//! A session over a store's file: a command is prepared in memory, and then its change is committed whole
-//! or not at all. `Memory` is the same without a file, and `Keeper` is either of them.
+//! A session over a store's file: a command is prepared in memory, and then its change is committed
+//! whole or not at all. `Memory` is the same without a file, and `Keeper` is either of them.
 #![tactic(auto)]
 
 mod commit;

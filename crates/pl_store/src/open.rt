@@ -15,9 +15,9 @@ use pl_base::SLOT_LIMIT;
 use pl_desk::Desk;
 use std::alloc::Global;
 
-/// Writes the store before its first command into an empty file. `NotEmpty` comes just where the file has
-/// bytes, and says how many; a file that has bytes is left as it was at each end. A stop within it may leave
-/// a file that stands for no store.
+/// Writes the store before its first command into an empty file. `NotEmpty` comes just where the
+/// file has bytes, and says how many; a file that has bytes is left as it was at each end. A stop
+/// within it may leave a file that stands for no store.
 pub fn create<D: Desk>(alloc: Global, desk: &mut D) -> Result<Session, Ended>
     ensures ends { Makes D.Desk result desk.old desk.new }
     ensures no_less { D.written desk.old ≤ D.written desk.new }
@@ -34,15 +34,15 @@ pub fn create<D: Desk>(alloc: Global, desk: &mut D) -> Result<Session, Ended>
     Ok(session)
 }
 
-/// Settles the gate of a store's file, reads its store, and opens it for commands, with a limit to the slots
-/// of 128 bytes that the store may take. What lies behind the store's pages is not read. `NotAStore` comes
-/// just where the bytes stand for no store.
+/// Settles the gate of a store's file, reads its store, and opens it for commands, with a limit to
+/// the slots of 128 bytes that the store may take. What lies behind the store's pages is not read.
+/// `NotAStore` comes just where the bytes stand for no store.
 pub fn reopen<D: Desk>(alloc: Global, desk: &mut D, limit: u32) -> Result<Session, Ended>
     requires { limit ≤ slot_limit }
     ensures ends { Opens D.Desk limit result desk.old desk.new }
     ensures finished { KeepsFinished D.Desk desk.old desk.new }
-    // Until the file is settled a stop shows one that it might have left at first; from then on each file that it
-    // shows stands for what the one stood for that a read gave.
+    // Until the file is settled a stop shows one that it might have left at first; from then on
+    // each file that it shows stands for what the one stood for that a read gave.
     ensures any_moment { (file : List ℕ) → D.held desk.old ≡ Some file
         → Settles D.Desk desk.old desk.new (StandsAlike file) }
     ensures no_less { D.written desk.old ≤ D.written desk.new }

@@ -1,5 +1,6 @@
 // What an opening reads of a file.
-ghost use Rattle.std.specs.Prelude.{◌≡◌, ◌≤◌, ◌+◌, ℕ, List, Err, Some, true, false, drop, IfOk, IfSome, OnOk};
+ghost use Rattle.std.specs.Prelude.{◌≡◌, ◌≤◌, ◌+◌, ℕ, List, Err, Some, true, false, drop, IfOk};
+ghost use Rattle.std.specs.Prelude.{IfSome, OnOk};
 ghost use Rattle.pl_base.specs.Touched.{page_size};
 ghost use Rattle.pl_desk.specs.Calls.{KeepsLine, OnlyReads};
 ghost use Rattle.pl_desk.specs.Counts.{Counts, CountsAt};
@@ -45,8 +46,8 @@ pub(crate) fn settle<D: Desk>(desk: &mut D) -> Result<(), GateError>
     Ok(())
 }
 
-/// How many pages of the file are its store's, with the gate's and the header's, as the header tells. `None`
-/// comes where there is no header, or fewer pages than it names.
+/// How many pages of the file are its store's, with the gate's and the header's, as the header
+/// tells. `None` comes where there is no header, or fewer pages than it names.
 fn store_pages<D: Desk>(desk: &mut D) -> Result<Option<u32>, Failed>
     ensures pages { IfOk result (λ pages. TellsPages pages (D.held desk.old)) }
     ensures reads { OnlyReads D.Desk desk.old desk.new }
@@ -79,8 +80,8 @@ fn session_of(alloc: Global, bytes: &[u8], limit: u32) -> Result<Session, CheckE
     Ok(Session { engine })
 }
 
-/// A session of the store that a file stands for where its gate is not set. The header's page is read, and
-/// then the store's pages; what lies behind them is not.
+/// A session of the store that a file stands for where its gate is not set. The header's page is
+/// read, and then the store's pages; what lies behind them is not.
 pub(crate) fn read_session<D: Desk>(
     alloc: Global,
     desk: &mut D,

@@ -12,7 +12,8 @@ use pl_engine::Engine;
 use pl_plain::Flat;
 use std::alloc::Global;
 
-/// A session of the store before its first command, and the change that writes it into an empty file.
+/// A session of the store before its first command, and the change that writes it into an empty
+/// file.
 pub(crate) fn start(alloc: Global, limit: u32) -> Result<(Session, Touched), NoMemory>
     requires { limit ≤ slot_limit }
     ensures store { IfOk result (λ done. store_of done.0 ≡ opening) }

@@ -18,10 +18,15 @@ pub(crate) fn apply(
     command: &Command,
 ) -> Result<(Engine<Flat>, Reply), NoMemory>
     requires dates { HasDates command.now }
-    ensures step { IfOk result (λ done. (done.1, store_of (kept_of done.0.rows)) ≡ perform engine.limit (store_of (kept_of engine.rows)) command.now) }
-    ensures refused { IfOk result (λ done. (refusal : Refusal) → done.1 ≡ Reply.Refused refusal → done.0.rows ≡ engine.rows) }
-    ensures base { IfOk result (λ done. (bytes : List ℕ) → IsBase engine.rows bytes → IsBase done.0.rows bytes) }
-    ensures stands { IfOk result (λ done. StandsFor (bytes_of done.0.rows) (store_of (kept_of done.0.rows))) }
+    ensures step { IfOk result
+        (λ done. (done.1, store_of (kept_of done.0.rows))
+        ≡ perform engine.limit (store_of (kept_of engine.rows)) command.now) }
+    ensures refused { IfOk result
+        (λ done. (refusal : Refusal) → done.1 ≡ Reply.Refused refusal → done.0.rows ≡ engine.rows) }
+    ensures base { IfOk result
+        (λ done. (bytes : List ℕ) → IsBase engine.rows bytes → IsBase done.0.rows bytes) }
+    ensures stands { IfOk result
+        (λ done. StandsFor (bytes_of done.0.rows) (store_of (kept_of done.0.rows))) }
     ensures limit { IfOk result (λ done. done.0.limit ≡ engine.limit) }
 {
     apply_with::<Brand>(Blank::new(1), engine, command)
@@ -36,21 +41,32 @@ fn apply_with<L: Ledger>(
     requires parts { blank.parts ≡ L.parts }
     requires some { 0 < blank.parts }
     requires dates { HasDates command.now }
-    ensures step { IfOk result (λ done. (done.1, store_of (kept_of done.0.rows)) ≡ perform engine.limit (store_of (kept_of engine.rows)) command.now) }
-    ensures refused { IfOk result (λ done. (refusal : Refusal) → done.1 ≡ Reply.Refused refusal → done.0.rows ≡ engine.rows) }
-    ensures base { IfOk result (λ done. (bytes : List ℕ) → IsBase engine.rows bytes → IsBase done.0.rows bytes) }
-    ensures stands { IfOk result (λ done. StandsFor (bytes_of done.0.rows) (store_of (kept_of done.0.rows))) }
+    ensures step { IfOk result
+        (λ done. (done.1, store_of (kept_of done.0.rows))
+        ≡ perform engine.limit (store_of (kept_of engine.rows)) command.now) }
+    ensures refused { IfOk result
+        (λ done. (refusal : Refusal) → done.1 ≡ Reply.Refused refusal → done.0.rows ≡ engine.rows) }
+    ensures base { IfOk result
+        (λ done. (bytes : List ℕ) → IsBase engine.rows bytes → IsBase done.0.rows bytes) }
+    ensures stands { IfOk result
+        (λ done. StandsFor (bytes_of done.0.rows) (store_of (kept_of done.0.rows))) }
     ensures limit { IfOk result (λ done. done.0.limit ≡ engine.limit) }
 {
     engine.apply(command, &mut Steps::<L>::none(blank))
 }
 
-/// The pages of the store's bytes that changed since the last such call, or since the rows were made.
+/// The pages of the store's bytes that changed since the last such call, or since the rows were
+/// made.
 pub(crate) fn touched(engine: &mut Engine<Flat>) -> Result<Touched, NoMemory>
-    ensures whole { IfOk result (λ change. (base : List ℕ) → IsBase engine.old.rows base → changed change base ≡ bytes_of engine.new.rows) }
-    ensures before { IfOk result (λ change. (base : List ℕ) → IsBase engine.old.rows base → length base ≡ bytes_before change.before) }
+    ensures whole { IfOk result
+        (λ change. (base : List ℕ) → IsBase engine.old.rows base
+        → changed change base ≡ bytes_of engine.new.rows) }
+    ensures before { IfOk result
+        (λ change. (base : List ℕ) → IsBase engine.old.rows base
+        → length base ≡ bytes_before change.before) }
     ensures some { IfOk result (λ change. 1 ≤ change.before) }
-    ensures after { IfOk result (λ change. length (bytes_of engine.new.rows) ≡ bytes_before change.after) }
+    ensures after { IfOk result
+        (λ change. length (bytes_of engine.new.rows) ≡ bytes_before change.after) }
     ensures within { IfOk result IsWithin }
     ensures base { OnOk result (IsBase engine.new.rows (bytes_of engine.new.rows)) }
     ensures kept { kept_of engine.new.rows ≡ kept_of engine.old.rows }
@@ -64,10 +80,15 @@ fn touched_with<L: Ledger>(blank: Blank, engine: &mut Engine<Flat>) -> Result<To
     requires name { blank.name ≡ L.name }
     requires parts { blank.parts ≡ L.parts }
     requires some { 0 < blank.parts }
-    ensures whole { IfOk result (λ change. (base : List ℕ) → IsBase engine.old.rows base → changed change base ≡ bytes_of engine.new.rows) }
-    ensures before { IfOk result (λ change. (base : List ℕ) → IsBase engine.old.rows base → length base ≡ bytes_before change.before) }
+    ensures whole { IfOk result
+        (λ change. (base : List ℕ) → IsBase engine.old.rows base
+        → changed change base ≡ bytes_of engine.new.rows) }
+    ensures before { IfOk result
+        (λ change. (base : List ℕ) → IsBase engine.old.rows base
+        → length base ≡ bytes_before change.before) }
     ensures some { IfOk result (λ change. 1 ≤ change.before) }
-    ensures after { IfOk result (λ change. length (bytes_of engine.new.rows) ≡ bytes_before change.after) }
+    ensures after { IfOk result
+        (λ change. length (bytes_of engine.new.rows) ≡ bytes_before change.after) }
     ensures within { IfOk result IsWithin }
     ensures base { OnOk result (IsBase engine.new.rows (bytes_of engine.new.rows)) }
     ensures kept { kept_of engine.new.rows ≡ kept_of engine.old.rows }

@@ -15,14 +15,19 @@ pub(crate) fn write_change<D: Desk>(desk: &mut D, touched: &Touched) -> Result<(
     requires within { IsWithin touched.now }
     requires some { 1 ≤ touched.now.before }
 
-    ensures closed { OnOk result ((pages : List ℕ) → Rests D.Desk desk.old (IsClosed pages) → length pages ≡ bytes_before touched.now.before
+    ensures closed { OnOk result
+        ((pages : List ℕ) → Rests D.Desk desk.old (IsClosed pages)
+        → length pages ≡ bytes_before touched.now.before
         → Rests D.Desk desk.new (IsClosed (changed touched.now pages))) }
-    ensures closed_empty { OnOk result (D.held desk.old ≡ Some [] → touched.now.before ≡ 1 → 1 < touched.now.after
+    ensures closed_empty { OnOk result
+        (D.held desk.old ≡ Some [] → touched.now.before ≡ 1 → 1 < touched.now.after
         → Rests D.Desk desk.new (IsClosed (changed touched.now []))) }
-    ensures any_moment { (pages : List ℕ) → Rests D.Desk desk.old (IsClosed pages) → length pages ≡ bytes_before touched.now.before
+    ensures any_moment { (pages : List ℕ) → Rests D.Desk desk.old (IsClosed pages)
+        → length pages ≡ bytes_before touched.now.before
         → AtAnyMoment D.Desk desk.old desk.new (HoldsEither touched.now pages) }
 
-    ensures written { Writes result (commit_bytes (length touched.now.pages)) (D.written desk.old) (D.written desk.new) }
+    ensures written { Writes result (commit_bytes (length touched.now.pages))
+        (D.written desk.old) (D.written desk.new) }
     ensures line { KeepsLine D.Desk desk.old desk.new }
     ensures counted { Counts result (D.device_faults desk.old) (D.device_faults desk.new) }
 {

@@ -1,5 +1,6 @@
 -- What a stop shows while one line is answered.
-use Rattle.std.proofs.Common.{◌≡◌, ℕ, Bool, List, [], ◌∷◌, ◌++◌, take, Some, Ok, Err, inl, inr, ⊎_elim, refl, sym, ap, ◌∙◌, subst, append-nil}
+use Rattle.std.proofs.Common.{◌≡◌, ℕ, Bool, List, [], ◌∷◌, ◌++◌, take, Some, Ok, Err, inl, inr, ⊎_elim, refl, sym, ap}
+use Rattle.std.proofs.Common.{◌∙◌, subst, append-nil}
 use Rattle.std.proofs.lemmas.Option.{same_Some}
 use Rattle.pl_base.specs.declared.refusal.Refusal.{Refusal}
 use Rattle.pl_base.specs.Store.{Store}
@@ -24,40 +25,56 @@ use Rattle.pl_desk.specs.Calls.{KeepsFile}
 use Rattle.pl_desk.specs.AnyMoment.{OnlyNow}
 
 -- the text of a command's reply
-pub text_of_command : (limit : ℕ) (store : Store) (entries : List (Parsed Command)) (command : Command) (done : Reply × Store) (text : List ℕ) → entries ≡ Ok command ∷ [] → done ≡ perform limit store command → text ≡ reply_text done.0
+pub text_of_command : (limit : ℕ) (store : Store) (entries : List (Parsed Command)) (command : Command)
+    (done : Reply × Store) (text : List ℕ) → entries ≡ Ok command ∷ [] → done ≡ perform limit store command
+    → text ≡ reply_text done.0
     → texts (replies limit store entries) ≡ text
 text_of_command limit store entries command done text one step written =
     ap (λ (es : List (Parsed Command)). texts (replies limit store es)) one
-    ∙ append-nil (reply_text (perform limit store command).0) ∙ ap (λ (d : Reply × Store). reply_text d.0) (sym step) ∙ sym written
+    ∙ append-nil (reply_text (perform limit store command).0) ∙ ap (λ (d : Reply × Store). reply_text d.0) (sym step)
+    ∙ sym written
 
 -- the store after it
-pub after_command : (limit : ℕ) (store next : Store) (entries : List (Parsed Command)) (command : Command) (done : Reply × Store) → entries ≡ Ok command ∷ [] → done ≡ perform limit store command → next ≡ done.1 → next ≡ after limit store entries
+pub after_command : (limit : ℕ) (store next : Store) (entries : List (Parsed Command)) (command : Command)
+    (done : Reply × Store) → entries ≡ Ok command ∷ [] → done ≡ perform limit store command → next ≡ done.1
+    → next ≡ after limit store entries
 after_command limit store next entries command done one step stepped =
     stepped ∙ ap (λ (d : Reply × Store). d.1) step ∙ sym (ap (after limit store) one)
 
 -- the store's file after a refused line
-pub keeps_refused : {D : Type 0} (desk : Ghosts D) (keeper : Keeper) (limit : ℕ) (entries : List (Parsed Command)) (refusal : Refusal) (first old new : D) (error : AnswerError)
+pub keeps_refused : {D : Type 0} (desk : Ghosts D) (keeper : Keeper) (limit : ℕ) (entries : List (Parsed Command))
+    (refusal : Refusal) (first old new : D) (error : AnswerError)
     → entries ≡ Err refusal ∷ [] → KeepsFile desk old new → (error ≡ answer.DeviceFault → ⊥)
-    → IsKept desk keeper first old → LeavesOfAnswer desk error (is_file keeper) first (store_of keeper) (after limit (store_of keeper) entries) new
+    → IsKept desk keeper first old
+    → LeavesOfAnswer desk error (is_file keeper) first (store_of keeper) (after limit (store_of keeper) entries) new
 keeps_refused {D} desk keeper limit entries refusal first old new error one same no_fault kept =
-    at error no_fault (still_keeps desk (is_file keeper) first (store_of keeper) old new same.held same.left (kept_keeps desk keeper first old kept))
+    at error no_fault (still_keeps desk (is_file keeper) first (store_of keeper) old new same.held same.left
+    (kept_keeps desk keeper first old kept))
   where
-    at : (e : AnswerError) → (e ≡ answer.DeviceFault → ⊥) → Keeps desk (is_file keeper) first (store_of keeper) new → LeavesOfAnswer desk e (is_file keeper) first (store_of keeper) (after limit (store_of keeper) entries) new
+    at : (e : AnswerError) → (e ≡ answer.DeviceFault → ⊥) → Keeps desk (is_file keeper) first (store_of keeper) new
+        → LeavesOfAnswer desk e (is_file keeper) first (store_of keeper) (after limit (store_of keeper) entries) new
     at answer.SayFault other keeps = rw one keeps
     at answer.DeviceFault other keeps = absurd (other refl)
     at answer.NoMemory other keeps = keeps
 
-leaves_as : {D : Type 0} (desk : Ghosts D) (first : D) (file : List ℕ) (kind kind_now : Bool) (store store_now : Store) → kind ≡ kind_now → store ≡ store_now → Leaves desk kind first store file → Leaves desk kind_now first store_now file
+leaves_as : {D : Type 0} (desk : Ghosts D) (first : D) (file : List ℕ) (kind kind_now : Bool) (store store_now : Store)
+    → kind ≡ kind_now → store ≡ store_now → Leaves desk kind first store file
+    → Leaves desk kind_now first store_now file
 leaves_as desk first file kind kind_now store store_now same_kind same_store leaves =
-    subst (λ (k : Bool). Leaves desk k first store_now file) same_kind (subst (λ (s : Store). Leaves desk kind first s file) same_store leaves)
+    subst (λ (k : Bool). Leaves desk k first store_now file) same_kind
+    (subst (λ (s : Store). Leaves desk kind first s file) same_store leaves)
 
-pub keeps_as : {D : Type 0} (desk : Ghosts D) (kind kind_now : Bool) (first : D) (store store_now : Store) (now : D) → kind ≡ kind_now → store ≡ store_now → Keeps desk kind first store now → Keeps desk kind_now first store_now now
+pub keeps_as : {D : Type 0} (desk : Ghosts D) (kind kind_now : Bool) (first : D) (store store_now : Store) (now : D)
+    → kind ≡ kind_now → store ≡ store_now → Keeps desk kind first store now → Keeps desk kind_now first store_now now
 keeps_as desk kind kind_now first store store_now now same_kind same_store keeps = rw (← same_kind, ← same_store) keeps
 
 module _ {D : Type 0} (desk : Ghosts D) where
   -- before the first call
-  pub unanswered : OnlyNow desk → (old first : D) (keeper : Keeper) (limit : ℕ) (entries : List (Parsed Command)) (before : List ℕ) → desk.said old ≡ Some before
-      → IsKept desk keeper first old → ShowsOnly desk old old (ShowsAnswer desk (is_file keeper) first limit (store_of keeper) entries before)
+  pub unanswered : OnlyNow desk
+      → (old first : D) (keeper : Keeper) (limit : ℕ) (entries : List (Parsed Command)) (before : List ℕ)
+      → desk.said old ≡ Some before
+      → IsKept desk keeper first old
+      → ShowsOnly desk old old (ShowsAnswer desk (is_file keeper) first limit (store_of keeper) entries before)
   unanswered only_now old first keeper limit entries before is kept =
       started desk old (ShowsAnswer desk (is_file keeper) first limit (store_of keeper) entries before)
       (λ file line shown. let now = only_now old before file line is shown in record {
@@ -67,50 +84,70 @@ module _ {D : Type 0} (desk : Ghosts D) where
       })
 
   -- while the file takes the step, nothing is said
-  pub committing : (old new first : D) (keeper : Keeper) (limit : ℕ) (entries : List (Parsed Command)) (before : List ℕ) (next : Store) → desk.said old ≡ Some before → next ≡ after limit (store_of keeper) entries
+  pub committing : (old new first : D) (keeper : Keeper) (limit : ℕ) (entries : List (Parsed Command)) (before : List ℕ)
+      (next : Store) → desk.said old ≡ Some before → next ≡ after limit (store_of keeper) entries
       → AtAnyMoment desk old new (LeavesEither desk (is_file keeper) first (store_of keeper) next)
       → ShowsOnly desk old new (ShowsAnswer desk (is_file keeper) first limit (store_of keeper) entries before)
   committing old new first keeper limit entries before next is stepped shows =
-      shows_less desk old new (λ file line. LeavesEither desk (is_file keeper) first (store_of keeper) next file × (desk.said old ≡ Some line))
+      shows_less desk old new (λ file line. LeavesEither desk (is_file keeper) first (store_of keeper) next file
+      × (desk.said old ≡ Some line))
       (ShowsAnswer desk (is_file keeper) first limit (store_of keeper) entries before) shows
       (λ file line has. record {
         part = 0;
         said = same_Some line before (sym has.1 ∙ is) ∙ sym (append-nil before);
-        leaves = ⊎_elim (λ as_before. inr (refl, as_before)) (λ left. inl (leaves_as desk first file _ _ next _ refl stepped left)) has.0;
+        leaves =
+            ⊎_elim (λ as_before. inr (refl, as_before))
+            (λ left. inl (leaves_as desk first file _ _ next _ refl stepped left)) has.0;
       })
 
   -- the reply is said, beside a keeper of the store after the step
-  pub answering : (old mid new first : D) (keeper next : Keeper) (limit : ℕ) (entries : List (Parsed Command)) (before text : List ℕ)
-      → is_file next ≡ is_file keeper → store_of next ≡ after limit (store_of keeper) entries → texts (replies limit (store_of keeper) entries) ≡ text
+  pub answering : (old mid new first : D) (keeper next : Keeper) (limit : ℕ) (entries : List (Parsed Command))
+      (before text : List ℕ)
+      → is_file next ≡ is_file keeper → store_of next ≡ after limit (store_of keeper) entries
+      → texts (replies limit (store_of keeper) entries) ≡ text
       → IsKept desk next first mid
       → ShowsOnly desk old mid (ShowsAnswer desk (is_file keeper) first limit (store_of keeper) entries before)
       → ShowsOnly desk mid new (ShowsFront desk mid before text)
       → ShowsOnly desk old new (ShowsAnswer desk (is_file keeper) first limit (store_of keeper) entries before)
   answering old mid new first keeper next limit entries before text same_kind stepped texts_are kept so_far saying =
-      and_on desk old mid new (ShowsAnswer desk (is_file keeper) first limit (store_of keeper) entries before) (ShowsFront desk mid before text) so_far saying
+      and_on desk old mid new (ShowsAnswer desk (is_file keeper) first limit (store_of keeper) entries before)
+      (ShowsFront desk mid before text) so_far saying
       (λ file line shows. record {
         part = shows.1.0;
         said = shows.1.1 ∙ ap (λ (t : List ℕ). before ++ take shows.1.0 t) (sym texts_are);
-        leaves = inl (leaves_as desk first file _ _ _ _ same_kind stepped (kept_leaves desk next first mid kept file shows.0));
+        leaves =
+            inl (leaves_as desk first file _ _ _ _ same_kind stepped
+            (kept_leaves desk next first mid kept file shows.0));
       })
 
   -- a command is performed, its step is taken by the file, and its reply is said
-  pub performing : (old mid new first : D) (keeper next : Keeper) (limit : ℕ) (entries : List (Parsed Command)) (command : Command) (done : Reply × Store) (before text : List ℕ) → desk.said old ≡ Some before → desk.said mid ≡ desk.said old
+  pub performing : (old mid new first : D) (keeper next : Keeper) (limit : ℕ) (entries : List (Parsed Command))
+      (command : Command) (done : Reply × Store) (before text : List ℕ) → desk.said old ≡ Some before
+      → desk.said mid ≡ desk.said old
       → entries ≡ Ok command ∷ [] → done ≡ perform limit (store_of keeper) command → text ≡ reply_text done.0
       → is_file next ≡ is_file keeper → store_of next ≡ done.1 → IsKept desk next first mid
       → AtAnyMoment desk old mid (LeavesEither desk (is_file keeper) first (store_of keeper) done.1)
       → ((line : List ℕ) → desk.said mid ≡ Some line → ShowsOnly desk mid new (ShowsFront desk mid line text))
       → ShowsOnly desk old new (ShowsAnswer desk (is_file keeper) first limit (store_of keeper) entries before)
-  performing old mid new first keeper next limit entries command done before text is unsaid one step written same_kind stepped kept shows saying =
-      answering old mid new first keeper next limit entries before text same_kind (after_command limit (store_of keeper) (store_of next) entries command done one step stepped)
+  performing old mid new first keeper next limit entries command done before text is unsaid one step written same_kind
+      stepped kept shows saying =
+      answering old mid new first keeper next limit entries before text same_kind
+      (after_command limit (store_of keeper) (store_of next) entries command done one step stepped)
       (text_of_command limit (store_of keeper) entries command done text one step written) kept
-      (committing old mid first keeper limit entries before done.1 is (after_command limit (store_of keeper) done.1 entries command done one step refl) shows) (saying before (unsaid ∙ is))
+      (committing old mid first keeper limit entries before done.1 is
+      (after_command limit (store_of keeper) done.1 entries command done one step refl) shows)
+      (saying before (unsaid ∙ is))
 
   -- a refusal is said, and the store stays
-  pub refusing : OnlyNow desk → (old new first : D) (keeper : Keeper) (limit : ℕ) (entries : List (Parsed Command)) (refusal : Refusal) (before : List ℕ) → desk.said old ≡ Some before → entries ≡ Err refusal ∷ []
-      → IsKept desk keeper first old → ShowsOnly desk old new (ShowsFront desk old before (reply_text (Refused refusal)))
+  pub refusing : OnlyNow desk
+      → (old new first : D) (keeper : Keeper) (limit : ℕ) (entries : List (Parsed Command)) (refusal : Refusal)
+      (before : List ℕ) → desk.said old ≡ Some before → entries ≡ Err refusal ∷ []
+      → IsKept desk keeper first old
+      → ShowsOnly desk old new (ShowsFront desk old before (reply_text (Refused refusal)))
       → ShowsOnly desk old new (ShowsAnswer desk (is_file keeper) first limit (store_of keeper) entries before)
   refusing only_now old new first keeper limit entries refusal before is one kept saying =
-      answering old old new first keeper keeper limit entries before (reply_text (Refused refusal)) refl (sym (ap (after limit (store_of keeper)) one))
-      (ap (λ (es : List (Parsed Command)). texts (replies limit (store_of keeper) es)) one ∙ append-nil (reply_text (Refused refusal))) kept
+      answering old old new first keeper keeper limit entries before (reply_text (Refused refusal)) refl
+      (sym (ap (after limit (store_of keeper)) one))
+      (ap (λ (es : List (Parsed Command)). texts (replies limit (store_of keeper) es)) one
+      ∙ append-nil (reply_text (Refused refusal))) kept
       (unanswered only_now old first keeper limit entries before is kept) saying

@@ -1,5 +1,6 @@
 -- Of a line that is too long its first 262,146 bytes tell the entry.
-use Rattle.std.proofs.Common.{◌≡◌, ◌<◌, ◌≤◌, ◌+◌, ◌-◌, ℕ, Bool, true, false, cond, eqb, List, [], ◌∷◌, length, get_or, take, Some, None, Option, Err, refl, ap, sym, ◌∙◌, arith, ⊎_elim}
+use Rattle.std.proofs.Common.{◌≡◌, ◌<◌, ◌≤◌, ◌+◌, ◌-◌, ℕ, Bool, true, false, cond, eqb, List, [], ◌∷◌, length, get_or}
+use Rattle.std.proofs.Common.{take, Some, None, Option, Err, refl, ap, sym, ◌∙◌, arith, ⊎_elim}
 use Rattle.std.specs.Str.Lines.{strip_carriage_return}
 use Rattle.std.proofs.lemmas.Bool.{cases_lt, cond-true, lt-ltb}
 use Rattle.std.proofs.lemmas.List.{get_or-take, length-take-le, take_all}
@@ -27,19 +28,23 @@ choice false line front near = (omega arith, refl)
 
 nearly_stripped : (line : List ℕ) → 1 < length line → IsNearly line (strip_carriage_return line)
 nearly_stripped line some =
-    choice (eqb (get_or line (length line - 1) 0) 13) line (take (length line - 1) line)
-    (omega (arith, length-take-le (length line - 1) line (omega arith)), get_or-take (length line - 1) line 0 0 (omega arith))
+    choice (eqb (get_or line (length line - 1) 0) 13) line (take (length line - 1) line) (
+      omega (arith, length-take-le (length line - 1) line (omega arith)),
+      get_or-take (length line - 1) line 0 0 (omega arith),
+    )
 
 pub entry-kept : (line : List ℕ) → entry (take 262_146 line) ≡ entry line
 entry-kept line =
     ⊎_elim
     (λ long.
     let kept = length-take-le 262_146 line (omega arith) in
-    entry_long (take 262_146 line) (omega arith) ∙ ap too_long (get_or-take 262_146 line 0 0 (omega arith)) ∙ sym (entry_long line (omega arith)))
+    entry_long (take 262_146 line) (omega arith) ∙ ap too_long (get_or-take 262_146 line 0 0 (omega arith))
+    ∙ sym (entry_long line (omega arith)))
     (λ short. ap entry (take_all 262_146 line short))
     (cases_lt 262_146 (length line))
 
-pub entry-kept_stripped : (line : List ℕ) → entry (strip_carriage_return (take 262_146 line)) ≡ entry (strip_carriage_return line)
+pub entry-kept_stripped : (line : List ℕ)
+    → entry (strip_carriage_return (take 262_146 line)) ≡ entry (strip_carriage_return line)
 entry-kept_stripped line =
     ⊎_elim
     (λ long.

@@ -1,5 +1,7 @@
 -- The ends of a run by its status, and the runs that have no store to begin with.
-use Rattle.std.proofs.Common.{◌≡◌, ◌≢◌, ◌⊎◌, ◌≤◌, ◌<◌, Bool, true, false, ℕ, List, [], ◌∷◌, ◌++◌, append_assoc, take, length, map, slice_index_or, Bor, arith, Some, Option, Result, Ok, Err, refl, ap, sym, subst, ◌∙◌, append-nil, inl, inr, ⊎_elim}
+use Rattle.std.proofs.Common.{◌≡◌, ◌≢◌, ◌⊎◌, ◌≤◌, ◌<◌, Bool, true, false, ℕ, List, [], ◌∷◌, ◌++◌, append_assoc, take}
+use Rattle.std.proofs.Common.{length, map, slice_index_or, Bor, arith, Some, Option, Result, Ok, Err, refl, ap, sym}
+use Rattle.std.proofs.Common.{subst, ◌∙◌, append-nil, inl, inr, ⊎_elim}
 use Rattle.std.specs.Prelude.{⊤, codes}
 use Rattle.std.proofs.lemmas.List.{length-map}
 use Rattle.std.proofs.lemmas.Option.{MatchOption-at_some, same_Some}
@@ -36,15 +38,19 @@ use Rattle.pl_desk.specs.AnyMoment.{CountsNow, OnlyNow, begun, rests_less}
 
 -- ---- a script that was run
 
-says_part : (start : Store) (answered next more entries : List (Parsed Command)) (before : List ℕ) (said : Option (List ℕ)) (n : ℕ) → entries ≡ answered ++ (next ++ more) → length next ≤ 1 → n < length (texts (replies slot_limit (after slot_limit start answered) next))
-    → Says (Some (before ++ texts (replies slot_limit start answered))) (take n (texts (replies slot_limit (after slot_limit start answered) next))) said
+says_part : (start : Store) (answered next more entries : List (Parsed Command)) (before : List ℕ)
+    (said : Option (List ℕ)) (n : ℕ) → entries ≡ answered ++ (next ++ more) → length next ≤ 1
+    → n < length (texts (replies slot_limit (after slot_limit start answered) next))
+    → Says (Some (before ++ texts (replies slot_limit start answered)))
+    (take n (texts (replies slot_limit (after slot_limit start answered) next))) said
     → (piece : List ℕ) × (said ≡ Some (before ++ piece)) × SaysPart (replies slot_limit start entries) piece
 says_part start answered [] more entries before said n order one below text = absurd (omega arith)
 says_part start answered (e ∷ []) more entries before said n order one below text =
     let reply = (step slot_limit (after slot_limit start answered) e).0 in
     let whole : texts (reply ∷ []) ≡ reply_text reply = append-nil (reply_text reply) in (
       texts (replies slot_limit start answered) ++ take n (reply_text reply),
-      rw whole at text ∙ ap Some (append_assoc before (texts (replies slot_limit start answered)) (take n (reply_text reply))),
+      rw whole at text ∙ ap Some
+          (append_assoc before (texts (replies slot_limit start answered)) (take n (reply_text reply))),
       record {
         answered = replies slot_limit start answered;
         next = reply;
@@ -57,7 +63,8 @@ says_part start answered (e ∷ []) more entries before said n order one below t
     )
 says_part start answered (e ∷ f ∷ next) more entries before said n order one below text = absurd (omega (arith, one))
 
-says_whole : (start : Store) (answered more entries : List (Parsed Command)) → entries ≡ answered ++ more → SaysWhole (replies slot_limit start entries) (texts (replies slot_limit start answered))
+says_whole : (start : Store) (answered more entries : List (Parsed Command)) → entries ≡ answered ++ more
+    → SaysWhole (replies slot_limit start entries) (texts (replies slot_limit start answered))
 says_whole start answered more entries order = record {
   answered = replies slot_limit start answered;
   more = replies slot_limit (after slot_limit start answered) more;
@@ -65,24 +72,59 @@ says_whole start answered more entries order = record {
   text = refl;
 }
 
-says_front : {D : Type 0} (desk : Ghosts D) (error : AnswerError) (kind : Bool) (first : D) (start : Store) (bytes before : List ℕ) (left : Option (List ℕ)) (now : D) → LeavesWithin desk error kind first start bytes before left now → SaysFront error start bytes before left (desk.said now)
+says_front : {D : Type 0} (desk : Ghosts D) (error : AnswerError) (kind : Bool) (first : D) (start : Store)
+    (bytes before : List ℕ) (left : Option (List ℕ)) (now : D)
+    → LeavesWithin desk error kind first start bytes before left now
+    → SaysFront error start bytes before left (desk.said now)
 says_front desk answer.SayFault kind first start bytes before left now within =
     let leaves = within.leaves in
-    let part = says_part start leaves.answered leaves.next leaves.more (entries_read within.read within.rest) before (desk.said now) leaves.text.0 leaves.order leaves.one leaves.text.1 leaves.text.2 in
-    record { read = within.read; rest = within.rest; has_read = within.has_read; piece = part.0; front_said = part.1; until = part.2 }
+    let part =
+    says_part start leaves.answered leaves.next leaves.more (entries_read within.read within.rest) before
+    (desk.said now) leaves.text.0 leaves.order leaves.one leaves.text.1 leaves.text.2 in
+    record {
+      read = within.read;
+      rest = within.rest;
+      has_read = within.has_read;
+      piece = part.0;
+      front_said =
+          part.1;
+      until = part.2;
+    }
 says_front desk answer.DeviceFault kind first start bytes before left now within =
     let leaves = within.leaves in
-    record { read = within.read; rest = within.rest; has_read = within.has_read; piece = texts (replies slot_limit start leaves.answered); front_said = leaves.text; until = says_whole start leaves.answered (leaves.next ++ leaves.more) (entries_read within.read within.rest) leaves.order }
+    record {
+      read = within.read;
+      rest = within.rest;
+      has_read = within.has_read;
+      piece =
+          texts (replies slot_limit start leaves.answered);
+      front_said = leaves.text;
+      until =
+          says_whole start leaves.answered (leaves.next ++ leaves.more) (entries_read within.read within.rest)
+          leaves.order;
+    }
 says_front desk answer.NoMemory kind first start bytes before left now within =
     let leaves = within.leaves in
-    record { read = within.read; rest = within.rest; has_read = within.has_read; piece = texts (replies slot_limit start leaves.answered); front_said = leaves.text; until = says_whole start leaves.answered (leaves.next ++ leaves.more) (entries_read within.read within.rest) leaves.order }
+    record {
+      read = within.read;
+      rest = within.rest;
+      has_read = within.has_read;
+      piece =
+          texts (replies slot_limit start leaves.answered);
+      front_said = leaves.text;
+      until =
+          says_whole start leaves.answered (leaves.next ++ leaves.more) (entries_read within.read within.rest)
+          leaves.order;
+    }
 
 -- nothing was read yet
 unread : (bytes : List ℕ) (left : Option (List ℕ)) → left ≡ Some bytes → HasRead bytes [] bytes left
 unread bytes left told = record { order = refl; rest_left = told; in_limit = omega arith }
 
 -- nothing was said yet
-says_nothing : (error : AnswerError) (start : Store) (bytes before : List ℕ) (left said : Option (List ℕ)) → left ≡ Some bytes → said ≡ Some before → SaysUntil error (replies slot_limit start (entries_read [] bytes)) [] → SaysFront error start bytes before left said
+says_nothing : (error : AnswerError) (start : Store) (bytes before : List ℕ) (left said : Option (List ℕ))
+    → left ≡ Some bytes → said ≡ Some before → SaysUntil error (replies slot_limit start (entries_read [] bytes)) []
+    → SaysFront error start bytes before left said
 says_nothing error start bytes before left said told unsaid until = record {
   read = [];
   rest = bytes;
@@ -93,15 +135,21 @@ says_nothing error start bytes before left said told unsaid until = record {
 }
 
 -- what was said at the end, of what is left then
-pub says_at_end : {D : Type 0} (desk : Ghosts D) (s : Status) (kind : Bool) (first : D) (start : Store) (bytes before : List ℕ) (left : Option (List ℕ)) (now : D) → LeavesAtEnd desk s kind first start bytes before left now → EndsScript s start bytes before left (desk.said now)
+pub says_at_end : {D : Type 0} (desk : Ghosts D) (s : Status) (kind : Bool) (first : D) (start : Store)
+    (bytes before : List ℕ) (left : Option (List ℕ)) (now : D)
+    → LeavesAtEnd desk s kind first start bytes before left now → EndsScript s start bytes before left (desk.said now)
 says_at_end desk status.Done kind first start bytes before left now leaves = leaves.0
 says_at_end desk status.Usage kind first start bytes before left now leaves = leaves
 says_at_end desk status.ReadFault kind first start bytes before left now leaves = (leaves.says, leaves.read)
-says_at_end desk status.SayFault kind first start bytes before left now leaves = says_front desk answer.SayFault kind first start bytes before left now leaves
+says_at_end desk status.SayFault kind first start bytes before left now leaves =
+    says_front desk answer.SayFault kind first start bytes before left now leaves
 says_at_end desk status.DeviceFault kind first start bytes before left now (inl leaves) =
-    says_nothing answer.DeviceFault start bytes before left (desk.said now) leaves.unread leaves.unsaid (says_whole start [] (entries_read [] bytes) (entries_read [] bytes) refl)
-says_at_end desk status.DeviceFault kind first start bytes before left now (inr leaves) = says_front desk answer.DeviceFault kind first start bytes before left now leaves
-says_at_end desk status.NoMemory kind first start bytes before left now leaves = says_front desk answer.NoMemory kind first start bytes before left now leaves
+    says_nothing answer.DeviceFault start bytes before left (desk.said now) leaves.unread leaves.unsaid
+    (says_whole start [] (entries_read [] bytes) (entries_read [] bytes) refl)
+says_at_end desk status.DeviceFault kind first start bytes before left now (inr leaves) =
+    says_front desk answer.DeviceFault kind first start bytes before left now leaves
+says_at_end desk status.NoMemory kind first start bytes before left now leaves =
+    says_front desk answer.NoMemory kind first start bytes before left now leaves
 says_at_end desk status.NotAStore kind first start bytes before left now leaves = leaves
 says_at_end desk (status.NotEmpty len) kind first start bytes before left now leaves = leaves
 says_at_end desk (status.TooLong limit) kind first start bytes before left now leaves = (leaves.says, leaves.read)
@@ -131,7 +179,8 @@ no_refusal (Err stop.NoMemory) s is at = absurd (cc)
 no_refusal (Err stop.TooLong) s is at = absurd (cc)
 
 -- what may end by the words for one thing may end by words for more
-pub may_end_more : (t n r t' n' r' : Type 0) (s : Status) → (t → t') → (n → n') → (r → r') → MayEnd t n r s → t ⊎ n ⊎ r → MayEnd t' n' r' s
+pub may_end_more : (t n r t' n' r' : Type 0) (s : Status) → (t → t') → (n → n') → (r → r') → MayEnd t n r s → t ⊎ n ⊎ r
+    → MayEnd t' n' r' s
 may_end_more t n r t' n' r' s on_try on_new on_run = at s
   where
     some : t ⊎ n ⊎ r → t' ⊎ n' ⊎ r'
@@ -151,7 +200,8 @@ may_end_more t n r t' n' r' s on_try on_new on_run = at s
     at (status.NotEmpty len) may asked = on_new may
     at (status.TooLong limit) may asked = (may.0, script_ may.1)
 
-pub opening_may_end : {D : Type 0} (desk : Ghosts D) (limit : ℕ) (e : Ended) (s : Status) (old new : D) → s ≡ without_session e
+pub opening_may_end : {D : Type 0} (desk : Ghosts D) (limit : ℕ) (e : Ended) (s : Status) (old new : D)
+    → s ≡ without_session e
     → Opens desk limit (Err e) old new → MayEnd ⊥ ⊥ ⊤ s
 opening_may_end desk limit ended.DeviceFault s old new is opens = subst (MayEnd ⊥ ⊥ ⊤) (sym is) (inr (inr tt))
 opening_may_end desk limit ended.NoMemory s old new is opens = subst (MayEnd ⊥ ⊥ ⊤) (sym is) (inr (inr tt))
@@ -161,7 +211,8 @@ opening_may_end desk limit (ended.NotEmpty n) s old new is opens = absurd opens
 -- ---- no store to begin with
 
 -- no entry was answered
-nothing_done : {D : Type 0} (desk : Ghosts D) (error : AnswerError) (kind : Bool) (first : D) (start : Store) (entries : List (Parsed Command)) (before : List ℕ) (now : D)
+nothing_done : {D : Type 0} (desk : Ghosts D) (error : AnswerError) (kind : Bool) (first : D) (start : Store)
+    (entries : List (Parsed Command)) (before : List ℕ) (now : D)
     → SaysOfAnswer error [] (Some (before ++ [])) (desk.said now) → LeavesOfAnswer desk error kind first start start now
     → LeavesAtEntry desk error kind first slot_limit start entries before now
 nothing_done desk error kind first start entries before now says leaves = record {
@@ -175,13 +226,17 @@ nothing_done desk error kind first start entries before now says leaves = record
 }
 
 -- nothing was read or said, for want of memory
-pub ends_unread : {D : Type 0} (desk : Ghosts D) (kind : Bool) (first : D) (start : Store) (bytes before : List ℕ) (left : Option (List ℕ)) (now : D) → left ≡ Some bytes → desk.said now ≡ Some before → Keeps desk kind first start now
+pub ends_unread : {D : Type 0} (desk : Ghosts D) (kind : Bool) (first : D) (start : Store) (bytes before : List ℕ)
+    (left : Option (List ℕ)) (now : D) → left ≡ Some bytes → desk.said now ≡ Some before
+    → Keeps desk kind first start now
     → LeavesAtEnd desk status.NoMemory kind first start bytes before left now
 ends_unread desk kind first start bytes before left now told unsaid keeps = record {
   read = [];
   rest = bytes;
   has_read = unread bytes left told;
-  leaves = nothing_done desk answer.NoMemory kind first start (entries_read [] bytes) before now (unsaid ∙ ap Some (sym (append-nil before))) keeps;
+  leaves =
+      nothing_done desk answer.NoMemory kind first start (entries_read [] bytes) before now
+      (unsaid ∙ ap Some (sym (append-nil before))) keeps;
 }
 
 -- ---- what a stop shows of an opening, and what is left of it
@@ -194,9 +249,11 @@ module _ {D : Type 0} (desk : Ghosts D) where
       started desk now (ShowsUnopened desk now before) (λ file line shown. only_now now before file line is shown)
 
   -- until the file is settled nothing is answered, and from then on nothing yet
-  pub shows_opening : (first : D) (file : List ℕ) (start : Store) (entries : List (Parsed Command)) (before : List ℕ) (old new : D)
+  pub shows_opening : (first : D) (file : List ℕ) (start : Store) (entries : List (Parsed Command)) (before : List ℕ)
+      (old new : D)
       → Stands file start → desk.said old ≡ Some before → Settles desk old new (StandsAlike file)
-      → ShowsThen desk old new (ShowsUnopened desk old before) (ShowsAnswered desk true first slot_limit start entries before)
+      → ShowsThen desk old new (ShowsUnopened desk old before)
+      (ShowsAnswered desk true first slot_limit start entries before)
   shows_opening first file start entries before old new stands is settles =
       shows_then_less desk old new (Unsaid desk old (desk.may_leave old)) (Unsaid desk old (StandsAlike file))
       (ShowsUnopened desk old before) (ShowsAnswered desk true first slot_limit start entries before) settles
@@ -206,11 +263,13 @@ module _ {D : Type 0} (desk : Ghosts D) where
       (shows_nothing desk true first start entries before later ((shows.0 start).0 stands)))
 
   -- what an opening leaves that ends with no store
-  pub ends_without : (e : Ended) (s : Status) (file : List ℕ) (start : Store) (bytes before : List ℕ) (left : Option (List ℕ)) (old new : D)
+  pub ends_without : (e : Ended) (s : Status) (file : List ℕ) (start : Store) (bytes before : List ℕ)
+      (left : Option (List ℕ)) (old new : D)
       → CountsNow desk → s ≡ without_session e → desk.held old ≡ Some file → Opens desk slot_limit (Err e) old new
       → Stands file start → left ≡ Some bytes → desk.said new ≡ desk.said old → desk.said old ≡ Some before
       → Settles desk old new (StandsAlike file) → LeavesAtEnd desk s true old start bytes before left new
-  ends_without ended.DeviceFault s file start bytes before left old new counts_now is held opens stands told kept begun settles =
+  ends_without ended.DeviceFault s file start bytes before left old new counts_now is held opens stands told kept begun
+      settles =
       subst (λ (t : Status). LeavesAtEnd desk t true old start bytes before left new) (sym is)
       (⊎_elim (λ open_. inl (record { unread = told; unsaid = kept ∙ begun; as_before = open_ }))
       (λ settled. inr (record {
@@ -218,15 +277,20 @@ module _ {D : Type 0} (desk : Ghosts D) where
         rest = bytes;
         has_read = unread bytes left told;
         leaves = nothing_done desk answer.DeviceFault true old start (entries_read [] bytes) before new
-            (kept ∙ begun ∙ ap Some (sym (append-nil before))) (λ later is_left. inl ((settled later is_left start).0 stands));
+            (kept ∙ begun ∙ ap Some (sym (append-nil before)))
+            (λ later is_left. inl ((settled later is_left start).0 stands));
       })) (left_settled desk counts_now old new (StandsAlike file) before (kept ∙ begun) settles))
-  ends_without ended.NoMemory s file start bytes before left old new counts_now is held opens stands told kept begun settles =
+  ends_without ended.NoMemory s file start bytes before left old new counts_now is held opens stands told kept begun
+      settles =
       subst (λ (t : Status). LeavesAtEnd desk t true old start bytes before left new) (sym is)
       (ends_unread desk true old start bytes before left new told (kept ∙ begun)
-      (rests_less desk new (StandsAlike file) (λ later. Stands later start) (opens file held) (λ later alike. (alike start).0 stands)))
-  ends_without ended.NotAStore s file start bytes before left old new counts_now is held opens stands told kept begun settles =
+      (rests_less desk new (StandsAlike file) (λ later. Stands later start) (opens file held)
+      (λ later alike. (alike start).0 stands)))
+  ends_without ended.NotAStore s file start bytes before left old new counts_now is held opens stands told kept begun
+      settles =
       absurd (MatchOption-at_some _ _ file held opens.was_none start stands)
-  ends_without (ended.NotEmpty n) s file start bytes before left old new counts_now is held opens stands told kept begun settles =
+  ends_without (ended.NotEmpty n) s file start bytes before left old new counts_now is held opens stands told kept begun
+      settles =
       absurd opens
 
 -- ---- words
@@ -238,26 +302,37 @@ first_code ([] ∷ words) = 0
 first_code ((c ∷ word) ∷ words) = c
 
 -- two words of which the first is this one
-pub two_words : (words : List (Bor (List ℕ))) (first : List ℕ) (d : Bor (List ℕ)) → 2 ≤ length words → length words < 3 → (slice_index_or words 0 d).now ≡ first → (path : List ℕ) × (map (λ word. word.now) words ≡ first ∷ path ∷ [])
+pub two_words : (words : List (Bor (List ℕ))) (first : List ℕ) (d : Bor (List ℕ)) → 2 ≤ length words → length words < 3
+    → (slice_index_or words 0 d).now ≡ first → (path : List ℕ) × (map (λ word. word.now) words ≡ first ∷ path ∷ [])
 two_words [] first d some few is = absurd (omega arith)
 two_words (a ∷ []) first d some few is = absurd (omega arith)
 two_words (a ∷ b ∷ []) first d some few is = (b.now, ap (λ (w : List ℕ). w ∷ b.now ∷ []) is)
 two_words (a ∷ b ∷ c ∷ more) first d some few is = absurd (omega arith)
 
 -- one word begins a script in memory, and two one on a file
-pub begins_in_memory : (words : List (Bor (List ℕ))) (held : Option (List ℕ)) (kind : Bool) (start : Store) → length words < 2 → BeginsWith (map (λ word. word.now) words) held kind start → (kind ≡ false) × (start ≡ opening)
+pub begins_in_memory : (words : List (Bor (List ℕ))) (held : Option (List ℕ)) (kind : Bool) (start : Store)
+    → length words < 2 → BeginsWith (map (λ word. word.now) words) held kind start → (kind ≡ false) × (start ≡ opening)
 begins_in_memory words held kind start few (inl begins) = (begins.1, begins.2)
-begins_in_memory words held kind start few (inr begins) = absurd (omega (arith, few, ap length begins.0.1, length-map words (λ (word : Bor (List ℕ)). word.now)))
+begins_in_memory words held kind start few (inr begins) =
+    absurd (omega (arith, few, ap length begins.0.1, length-map words (λ (word : Bor (List ℕ)). word.now)))
 
-pub begins_on_file : (words : List (Bor (List ℕ))) (held : Option (List ℕ)) (kind : Bool) (start : Store) → 2 ≤ length words → BeginsWith (map (λ word. word.now) words) held kind start → (kind ≡ true) × ((file : List ℕ) × (held ≡ Some file) × Stands file start)
-begins_on_file words held kind start some (inl begins) = absurd (omega (arith, some, ap length begins.0, length-map words (λ (word : Bor (List ℕ)). word.now)))
+pub begins_on_file : (words : List (Bor (List ℕ))) (held : Option (List ℕ)) (kind : Bool) (start : Store)
+    → 2 ≤ length words → BeginsWith (map (λ word. word.now) words) held kind start
+    → (kind ≡ true) × ((file : List ℕ) × (held ≡ Some file) × Stands file start)
+begins_on_file words held kind start some (inl begins) =
+    absurd (omega (arith, some, ap length begins.0, length-map words (λ (word : Bor (List ℕ)). word.now)))
 begins_on_file words held kind start some (inr begins) = (begins.1, begins.2)
 
 -- `new` begins no script, nor do more words
-pub new_begins_none : (words : List (List ℕ)) (held : Option (List ℕ)) (kind : Bool) (start : Store) (path : List ℕ) → words ≡ codes "new" ∷ path ∷ [] → BeginsWith words held kind start → ⊥
+pub new_begins_none : (words : List (List ℕ)) (held : Option (List ℕ)) (kind : Bool) (start : Store) (path : List ℕ)
+    → words ≡ codes "new" ∷ path ∷ [] → BeginsWith words held kind start → ⊥
 new_begins_none words held kind start path is (inl begins) = omega (arith, ap length (sym is ∙ begins.0))
-new_begins_none words held kind start path is (inr begins) = omega (arith, ap (λ (ws : List (List ℕ)). first_code ws) (sym is ∙ begins.0.1))
+new_begins_none words held kind start path is (inr begins) =
+    omega (arith, ap (λ (ws : List (List ℕ)). first_code ws) (sym is ∙ begins.0.1))
 
-pub no_script_words : (words : List (Bor (List ℕ))) (held : Option (List ℕ)) (kind : Bool) (start : Store) → 3 ≤ length words → BeginsWith (map (λ word. word.now) words) held kind start → ⊥
-no_script_words words held kind start many (inl begins) = omega (arith, many, ap length begins.0, length-map words (λ (word : Bor (List ℕ)). word.now))
-no_script_words words held kind start many (inr begins) = omega (arith, many, ap length begins.0.1, length-map words (λ (word : Bor (List ℕ)). word.now))
+pub no_script_words : (words : List (Bor (List ℕ))) (held : Option (List ℕ)) (kind : Bool) (start : Store)
+    → 3 ≤ length words → BeginsWith (map (λ word. word.now) words) held kind start → ⊥
+no_script_words words held kind start many (inl begins) =
+    omega (arith, many, ap length begins.0, length-map words (λ (word : Bor (List ℕ)). word.now))
+no_script_words words held kind start many (inr begins) =
+    omega (arith, many, ap length begins.0.1, length-map words (λ (word : Bor (List ℕ)). word.now))

@@ -1,5 +1,6 @@
 -- One piece said after another.
-use Rattle.std.proofs.Common.{◌≡◌, append-nil, option_to_list, ◌≤◌, ◌+◌, ◌-◌, ℕ, List, ◌++◌, length, take, drop, Some, None, Option, refl, ap, sym, ◌∙◌, append_assoc, arith, length-drop}
+use Rattle.std.proofs.Common.{◌≡◌, append-nil, option_to_list, ◌≤◌, ◌+◌, ◌-◌, ℕ, List, ◌++◌, length, take, drop, Some}
+use Rattle.std.proofs.Common.{None, Option, refl, ap, sym, ◌∙◌, append_assoc, arith, length-drop}
 use Rattle.std.specs.Option.{option_map}
 use Rattle.std.proofs.lemmas.List.{take_all}
 use Rattle.std.proofs.Math.Seq.{take-add}
@@ -7,7 +8,9 @@ use Rattle.pl_engine.specs.declared.reply.Reply.{Reply}
 use Rattle.pl_script.specs.Reply.{reply_text}
 use Rattle.places.specs.Said.{Says, texts}
 
-pub says_both : (before : Option (List ℕ)) (x y : List ℕ) → option_map (λ said. said ++ y) (option_map (λ said. said ++ x) before) ≡ option_map (λ said. said ++ (x ++ y)) before
+pub says_both : (before : Option (List ℕ)) (x y : List ℕ)
+    → option_map (λ said. said ++ y) (option_map (λ said. said ++ x) before)
+    ≡ option_map (λ said. said ++ (x ++ y)) before
 says_both None x y = refl
 says_both (Some said) x y = ap Some (append_assoc said x y)
 
@@ -15,13 +18,16 @@ pub says_more : (a b c : Option (List ℕ)) (x y : List ℕ) → Says a x b → 
 says_more a b c x y first then_ = then_ ∙ ap (option_map (λ said. said ++ y)) first ∙ says_both a x y
 
 -- a longer front is a front and what was said behind it
-pub take_further : (bytes : List ℕ) (s n : ℕ) → s ≤ length bytes → take (s + n) bytes ≡ take s bytes ++ take n (take (length bytes - s) (drop s bytes))
+pub take_further : (bytes : List ℕ) (s n : ℕ) → s ≤ length bytes
+    → take (s + n) bytes ≡ take s bytes ++ take n (take (length bytes - s) (drop s bytes))
 take_further bytes s n within =
     let shorter = length-drop s bytes in
-    let rest : take (length bytes - s) (drop s bytes) ≡ drop s bytes = take_all (length bytes - s) (drop s bytes) (omega arith) in
+    let rest : take (length bytes - s) (drop s bytes) ≡ drop s bytes =
+    take_all (length bytes - s) (drop s bytes) (omega arith) in
     take-add s n bytes ∙ ap (λ tail. take s bytes ++ take n tail) (sym rest)
 
 -- the text of the one reply
-pub text_of_one : (found : Option Reply) (reply : Reply) (all : List Reply) (text : List ℕ) → option_to_list found ≡ all → found ≡ Some reply → text ≡ reply_text reply → texts all ≡ text
+pub text_of_one : (found : Option Reply) (reply : Reply) (all : List Reply) (text : List ℕ) → option_to_list found ≡ all
+    → found ≡ Some reply → text ≡ reply_text reply → texts all ≡ text
 text_of_one found reply all text is some written =
     ap texts (sym is) ∙ ap (λ r. texts (option_to_list r)) some ∙ append-nil (reply_text reply) ∙ sym written

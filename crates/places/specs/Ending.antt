@@ -1,5 +1,6 @@
 -- What a run leaves at each of its ends, where the source and the desk tell their content.
-use Rattle.std.specs.Prelude.{◌≡◌, ◌⊎◌, ⊤, ℕ, Bool, true, false, ◌<◌, List, [], ◌∷◌, ◌++◌, map, codes, length, take}
+use Rattle.std.specs.Prelude.{◌≡◌, ◌⊎◌, ⊤, ℕ, Bool, true, false, ◌<◌, List, [], ◌∷◌, ◌++◌, map}
+use Rattle.std.specs.Prelude.{codes, length, take}
 use Rattle.std.specs.Prelude.{Option, Some}
 use denote.Ref.{Bor}
 use Rattle.pl_base.specs.Store.{Store, opening}
@@ -58,8 +59,8 @@ MayEnd try_ new_ run_ status.NotAStore = run_
 MayEnd try_ new_ run_ (status.NotEmpty len) = new_
 MayEnd try_ new_ run_ (status.TooLong limit) = (limit ≡ script_limit) × (try_ ⊎ run_)
 
--- A script is run from this store on: `try` from the store before its first command, `run` from the store that
--- a read of the file gives; the second is kept in a file.
+-- A script is run from this store on: `try` from the store before its first command, `run` from the
+-- store that a read of the file gives; the second is kept in a file.
 abbrev pub BeginsWith : List (List ℕ) → Option (List ℕ) → Bool → Store → Type 0
 BeginsWith words held is_file start =
     (IsTry words × (is_file ≡ false) × (start ≡ opening))
@@ -77,27 +78,32 @@ IfTold left said P =
     (bytes before : List ℕ) → left ≡ Some bytes → said ≡ Some before → P bytes before
 
 -- P of the store that a script is run from, whether it is kept in a file, and of these two
-abbrev pub OfScript : {S D : Type 0} (source : sources.Ghosts S) (desk : desks.Ghosts D) → List (List ℕ) → S → D
+abbrev pub OfScript : {S D : Type 0} (source : sources.Ghosts S) (desk : desks.Ghosts D)
+    → List (List ℕ) → S → D
     → (Bool → Store → List ℕ → List ℕ → Type 0) → Type 0
 OfScript source desk words input now P =
     (is_file : Bool) (start : Store) → BeginsWith words (desk.held now) is_file start
     → IfTold (source.left input) (desk.said now) (P is_file start)
 
 -- the input was read to its end, and the texts of all replies were said
-pub record SaysAll (start : Store) (bytes before : List ℕ) (left said : Option (List ℕ)) : Type 0 where
-  pub nothing_left : left ≡ Some []
-  pub all_said : said ≡ Some (before ++ texts (replies slot_limit start (script bytes)))
-  pub in_limit : length bytes < script_limit
+pub record SaysAll (start : Store) (bytes before : List ℕ) (left said : Option (List ℕ)) : Type 0
+  where
+    pub nothing_left : left ≡ Some []
+    pub all_said : said ≡ Some (before ++ texts (replies slot_limit start (script bytes)))
+    pub in_limit : length bytes < script_limit
 
--- a front of the input was read, and the texts of the replies to the lines that ended within it were said
-pub record SaysEnded (start : Store) (bytes before : List ℕ) (left said : Option (List ℕ)) : Type 0 where
-  pub read : List ℕ
-  pub rest : List ℕ
-  pub has_read : HasRead bytes read rest left
-  pub ended_said : said ≡ Some (before ++ texts (replies slot_limit start (ended_entries read)))
+-- a front of the input was read, and the texts of the replies to the lines that ended within it
+-- were said
+pub record SaysEnded (start : Store) (bytes before : List ℕ) (left said : Option (List ℕ)) : Type 0
+  where
+    pub read : List ℕ
+    pub rest : List ℕ
+    pub has_read : HasRead bytes read rest left
+    pub ended_said : said ≡ Some (before ++ texts (replies slot_limit start (ended_entries read)))
 
 -- the run stopped at one of the replies to what was read
-pub record SaysFront (error : AnswerError) (start : Store) (bytes before : List ℕ) (left said : Option (List ℕ))
+pub record SaysFront (error : AnswerError) (start : Store) (bytes before : List ℕ)
+    (left said : Option (List ℕ))
     : Type 0 where
   pub read : List ℕ
   pub rest : List ℕ
@@ -107,15 +113,19 @@ pub record SaysFront (error : AnswerError) (start : Store) (bytes before : List 
   pub until : SaysUntil error (replies slot_limit start (entries_read read rest)) piece
 
 -- what a script's run leaves said at each status; on a store there are no others
-abbrev pub EndsScript : Status → Store → List ℕ → List ℕ → Option (List ℕ) → Option (List ℕ) → Type 0
+abbrev pub EndsScript : Status → Store → List ℕ → List ℕ → Option (List ℕ) → Option (List ℕ)
+    → Type 0
 EndsScript status.Done start bytes before left said = SaysAll start bytes before left said
 EndsScript status.ReadFault start bytes before left said =
     (ended : SaysEnded start bytes before left said) × (length ended.read < script_limit)
 EndsScript (status.TooLong limit) start bytes before left said =
     (ended : SaysEnded start bytes before left said) × (length ended.read ≡ limit)
-EndsScript status.SayFault start bytes before left said = SaysFront answer.SayFault start bytes before left said
-EndsScript status.DeviceFault start bytes before left said = SaysFront answer.DeviceFault start bytes before left said
-EndsScript status.NoMemory start bytes before left said = SaysFront answer.NoMemory start bytes before left said
+EndsScript status.SayFault start bytes before left said =
+    SaysFront answer.SayFault start bytes before left said
+EndsScript status.DeviceFault start bytes before left said =
+    SaysFront answer.DeviceFault start bytes before left said
+EndsScript status.NoMemory start bytes before left said =
+    SaysFront answer.NoMemory start bytes before left said
 EndsScript status.Usage start bytes before left said = ⊥
 EndsScript status.NotAStore start bytes before left said = ⊥
 EndsScript (status.NotEmpty len) start bytes before left said = ⊥
@@ -124,31 +134,39 @@ EndsScript (status.NotEmpty len) start bytes before left said = ⊥
 
 module _ {D : Type 0} (desk : desks.Ghosts D) where
   -- the run stopped at one of the entries of what was read, or before the next one
-  pub record LeavesWithin (error : AnswerError) (is_file : Bool) (first : D) (start : Store) (bytes before : List ℕ)
+  pub record LeavesWithin (error : AnswerError) (is_file : Bool) (first : D) (start : Store)
+      (bytes before : List ℕ)
       (left : Option (List ℕ)) (now : D) : Type 0 where
     pub read : List ℕ
     pub rest : List ℕ
     pub has_read : HasRead bytes read rest left
-    pub leaves : LeavesAtEntry desk error is_file first slot_limit start (entries_read read rest) before now
+    pub leaves : LeavesAtEntry desk error is_file first slot_limit start (entries_read read rest)
+        before now
 
-  -- the file was not settled: nothing was read or said, and a stop leaves a file that it might have left at first
-  pub record LeavesUnopened (first : D) (bytes before : List ℕ) (left : Option (List ℕ)) (now : D) : Type 0 where
+  -- the file was not settled: nothing was read or said, and a stop leaves a file that it might have
+  -- left at first
+  pub record LeavesUnopened (first : D) (bytes before : List ℕ) (left : Option (List ℕ))
+      (now : D) : Type 0 where
     pub unread : left ≡ Some bytes
     pub unsaid : desk.said now ≡ Some before
     pub as_before : LeavesNoMore desk first now
 
-  -- the lines were answered that ended within what was read, which is this many bytes, and their store is kept
-  pub record LeavesEnded (HasLength : ℕ → Type 0) (is_file : Bool) (first : D) (start : Store) (bytes before : List ℕ)
+  -- the lines were answered that ended within what was read, which is this many bytes, and their
+  -- store is kept
+  pub record LeavesEnded (HasLength : ℕ → Type 0) (is_file : Bool) (first : D) (start : Store)
+      (bytes before : List ℕ)
       (left : Option (List ℕ)) (now : D) : Type 0 where
     pub says : SaysEnded start bytes before left (desk.said now)
     pub read : HasLength (length says.read)
     pub keeps : Keeps desk is_file first (after slot_limit start (ended_entries says.read)) now
 
-  -- What a script's run leaves at each status. At Done the file holds the store after all entries, and a read that
-  -- fails and the limit of a script leave it with the store after those that ended within what was read. A line that
-  -- fails leaves the store after the entry whose reply was not said whole, a file that fails the store before or after
-  -- an entry, or one that was not settled yet, and want of memory the store after those that were answered.
-  abbrev pub LeavesAtEnd : Status → Bool → D → Store → List ℕ → List ℕ → Option (List ℕ) → D → Type 0
+  -- What a script's run leaves at each status. At Done the file holds the store after all entries,
+  -- and a read that fails and the limit of a script leave it with the store after those that ended
+  -- within what was read. A line that fails leaves the store after the entry whose reply was not
+  -- said whole, a file that fails the store before or after an entry, or one that was not settled
+  -- yet, and want of memory the store after those that were answered.
+  abbrev pub LeavesAtEnd : Status → Bool → D → Store → List ℕ → List ℕ → Option (List ℕ) → D
+      → Type 0
   LeavesAtEnd status.Done is_file first start bytes before left now =
       SaysAll start bytes before left (desk.said now)
       × Keeps desk is_file first (after slot_limit start (script bytes)) now
@@ -169,8 +187,8 @@ module _ {D : Type 0} (desk : desks.Ghosts D) where
 
   -- ---- a new store
 
-  -- the file stands for the store before its first command with its gate not set, and a stop leaves just what a read
-  -- gives
+  -- the file stands for the store before its first command with its gate not set, and a stop leaves
+  -- just what a read gives
   abbrev pub IsMade : D → Type 0
   IsMade now = Rests desk now (λ file. IsFinished file × Stands file opening)
 
@@ -178,15 +196,17 @@ module _ {D : Type 0} (desk : desks.Ghosts D) where
   abbrev pub MadeOfEmpty : D → D → Type 0
   MadeOfEmpty old new = (file : List ℕ) → desk.held old ≡ Some file → (file ≡ []) × IsMade new
 
-  -- What `new` leaves at each status. Its word is said once the file holds the new store; a file that has bytes is
-  -- left as it was, and so is an empty one for want of memory.
+  -- What `new` leaves at each status. Its word is said once the file holds the new store; a file
+  -- that has bytes is left as it was, and so is an empty one for want of memory.
   abbrev pub EndsNew : Status → D → D → Type 0
   EndsNew status.Done old new = Says (desk.said old) made_text (desk.said new) × MadeOfEmpty old new
   EndsNew status.SayFault old new =
-      ((n : ℕ) × (n < length made_text) × Says (desk.said old) (take n made_text) (desk.said new)) × MadeOfEmpty old new
+      ((n : ℕ) × (n < length made_text) × Says (desk.said old) (take n made_text) (desk.said new))
+      × MadeOfEmpty old new
   EndsNew status.DeviceFault old new = (desk.said new ≡ desk.said old) × SparesBytes desk old new
   EndsNew status.NoMemory old new = (desk.said new ≡ desk.said old) × KeepsFile desk old new
-  EndsNew (status.NotEmpty len) old new = (desk.said new ≡ desk.said old) × FindsBytes desk len old new
+  EndsNew (status.NotEmpty len) old new =
+      (desk.said new ≡ desk.said old) × FindsBytes desk len old new
   EndsNew status.Usage old new = ⊥
   EndsNew status.ReadFault old new = ⊥
   EndsNew status.NotAStore old new = ⊥
@@ -196,4 +216,5 @@ module _ {D : Type 0} (desk : desks.Ghosts D) where
 
 -- how a run may end on a file that stands for no store
 abbrev pub EndsUnopened : Status → Type 0
-EndsUnopened result = (result ≡ status.NotAStore) ⊎ (result ≡ status.DeviceFault) ⊎ (result ≡ status.NoMemory)
+EndsUnopened result =
+    (result ≡ status.NotAStore) ⊎ (result ≡ status.DeviceFault) ⊎ (result ≡ status.NoMemory)

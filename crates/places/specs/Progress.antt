@@ -21,8 +21,8 @@ use Rattle.places.specs.Stops.{LeavesAtEntry, ShowsAnswered}
 abbrev pub ended_entries : List ℕ → List (Parsed Command)
 ended_entries bytes = entries_of (ended_lines bytes)
 
--- what was asked for within what was read, where this rest is left: by the lines that ended, and at the end of the
--- input by the last line too
+-- what was asked for within what was read, where this rest is left: by the lines that ended, and at
+-- the end of the input by the last line too
 abbrev pub entries_read : List ℕ → List ℕ → List (Parsed Command)
 entries_read read [] = script read
 entries_read read (next ∷ rest) = ended_entries read
@@ -33,9 +33,10 @@ pub record HasRead (bytes read rest : List ℕ) (left : Option (List ℕ)) : Typ
   pub rest_left : left ≡ Some rest
   pub in_limit : length read ≤ script_limit
 
--- after these bytes of the input: the lines that ended were answered, and of the line that has not as much
--- is kept as tells its entry
-pub record IsAt (start : Store) (bytes : List ℕ) (begun : Option (List ℕ)) (run : ScriptRun) (said : Option (List ℕ)) : Type 0 where
+-- after these bytes of the input: the lines that ended were answered, and of the line that has not
+-- as much is kept as tells its entry
+pub record IsAt (start : Store) (bytes : List ℕ) (begun : Option (List ℕ)) (run : ScriptRun)
+    (said : Option (List ℕ)) : Type 0 where
   pub limit : limit_of run.keeper ≡ slot_limit
   pub store : store_of run.keeper ≡ after slot_limit start (ended_entries bytes)
   pub line : run.line.items ≡ take 262_146 (open_line bytes)
@@ -45,17 +46,21 @@ module _ {D : Type 0} (desk : Ghosts D) where
   -- after these bytes more the run stands behind the longer input
   abbrev pub GoesOn : ScriptRun → List ℕ → D → ScriptRun → D → Type 0
   GoesOn run piece old next new = (start : Store) (bytes : List ℕ) (begun : Option (List ℕ))
-      → IsAt start bytes begun run (desk.said old) → IsAt start (bytes ++ piece) begun next (desk.said new)
+      → IsAt start bytes begun run (desk.said old)
+      → IsAt start (bytes ++ piece) begun next (desk.said new)
 
   -- what was kept is kept by the next keeper
   abbrev pub StaysKept : Keeper → D → Keeper → D → Type 0
-  StaysKept keeper old next new = (first : D) → IsKept desk keeper first old → IsKept desk next first new
+  StaysKept keeper old next new =
+      (first : D) → IsKept desk keeper first old → IsKept desk next first new
 
-  -- what is left where the run stopped at one of these entries of the input up to the piece that it takes
+  -- what is left where the run stopped at one of these entries of the input up to the piece that it
+  -- takes
   abbrev pub StopsIn : AnswerError → ScriptRun → (List ℕ → List (Parsed Command)) → D → D → Type 0
   StopsIn error run entries old new = (start : Store) (bytes begun : List ℕ) (first : D)
       → IsAt start bytes (Some begun) run (desk.said old) → IsKept desk run.keeper first old
-      → LeavesAtEntry desk error (is_file run.keeper) first slot_limit start (entries bytes) begun new
+      → LeavesAtEntry desk error (is_file run.keeper) first slot_limit start (entries bytes) begun
+      new
 
   -- what a stop shows while the piece is taken
   abbrev pub ShowsIn : ScriptRun → (List ℕ → List (Parsed Command)) → D → D → Type 0

@@ -5,7 +5,8 @@ use Rattle.std.specs.List.{flat_map}
 use Rattle.pl_engine.specs.declared.reply.Reply.{Reply}
 use Rattle.pl_script.specs.Reply.{reply_text}
 use Rattle.places.specs.declared.answer_error.AnswerError.{AnswerError}
-use Rattle.places.specs.declared.answer_error.AnswerError.TheVariants.{SayFault, DeviceFault, NoMemory}
+use Rattle.places.specs.declared.answer_error.AnswerError.TheVariants.{SayFault, DeviceFault}
+use Rattle.places.specs.declared.answer_error.AnswerError.TheVariants.{NoMemory}
 
 -- the piece was said, and nothing else
 abbrev pub Says : Option (List ℕ) → List ℕ → Option (List ℕ) → Type 0

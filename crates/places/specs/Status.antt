@@ -3,7 +3,9 @@ use Rattle.std.specs.Prelude.{◌≡◌, ⊤, ℕ, Option, Some, None, Result, O
 use Rattle.pl_store.specs.declared.ended.Ended.{Ended}
 use Rattle.pl_store.specs.declared.ended.Ended.TheVariants as ended
 use Rattle.places.specs.declared.status.Status.{Status}
-use Rattle.places.specs.declared.status.Status.TheVariants.{Done, Usage, ReadFault, SayFault, DeviceFault, NoMemory, NotAStore, NotEmpty, TooLong}
+use Rattle.places.specs.declared.status.Status.TheVariants.{Done, Usage, ReadFault, SayFault}
+use Rattle.places.specs.declared.status.Status.TheVariants.{DeviceFault, NoMemory, NotAStore}
+use Rattle.places.specs.declared.status.Status.TheVariants.{NotEmpty, TooLong}
 use Rattle.places.specs.declared.stop.Stop.{Stop}
 use Rattle.places.specs.declared.stop.Stop.TheVariants as stop
 use Rattle.places.specs.Limits.{script_limit}

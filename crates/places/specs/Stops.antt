@@ -1,5 +1,5 @@
--- What a stop of the machine shows during a run, and what a run leaves that stopped at an entry: the file, and
--- what was said.
+-- What a stop of the machine shows during a run, and what a run leaves that stopped at an entry:
+-- the file, and what was said.
 use Rattle.std.specs.Prelude.{◌≡◌, ◌⊎◌, ◌≤◌, ℕ, Bool, List, ◌++◌, length, take, Some}
 use Rattle.pl_base.specs.Store.{Store}
 use Rattle.pl_desk.specs.declared.desk.Desk.{Ghosts}
@@ -8,32 +8,39 @@ use Rattle.pl_engine.specs.Parsed.{Parsed}
 use Rattle.pl_engine.specs.Run.{replies, after}
 use Rattle.pl_store.specs.Keeper.{Keeps, Leaves, LeavesEither}
 use Rattle.places.specs.declared.answer_error.AnswerError.{AnswerError}
-use Rattle.places.specs.declared.answer_error.AnswerError.TheVariants.{SayFault, DeviceFault, NoMemory}
+use Rattle.places.specs.declared.answer_error.AnswerError.TheVariants.{SayFault, DeviceFault}
+use Rattle.places.specs.declared.answer_error.AnswerError.TheVariants.{NoMemory}
 use Rattle.places.specs.Said.{SaysOfAnswer, texts}
 
 module _ {D : Type 0} (desk : Ghosts D) where
   -- ---- what a stop shows
 
-  -- a front of a text was said behind what was said before, and the file is one that a stop might have left at first
+  -- a front of a text was said behind what was said before, and the file is one that a stop might
+  -- have left at first
   abbrev pub ShowsFront : D → List ℕ → List ℕ → List ℕ → List ℕ → Type 0
-  ShowsFront first before text file line = desk.may_leave first file × ((n : ℕ) × (line ≡ before ++ take n text))
+  ShowsFront first before text file line =
+      desk.may_leave first file × ((n : ℕ) × (line ≡ before ++ take n text))
 
-  -- Before the store's file is settled: nothing was said, and the file is one that a stop might have left at first.
+  -- Before the store's file is settled: nothing was said, and the file is one that a stop might
+  -- have left at first.
   abbrev pub ShowsUnopened : D → List ℕ → List ℕ → List ℕ → Type 0
   ShowsUnopened first before file line = desk.may_leave first file × (line ≡ before)
 
-  -- While a line is answered that has an entry, or none: a front of its reply was said behind what was said
-  -- before; a part past the reply's end is all of it. The file is that of the store after it, or, where no byte of
-  -- the reply was said, of the one before.
-  pub record ShowsAnswer (is_file : Bool) (first : D) (limit : ℕ) (store : Store) (entries : List (Parsed Command))
+  -- While a line is answered that has an entry, or none: a front of its reply was said behind what
+  -- was said before; a part past the reply's end is all of it. The file is that of the store after
+  -- it, or, where no byte of the reply was said, of the one before.
+  pub record ShowsAnswer (is_file : Bool) (first : D) (limit : ℕ) (store : Store)
+      (entries : List (Parsed Command))
       (before file line : List ℕ) : Type 0 where
     pub part : ℕ
     pub said : line ≡ before ++ take part (texts (replies limit store entries))
     pub leaves : Leaves desk is_file first (after limit store entries) file
         ⊎ ((part ≡ 0) × Leaves desk is_file first store file)
 
-  -- During a run of entries: the texts of the first replies were said, and the next line is answered.
-  pub record ShowsAnswered (is_file : Bool) (first : D) (limit : ℕ) (start : Store) (entries : List (Parsed Command))
+  -- During a run of entries: the texts of the first replies were said, and the next line is
+  -- answered.
+  pub record ShowsAnswered (is_file : Bool) (first : D) (limit : ℕ) (start : Store)
+      (entries : List (Parsed Command))
       (before file line : List ℕ) : Type 0 where
     pub answered : List (Parsed Command)
     pub next : List (Parsed Command)
@@ -45,16 +52,18 @@ module _ {D : Type 0} (desk : Ghosts D) where
 
   -- ---- what is left
 
-  -- What an answer that failed leaves of the file: the store before it for want of memory, the one after it where its
-  -- reply could not be said whole, and one of the two where the file failed.
+  -- What an answer that failed leaves of the file: the store before it for want of memory, the one
+  -- after it where its reply could not be said whole, and one of the two where the file failed.
   abbrev pub LeavesOfAnswer : AnswerError → Bool → D → Store → Store → D → Type 0
   LeavesOfAnswer NoMemory is_file first store next now = Keeps desk is_file first store now
   LeavesOfAnswer SayFault is_file first store next now = Keeps desk is_file first next now
   LeavesOfAnswer DeviceFault is_file first store next now =
       (file : List ℕ) → desk.may_leave now file → LeavesEither desk is_file first store next file
 
-  -- A run that stopped at one of its entries, or before the next one: those before it were answered.
-  pub record LeavesAtEntry (error : AnswerError) (is_file : Bool) (first : D) (limit : ℕ) (start : Store)
+  -- A run that stopped at one of its entries, or before the next one: those before it were
+  -- answered.
+  pub record LeavesAtEntry (error : AnswerError) (is_file : Bool) (first : D) (limit : ℕ)
+      (start : Store)
       (entries : List (Parsed Command)) (before : List ℕ) (now : D) : Type 0 where
     pub answered : List (Parsed Command)
     pub next : List (Parsed Command)

@@ -20,8 +20,8 @@ use pl_script::{LineError, line, reply_text};
 use pl_store::Keeper;
 use std::alloc::Global;
 
-/// Answers a line without its LF: the store makes its step, the file takes it, and the reply is said. The
-/// reply's text is made before the file takes the step.
+/// Answers a line without its LF: the store makes its step, the file takes it, and the reply is
+/// said. The reply's text is made before the file takes the step.
 pub fn answer<D: Desk>(
     alloc: Global,
     keeper: Keeper,
@@ -34,14 +34,17 @@ pub fn answer<D: Desk>(
     ensures kind { IfOk result (λ next. is_file next ≡ is_file keeper) }
     ensures kept { IfOk result (λ next. StaysKept D.Desk keeper desk.old next desk.new) }
     ensures said { OnOk result (Says (D.said desk.old)
-        (texts (replies (limit_of keeper) (store_of keeper) (entries_in bytes.now))) (D.said desk.new)) }
+        (texts (replies (limit_of keeper) (store_of keeper) (entries_in bytes.now)))
+        (D.said desk.new)) }
     ensures stopped { IfErr result (λ error. SaysOfAnswer error
-        (replies (limit_of keeper) (store_of keeper) (entries_in bytes.now)) (D.said desk.old) (D.said desk.new)) }
+        (replies (limit_of keeper) (store_of keeper) (entries_in bytes.now)) (D.said desk.old)
+        (D.said desk.new)) }
     ensures left { IfErr result (λ error. (first : D) → IsKept D.Desk keeper first desk.old
         → LeavesOfAnswer D.Desk error (is_file keeper) first (store_of keeper)
         (after (limit_of keeper) (store_of keeper) (entries_in bytes.now)) desk.new) }
     ensures shows { (first : D) (before : List ℕ) → D.said desk.old ≡ Some before
-        → IsKept D.Desk keeper first desk.old → ShowsOnly D.Desk desk.old desk.new (ShowsAnswer D.Desk
+        → IsKept D.Desk keeper first desk.old
+        → ShowsOnly D.Desk desk.old desk.new (ShowsAnswer D.Desk
         (is_file keeper) first (limit_of keeper) (store_of keeper) (entries_in bytes.now) before) }
     ensures alone { is_file keeper ≡ false → LeavesFile D.Desk desk.old desk.new }
     ensures no_memory { result ≡ Err AnswerError.NoMemory → desk.new ≡ desk.old }

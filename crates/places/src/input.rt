@@ -1,5 +1,6 @@
 // The input in pieces.
-ghost use Rattle.std.specs.Prelude.{◌≡◌, ◌≤◌, ◌<◌, ◌⊎◌, [], ◌++◌, length, IfOk, IfErr, IfSome, OnErr};
+ghost use Rattle.std.specs.Prelude.{◌≡◌, ◌≤◌, ◌<◌, ◌⊎◌, [], ◌++◌, length, IfOk, IfErr, IfSome};
+ghost use Rattle.std.specs.Prelude.{OnErr};
 ghost use Rattle.std.specs.Option.{option_map};
 ghost use Rattle.pl_desk.specs.Counts.{CountsAt};
 
@@ -16,7 +17,8 @@ pub fn next_piece<S: Source>(alloc: Global, input: &mut S, room: usize) -> Resul
     ensures ended { IfOk result (λ piece.
         length piece.items ≡ 0 → IfSome (S.left input.old) (λ rest. rest ≡ [])) }
     ensures kept { OnErr result (S.left input.new ≡ S.left input.old) }
-    ensures counted { CountsAt (result ≡ Err Stop.ReadFault) (S.faults input.old) (S.faults input.new) }
+    ensures counted { CountsAt (result ≡ Err Stop.ReadFault) (S.faults input.old)
+        (S.faults input.new) }
     ensures errors { IfErr result (λ stop. (stop ≡ Stop.ReadFault) ⊎ (stop ≡ Stop.NoMemory)) }
 {
     let mut piece = vec![in alloc; 0u8; room]?;

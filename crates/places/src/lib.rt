@@ -1,8 +1,8 @@
-//! The run of a store of history: what the words ask for, on a source of input and a desk with the store's
-//! file and the line that replies are said to.
+//! The run of a store of history: what the words ask for, on a source of input and a desk with the
+//! store's file and the line that replies are said to.
 //!
-//! `run` is the one call. The program `places_main` hands it the streams and the file of a process; tests hand
-//! it bytes in memory.
+//! `run` is the one call. The program `places_main` hands it the streams and the file of a process;
+//! tests hand it bytes in memory.
 #![tactic(auto)]
 
 mod answer;
@@ -33,34 +33,36 @@ use pl_desk::{Desk, Source};
 pub use status::Status;
 use std::alloc::Global;
 
-/// Runs what the words ask for. `new` writes the store before its first command into the desk's file, and
-/// says `new`. `run` runs the script of the input on the store that the file holds, and `try` on a store in
-/// memory, of which the desk's file knows nothing; both say the reply to each line as it comes, and the file
-/// of `run` holds a command before a byte of its reply is said. `NoMemory` may come at any place: then
-/// nothing of its command was said or is in the file.
+/// Runs what the words ask for. `new` writes the store before its first command into the desk's
+/// file, and says `new`. `run` runs the script of the input on the store that the file holds, and
+/// `try` on a store in memory, of which the desk's file knows nothing; both say the reply to each
+/// line as it comes, and the file of `run` holds a command before a byte of its reply is said.
+/// `NoMemory` may come at any place: then nothing of its command was said or is in the file.
 pub fn run<S: Source, D: Desk>(alloc: Global, words: &[&str], input: &mut S, desk: &mut D) -> Status
     // Which words may end so. Others are refused, and then nothing is called.
     ensures status { MayEnd (IsTry (spelled words.now)) (IsNew (spelled words.now))
         (IsRun (spelled words.now)) result }
     ensures untouched { result ≡ Status.Usage → (input.new ≡ input.old) × (desk.new ≡ desk.old) }
 
-    // Where the source and the desk tell their content: at Done everything was read, and what was said is the
-    // text of the replies of the plain machine to the script. A read that fails, and the limit of a script, leave
-    // the lines answered that ended within what was read. A line that fails leaves the texts of the first replies
-    // to what was read said, and a front of the next; a file that fails and want of memory leave whole texts.
+    // Where the source and the desk tell their content: at Done everything was read, and what was
+    // said is the text of the replies of the plain machine to the script. A read that fails, and
+    // the limit of a script, leave the lines answered that ended within what was read. A line that
+    // fails leaves the texts of the first replies to what was read said, and a front of the next; a
+    // file that fails and want of memory leave whole texts.
     ensures replies { OfScript S.Source D.Desk (spelled words.now) input.old desk.old
         (λ is_file start bytes before.
         EndsScript result start bytes before (S.left input.new) (D.said desk.new)) }
-    // What the file holds at each status, beside what was said then. The store is the one that a read of the file
-    // gives at the start, whichever others a stop might have left: the first sync settles the file. The file of
-    // `try` is one that a stop might have left before it.
+    // What the file holds at each status, beside what was said then. The store is the one that a
+    // read of the file gives at the start, whichever others a stop might have left: the first sync
+    // settles the file. The file of `try` is one that a stop might have left before it.
     ensures ends { OfScript S.Source D.Desk (spelled words.now) input.old desk.old
         (λ is_file start bytes before.
         LeavesAtEnd D.Desk result is_file desk.old start bytes before (S.left input.new) desk.new) }
-    // A stop before the file is settled shows nothing said, and a file that a stop might have left at the start.
-    // From then on a stop at any moment, within each call of the desk and within a recovery of the file too, shows
-    // the texts of the first replies and a front of the next. The file stands then for the store after as many
-    // commands, or after one more, and after that one where a byte of its reply was said.
+    // A stop before the file is settled shows nothing said, and a file that a stop might have left
+    // at the start. From then on a stop at any moment, within each call of the desk and within a
+    // recovery of the file too, shows the texts of the first replies and a front of the next. The
+    // file stands then for the store after as many commands, or after one more, and after that one
+    // where a byte of its reply was said.
     ensures stops { OfScript S.Source D.Desk (spelled words.now) input.old desk.old
         (λ is_file start bytes before.
         ShowsThen D.Desk desk.old desk.new (ShowsUnopened D.Desk desk.old before)
@@ -70,8 +72,8 @@ pub fn run<S: Source, D: Desk>(alloc: Global, words: &[&str], input: &mut S, des
     ensures made { IsNew (spelled words.now) → EndsNew D.Desk result desk.old desk.new }
     ensures unread { IsNew (spelled words.now) → input.new ≡ input.old }
 
-    // A file that stands for no store is refused by `run`, which then reads no input and says nothing, and
-    // stands for none afterwards.
+    // A file that stands for no store is refused by `run`, which then reads no input and says
+    // nothing, and stands for none afterwards.
     ensures refused { result ≡ Status.NotAStore
         → RefusesFile D.Desk desk.old desk.new × KeepsFinished D.Desk desk.old desk.new }
     ensures not_run { result ≡ Status.NotAStore
@@ -80,9 +82,10 @@ pub fn run<S: Source, D: Desk>(alloc: Global, words: &[&str], input: &mut S, des
         → StandsForNone file
         → EndsUnopened result × (input.new ≡ input.old) × (D.said desk.new ≡ D.said desk.old) }
 
-    // Each fault has its status, and each such status its cause outside the program: no fault is passed over, nor
-    // taken for want of memory.
-    ensures reads_counted { CountsAt (result ≡ Status.ReadFault) (S.faults input.old) (S.faults input.new) }
+    // Each fault has its status, and each such status its cause outside the program: no fault is
+    // passed over, nor taken for want of memory.
+    ensures reads_counted { CountsAt (result ≡ Status.ReadFault) (S.faults input.old)
+        (S.faults input.new) }
     ensures says_counted { CountsAt (result ≡ Status.SayFault)
         (D.line_faults desk.old) (D.line_faults desk.new) }
     ensures device_counted { CountsAt (result ≡ Status.DeviceFault)

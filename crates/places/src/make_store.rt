@@ -9,8 +9,8 @@ use pl_desk::Desk;
 use pl_store::create;
 use std::alloc::Global;
 
-/// Writes the store before its first command into the desk's file, and says `new`. A stop within it may
-/// leave a file that stands for no store.
+/// Writes the store before its first command into the desk's file, and says `new`. A stop within it
+/// may leave a file that stands for no store.
 pub fn make_store<D: Desk>(alloc: Global, desk: &mut D) -> Status
     ensures status { MayEnd ⊥ ⊤ ⊥ result }
     ensures ends { EndsNew D.Desk result desk.old desk.new }

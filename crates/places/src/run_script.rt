@@ -38,9 +38,11 @@ pub fn run_script<S: Source, D: Desk>(
         (store_of keeper) bytes before (S.left input.new) desk.new) }
     ensures shows { IfTold (S.left input.old) (D.said desk.old) (λ bytes before. (first : D)
         → IsKept D.Desk keeper first desk.old → ShowsOnly D.Desk desk.old desk.new
-        (ShowsAnswered D.Desk (is_file keeper) first slot_limit (store_of keeper) (script bytes) before)) }
+        (ShowsAnswered D.Desk (is_file keeper) first slot_limit (store_of keeper) (script bytes)
+        before)) }
     ensures alone { is_file keeper ≡ false → LeavesFile D.Desk desk.old desk.new }
-    ensures reads_counted { CountsAt (result ≡ Err Stop.ReadFault) (S.faults input.old) (S.faults input.new) }
+    ensures reads_counted { CountsAt (result ≡ Err Stop.ReadFault) (S.faults input.old)
+        (S.faults input.new) }
     ensures says_counted { CountsAt (result ≡ Err Stop.SayFault)
         (D.line_faults desk.old) (D.line_faults desk.new) }
     ensures device_counted { CountsAt (result ≡ Err Stop.DeviceFault)

@@ -28,7 +28,8 @@ pub fn try_script<S: Source, D: Desk>(alloc: Global, input: &mut S, desk: &mut D
         ShowsThen D.Desk desk.old desk.new (ShowsUnopened D.Desk desk.old before)
         (ShowsAnswered D.Desk false desk.old slot_limit opening (script bytes) before)) }
     ensures alone { LeavesFile D.Desk desk.old desk.new }
-    ensures reads_counted { CountsAt (result ≡ Status.ReadFault) (S.faults input.old) (S.faults input.new) }
+    ensures reads_counted { CountsAt (result ≡ Status.ReadFault) (S.faults input.old)
+        (S.faults input.new) }
     ensures says_counted { CountsAt (result ≡ Status.SayFault)
         (D.line_faults desk.old) (D.line_faults desk.new) }
     ensures device_counted { CountsAt (result ≡ Status.DeviceFault)
@@ -46,7 +47,8 @@ pub fn run_stored<S: Source, D: Desk>(alloc: Global, input: &mut S, desk: &mut D
     ensures ends { (file : List ℕ) (start : Store) → D.held desk.old ≡ Some file → Stands file start
         → IfTold (S.left input.old) (D.said desk.old) (λ bytes before.
         LeavesAtEnd D.Desk result true desk.old start bytes before (S.left input.new) desk.new) }
-    ensures stops { (file : List ℕ) (start : Store) → D.held desk.old ≡ Some file → Stands file start
+    ensures stops { (file : List ℕ) (start : Store) → D.held desk.old ≡ Some file
+        → Stands file start
         → IfTold (S.left input.old) (D.said desk.old) (λ bytes before.
         ShowsThen D.Desk desk.old desk.new (ShowsUnopened D.Desk desk.old before)
         (ShowsAnswered D.Desk true desk.old slot_limit start (script bytes) before)) }
@@ -56,7 +58,8 @@ pub fn run_stored<S: Source, D: Desk>(alloc: Global, input: &mut S, desk: &mut D
         → (input.new ≡ input.old) × (D.said desk.new ≡ D.said desk.old) }
     ensures no_store { (file : List ℕ) → D.held desk.old ≡ Some file → StandsForNone file
         → EndsUnopened result × (input.new ≡ input.old) × (D.said desk.new ≡ D.said desk.old) }
-    ensures reads_counted { CountsAt (result ≡ Status.ReadFault) (S.faults input.old) (S.faults input.new) }
+    ensures reads_counted { CountsAt (result ≡ Status.ReadFault) (S.faults input.old)
+        (S.faults input.new) }
     ensures says_counted { CountsAt (result ≡ Status.SayFault)
         (D.line_faults desk.old) (D.line_faults desk.new) }
     ensures device_counted { CountsAt (result ≡ Status.DeviceFault)

@@ -1,5 +1,6 @@
 // A run of a script whose bytes come one after another.
-ghost use Rattle.std.specs.Prelude.{◌≡◌, ◌≢◌, ℕ, List, Option, [], ◌∷◌, ◌++◌, Err, false, IfErr, IfOk, OnOk};
+ghost use Rattle.std.specs.Prelude.{◌≡◌, ◌≢◌, ℕ, List, Option, [], ◌∷◌, ◌++◌, Err, false, IfErr};
+ghost use Rattle.std.specs.Prelude.{IfOk, OnOk};
 ghost use Rattle.std.specs.Str.Lines.{strip_carriage_return};
 
 use crate::answer::answer;
@@ -9,8 +10,8 @@ use pl_desk::Desk;
 use pl_store::Keeper;
 use std::alloc::Global;
 
-/// As much of a line is kept as tells what it asks for: past the longest line two bytes more, of which the
-/// last may be the CR before its LF.
+/// As much of a line is kept as tells what it asks for: past the longest line two bytes more, of
+/// which the last may be the CR before its LF.
 const KEPT: usize = 262_146;
 
 /// The store after the lines that have ended, and the line that has not.
@@ -29,7 +30,8 @@ impl ScriptRun {
     ghost use Rattle.pl_script.specs.Script.{script};
     ghost use Rattle.pl_base.specs.Live.{slot_limit};
     ghost use Rattle.pl_store.specs.Keeper.{is_file, limit_of, store_of};
-    ghost use Rattle.places.specs.Progress.{GoesOn, IsAt, ShowsIn, StaysKept, StopsIn, ended_entries};
+    ghost use Rattle.places.specs.Progress.{GoesOn, IsAt, ShowsIn, StaysKept, StopsIn};
+    ghost use Rattle.places.specs.Progress.{ended_entries};
     ghost use Rattle.places.specs.Said.{Says, texts};
 
     pub fn new(alloc: Global, keeper: Keeper) -> Self
@@ -48,10 +50,13 @@ impl ScriptRun {
     pub fn take_all<D: Desk>(self, piece: &[u8], desk: &mut D) -> Result<ScriptRun, AnswerError>
         ensures ok { IfOk result (λ run. GoesOn D.Desk self piece.now desk.old run desk.new) }
         ensures kind { IfOk result (λ run. is_file run.keeper ≡ is_file self.keeper) }
-        ensures kept { IfOk result (λ run. StaysKept D.Desk self.keeper desk.old run.keeper desk.new) }
+        ensures kept { IfOk result
+            (λ run. StaysKept D.Desk self.keeper desk.old run.keeper desk.new) }
         ensures ends { IfErr result (λ error.
-            StopsIn D.Desk error self (λ bytes. ended_entries (bytes ++ piece.now)) desk.old desk.new) }
-        ensures shows { ShowsIn D.Desk self (λ bytes. ended_entries (bytes ++ piece.now)) desk.old desk.new }
+            StopsIn D.Desk error self (λ bytes. ended_entries (bytes ++ piece.now))
+            desk.old desk.new) }
+        ensures shows { ShowsIn D.Desk self (λ bytes. ended_entries (bytes ++ piece.now)) desk.old
+            desk.new }
         ensures alone { is_file self.keeper ≡ false → LeavesFile D.Desk desk.old desk.new }
         ensures says_counted { CountsAt (result ≡ Err AnswerError.SayFault)
             (D.line_faults desk.old) (D.line_faults desk.new) }
@@ -68,10 +73,13 @@ impl ScriptRun {
     fn take<D: Desk>(self, byte: u8, desk: &mut D) -> Result<ScriptRun, AnswerError>
         ensures ok { IfOk result (λ run. GoesOn D.Desk self (byte ∷ []) desk.old run desk.new) }
         ensures kind { IfOk result (λ run. is_file run.keeper ≡ is_file self.keeper) }
-        ensures kept { IfOk result (λ run. StaysKept D.Desk self.keeper desk.old run.keeper desk.new) }
+        ensures kept { IfOk result
+            (λ run. StaysKept D.Desk self.keeper desk.old run.keeper desk.new) }
         ensures ends { IfErr result (λ error.
-            StopsIn D.Desk error self (λ bytes. ended_entries (bytes ++ byte ∷ [])) desk.old desk.new) }
-        ensures shows { ShowsIn D.Desk self (λ bytes. ended_entries (bytes ++ byte ∷ [])) desk.old desk.new }
+            StopsIn D.Desk error self (λ bytes. ended_entries (bytes ++ byte ∷ []))
+            desk.old desk.new) }
+        ensures shows { ShowsIn D.Desk self (λ bytes. ended_entries (bytes ++ byte ∷ [])) desk.old
+            desk.new }
         ensures alone { is_file self.keeper ≡ false → LeavesFile D.Desk desk.old desk.new }
         ensures says_counted { CountsAt (result ≡ Err AnswerError.SayFault)
             (D.line_faults desk.old) (D.line_faults desk.new) }
@@ -89,10 +97,13 @@ impl ScriptRun {
     fn end_line<D: Desk>(self, desk: &mut D) -> Result<ScriptRun, AnswerError>
         ensures ok { IfOk result (λ run. GoesOn D.Desk self (10 ∷ []) desk.old run desk.new) }
         ensures kind { IfOk result (λ run. is_file run.keeper ≡ is_file self.keeper) }
-        ensures kept { IfOk result (λ run. StaysKept D.Desk self.keeper desk.old run.keeper desk.new) }
+        ensures kept { IfOk result
+            (λ run. StaysKept D.Desk self.keeper desk.old run.keeper desk.new) }
         ensures ends { IfErr result (λ error.
-            StopsIn D.Desk error self (λ bytes. ended_entries (bytes ++ 10 ∷ [])) desk.old desk.new) }
-        ensures shows { ShowsIn D.Desk self (λ bytes. ended_entries (bytes ++ 10 ∷ [])) desk.old desk.new }
+            StopsIn D.Desk error self (λ bytes. ended_entries (bytes ++ 10 ∷ []))
+            desk.old desk.new) }
+        ensures shows { ShowsIn D.Desk self (λ bytes. ended_entries (bytes ++ 10 ∷ [])) desk.old
+            desk.new }
         ensures alone { is_file self.keeper ≡ false → LeavesFile D.Desk desk.old desk.new }
         ensures says_counted { CountsAt (result ≡ Err AnswerError.SayFault)
             (D.line_faults desk.old) (D.line_faults desk.new) }
@@ -116,7 +127,8 @@ impl ScriptRun {
     // The line goes on with this byte.
     fn keep(mut self, byte: u8) -> Result<ScriptRun, NoMemory>
         requires { byte ≢ 10 }
-        ensures ok { IfOk result (λ run. (start : Store) (bytes : List ℕ) (begun said : Option (List ℕ))
+        ensures ok { IfOk result (λ run. (start : Store) (bytes : List ℕ)
+            (begun said : Option (List ℕ))
             → IsAt start bytes begun self said → IsAt start (bytes ++ byte ∷ []) begun run said) }
         ensures keeper { IfOk result (λ run. run.keeper ≡ self.keeper) }
     {
@@ -132,11 +144,13 @@ impl ScriptRun {
         ensures ok { OnOk result ((start : Store) (bytes : List ℕ) (begun : Option (List ℕ))
             → IsAt start bytes begun self (D.said desk.old)
             → Says begun (texts (replies slot_limit start (script bytes))) (D.said desk.new)) }
-        ensures store { IfOk result (λ keeper. (start : Store) (bytes : List ℕ) (begun : Option (List ℕ))
+        ensures store { IfOk result
+            (λ keeper. (start : Store) (bytes : List ℕ) (begun : Option (List ℕ))
             → IsAt start bytes begun self (D.said desk.old)
             → store_of keeper ≡ after slot_limit start (script bytes)) }
         ensures kind { IfOk result (λ keeper. is_file keeper ≡ is_file self.keeper) }
-        ensures kept { IfOk result (λ keeper. StaysKept D.Desk self.keeper desk.old keeper desk.new) }
+        ensures kept { IfOk result (λ keeper.
+            StaysKept D.Desk self.keeper desk.old keeper desk.new) }
         ensures ends { IfErr result (λ error.
             StopsIn D.Desk error self script desk.old desk.new) }
         ensures shows { ShowsIn D.Desk self script desk.old desk.new }

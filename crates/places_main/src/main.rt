@@ -1,7 +1,7 @@
 //! `places`: the store behind a browser's history window and address bar.
 //!
-//! `places new STORE` makes a store's file, and `places run STORE` answers the commands of its input, one a
-//! line, on the store that the file holds. `places try` does so on a store in memory.
+//! `places new STORE` makes a store's file, and `places run STORE` answers the commands of its
+//! input, one a line, on the store that the file holds. `places try` does so on a store in memory.
 #![tactic(auto)]
 
 use pl_file::{FileDesk, StreamSource};

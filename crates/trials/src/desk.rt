@@ -30,7 +30,8 @@ fn perform<D: Desk>(rt: &impl Abort, desk: &mut D, step: &Step) -> bool {
     }
 }
 
-// The stops within a call, for each of three fillers, leave these bytes, where `?` stands for the filler.
+// The stops within a call, for each of three fillers, leave these bytes, where `?` stands for the
+// filler.
 fn expect_stops(
     rt: &impl Abort,
     alloc: Global,
@@ -54,8 +55,8 @@ fn expect_stops(
     Ok(())
 }
 
-// Each call: whether it succeeds, the bytes of the file after it, how many bytes had been said when it
-// began, and what a stop within it leaves.
+// Each call: whether it succeeds, the bytes of the file after it, how many bytes had been said when
+// it began, and what a stop within it leaves.
 const RUN: [(Step, bool, &[u8], usize, &[u8]); 12] = [
     (Step::Write(1, b"XY"), true, b"aXYd", 0, b"a??d"),
     (Step::Say(b"hi"), true, b"aXYd", 0, b"a??d"),

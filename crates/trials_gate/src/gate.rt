@@ -1,5 +1,6 @@
 // Small stores in memory, changes of them, and what a recovery gives back.
-ghost use Rattle.std.specs.Prelude.{◌≡◌, ◌≤◌, ◌<◌, ℕ, ◌++◌, ◌∷◌, [], length, slice_index, true, All, IfOk, OnOk};
+ghost use Rattle.std.specs.Prelude.{◌≡◌, ◌≤◌, ◌<◌, ℕ, ◌++◌, ◌∷◌, [], length, slice_index, true};
+ghost use Rattle.std.specs.Prelude.{All, IfOk, OnOk};
 ghost use Rattle.pl_base.specs.Touched.{ascends_above, has_number, page_numbers, IsWithin};
 
 mod commits;
@@ -13,9 +14,9 @@ use pl_gate::{Gate, GateError};
 use std::alloc::{AllocError, Global};
 use std::process::Abort;
 
-// A change of a store: its lengths in pages before and after, and the old pages that it touches. It touches
-// each page that it adds, too. Of its commit: the number of the call that syncs the set gate, and how many
-// calls there are.
+// A change of a store: its lengths in pages before and after, and the old pages that it touches. It
+// touches each page that it adds, too. Of its commit: the number of the call that syncs the set
+// gate, and how many calls there are.
 #[derive(Clone, Copy)]
 struct Case {
     before: u8,
@@ -25,7 +26,8 @@ struct Case {
     calls: u32,
 }
 
-// One page and two, in a store that stays as long as it was, in one that grows, and in one that shrinks.
+// One page and two, in a store that stays as long as it was, in one that grows, and in one that
+// shrinks.
 const FEW_PAGES: [Case; 5] = [
     Case {
         before: 2,
@@ -131,7 +133,8 @@ fn pages_after(alloc: Global, case: &Case) -> Result<Vec<u8>, AllocError> {
 
 // The last touched page, or 0.
 fn last_of(touched: &Touched) -> u32
-    ensures last { result ≡ slice_index (0 ∷ page_numbers touched.now.pages) (length touched.now.pages) }
+    ensures last { result ≡ slice_index (0 ∷ page_numbers touched.now.pages)
+        (length touched.now.pages) }
     ensures ascending { ascends_above 0 (page_numbers touched.now.pages) ≡ true }
 {
     let count = touched.count();
@@ -143,7 +146,8 @@ fn last_of(touched: &Touched) -> u32
 
 // Adds a page with its new bytes.
 fn touch(rt: &impl Abort, touched: &mut Touched, page: u8) -> Result<(), NoMemory>
-    ensures number { OnOk result (page_numbers touched.new.pages ≡ page_numbers touched.old.pages ++ page ∷ []) }
+    ensures number { OnOk result
+        (page_numbers touched.new.pages ≡ page_numbers touched.old.pages ++ page ∷ []) }
     ensures below { OnOk result (page < touched.old.after) }
     ensures before { touched.new.before ≡ touched.old.before }
     ensures after { touched.new.after ≡ touched.old.after }
@@ -157,8 +161,12 @@ fn touch(rt: &impl Abort, touched: &mut Touched, page: u8) -> Result<(), NoMemor
 
 // Adds each page that the change adds.
 fn touch_added(rt: &impl Abort, touched: &mut Touched, case: &Case) -> Result<(), NoMemory>
-    ensures below { OnOk result (All (λ n. n < touched.old.after) (page_numbers touched.old.pages) → All (λ n. n < touched.old.after) (page_numbers touched.new.pages)) }
-    ensures added { OnOk result ((n : ℕ) → case.now.before ≤ n → n < case.now.after → has_number n touched.new.pages ≡ true) }
+    ensures below { OnOk result
+        (All (λ n. n < touched.old.after) (page_numbers touched.old.pages)
+        → All (λ n. n < touched.old.after) (page_numbers touched.new.pages)) }
+    ensures added { OnOk result
+        ((n : ℕ) → case.now.before ≤ n → n < case.now.after
+        → has_number n touched.new.pages ≡ true) }
     ensures before { touched.new.before ≡ touched.old.before }
     ensures after { touched.new.after ≡ touched.old.after }
 {

@@ -1,5 +1,6 @@
 -- What a second run goes on from.
-use Rattle.std.proofs.Common.{◌≡◌, ℕ, true, false, List, [], ◌∷◌, ◌++◌, Option, None, Some, IsSome, append-nil, arith, inl, inr, refl, sym, ap, subst, ◌∙◌}
+use Rattle.std.proofs.Common.{◌≡◌, ℕ, true, false, List, [], ◌∷◌, ◌++◌, Option, None, Some, IsSome, append-nil, arith}
+use Rattle.std.proofs.Common.{inl, inr, refl, sym, ap, subst, ◌∙◌}
 use Rattle.std.proofs.lemmas.Bool.{both_ways}
 use Rattle.pl_base.specs.Store.{Store}
 use Rattle.pl_desk.specs.declared.desk.Desk.{Ghosts}
@@ -14,7 +15,8 @@ use Rattle.places.specs.Ending.{LeavesAtEnd}
 use Rattle.places.specs.Said.{texts}
 use Rattle.trials_run.specs.Again.{AreDone, GoesOn}
 
-after-append : (start : Store) (xs ys : List (Parsed Command)) → after slot_limit start (xs ++ ys) ≡ after slot_limit (after slot_limit start xs) ys
+after-append : (start : Store) (xs ys : List (Parsed Command))
+    → after slot_limit start (xs ++ ys) ≡ after slot_limit (after slot_limit start xs) ys
 after-append start [] ys = refl
 after-append start (x ∷ xs) ys = after-append (step slot_limit start x).1 xs ys
 

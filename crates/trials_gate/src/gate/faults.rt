@@ -15,7 +15,8 @@ fn expect_pages(
     Ok(())
 }
 
-// Each call of the commit fails in turn. The pages are those after the change once the gate's byte was written.
+// Each call of the commit fails in turn. The pages are those after the change once the gate's byte
+// was written.
 fn expect_commit_faults(rt: &impl Abort, alloc: Global, case: &Case) -> Result<(), NoMemory> {
     let touched = touched_by(rt, alloc, case)?;
     let file = file_before(alloc, case)?;

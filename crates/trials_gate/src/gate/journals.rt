@@ -2,8 +2,8 @@
 use super::*;
 use std::test::Fail;
 
-// A file of a gate's page, of pages 1 to 3, and of a journal of pages 2 and 3, which begins at 4,096 and whose
-// entries begin there and at 5,128. The file ends at 6,160.
+// A file of a gate's page, of pages 1 to 3, and of a journal of pages 2 and 3, which begins at
+// 4,096 and whose entries begin there and at 5,128. The file ends at 6,160.
 fn file_with_journal(alloc: Global) -> Result<Vec<u8>, AllocError> {
     let parts: [&[u8]; 9] = [
         b"\0\0\0\0\0\0\0\0\0\x10\0\0\0\0\0\0\x02\0\0\0\x04\0\0\0",

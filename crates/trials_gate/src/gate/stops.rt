@@ -1,4 +1,5 @@
-// A stop of the machine within each call of a commit, and within each call of the recovery after it.
+// A stop of the machine within each call of a commit, and within each call of the recovery after
+// it.
 use super::*;
 use std::test::Fail;
 
@@ -25,7 +26,8 @@ fn expect_recovered(
     Ok(())
 }
 
-// A stop within this call of a commit leaves these pages to the recovery, and so does a stop within that.
+// A stop within this call of a commit leaves these pages to the recovery, and so does a stop within
+// that.
 fn expect_settled(
     rt: &impl Abort,
     alloc: Global,
@@ -44,8 +46,8 @@ fn expect_settled(
     Ok(())
 }
 
-// A stop within this call of a commit leaves the pages after the change once the set gate is on the disk, and
-// where the filler sets it, and else those before.
+// A stop within this call of a commit leaves the pages after the change once the set gate is on the
+// disk, and where the filler sets it, and else those before.
 fn expect_either(
     rt: &impl Abort,
     alloc: Global,

@@ -1,6 +1,6 @@
-// A store that is made and run on twice: what the three calls say together, with nothing asked of the file but that it
-// was empty, and of the sources and the desk but that they tell their content. So no premise of `run` is one that
-// nobody meets.
+// A store that is made and run on twice: what the three calls say together, with nothing asked of
+// the file but that it was empty, and of the sources and the desk but that they tell their content.
+// So no premise of `run` is one that nobody meets.
 ghost use Rattle.std.specs.Prelude.{◌≡◌, ℕ, List, [], ◌++◌, Some, Ok};
 ghost use Rattle.pl_base.specs.Store.{Store, opening};
 ghost use Rattle.pl_engine.specs.Run.{after, replies};
@@ -72,11 +72,12 @@ fn run_again<S: Source, D: Desk>(
     }
 }
 
-// How many calls behind the sync of the set gate a run of one visit ends: two images, a sync, the cleared gate, its sync,
-// and the reply.
+// How many calls behind the sync of the set gate a run of one visit ends: two images, a sync, the
+// cleared gate, its sync, and the reply.
 const BEHIND_THE_SET_GATE: u32 = 6;
 
-// What two runs of a visit each say on the file of a new store, where this call of the first run fails.
+// What two runs of a visit each say on the file of a new store, where this call of the first run
+// fails.
 fn expect_again(
     rt: &impl Abort,
     alloc: Global,
@@ -110,7 +111,8 @@ fn goes_on_behind_a_fault(rt: HostRuntime) -> Result<(), Fail> {
     );
     let calls = desk.calls();
     assert!(rt; calls > BEHIND_THE_SET_GATE);
-    // The first sync of the opening, and the one that sets the gate, which leaves the first visit in the file.
+    // The first sync of the opening, and the one that sets the gate, which leaves the first visit
+    // in the file.
     expect_again(
         &rt,
         alloc,

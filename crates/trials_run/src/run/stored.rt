@@ -118,7 +118,8 @@ fn a_stop_leaves_what_was_answered(rt: HostRuntime) -> Result<(), Fail> {
     Ok(())
 }
 
-// Each read takes 40 bytes: the first has two lines and a part of the third, and the third read finds the end.
+// Each read takes 40 bytes: the first has two lines and a part of the third, and the third read
+// finds the end.
 #[test]
 fn a_read_that_fails_leaves_the_lines_before_it(rt: HostRuntime) -> Result<(), Fail> {
     let alloc = rt.alloc();
@@ -147,8 +148,8 @@ fn failed(rt: &impl Abort, alloc: Global, call: u32) -> Result<Status, NoMemory>
     Ok(status)
 }
 
-// Of the 34 calls of the script's run the opening makes the first nine, and each commit eleven. These say a
-// reply.
+// Of the 34 calls of the script's run the opening makes the first nine, and each commit eleven.
+// These say a reply.
 const SAYS: [u32; 3] = [20, 21, 33];
 
 #[test]

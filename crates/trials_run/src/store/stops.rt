@@ -35,8 +35,8 @@ fn expect_committed(
     Ok(())
 }
 
-// The session performs a command, and a stop within each call of its commit leaves the commands before it
-// or that one too.
+// The session performs a command, and a stop within each call of its commit leaves the commands
+// before it or that one too.
 fn expect_whole(
     rt: &impl Abort,
     alloc: Global,

@@ -12,7 +12,9 @@ loop-call-preserved c =
     let filler = c.args.filler in
     let k = c.loop-call.call-index in
     let call = c.call-item.result in
-    let more = at_drop_more (λ (l : List RecordedInMemory). image_after filler c.loop-call.file.items c.loop-call.image.items (calls_of l)) calls k call c.loop-call-test.true in
+    let more =
+    at_drop_more (λ (l : List RecordedInMemory). image_after filler c.loop-call.file.items
+    c.loop-call.image.items (calls_of l)) calls k call c.loop-call-test.true in
     let done = c.in_ok-replay.ensures in
     let file = c.loop-call.file.items in
     let image = c.loop-call.image.items in
@@ -25,5 +27,6 @@ loop-call-preserved c =
 
 pub returns : goal.returns
 returns c =
-    ap (λ (l : List RecordedInMemory). image_after c.args.filler c.loop-call.file.items c.loop-call.image.items (calls_of l)) (sym (drop_all c.loop-call.call-index c.args.calls.now c.loop-call-test.false))
+    ap (λ (l : List RecordedInMemory). image_after c.args.filler c.loop-call.file.items c.loop-call.image.items
+    (calls_of l)) (sym (drop_all c.loop-call.call-index c.args.calls.now c.loop-call-test.false))
     ∙ c.loop-call.invariant

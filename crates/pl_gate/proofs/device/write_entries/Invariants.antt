@@ -10,11 +10,13 @@ use Rattle.pl_desk.specs.Calls.{KeepsLine}
 -- the first entries are written
 abbrev pub invariant-loop-index : goal.invariant-loop-index
 invariant-loop-index g l =
-    let desk = g.D.Desk in let old = l.initial.desk in let pages = l.touched.pages in let ranges = entry_ranges l.start pages in
+    let desk = g.D.Desk in let old = l.initial.desk in let pages = l.touched.pages in
+    let ranges = entry_ranges l.start pages in
     record {
       within : l.index ≤ length pages;
       held : desk.held l.desk ≡ option_map (with_entries l.start (take l.index pages)) (desk.held old);
-      leaves : Follows (TornIn (entry_ranges l.start (take l.index pages))) (desk.may_leave old) (desk.may_leave l.desk);
+      leaves : Follows (TornIn (entry_ranges l.start (take l.index pages))) (desk.may_leave old)
+          (desk.may_leave l.desk);
       moments : ShowsStep desk old l.desk (TornIn ranges);
       line : KeepsLine desk old l.desk;
       written : desk.written l.desk ≡ desk.written old + entry_size * l.index;

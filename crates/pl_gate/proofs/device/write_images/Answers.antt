@@ -4,7 +4,8 @@ use Rattle.pl_desk.specs.Desk.{Follows, Torn, overwritten}
 use Rattle.pl_base.specs.Touched.{page_size}
 use Rattle.pl_gate.specs.Device.{Range, TornIn, image_ranges}
 use Rattle.pl_gate.proofs.Moments.{began, went}
-use Rattle.pl_gate.proofs.Ranges.{torn_in_same, follows_more, follows_front, images_more, images_all, held_images, map_none, nth}
+use Rattle.pl_gate.proofs.Ranges.{torn_in_same, follows_more, follows_front, images_more, images_all, held_images}
+use Rattle.pl_gate.proofs.Ranges.{map_none, nth}
 use Rattle.pl_gate.proofs.device.write_images.Given.{Over}
 use Rattle.pl_gate.proofs.device.write_images.Goals.{After-write_at}
 use Rattle.pl_gate.proofs.device.write_images.Goals as goal
@@ -27,29 +28,46 @@ less : (g : Over) (c : After-write_at g) → c.loop-index.index < length c.args.
 less g c = rw (sym c.count.ensures.count) c.loop-index-test.true
 
 -- the write in terms of the page at the index
-held_is : (g : Over) (c : After-write_at g) → g.D.Desk.held c.write_at.new.self ≡ option_map (overwritten 0 (page_size * c.page.result) c.image.result.now) (g.D.Desk.held c.loop-index.desk)
-    → g.D.Desk.held c.write_at.new.self ≡ option_map (overwritten 0 (page_size * (nth c.args.touched.now.pages c.loop-index.index).page) (nth c.args.touched.now.pages c.loop-index.index).image) (g.D.Desk.held c.loop-index.desk)
+held_is : (g : Over) (c : After-write_at g)
+    → g.D.Desk.held c.write_at.new.self
+    ≡ option_map (overwritten 0 (page_size * c.page.result) c.image.result.now) (g.D.Desk.held c.loop-index.desk)
+    → g.D.Desk.held c.write_at.new.self
+    ≡ option_map (overwritten 0 (page_size * (nth c.args.touched.now.pages c.loop-index.index).page)
+    (nth c.args.touched.now.pages c.loop-index.index).image) (g.D.Desk.held c.loop-index.desk)
 held_is g c held =
     let before = g.D.Desk.held c.loop-index.desk in let page = nth c.args.touched.now.pages c.loop-index.index in
     held ∙ ap (λ (n : ℕ). option_map (overwritten 0 (page_size * n) c.image.result.now) before) c.page.ensures
     ∙ ap (λ (l : List ℕ). option_map (overwritten 0 (page_size * page.page) l) before) c.image.ensures.image
 
 -- what a stop may leave once one image more was begun
-begun : (g : Over) (c : After-write_at g) → Follows (TornIn (image_ranges (take (c.loop-index.index + 1) c.args.touched.now.pages))) (g.D.Desk.may_leave c.args.desk.now) (g.D.Desk.may_leave c.write_at.new.self)
+begun : (g : Over) (c : After-write_at g)
+    → Follows (TornIn (image_ranges (take (c.loop-index.index + 1) c.args.touched.now.pages)))
+    (g.D.Desk.may_leave c.args.desk.now) (g.D.Desk.may_leave c.write_at.new.self)
 begun g c =
     let desk = g.D.Desk in let pages = c.args.touched.now.pages in let k = c.loop-index.index in
-    let torn = subst (λ (n : ℕ). Follows (Torn (page_size * n) page_size) (desk.may_leave c.loop-index.desk) (desk.may_leave c.write_at.new.self)) c.page.ensures
-    (subst (λ (n : ℕ). Follows (Torn (page_size * c.page.result) n) (desk.may_leave c.loop-index.desk) (desk.may_leave c.write_at.new.self)) c.image.ensures.whole c.write_at.ensures.leaves) in
-    subst (λ (l : List Range). Follows (TornIn l) (desk.may_leave c.args.desk.now) (desk.may_leave c.write_at.new.self)) (sym (images_more pages k (less g c)))
-    (follows_more (image_ranges (take k pages)) (page_size * (nth pages k).page, page_size) (desk.may_leave c.args.desk.now) (desk.may_leave c.loop-index.desk) (desk.may_leave c.write_at.new.self) c.loop-index.invariant.leaves torn)
+    let torn =
+    subst (λ (n : ℕ). Follows (Torn (page_size * n) page_size) (desk.may_leave c.loop-index.desk)
+    (desk.may_leave c.write_at.new.self)) c.page.ensures
+    (subst (λ (n : ℕ). Follows (Torn (page_size * c.page.result) n) (desk.may_leave c.loop-index.desk)
+    (desk.may_leave c.write_at.new.self)) c.image.ensures.whole c.write_at.ensures.leaves) in
+    subst (λ (l : List Range). Follows (TornIn l) (desk.may_leave c.args.desk.now) (desk.may_leave c.write_at.new.self))
+    (sym (images_more pages k (less g c)))
+    (follows_more (image_ranges (take k pages)) (page_size * (nth pages k).page, page_size)
+    (desk.may_leave c.args.desk.now) (desk.may_leave c.loop-index.desk) (desk.may_leave c.write_at.new.self)
+    c.loop-index.invariant.leaves torn)
 
-left : (g : Over) (c : After-write_at g) → Follows (TornIn (image_ranges c.args.touched.now.pages)) (g.D.Desk.may_leave c.args.desk.now) (g.D.Desk.may_leave c.write_at.new.self)
+left : (g : Over) (c : After-write_at g)
+    → Follows (TornIn (image_ranges c.args.touched.now.pages)) (g.D.Desk.may_leave c.args.desk.now)
+    (g.D.Desk.may_leave c.write_at.new.self)
 left g c =
     let desk = g.D.Desk in let pages = c.args.touched.now.pages in let k = c.loop-index.index + 1 in
-    subst (λ (l : List Range). Follows (TornIn l) (desk.may_leave c.args.desk.now) (desk.may_leave c.write_at.new.self)) (images_all pages k)
-    (follows_front (image_ranges (take k pages)) (image_ranges (drop k pages)) (desk.may_leave c.args.desk.now) (desk.may_leave c.write_at.new.self) (begun g c))
+    subst (λ (l : List Range). Follows (TornIn l) (desk.may_leave c.args.desk.now) (desk.may_leave c.write_at.new.self))
+    (images_all pages k)
+    (follows_front (image_ranges (take k pages)) (image_ranges (drop k pages)) (desk.may_leave c.args.desk.now)
+    (desk.may_leave c.write_at.new.self) (begun g c))
 
-shown : (g : Over) (c : After-write_at g) → ShowsStep g.D.Desk c.args.desk.now c.write_at.new.self (TornIn (image_ranges c.args.touched.now.pages))
+shown : (g : Over) (c : After-write_at g)
+    → ShowsStep g.D.Desk c.args.desk.now c.write_at.new.self (TornIn (image_ranges c.args.touched.now.pages))
 shown g c =
     let desk = g.D.Desk in
     went desk c.args.desk.now c.loop-index.desk c.write_at.new.self (TornIn (image_ranges c.args.touched.now.pages))
@@ -66,7 +84,10 @@ loop-index-preserved g c =
     let desk = g.D.Desk in let pages = c.args.touched.now.pages in let k = c.loop-index.index in
     record {
       within = omega (arith, less g c.before.before);
-      held = held_images pages k (desk.held c.args.desk.now) (desk.held c.loop-index.desk) (desk.held c.write_at.new.self) (less g c.before.before) c.loop-index.invariant.held (held_is g c.before.before c.in_ok-write_at.ensures.held);
+      held =
+          held_images pages k (desk.held c.args.desk.now) (desk.held c.loop-index.desk) (desk.held c.write_at.new.self)
+          (less g c.before.before) c.loop-index.invariant.held
+          (held_is g c.before.before c.in_ok-write_at.ensures.held);
       leaves = begun g c.before.before;
       moments = shown g c.before.before;
       line = record {

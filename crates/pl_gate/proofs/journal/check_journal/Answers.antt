@@ -7,7 +7,8 @@ use Rattle.pl_base.specs.Touched.{PageImage, page_numbers}
 use Rattle.pl_gate.specs.declared.error.GateError.TheVariants.{BadGate}
 use Rattle.pl_gate.specs.Gate.{entry_at, entry_size, journal, journal_len, journal_start}
 use Rattle.pl_gate.specs.Recovery.{IsPlaceOf}
-use Rattle.pl_gate.proofs.JournalFiles.{entries_at, if_some, is_no_journal, journal_fits, length-entries, numbers_fit, numbers_next, numbers_stop}
+use Rattle.pl_gate.proofs.JournalFiles.{entries_at, if_some, is_no_journal, journal_fits, length-entries, numbers_fit}
+use Rattle.pl_gate.proofs.JournalFiles.{numbers_next, numbers_stop}
 use Rattle.pl_desk.specs.AnyMoment.{read_on, reads_none}
 use Rattle.pl_gate.proofs.journal.check_journal.Given.{Over}
 use Rattle.pl_gate.proofs.journal.check_journal.Goals.{After-read_page}
@@ -24,12 +25,14 @@ loop-index-init g c =
     }
 
 -- what the gate's page tells of the file that is held
-place_is : (g : Over) (c : After-read_page g) (file : List ℕ) → g.D.Desk.held c.args.desk.now ≡ Some file → IsPlaceOf c.args.place.now file
+place_is : (g : Over) (c : After-read_page g) (file : List ℕ) → g.D.Desk.held c.args.desk.now ≡ Some file
+    → IsPlaceOf c.args.place.now file
 place_is g c file is = MatchOption-at_some _ _ file is c.requires.place
 
 -- the entry that was read is the next one of the journal
 next_is : (g : Over) (c : After-read_page g) (file : List ℕ) → g.D.Desk.held c.args.desk.now ≡ Some file
-    → drop c.loop-index.index (journal file) ≡ entry_at (c.args.place.now.start + entry_size * c.loop-index.index) file ∷ drop (c.loop-index.index + 1) (journal file)
+    → drop c.loop-index.index (journal file) ≡ entry_at (c.args.place.now.start + entry_size * c.loop-index.index) file
+    ∷ drop (c.loop-index.index + 1) (journal file)
 next_is g c file is =
     let place = place_is g c file is in let k = c.loop-index.index in
     entries_at (journal_len file) (journal_start file) k file (omega (arith, c.loop-index-test.true, place.count))
@@ -37,12 +40,16 @@ next_is g c file is =
 
 numbers_is : (g : Over) (c : After-read_page g) (file : List ℕ) → g.D.Desk.held c.args.desk.now ≡ Some file
     → numbers_fit 0 c.args.place.now.after (page_numbers (journal file))
-    ≡ numbers_fit c.loop-index.last c.args.place.now.after ((entry_at (c.args.place.now.start + entry_size * c.loop-index.index) file).page ∷ page_numbers (drop (c.loop-index.index + 1) (journal file)))
+    ≡ numbers_fit c.loop-index.last c.args.place.now.after
+    ((entry_at (c.args.place.now.start + entry_size * c.loop-index.index) file).page
+    ∷ page_numbers (drop (c.loop-index.index + 1) (journal file)))
 numbers_is g c file is =
     MatchOption-at_some _ _ file is c.loop-index.invariant.numbers
-    ∙ ap (λ (l : List PageImage). numbers_fit c.loop-index.last c.args.place.now.after (page_numbers l)) (next_is g c file is)
+    ∙ ap (λ (l : List PageImage). numbers_fit c.loop-index.last c.args.place.now.after (page_numbers l))
+    (next_is g c file is)
 
-held_is : (g : Over) (c : After-read_page g) (file : List ℕ) → g.D.Desk.held c.args.desk.now ≡ Some file → g.D.Desk.held c.loop-index.desk ≡ Some file
+held_is : (g : Over) (c : After-read_page g) (file : List ℕ) → g.D.Desk.held c.args.desk.now ≡ Some file
+    → g.D.Desk.held c.loop-index.desk ≡ Some file
 held_is g c file is = c.loop-index.invariant.reads.file.held ∙ is
 
 pub returns-in_err-last-clause-bad : goal.returns-in_err-last-clause-bad
@@ -53,8 +60,11 @@ returns-in_err-last-clause-bad g c is =
     if_some (g.D.Desk.held c.args.desk.now) _ (λ file held.
     let place = place_is g first file held in
     let bad = MatchOption-at_some _ _ file (held_is g first file held) (c.read_page.ensures.bad same) in
-    is_no_journal file (ap (λ (n : ℕ). numbers_fit 0 n (page_numbers (journal file))) (sym place.after) ∙ numbers_is g first file held
-    ∙ numbers_stop c.loop-index.last c.args.place.now.after (entry_at (c.args.place.now.start + entry_size * c.loop-index.index) file).page (page_numbers (drop (c.loop-index.index + 1) (journal file))) bad))
+    is_no_journal file (ap (λ (n : ℕ). numbers_fit 0 n (page_numbers (journal file))) (sym place.after)
+    ∙ numbers_is g first file held
+    ∙ numbers_stop c.loop-index.last c.args.place.now.after
+    (entry_at (c.args.place.now.start + entry_size * c.loop-index.index) file).page
+    (page_numbers (drop (c.loop-index.index + 1) (journal file))) bad))
 
 pub loop-index-preserved : goal.loop-index-preserved
 loop-index-preserved g c =
@@ -64,11 +74,15 @@ loop-index-preserved g c =
       numbers = if_some (desk.held c.args.desk.now) _ (λ file held.
           let page = MatchOption-at_some _ _ file (held_is g first file held) c.in_ok-last.ensures.page in
           numbers_is g first file held
-          ∙ ap (λ (n : ℕ). numbers_fit c.loop-index.last c.args.place.now.after (n ∷ page_numbers (drop (c.loop-index.index + 1) (journal file)))) (sym page)
-          ∙ numbers_next c.loop-index.last c.args.place.now.after c.in_ok-last.last (page_numbers (drop (c.loop-index.index + 1) (journal file))) c.in_ok-last.ensures.above c.in_ok-last.ensures.below);
+          ∙ ap (λ (n : ℕ). numbers_fit c.loop-index.last c.args.place.now.after
+          (n ∷ page_numbers (drop (c.loop-index.index + 1) (journal file)))) (sym page)
+          ∙ numbers_next c.loop-index.last c.args.place.now.after c.in_ok-last.last
+          (page_numbers (drop (c.loop-index.index + 1) (journal file))) c.in_ok-last.ensures.above
+          c.in_ok-last.ensures.below);
       reads = read_on desk c.args.desk.now c.loop-index.desk c.read_page.new.desk c.loop-index.invariant.reads
           c.read_page.ensures.reads;
-      no_fault = c.in_ok-last.ensures.counted.stands (λ is. none-some _ (ap result_err is)) ∙ c.loop-index.invariant.no_fault;
+      no_fault =
+          c.in_ok-last.ensures.counted.stands (λ is. none-some _ (ap result_err is)) ∙ c.loop-index.invariant.no_fault;
     }
 
 pub returns-clause-journal : goal.returns-clause-journal
@@ -77,8 +91,16 @@ returns-clause-journal g c =
     if_some (g.D.Desk.held c.args.desk.now) _ (λ file held.
     let place = MatchOption-at_some _ _ file held c.requires.place in
     let len = MatchOption-at_some _ _ file held c.requires.len in
-    let none : drop c.loop-index.index (journal file) ≡ [] = drop_all c.loop-index.index (journal file) (omega (arith, length-entries (journal_len file) (journal_start file) file, place.count, c.loop-index-test.false)) in
-    journal_fits file (omega (arith, lies.0, place.start, place.count, len)) (omega (arith, lies.1, place.after, place.start))
+    let none : drop c.loop-index.index (journal file) ≡ [] =
+    drop_all c.loop-index.index (journal file)
+    (omega (
+      arith,
+      length-entries (journal_len file) (journal_start file) file,
+      place.count,
+      c.loop-index-test.false,
+    )) in
+    journal_fits file (omega (arith, lies.0, place.start, place.count, len))
+    (omega (arith, lies.1, place.after, place.start))
     (ap (λ (n : ℕ). numbers_fit 0 n (page_numbers (journal file))) (sym place.after)
     ∙ MatchOption-at_some _ _ file held c.loop-index.invariant.numbers
     ∙ ap (λ (l : List PageImage). numbers_fit c.loop-index.last c.args.place.now.after (page_numbers l)) none))

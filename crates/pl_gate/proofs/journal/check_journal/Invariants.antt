@@ -11,7 +11,9 @@ invariant-loop-index g l =
     let desk = g.D.Desk in let old = l.initial.desk in
     record {
       within : l.index ≤ l.place.count;
-      numbers : IfSome (desk.held old) (λ file. numbers_fit 0 l.place.after (page_numbers (journal file)) ≡ numbers_fit l.last l.place.after (page_numbers (drop l.index (journal file))));
+      numbers : IfSome (desk.held old)
+          (λ file. numbers_fit 0 l.place.after (page_numbers (journal file))
+          ≡ numbers_fit l.last l.place.after (page_numbers (drop l.index (journal file))));
       reads : OnlyReads desk old l.desk;
       no_fault : desk.device_faults l.desk ≡ desk.device_faults old;
     }

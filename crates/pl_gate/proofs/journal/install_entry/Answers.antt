@@ -14,18 +14,27 @@ use Rattle.pl_desk.specs.Shown.{ShowsStep}
 abbrev Step : ℕ → List ℕ → List ℕ → List ℕ → Type 0
 Step at file = Torn (page_size * (entry_at at file).page) page_size
 
-number_shown : (g : Over) (c : After-read_page g) (file : List ℕ) → ShowsStep g.D.Desk c.args.desk.now c.read_page.new.desk (Step c.args.at file)
+number_shown : (g : Over) (c : After-read_page g) (file : List ℕ)
+    → ShowsStep g.D.Desk c.args.desk.now c.read_page.new.desk (Step c.args.at file)
 number_shown g c file =
     read_as g.D.Desk c.args.desk.now c.read_page.new.desk (Step c.args.at file)
     (torn_same (page_size * (entry_at c.args.at file).page) page_size) c.read_page.ensures.reads
 
-read_left : (g : Over) (c : After-read_at g) (file : List ℕ) → Follows (Step c.args.at file) (g.D.Desk.may_leave c.args.desk.now) (g.D.Desk.may_leave c.read_at.new.self)
-read_left g c file later left = (later, c.read_page.ensures.reads.file.left later (c.read_at.ensures.leaves later left), torn_same (page_size * (entry_at c.args.at file).page) page_size later)
+read_left : (g : Over) (c : After-read_at g) (file : List ℕ)
+    → Follows (Step c.args.at file) (g.D.Desk.may_leave c.args.desk.now) (g.D.Desk.may_leave c.read_at.new.self)
+read_left g c file later left = (
+  later,
+  c.read_page.ensures.reads.file.left later (c.read_at.ensures.leaves later left),
+  torn_same (page_size * (entry_at c.args.at file).page) page_size later,
+)
 
-image_shown : (g : Over) (c : After-read_at g) (file : List ℕ) → ShowsStep g.D.Desk c.args.desk.now c.read_at.new.self (Step c.args.at file)
+image_shown : (g : Over) (c : After-read_at g) (file : List ℕ)
+    → ShowsStep g.D.Desk c.args.desk.now c.read_at.new.self (Step c.args.at file)
 image_shown g c file =
     let desk = g.D.Desk in
-    went desk c.args.desk.now c.read_page.new.desk c.read_at.new.self (Step c.args.at file) (number_shown g c.before.before.before.before.before file) c.read_page.ensures.reads.line.said c.read_at.ensures.time (read_left g c file)
+    went desk c.args.desk.now c.read_page.new.desk c.read_at.new.self (Step c.args.at file)
+    (number_shown g c.before.before.before.before.before file) c.read_page.ensures.reads.line.said
+    c.read_at.ensures.time (read_left g c file)
 
 pub returns-in_err-page-clause-moments : goal.returns-in_err-page-clause-moments
 returns-in_err-page-clause-moments g c file is = number_shown g c.before.before.before file
@@ -36,19 +45,28 @@ returns-in_err-read_at-clause-leaves g c file is = read_left g c.before.before.b
 pub returns-in_err-read_at-clause-moments : goal.returns-in_err-read_at-clause-moments
 returns-in_err-read_at-clause-moments g c file is = image_shown g c.before.before.before.before file
 
-written_left : (g : Over) (c : After-write_at g) (file : List ℕ) → g.D.Desk.held c.args.desk.now ≡ Some file → Follows (Step c.args.at file) (g.D.Desk.may_leave c.args.desk.now) (g.D.Desk.may_leave c.write_at.new.self)
+written_left : (g : Over) (c : After-write_at g) (file : List ℕ) → g.D.Desk.held c.args.desk.now ≡ Some file
+    → Follows (Step c.args.at file) (g.D.Desk.may_leave c.args.desk.now) (g.D.Desk.may_leave c.write_at.new.self)
 written_left g c file is later left =
     let number = MatchOption-at_some _ _ file is c.in_ok-page.ensures.page in
     let size : length c.read_at.new.out ≡ page_size = omega (arith, c.read_at.auto.out) in
-    let whole = subst (λ (n : ℕ). Follows (Torn (page_size * c.in_ok-page.page) n) (g.D.Desk.may_leave c.read_at.new.self) (g.D.Desk.may_leave c.write_at.new.self)) size c.write_at.ensures.leaves in
-    let torn = subst (λ (n : ℕ). Follows (Torn (page_size * n) page_size) (g.D.Desk.may_leave c.read_at.new.self) (g.D.Desk.may_leave c.write_at.new.self)) number whole in
+    let whole =
+    subst (λ (n : ℕ). Follows (Torn (page_size * c.in_ok-page.page) n) (g.D.Desk.may_leave c.read_at.new.self)
+    (g.D.Desk.may_leave c.write_at.new.self)) size c.write_at.ensures.leaves in
+    let torn =
+    subst (λ (n : ℕ). Follows (Torn (page_size * n) page_size) (g.D.Desk.may_leave c.read_at.new.self)
+    (g.D.Desk.may_leave c.write_at.new.self)) number whole in
     let from = torn later left in
     (from.0, c.read_page.ensures.reads.file.left from.0 (c.read_at.ensures.leaves from.0 from.1), from.2)
 
-written_shown : (g : Over) (c : After-write_at g) (file : List ℕ) → g.D.Desk.held c.args.desk.now ≡ Some file → ShowsStep g.D.Desk c.args.desk.now c.write_at.new.self (Step c.args.at file)
+written_shown : (g : Over) (c : After-write_at g) (file : List ℕ) → g.D.Desk.held c.args.desk.now ≡ Some file
+    → ShowsStep g.D.Desk c.args.desk.now c.write_at.new.self (Step c.args.at file)
 written_shown g c file is =
     let desk = g.D.Desk in
-    went desk c.args.desk.now c.read_at.new.self c.write_at.new.self (Step c.args.at file) (image_shown g c.before.before.before.before.before.before file) (c.read_at.ensures.said ∙ c.read_page.ensures.reads.line.said) c.write_at.ensures.time (written_left g c file is)
+    went desk c.args.desk.now c.read_at.new.self c.write_at.new.self (Step c.args.at file)
+    (image_shown g c.before.before.before.before.before.before file)
+    (c.read_at.ensures.said ∙ c.read_page.ensures.reads.line.said) c.write_at.ensures.time
+    (written_left g c file is)
 
 pub returns-in_err-write_at-clause-moments : goal.returns-in_err-write_at-clause-moments
 returns-in_err-write_at-clause-moments g c file is = written_shown g c.before.before.before file is

@@ -14,11 +14,15 @@ invariant-loop-index g l =
     let desk = g.D.Desk in let old = l.initial.desk in
     record {
       within : l.index ≤ l.place.count;
-      held : (file : List ℕ) → desk.held old ≡ Some file → desk.held l.desk ≡ Some (with_images (take l.index (journal file)) file);
+      held : (file : List ℕ) → desk.held old ≡ Some file
+          → desk.held l.desk ≡ Some (with_images (take l.index (journal file)) file);
       none : desk.held old ≡ None → desk.held l.desk ≡ None;
-      numbers : (file : List ℕ) → desk.held old ≡ Some file → numbers_fit l.last l.place.after (page_numbers (drop l.index (journal file))) ≡ true;
-      leaves : (file : List ℕ) → desk.held old ≡ Some file → Follows (TornIn (image_ranges (take l.index (journal file)))) (desk.may_leave old) (desk.may_leave l.desk);
-      moments : (file : List ℕ) → desk.held old ≡ Some file → ShowsStep desk old l.desk (TornIn (image_ranges (journal file)));
+      numbers : (file : List ℕ) → desk.held old ≡ Some file
+          → numbers_fit l.last l.place.after (page_numbers (drop l.index (journal file))) ≡ true;
+      leaves : (file : List ℕ) → desk.held old ≡ Some file
+          → Follows (TornIn (image_ranges (take l.index (journal file)))) (desk.may_leave old) (desk.may_leave l.desk);
+      moments : (file : List ℕ) → desk.held old ≡ Some file
+          → ShowsStep desk old l.desk (TornIn (image_ranges (journal file)));
       line : KeepsLine desk old l.desk;
       written : desk.written l.desk ≡ desk.written old + page_size * l.index;
       no_fault : desk.device_faults l.desk ≡ desk.device_faults old;

@@ -7,7 +7,8 @@ use Rattle.pl_gate.proofs.read.read_place.Goals as goal
 gate_read : (g : Over) (c : After-read_at g) → OnlyReads g.D.Desk c.args.desk.now c.read_at.new.self
 gate_read g c =
     let desk = g.D.Desk in let old = c.args.desk.now in let read = c.read_at.ensures in
-    read_call desk old old c.read_at.new.self (reads_none desk g.met.D.Desk.only_now old) read.held read.said read.written
+    read_call desk old old c.read_at.new.self (reads_none desk g.met.D.Desk.only_now old) read.held read.said
+    read.written
     read.line read.leaves read.time
 
 start_read : (g : Over) (c : After-read_u64 g) → OnlyReads g.D.Desk c.args.desk.now c.read_u64.new.desk

@@ -19,7 +19,8 @@ use Rattle.pl_store.proofs.OpenedFiles.{if_some}
 use Rattle.pl_store.proofs.read.read_session.Goals as goal
 
 -- as many of the bytes as each of their stores has
-front_of : (bytes : List ℕ) (pages : ℕ) → bytes_before pages ≤ length bytes → HoldPages pages bytes → IsStoreOf bytes (take (bytes_before pages) bytes)
+front_of : (bytes : List ℕ) (pages : ℕ) → bytes_before pages ≤ length bytes → HoldPages pages bytes
+    → IsStoreOf bytes (take (bytes_before pages) bytes)
 front_of bytes pages within hold = record {
   begins = ap (λ n. take n bytes) (length-take-le (bytes_before pages) bytes within);
   whole = λ store stands. record {
@@ -27,30 +28,39 @@ front_of bytes pages within hold = record {
     of_visits = stands.of_visits;
     texts = stands.texts;
     live = stands.live;
-    begins = take-take (length (form_bytes (store_rows store))) (bytes_before pages) bytes (omega (arith, hold store stands)) ∙ stands.begins;
+    begins =
+        take-take (length (form_bytes (store_rows store))) (bytes_before pages) bytes (omega (arith, hold store stands))
+        ∙ stands.begins;
   };
 }
 
 -- the first pages of a file, from page 1 on
-pages_read : (file read : List ℕ) (pages len : ℕ) → 2 ≤ pages → page_size * pages ≤ length file → HoldPages pages (drop page_size file) → len ≡ page_size * pages → read ≡ slice_range file 0 (0 + len) → IsStoreOf (drop page_size file) (drop page_size read)
+pages_read : (file read : List ℕ) (pages len : ℕ) → 2 ≤ pages → page_size * pages ≤ length file
+    → HoldPages pages (drop page_size file) → len ≡ page_size * pages → read ≡ slice_range file 0 (0 + len)
+    → IsStoreOf (drop page_size file) (drop page_size read)
 pages_read file read pages len some within hold counted is =
     let whole : 0 + len - 0 ≡ page_size + bytes_before pages = omega arith in
     let front : drop page_size read ≡ take (bytes_before pages) (drop page_size file) =
     ap (drop page_size) (is ∙ ap (λ n. take n file) whole) ∙ drop-take page_size (bytes_before pages) file in
-    subst (IsStoreOf (drop page_size file)) (sym front) (front_of (drop page_size file) pages (omega (arith, length-drop page_size file)) hold)
+    subst (IsStoreOf (drop page_size file)) (sym front)
+    (front_of (drop page_size file) pages (omega (arith, length-drop page_size file)) hold)
 
 -- a vector that a read filled
 read_back : (out rest : List ℕ) (len : ℕ) → len ≡ length out → take len (out ++ rest) ≡ out
 read_back out rest len same = rw same (take-append_seam out rest)
 
 -- what was read from the store's bytes was read from all of them
-read_from : (session : Session) (bytes front : List ℕ) → IsStoreOf bytes front → IsReadFrom session front → IsReadFrom session bytes
+read_from : (session : Session) (bytes front : List ℕ) → IsStoreOf bytes front → IsReadFrom session front
+    → IsReadFrom session bytes
 read_from session bytes front is read =
     let own : List ℕ = bytes_of session in
     record {
       stands = stands_for_more front bytes (store_of session) read.stands is.begins;
       only = λ store stands. read.only store (is.whole store stands);
-      begins = sym (take-take (length own) (length front) bytes (omega (arith, length-take (length own) front, ap length read.begins))) ∙ ap (take (length own)) is.begins ∙ read.begins;
+      begins =
+          sym (take-take (length own) (length front) bytes
+          (omega (arith, length-take (length own) front, ap length read.begins))) ∙ ap (take (length own)) is.begins
+          ∙ read.begins;
       own = read.own;
     }
 
@@ -72,14 +82,18 @@ returns-in_err-session_of-clause-ends g c =
     let held = g.D.Desk.held in
     let told = rw c.in-Some.is at c.in_ok-pages.ensures.pages in
     let pages : ℕ = c.in-Some.pages in
-    let len : length c.deref_mut.result.now ≡ page_size * pages = omega (arith, c.deref_mut.ensures.len, c.in_ok-resize.ensures.len) in
+    let len : length c.deref_mut.result.now ≡ page_size * pages =
+    omega (arith, c.deref_mut.ensures.len, c.in_ok-resize.ensures.len) in
     let p = err_from_is_err_and c.from_residual-in_err-session_of.result c.from_residual-in_err-session_of.ensures.1 in
     rw (p.1, p.2) (check_failed c.args.limit (held c.args.desk.now) c.in_err-session_of.field-0.0 (λ error_is.
     if_some (held c.args.desk.now) _ (λ file is store stands.
     let are = MatchOption-at_some _ _ file is told.2 in
-    let read : c.read_at.new.out ≡ slice_range file 0 (0 + length c.deref_mut.result.now) = MatchOption-at_some _ _ file (c.store_pages.ensures.reads.file.held ∙ is) c.in_ok-read_at.ensures.read in
+    let read : c.read_at.new.out ≡ slice_range file 0 (0 + length c.deref_mut.result.now) =
+    MatchOption-at_some _ _ file (c.store_pages.ensures.reads.file.held ∙ is) c.in_ok-read_at.ensures.read in
     let back = read_back c.read_at.new.out _ _ (omega (arith, c.deref_mut.ensures.len, c.read_at.auto.out)) in
-    let front = pages_read file c.deref.result.now pages (length c.deref_mut.result.now) told.0 are.within are.whole len (c.deref.ensures.value ∙ back ∙ read) in
+    let front =
+    pages_read file c.deref.result.now pages (length c.deref_mut.result.now) told.0 are.within are.whole len
+    (c.deref.ensures.value ∙ back ∙ read) in
     c.session_of.ensures.not_a_store (c.in_err-session_of.was ∙ ap Err error_is) store (front.whole store stands))))
 
 pub returns-clause-ends : goal.returns-clause-ends
@@ -87,12 +101,16 @@ returns-clause-ends g c =
     let held = g.D.Desk.held in
     let told = rw c.in-Some.is at c.in_ok-pages.ensures.pages in
     let pages : ℕ = c.in-Some.pages in
-    let len : length c.deref_mut.result.now ≡ page_size * pages = omega (arith, c.deref_mut.ensures.len, c.in_ok-resize.ensures.len) in (
+    let len : length c.deref_mut.result.now ≡ page_size * pages =
+    omega (arith, c.deref_mut.ensures.len, c.in_ok-resize.ensures.len) in (
       c.in_ok-session_of.ensures.limit,
       if_some (held c.args.desk.now) _ (λ file is.
           let are = MatchOption-at_some _ _ file is told.2 in
-          let read : c.read_at.new.out ≡ slice_range file 0 (0 + length c.deref_mut.result.now) = MatchOption-at_some _ _ file (c.store_pages.ensures.reads.file.held ∙ is) c.in_ok-read_at.ensures.read in
+          let read : c.read_at.new.out ≡ slice_range file 0 (0 + length c.deref_mut.result.now) =
+          MatchOption-at_some _ _ file (c.store_pages.ensures.reads.file.held ∙ is)
+          c.in_ok-read_at.ensures.read in
           let back = read_back c.read_at.new.out _ _ (omega (arith, c.deref_mut.ensures.len, c.read_at.auto.out)) in
           read_from c.in_ok-session_of.field-0 (drop page_size file) (drop page_size c.deref.result.now)
-          (pages_read file c.deref.result.now pages (length c.deref_mut.result.now) told.0 are.within are.whole len (c.deref.ensures.value ∙ back ∙ read)) c.in_ok-session_of.ensures.read),
+          (pages_read file c.deref.result.now pages (length c.deref_mut.result.now) told.0 are.within are.whole len
+          (c.deref.ensures.value ∙ back ∙ read)) c.in_ok-session_of.ensures.read),
     )

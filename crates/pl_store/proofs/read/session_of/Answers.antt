@@ -8,15 +8,22 @@ use Rattle.pl_store.proofs.read.session_of.Goals as goal
 
 pub invariant_of-result : goal.invariant_of-result
 invariant_of-result c = record {
-  base = subst (λ (rows : Flat). IsBase rows (bytes_of rows)) (sym c.in_ok-engine.ensures.rows) ((c.in_ok-flat.ensures.base (bytes_of c.in_ok-flat.flat)).1 refl);
+  base =
+      subst (λ (rows : Flat). IsBase rows (bytes_of rows)) (sym c.in_ok-engine.ensures.rows)
+      ((c.in_ok-flat.ensures.base (bytes_of c.in_ok-flat.flat)).1 refl);
 }
 
 pub returns-clause-read : goal.returns-clause-read
 returns-clause-read c =
-    let same = sym c.in_ok-engine.ensures.rows in let bytes = drop 1024 c.args.bytes.now in let read = c.in_ok-flat.ensures in
+    let same = sym c.in_ok-engine.ensures.rows in let bytes = drop 1024 c.args.bytes.now in
+    let read = c.in_ok-flat.ensures in
     record {
       stands = subst (λ (rows : Flat). StandsFor bytes (store_of (kept_of rows))) same read.stands;
-      only = subst (λ (rows : Flat). (store : Store) → StandsFor bytes store → store ≡ store_of (kept_of rows)) same (λ store held. read.one store (store_of (kept_of c.in_ok-flat.flat)) held read.stands);
+      only =
+          subst (λ (rows : Flat). (store : Store) → StandsFor bytes store → store ≡ store_of (kept_of rows)) same
+          (λ store held. read.one store (store_of (kept_of c.in_ok-flat.flat)) held read.stands);
       begins = subst (λ (rows : Flat). take (length (bytes_of rows)) bytes ≡ bytes_of rows) same read.begins;
-      own = subst (λ (rows : Flat). StandsFor (bytes_of rows) (store_of (kept_of rows))) same c.in_ok-engine.ensures.stands;
+      own =
+          subst (λ (rows : Flat). StandsFor (bytes_of rows) (store_of (kept_of rows))) same
+          c.in_ok-engine.ensures.stands;
     }

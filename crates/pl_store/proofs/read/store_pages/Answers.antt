@@ -1,4 +1,5 @@
-use Rattle.std.proofs.Common.{◌≡◌, ◌≤◌, ◌<◌, ◌-◌, ◌*◌, ◌++◌, ◌∙◌, ℕ, List, ap, arith, drop, length, replicate, sym, take}
+use Rattle.std.proofs.Common.{◌≡◌, ◌≤◌, ◌<◌, ◌-◌, ◌*◌, ◌++◌, ◌∙◌, ℕ, List, ap, arith, drop, length, replicate, sym}
+use Rattle.std.proofs.Common.{take}
 use Rattle.std.proofs.lemmas.List.{length-append, length-drop, length-take}
 use Rattle.std.proofs.lemmas.Option.{IfSome_then, MatchOption-at_some}
 use Rattle.pl_base.specs.Store.{Store}
@@ -15,7 +16,8 @@ use Rattle.pl_store.proofs.read.store_pages.Goals as goal
 -- ---- what the bytes stand for
 
 -- bytes that stand for a store are no shorter than its form
-form_within : (bytes : List ℕ) (store : Store) → StandsFor bytes store → length (form_bytes (store_rows store)) ≤ length bytes
+form_within : (bytes : List ℕ) (store : Store) → StandsFor bytes store
+    → length (form_bytes (store_rows store)) ≤ length bytes
 form_within bytes store stands =
     omega (arith, length-take (length (form_bytes (store_rows store))) bytes, ap length stands.begins)
 
@@ -30,7 +32,8 @@ too_short : (file : List ℕ) → length file < 2 * page_size → HoldNone (drop
 too_short file short store stands =
     omega (arith, form_within (drop page_size file) store stands, form_long store, length-drop page_size file)
 
-cut_off : (file : List ℕ) (pages : ℕ) → HoldPages pages (drop page_size file) → length file < page_size * pages → HoldNone (drop page_size file)
+cut_off : (file : List ℕ) (pages : ℕ) → HoldPages pages (drop page_size file) → length file < page_size * pages
+    → HoldNone (drop page_size file)
 cut_off file pages hold cut store stands =
     omega (arith, form_within (drop page_size file) store stands, hold store stands, length-drop page_size file)
 
@@ -39,14 +42,16 @@ cut_off file pages hold cut store stands =
 len_read : (g : Over) (c : After-len g) → OnlyReads g.D.Desk c.args.desk.now c.len.new.self
 len_read g c =
     let desk = g.D.Desk in let old = c.args.desk.now in let len = c.len.ensures in
-    read_call desk old old c.len.new.self (reads_none desk g.met.D.Desk.only_now old) len.held len.said len.written len.line
+    read_call desk old old c.len.new.self (reads_none desk g.met.D.Desk.only_now old) len.held len.said len.written
+    len.line
     len.leaves len.time
 
 header_read : (g : Over) (c : After-read_at g) → OnlyReads g.D.Desk c.args.desk.now c.read_at.new.self
 header_read g c =
     let desk = g.D.Desk in let old = c.args.desk.now in let mid = c.len.new.self in
     let len = c.len.ensures in let read = c.read_at.ensures in
-    let first = read_call desk old old mid (reads_none desk g.met.D.Desk.only_now old) len.held len.said len.written len.line
+    let first =
+    read_call desk old old mid (reads_none desk g.met.D.Desk.only_now old) len.held len.said len.written len.line
     len.leaves len.time in
     read_call desk old mid c.read_at.new.self first read.held read.said read.written read.line read.leaves read.time
 
@@ -79,16 +84,20 @@ pub returns-in_default-clause-pages : goal.returns-in_default-clause-pages
 returns-in_default-clause-pages g c =
     let held = g.D.Desk.held in
     if_some (held c.args.desk.now) (λ file. HoldNone (drop page_size file)) (λ file is store stands.
-    let first : c.read_at.new.out ≡ take page_size (drop page_size file) = MatchOption-at_some _ _ file (c.len.ensures.held ∙ is) c.in_ok-read_at.ensures.read in
+    let first : c.read_at.new.out ≡ take page_size (drop page_size file) =
+    MatchOption-at_some _ _ file (c.len.ensures.held ∙ is) c.in_ok-read_at.ensures.read in
     c.in_default.ensures.whole (drop page_size file) store stands (sym first))
 
 pub returns-then-len-from-clause-pages : goal.returns-then-len-from-clause-pages
 returns-then-len-from-clause-pages g c =
     let held = g.D.Desk.held in
     if_some (held c.args.desk.now) (λ file. HoldNone (drop page_size file)) (λ file is.
-    let first : c.read_at.new.out ≡ take page_size (drop page_size file) = MatchOption-at_some _ _ file (c.len.ensures.held ∙ is) c.in_ok-read_at.ensures.read in
+    let first : c.read_at.new.out ≡ take page_size (drop page_size file) =
+    MatchOption-at_some _ _ file (c.len.ensures.held ∙ is) c.in_ok-read_at.ensures.read in
     let len : c.in_ok-len.len ≡ length file = MatchOption-at_some _ _ file is c.in_ok-len.ensures.length in
-    cut_off file c.in-Some.pages (λ store stands. c.in-Some.ensures.whole (drop page_size file) store stands (sym first)) (omega (arith, len, c.from.ensures, c.if-len-from.true)))
+    cut_off file c.in-Some.pages
+    (λ store stands. c.in-Some.ensures.whole (drop page_size file) store stands (sym first))
+    (omega (arith, len, c.from.ensures, c.if-len-from.true)))
 
 pub returns-clause-pages : goal.returns-clause-pages
 returns-clause-pages g c =
@@ -96,7 +105,8 @@ returns-clause-pages g c =
       c.in-Some.ensures.some,
       c.in-Some.ensures.most,
       if_some (held c.args.desk.now) (ArePagesOf c.in-Some.pages) (λ file is.
-          let first : c.read_at.new.out ≡ take page_size (drop page_size file) = MatchOption-at_some _ _ file (c.len.ensures.held ∙ is) c.in_ok-read_at.ensures.read in
+          let first : c.read_at.new.out ≡ take page_size (drop page_size file) =
+          MatchOption-at_some _ _ file (c.len.ensures.held ∙ is) c.in_ok-read_at.ensures.read in
           let len : c.in_ok-len.len ≡ length file = MatchOption-at_some _ _ file is c.in_ok-len.ensures.length in
           record {
             within = omega (arith, len, c.from.ensures, c.if-len-from.false);

@@ -12,15 +12,21 @@ over_nothing flat rows same base = subst (λ (r : Flat). IsBase r []) (sym same)
 pub returns-clause-stands : goal.returns-clause-stands
 returns-clause-stands c =
     let rows = c.in_ok-engine.engine.rows in let new = c.touched.new.engine.rows in
-    let own = subst (λ (r : Flat). StandsFor (bytes_of r) (store_of (kept_of r))) (sym c.in_ok-engine.ensures.rows) c.in_ok-engine.ensures.stands in
+    let own =
+    subst (λ (r : Flat). StandsFor (bytes_of r) (store_of (kept_of r))) (sym c.in_ok-engine.ensures.rows)
+    c.in_ok-engine.ensures.stands in
     subst (λ (bytes : List ℕ). StandsFor bytes (store_of (kept_of new))) (sym c.touched.ensures.bytes)
     (subst (λ (kept : Kept). StandsFor (bytes_of rows) (store_of kept)) (sym c.touched.ensures.kept) own)
 
 pub returns-clause-whole : goal.returns-clause-whole
 returns-clause-whole c =
-    c.in_ok-touched.ensures.whole [] (over_nothing c.in_ok-opening.field-0 c.in_ok-engine.engine.rows c.in_ok-engine.ensures.rows ((c.in_ok-opening.ensures.base []).1 refl))
+    c.in_ok-touched.ensures.whole []
+    (over_nothing c.in_ok-opening.field-0 c.in_ok-engine.engine.rows c.in_ok-engine.ensures.rows
+    ((c.in_ok-opening.ensures.base []).1 refl))
 
 pub returns-clause-before : goal.returns-clause-before
 returns-clause-before c =
-    let base = over_nothing c.in_ok-opening.field-0 c.in_ok-engine.engine.rows c.in_ok-engine.ensures.rows ((c.in_ok-opening.ensures.base []).1 refl) in
+    let base =
+    over_nothing c.in_ok-opening.field-0 c.in_ok-engine.engine.rows c.in_ok-engine.ensures.rows
+    ((c.in_ok-opening.ensures.base []).1 refl) in
     omega (arith, c.in_ok-touched.ensures.before [] base, c.in_ok-touched.ensures.some)

@@ -5,14 +5,16 @@ use Rattle.pl_engine.specs.Run.{after}
 use Rattle.pl_store.specs.Keeper.{LeavesEither, is_file, limit_of, ready_store, store_of}
 use Rattle.pl_store.specs.KeeperLaws.{kept_keeps, still_keeps, still_kept}
 use Rattle.places.specs.Lines.{entries_in}
-use Rattle.places.proofs.AnswerLemmas.{after_command, committing, keeps_as, keeps_refused, performing, refusing, text_of_command, unanswered}
+use Rattle.places.proofs.AnswerLemmas.{after_command, committing, keeps_as, keeps_refused, performing, refusing}
+use Rattle.places.proofs.AnswerLemmas.{text_of_command, unanswered}
 use Rattle.places.proofs.answer.answer.Goals as goal
 use Rattle.pl_desk.specs.Calls.{LeavesFile}
 
 -- nothing happens on the desk
 pub returns-in-Ok-None-clause-shows : goal.returns-in-Ok-None-clause-shows
 returns-in-Ok-None-clause-shows g c first before is kept = let desk = g.D.Desk in
-    unanswered desk g.met.D.Desk.only_now c.args.desk.now first c.args.keeper (limit_of c.args.keeper) (entries_in c.args.bytes.now) before is kept
+    unanswered desk g.met.D.Desk.only_now c.args.desk.now first c.args.keeper (limit_of c.args.keeper)
+    (entries_in c.args.bytes.now) before is kept
 
 pub returns-in-Err-NoMemory-clause-left : goal.returns-in-Err-NoMemory-clause-left
 returns-in-Err-NoMemory-clause-left g c first kept = let desk = g.D.Desk in
@@ -20,7 +22,8 @@ returns-in-Err-NoMemory-clause-left g c first kept = let desk = g.D.Desk in
 
 pub returns-in-Err-NoMemory-clause-shows : goal.returns-in-Err-NoMemory-clause-shows
 returns-in-Err-NoMemory-clause-shows g c first before is kept = let desk = g.D.Desk in
-    unanswered desk g.met.D.Desk.only_now c.args.desk.now first c.args.keeper (limit_of c.args.keeper) (entries_in c.args.bytes.now) before is kept
+    unanswered desk g.met.D.Desk.only_now c.args.desk.now first c.args.keeper (limit_of c.args.keeper)
+    (entries_in c.args.bytes.now) before is kept
 
 -- a refusal
 pub returns-in-Err-Refused-clause-kept : goal.returns-in-Err-Refused-clause-kept
@@ -29,51 +32,71 @@ returns-in-Err-Refused-clause-kept g c first kept = let desk = g.D.Desk in
     c.refuse.ensures.file.kept.held c.refuse.ensures.file.kept.left kept
 
 pub returns-in-Err-Refused-clause-shows : goal.returns-in-Err-Refused-clause-shows
-returns-in-Err-Refused-clause-shows g c first before is kept = let desk = g.D.Desk in let read = rw c.in-Err-Refused.field-0-is at c.in-Err-Refused.ensures in
-    refusing desk g.met.D.Desk.only_now c.args.desk.now c.refuse.new.desk first c.args.keeper (limit_of c.args.keeper) (entries_in c.args.bytes.now)
+returns-in-Err-Refused-clause-shows g c first before is kept = let desk = g.D.Desk in
+    let read = rw c.in-Err-Refused.field-0-is at c.in-Err-Refused.ensures in
+    refusing desk g.met.D.Desk.only_now c.args.desk.now c.refuse.new.desk first c.args.keeper (limit_of c.args.keeper)
+    (entries_in c.args.bytes.now)
     c.in-Err-Refused.refusal before is (ap option_to_list read.entry) kept (c.refuse.ensures.shows before is)
 
 pub returns-in_err-refuse-in-Err-Refused-clause-left : goal.returns-in_err-refuse-in-Err-Refused-clause-left
-returns-in_err-refuse-in-Err-Refused-clause-left g c = let desk = g.D.Desk in let read = rw c.in-Err-Refused.field-0-is at c.in-Err-Refused.ensures in let p = err_from_is_err_and c.from_residual.result c.from_residual.ensures.1 in
-    rw (p.1, p.2) (λ first kept. keeps_refused desk c.args.keeper (limit_of c.args.keeper) (entries_in c.args.bytes.now) c.in-Err-Refused.refusal first
+returns-in_err-refuse-in-Err-Refused-clause-left g c = let desk = g.D.Desk in
+    let read = rw c.in-Err-Refused.field-0-is at c.in-Err-Refused.ensures in
+    let p = err_from_is_err_and c.from_residual.result c.from_residual.ensures.1 in
+    rw (p.1, p.2) (λ first kept. keeps_refused desk c.args.keeper (limit_of c.args.keeper) (entries_in c.args.bytes.now)
+    c.in-Err-Refused.refusal first
     c.args.desk.now c.refuse.new.desk c.in_err-refuse-in-Err-Refused.field-0.0
-    (ap option_to_list read.entry) c.refuse.ensures.file.kept (λ fault. c.refuse.ensures.no_fault (c.in_err-refuse-in-Err-Refused.was ∙ ap Err fault)) kept)
+    (ap option_to_list read.entry) c.refuse.ensures.file.kept
+    (λ fault. c.refuse.ensures.no_fault (c.in_err-refuse-in-Err-Refused.was ∙ ap Err fault)) kept)
 
 pub returns-in_err-refuse-in-Err-Refused-clause-shows : goal.returns-in_err-refuse-in-Err-Refused-clause-shows
-returns-in_err-refuse-in-Err-Refused-clause-shows g c first before is kept = let desk = g.D.Desk in let read = rw c.in-Err-Refused.field-0-is at c.in-Err-Refused.ensures in
-    refusing desk g.met.D.Desk.only_now c.args.desk.now c.refuse.new.desk first c.args.keeper (limit_of c.args.keeper) (entries_in c.args.bytes.now)
+returns-in_err-refuse-in-Err-Refused-clause-shows g c first before is kept = let desk = g.D.Desk in
+    let read = rw c.in-Err-Refused.field-0-is at c.in-Err-Refused.ensures in
+    refusing desk g.met.D.Desk.only_now c.args.desk.now c.refuse.new.desk first c.args.keeper (limit_of c.args.keeper)
+    (entries_in c.args.bytes.now)
     c.in-Err-Refused.refusal before is (ap option_to_list read.entry) kept (c.refuse.ensures.shows before is)
 
 -- before the commit
 pub returns-in_err-ready-clause-left : goal.returns-in_err-ready-clause-left
-returns-in_err-ready-clause-left g c = let desk = g.D.Desk in let p = err_from_is_err_and c.from_residual-in_err-ready.result c.from_residual-in_err-ready.ensures.1 in
+returns-in_err-ready-clause-left g c = let desk = g.D.Desk in
+    let p = err_from_is_err_and c.from_residual-in_err-ready.result c.from_residual-in_err-ready.ensures.1 in
     rw (p.1, p.2) (λ first kept. kept_keeps desk c.args.keeper first c.args.desk.now kept)
 
 pub returns-in_err-ready-clause-shows : goal.returns-in_err-ready-clause-shows
 returns-in_err-ready-clause-shows g c first before is kept = let desk = g.D.Desk in
-    unanswered desk g.met.D.Desk.only_now c.args.desk.now first c.args.keeper (limit_of c.args.keeper) (entries_in c.args.bytes.now) before is kept
+    unanswered desk g.met.D.Desk.only_now c.args.desk.now first c.args.keeper (limit_of c.args.keeper)
+    (entries_in c.args.bytes.now) before is kept
 
 pub returns-in_err-text-clause-left : goal.returns-in_err-text-clause-left
-returns-in_err-text-clause-left g c = let desk = g.D.Desk in let p = err_from_is_err_and c.from_residual-in_err-text.result c.from_residual-in_err-text.ensures.1 in
+returns-in_err-text-clause-left g c = let desk = g.D.Desk in
+    let p = err_from_is_err_and c.from_residual-in_err-text.result c.from_residual-in_err-text.ensures.1 in
     rw (p.1, p.2) (λ first kept. kept_keeps desk c.args.keeper first c.args.desk.now kept)
 
 pub returns-in_err-text-clause-shows : goal.returns-in_err-text-clause-shows
 returns-in_err-text-clause-shows g c first before is kept = let desk = g.D.Desk in
-    unanswered desk g.met.D.Desk.only_now c.args.desk.now first c.args.keeper (limit_of c.args.keeper) (entries_in c.args.bytes.now) before is kept
+    unanswered desk g.met.D.Desk.only_now c.args.desk.now first c.args.keeper (limit_of c.args.keeper)
+    (entries_in c.args.bytes.now) before is kept
 
 -- the commit
 pub returns-in_err-next-clause-left : goal.returns-in_err-next-clause-left
-returns-in_err-next-clause-left g c = let desk = g.D.Desk in let read = rw c.in-Ok-Some.field-0-is at c.in-Ok-Some.ensures in let p = err_from_is_err_and c.from_residual-in_err-next.result c.from_residual-in_err-next.ensures.1 in
+returns-in_err-next-clause-left g c = let desk = g.D.Desk in
+    let read = rw c.in-Ok-Some.field-0-is at c.in-Ok-Some.ensures in
+    let p = err_from_is_err_and c.from_residual-in_err-next.result c.from_residual-in_err-next.ensures.1 in
     rw (p.1, p.2) (λ first kept file left.
     subst (λ (s : Store). LeavesEither desk (is_file c.args.keeper) first (store_of c.args.keeper) s file)
-    (after_command (limit_of c.args.keeper) (store_of c.args.keeper) (ready_store c.in_ok-ready.ready) (entries_in c.args.bytes.now) c.in-Ok-Some.command (c.in_ok-ready.reply, ready_store c.in_ok-ready.ready) (ap option_to_list read.entry) c.in_ok-ready.ensures.step refl)
+    (after_command (limit_of c.args.keeper) (store_of c.args.keeper) (ready_store c.in_ok-ready.ready)
+    (entries_in c.args.bytes.now) c.in-Ok-Some.command (c.in_ok-ready.reply, ready_store c.in_ok-ready.ready)
+    (ap option_to_list read.entry) c.in_ok-ready.ensures.step refl)
     (c.in_err-next.ensures.left c.args.keeper first file c.in_ok-ready.ensures.from kept left))
 
 pub returns-in_err-next-clause-shows : goal.returns-in_err-next-clause-shows
-returns-in_err-next-clause-shows g c first before is kept = let desk = g.D.Desk in let read = rw c.in-Ok-Some.field-0-is at c.in-Ok-Some.ensures in
-    committing desk c.args.desk.now c.commit.new.desk first c.args.keeper (limit_of c.args.keeper) (entries_in c.args.bytes.now) before
+returns-in_err-next-clause-shows g c first before is kept = let desk = g.D.Desk in
+    let read = rw c.in-Ok-Some.field-0-is at c.in-Ok-Some.ensures in
+    committing desk c.args.desk.now c.commit.new.desk first c.args.keeper (limit_of c.args.keeper)
+    (entries_in c.args.bytes.now) before
     (ready_store c.in_ok-ready.ready) is
-    (after_command (limit_of c.args.keeper) (store_of c.args.keeper) (ready_store c.in_ok-ready.ready) (entries_in c.args.bytes.now) c.in-Ok-Some.command (c.in_ok-ready.reply, ready_store c.in_ok-ready.ready) (ap option_to_list read.entry) c.in_ok-ready.ensures.step refl)
+    (after_command (limit_of c.args.keeper) (store_of c.args.keeper) (ready_store c.in_ok-ready.ready)
+    (entries_in c.args.bytes.now) c.in-Ok-Some.command (c.in_ok-ready.reply, ready_store c.in_ok-ready.ready)
+    (ap option_to_list read.entry) c.in_ok-ready.ensures.step refl)
     (c.commit.ensures.any_moment c.args.keeper first before c.in_ok-ready.ensures.from kept is)
 
 -- the reply
@@ -83,20 +106,28 @@ returns-in-Ok-clause-kind g c = c.in_ok-next.ensures.kind c.args.keeper c.in_ok-
 pub returns-in-Ok-clause-kept : goal.returns-in-Ok-clause-kept
 returns-in-Ok-clause-kept g c first kept = let desk = g.D.Desk in
     still_kept desk c.in_ok-next.next first c.commit.new.desk c.say_all.new.desk
-    c.say_all.ensures.file.kept.held c.say_all.ensures.file.kept.left (c.in_ok-next.ensures.kept c.args.keeper first c.in_ok-ready.ensures.from kept)
+    c.say_all.ensures.file.kept.held c.say_all.ensures.file.kept.left
+    (c.in_ok-next.ensures.kept c.args.keeper first c.in_ok-ready.ensures.from kept)
 
 pub returns-in-Ok-clause-said : goal.returns-in-Ok-clause-said
 returns-in-Ok-clause-said g c = let read = rw c.in-Ok-Some.field-0-is at c.in-Ok-Some.ensures in
-    rw (text_of_command (limit_of c.args.keeper) (store_of c.args.keeper) (entries_in c.args.bytes.now) c.in-Ok-Some.command (c.in_ok-ready.reply, ready_store c.in_ok-ready.ready) c.as_bytes.result.now
-    (ap option_to_list read.entry) c.in_ok-ready.ensures.step (c.as_bytes.ensures.value ∙ c.as_str.ensures ∙ c.in_ok-text.ensures))
+    rw (text_of_command (limit_of c.args.keeper) (store_of c.args.keeper) (entries_in c.args.bytes.now)
+    c.in-Ok-Some.command (c.in_ok-ready.reply, ready_store c.in_ok-ready.ready) c.as_bytes.result.now
+    (ap option_to_list read.entry) c.in_ok-ready.ensures.step
+    (c.as_bytes.ensures.value ∙ c.as_str.ensures ∙ c.in_ok-text.ensures))
     (rw (sym c.commit.ensures.line.said) c.in-Ok.ensures.whole)
 
 pub returns-in-Ok-clause-shows : goal.returns-in-Ok-clause-shows
-returns-in-Ok-clause-shows g c first before is kept = let desk = g.D.Desk in let read = rw c.in-Ok-Some.field-0-is at c.in-Ok-Some.ensures in
+returns-in-Ok-clause-shows g c first before is kept = let desk = g.D.Desk in
+    let read = rw c.in-Ok-Some.field-0-is at c.in-Ok-Some.ensures in
     performing desk c.args.desk.now c.commit.new.desk c.say_all.new.desk first c.args.keeper c.in_ok-next.next
-    (limit_of c.args.keeper) (entries_in c.args.bytes.now) c.in-Ok-Some.command (c.in_ok-ready.reply, ready_store c.in_ok-ready.ready) before c.as_bytes.result.now is c.commit.ensures.line.said
-    (ap option_to_list read.entry) c.in_ok-ready.ensures.step (c.as_bytes.ensures.value ∙ c.as_str.ensures ∙ c.in_ok-text.ensures)
-    (c.in_ok-next.ensures.kind c.args.keeper c.in_ok-ready.ensures.from) c.in_ok-next.ensures.store (c.in_ok-next.ensures.kept c.args.keeper first c.in_ok-ready.ensures.from kept)
+    (limit_of c.args.keeper) (entries_in c.args.bytes.now) c.in-Ok-Some.command
+    (c.in_ok-ready.reply, ready_store c.in_ok-ready.ready) before c.as_bytes.result.now is
+    c.commit.ensures.line.said
+    (ap option_to_list read.entry) c.in_ok-ready.ensures.step
+    (c.as_bytes.ensures.value ∙ c.as_str.ensures ∙ c.in_ok-text.ensures)
+    (c.in_ok-next.ensures.kind c.args.keeper c.in_ok-ready.ensures.from) c.in_ok-next.ensures.store
+    (c.in_ok-next.ensures.kept c.args.keeper first c.in_ok-ready.ensures.from kept)
     (c.commit.ensures.any_moment c.args.keeper first before c.in_ok-ready.ensures.from kept is) c.say_all.ensures.shows
 
 pub returns-in-Ok-clause-alone : goal.returns-in-Ok-clause-alone
@@ -107,24 +138,39 @@ returns-in-Ok-clause-alone g c memory = let desk = g.D.Desk in
 -- a reply that was not said whole
 pub returns-clause-stopped : goal.returns-clause-stopped
 returns-clause-stopped g c = let read = rw c.in-Ok-Some.field-0-is at c.in-Ok-Some.ensures in
-    rw (text_of_command (limit_of c.args.keeper) (store_of c.args.keeper) (entries_in c.args.bytes.now) c.in-Ok-Some.command (c.in_ok-ready.reply, ready_store c.in_ok-ready.ready) c.as_bytes.result.now
-    (ap option_to_list read.entry) c.in_ok-ready.ensures.step (c.as_bytes.ensures.value ∙ c.as_str.ensures ∙ c.in_ok-text.ensures))
+    rw (text_of_command (limit_of c.args.keeper) (store_of c.args.keeper) (entries_in c.args.bytes.now)
+    c.in-Ok-Some.command (c.in_ok-ready.reply, ready_store c.in_ok-ready.ready) c.as_bytes.result.now
+    (ap option_to_list read.entry) c.in_ok-ready.ensures.step
+    (c.as_bytes.ensures.value ∙ c.as_str.ensures ∙ c.in_ok-text.ensures))
     (rw (sym c.commit.ensures.line.said) c.in-Err.ensures.front)
 
 pub returns-clause-left : goal.returns-clause-left
-returns-clause-left g c first kept = let desk = g.D.Desk in let read = rw c.in-Ok-Some.field-0-is at c.in-Ok-Some.ensures in
-    let after_it = after_command (limit_of c.args.keeper) (store_of c.args.keeper) (store_of c.in_ok-next.next) (entries_in c.args.bytes.now) c.in-Ok-Some.command (c.in_ok-ready.reply, ready_store c.in_ok-ready.ready) (ap option_to_list read.entry) c.in_ok-ready.ensures.step c.in_ok-next.ensures.store in
-    keeps_as desk (is_file c.in_ok-next.next) (is_file c.args.keeper) first (store_of c.in_ok-next.next) (after (limit_of c.args.keeper) (store_of c.args.keeper) (entries_in c.args.bytes.now)) c.say_all.new.desk
+returns-clause-left g c first kept = let desk = g.D.Desk in
+    let read = rw c.in-Ok-Some.field-0-is at c.in-Ok-Some.ensures in
+    let after_it =
+    after_command (limit_of c.args.keeper) (store_of c.args.keeper) (store_of c.in_ok-next.next)
+    (entries_in c.args.bytes.now) c.in-Ok-Some.command (c.in_ok-ready.reply, ready_store c.in_ok-ready.ready)
+    (ap option_to_list read.entry) c.in_ok-ready.ensures.step c.in_ok-next.ensures.store in
+    keeps_as desk (is_file c.in_ok-next.next) (is_file c.args.keeper) first (store_of c.in_ok-next.next)
+    (after (limit_of c.args.keeper) (store_of c.args.keeper) (entries_in c.args.bytes.now)) c.say_all.new.desk
     (c.in_ok-next.ensures.kind c.args.keeper c.in_ok-ready.ensures.from) after_it
-    (still_keeps desk (is_file c.in_ok-next.next) first (store_of c.in_ok-next.next) c.commit.new.desk c.say_all.new.desk
-    c.say_all.ensures.file.kept.held c.say_all.ensures.file.kept.left (kept_keeps desk c.in_ok-next.next first c.commit.new.desk (c.in_ok-next.ensures.kept c.args.keeper first c.in_ok-ready.ensures.from kept)))
+    (still_keeps desk (is_file c.in_ok-next.next) first (store_of c.in_ok-next.next) c.commit.new.desk
+    c.say_all.new.desk
+    c.say_all.ensures.file.kept.held c.say_all.ensures.file.kept.left
+    (kept_keeps desk c.in_ok-next.next first c.commit.new.desk
+    (c.in_ok-next.ensures.kept c.args.keeper first c.in_ok-ready.ensures.from kept)))
 
 pub returns-clause-shows : goal.returns-clause-shows
-returns-clause-shows g c first before is kept = let desk = g.D.Desk in let read = rw c.in-Ok-Some.field-0-is at c.in-Ok-Some.ensures in
+returns-clause-shows g c first before is kept = let desk = g.D.Desk in
+    let read = rw c.in-Ok-Some.field-0-is at c.in-Ok-Some.ensures in
     performing desk c.args.desk.now c.commit.new.desk c.say_all.new.desk first c.args.keeper c.in_ok-next.next
-    (limit_of c.args.keeper) (entries_in c.args.bytes.now) c.in-Ok-Some.command (c.in_ok-ready.reply, ready_store c.in_ok-ready.ready) before c.as_bytes.result.now is c.commit.ensures.line.said
-    (ap option_to_list read.entry) c.in_ok-ready.ensures.step (c.as_bytes.ensures.value ∙ c.as_str.ensures ∙ c.in_ok-text.ensures)
-    (c.in_ok-next.ensures.kind c.args.keeper c.in_ok-ready.ensures.from) c.in_ok-next.ensures.store (c.in_ok-next.ensures.kept c.args.keeper first c.in_ok-ready.ensures.from kept)
+    (limit_of c.args.keeper) (entries_in c.args.bytes.now) c.in-Ok-Some.command
+    (c.in_ok-ready.reply, ready_store c.in_ok-ready.ready) before c.as_bytes.result.now is
+    c.commit.ensures.line.said
+    (ap option_to_list read.entry) c.in_ok-ready.ensures.step
+    (c.as_bytes.ensures.value ∙ c.as_str.ensures ∙ c.in_ok-text.ensures)
+    (c.in_ok-next.ensures.kind c.args.keeper c.in_ok-ready.ensures.from) c.in_ok-next.ensures.store
+    (c.in_ok-next.ensures.kept c.args.keeper first c.in_ok-ready.ensures.from kept)
     (c.commit.ensures.any_moment c.args.keeper first before c.in_ok-ready.ensures.from kept is) c.say_all.ensures.shows
 
 pub returns-clause-alone : goal.returns-clause-alone

@@ -26,32 +26,43 @@ made desk session old mid new makes kept file is =
       still_rests desk mid new (λ f. IsFinished f × Stands f opening) kept.held kept.left
           (rests_less desk mid _ (λ f. IsFinished f × Stands f opening) settled.rests (λ f closed. (
             closed.closed,
-            subst (Stands f) makes.store (stands_by (bytes_of session) f (store_of session) settled.stands closed.holds),
+            subst (Stands f) makes.store
+                (stands_by (bytes_of session) f (store_of session) settled.stands closed.holds),
           ))),
     )
 
 -- how a making ends that gives no session
-not_made : {D : Type 0} (desk : Ghosts D) (e : Ended) (s : Status) (old new : D) → s ≡ without_session e → Makes desk (Err e) old new
+not_made : {D : Type 0} (desk : Ghosts D) (e : Ended) (s : Status) (old new : D) → s ≡ without_session e
+    → Makes desk (Err e) old new
     → desk.said new ≡ desk.said old → EndsNew desk s old new × MayEnd ⊥ ⊤ ⊥ s
-not_made desk ended.DeviceFault s old new is makes unsaid = subst (λ (t : Status). EndsNew desk t old new × MayEnd ⊥ ⊤ ⊥ t) (sym is) ((unsaid, makes), inr (inl tt))
-not_made desk ended.NoMemory s old new is makes unsaid = subst (λ (t : Status). EndsNew desk t old new × MayEnd ⊥ ⊤ ⊥ t) (sym is) ((unsaid, makes), inr (inl tt))
+not_made desk ended.DeviceFault s old new is makes unsaid =
+    subst (λ (t : Status). EndsNew desk t old new × MayEnd ⊥ ⊤ ⊥ t) (sym is) ((unsaid, makes), inr (inl tt))
+not_made desk ended.NoMemory s old new is makes unsaid =
+    subst (λ (t : Status). EndsNew desk t old new × MayEnd ⊥ ⊤ ⊥ t) (sym is) ((unsaid, makes), inr (inl tt))
 not_made desk ended.NotAStore s old new is makes unsaid = absurd makes
-not_made desk (ended.NotEmpty n) s old new is makes unsaid = subst (λ (t : Status). EndsNew desk t old new × MayEnd ⊥ ⊤ ⊥ t) (sym is) ((unsaid, makes), tt)
+not_made desk (ended.NotEmpty n) s old new is makes unsaid =
+    subst (λ (t : Status). EndsNew desk t old new × MayEnd ⊥ ⊤ ⊥ t) (sym is) ((unsaid, makes), tt)
 
 pub returns-in-Err-clause-ends : goal.returns-in-Err-clause-ends
-returns-in-Err-clause-ends g c = (not_made g.D.Desk c.in-Err.ended c.from.result c.args.desk.now c.create.new.desk c.from.ensures c.in-Err.ensures.ends c.create.ensures.line.said).0
+returns-in-Err-clause-ends g c =
+    (not_made g.D.Desk c.in-Err.ended c.from.result c.args.desk.now c.create.new.desk c.from.ensures
+    c.in-Err.ensures.ends c.create.ensures.line.said).0
 
 pub returns-in-Err-clause-status : goal.returns-in-Err-clause-status
-returns-in-Err-clause-status g c = (not_made g.D.Desk c.in-Err.ended c.from.result c.args.desk.now c.create.new.desk c.from.ensures c.in-Err.ensures.ends c.create.ensures.line.said).1
+returns-in-Err-clause-status g c =
+    (not_made g.D.Desk c.in-Err.ended c.from.result c.args.desk.now c.create.new.desk c.from.ensures
+    c.in-Err.ensures.ends c.create.ensures.line.said).1
 
 pub returns-in-Ok-clause-ends : goal.returns-in-Ok-clause-ends
 returns-in-Ok-clause-ends g c = (
   rw (sym c.create.ensures.line.said) c.in-Ok.ensures.whole,
-  made g.D.Desk c.in_default.field-0 c.args.desk.now c.create.new.desk c.say_all.new.desk c.in_default.ensures.ends c.say_all.ensures.file.kept,
+  made g.D.Desk c.in_default.field-0 c.args.desk.now c.create.new.desk c.say_all.new.desk c.in_default.ensures.ends
+      c.say_all.ensures.file.kept,
 )
 
 pub returns-in-Err-say_all-clause-ends : goal.returns-in-Err-say_all-clause-ends
 returns-in-Err-say_all-clause-ends g c = (
   rw (sym c.create.ensures.line.said) c.in-Err-say_all.ensures.front,
-  made g.D.Desk c.in_default.field-0 c.args.desk.now c.create.new.desk c.say_all.new.desk c.in_default.ensures.ends c.say_all.ensures.file.kept,
+  made g.D.Desk c.in_default.field-0 c.args.desk.now c.create.new.desk c.say_all.new.desk c.in_default.ensures.ends
+      c.say_all.ensures.file.kept,
 )

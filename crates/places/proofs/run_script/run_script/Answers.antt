@@ -7,15 +7,20 @@ use Rattle.pl_store.specs.Keeper.{is_file, store_of}
 use Rattle.pl_desk.specs.AnyMoment.{alone_on, begun, left_alone}
 use Rattle.pl_store.specs.KeeperLaws.{kept_keeps}
 use Rattle.places.specs.Progress.{IsAt}
-use Rattle.places.proofs.EndingLemmas.{empty_piece, ends_done, ends_last, ends_piece, ends_reading, ends_too_long, goes_on_behind, shows_begun, shows_last, shows_piece, starts_behind}
+use Rattle.places.proofs.EndingLemmas.{empty_piece, ends_done, ends_last, ends_piece, ends_reading, ends_too_long}
+use Rattle.places.proofs.EndingLemmas.{goes_on_behind, shows_begun, shows_last, shows_piece, starts_behind}
 use Rattle.places.proofs.run_script.run_script.Goals as goal
 
 pub loop-read-init : goal.loop-read-init
-loop-read-init g c = let desk = g.D.Desk in let run = c.new-run.result in let start = store_of run.keeper in let all_left = g.S.Source.left c.args.input.now in
+loop-read-init g c = let desk = g.D.Desk in let run = c.new-run.result in let start = store_of run.keeper in
+    let all_left = g.S.Source.left c.args.input.now in
     let opens : (begun : Option (List ℕ)) → IsAt start [] begun run begun =
-    subst (λ (keeper : Keeper). (begun : Option (List ℕ)) → IsAt (store_of keeper) [] begun run begun) (sym c.new-run.ensures.keeper) (c.new-run.ensures.at c.requires.limit) in
+    subst (λ (keeper : Keeper). (begun : Option (List ℕ)) → IsAt (store_of keeper) [] begun run begun)
+    (sym c.new-run.ensures.keeper) (c.new-run.ensures.at c.requires.limit) in
     record {
-      told = λ bytes before all begun. starts_behind start bytes before all_left (desk.said c.args.desk.now) run opens all begun;
+      told =
+          λ bytes before all begun. starts_behind start bytes before all_left (desk.said c.args.desk.now) run opens all
+          begun;
       shows = λ bytes before all begun first kept.
           shows_begun desk g.met.D.Desk.only_now first start 0 bytes before all_left run c.args.desk.now
           (starts_behind start bytes before all_left (desk.said c.args.desk.now) run opens all begun) kept;
@@ -33,43 +38,61 @@ returns-in_err-piece-clause-shows g c = rw (← c.new-run.ensures.keeper) c.loop
 
 pub returns-in_err-finish-clause-shows : goal.returns-in_err-finish-clause-shows
 returns-in_err-finish-clause-shows g c = rw (← c.new-run.ensures.keeper) (λ bytes before all begun first kept.
-    let desk = g.D.Desk in let is = c.loop-read.invariant in let start = store_of c.new-run.result.keeper in let behind = is.told bytes before all begun in
-    shows_last desk first start c.loop-read.read bytes before c.in_ok-piece.piece.items (g.S.Source.left c.loop-read.input) (is_file c.new-run.result.keeper) c.loop-read.run c.args.desk.now c.loop-read.desk c.finish.new.desk
-    behind is.kind (c.in_ok-piece.ensures.ended (empty_piece _ c.in_ok-piece.piece.ok.0 (sym c.if-is_empty.ensures))) (is.shows bytes before all begun first kept)
+    let desk = g.D.Desk in let is = c.loop-read.invariant in let start = store_of c.new-run.result.keeper in
+    let behind = is.told bytes before all begun in
+    shows_last desk first start c.loop-read.read bytes before c.in_ok-piece.piece.items
+    (g.S.Source.left c.loop-read.input) (is_file c.new-run.result.keeper) c.loop-read.run c.args.desk.now
+    c.loop-read.desk c.finish.new.desk
+    behind is.kind (c.in_ok-piece.ensures.ended (empty_piece _ c.in_ok-piece.piece.ok.0 (sym c.if-is_empty.ensures)))
+    (is.shows bytes before all begun first kept)
     (c.finish.ensures.shows start (take c.loop-read.read bytes) before first behind.at (is.kept first kept)))
 
 pub returns-then-is_empty-clause-shows : goal.returns-then-is_empty-clause-shows
 returns-then-is_empty-clause-shows g c = rw (← c.new-run.ensures.keeper) (λ bytes before all begun first kept.
-    let desk = g.D.Desk in let is = c.loop-read.invariant in let start = store_of c.new-run.result.keeper in let behind = is.told bytes before all begun in
-    shows_last desk first start c.loop-read.read bytes before c.in_ok-piece.piece.items (g.S.Source.left c.loop-read.input) (is_file c.new-run.result.keeper) c.loop-read.run c.args.desk.now c.loop-read.desk c.finish.new.desk
-    behind is.kind (c.in_ok-piece.ensures.ended (empty_piece _ c.in_ok-piece.piece.ok.0 (sym c.if-is_empty.ensures))) (is.shows bytes before all begun first kept)
+    let desk = g.D.Desk in let is = c.loop-read.invariant in let start = store_of c.new-run.result.keeper in
+    let behind = is.told bytes before all begun in
+    shows_last desk first start c.loop-read.read bytes before c.in_ok-piece.piece.items
+    (g.S.Source.left c.loop-read.input) (is_file c.new-run.result.keeper) c.loop-read.run c.args.desk.now
+    c.loop-read.desk c.finish.new.desk
+    behind is.kind (c.in_ok-piece.ensures.ended (empty_piece _ c.in_ok-piece.piece.ok.0 (sym c.if-is_empty.ensures)))
+    (is.shows bytes before all begun first kept)
     (c.finish.ensures.shows start (take c.loop-read.read bytes) before first behind.at (is.kept first kept)))
 
 pub returns-in_err-run-clause-shows : goal.returns-in_err-run-clause-shows
 returns-in_err-run-clause-shows g c = rw (← c.new-run.ensures.keeper) (λ bytes before all begun first kept.
-    let desk = g.D.Desk in let is = c.loop-read.invariant in let start = store_of c.new-run.result.keeper in let behind = is.told bytes before all begun in
-    shows_piece desk first start c.loop-read.read bytes before c.deref.result.now (g.S.Source.left c.loop-read.input) (g.S.Source.left c.next_piece.new.input) (is_file c.new-run.result.keeper) c.loop-read.run c.args.desk.now c.loop-read.desk c.take_all.new.desk
+    let desk = g.D.Desk in let is = c.loop-read.invariant in let start = store_of c.new-run.result.keeper in
+    let behind = is.told bytes before all begun in
+    shows_piece desk first start c.loop-read.read bytes before c.deref.result.now (g.S.Source.left c.loop-read.input)
+    (g.S.Source.left c.next_piece.new.input) (is_file c.new-run.result.keeper) c.loop-read.run c.args.desk.now
+    c.loop-read.desk c.take_all.new.desk
     behind is.kind (rw c.deref.ensures.value c.in_ok-piece.ensures.taken) (is.shows bytes before all begun first kept)
     (c.take_all.ensures.shows start (take c.loop-read.read bytes) before first behind.at (is.kept first kept)))
 
 pub loop-read-preserved : goal.loop-read-preserved
-loop-read-preserved g c = let desk = g.D.Desk in let is = c.loop-read.invariant in let start = store_of c.new-run.result.keeper in let did = c.in_ok-run.ensures in record {
-  told = λ bytes before all begun.
-      rw (c.len-read.ensures ∙ sym c.deref.ensures.len)
-      (goes_on_behind start c.loop-read.read bytes before c.deref.result.now (g.S.Source.left c.loop-read.input) (g.S.Source.left c.next_piece.new.input) (g.D.Desk.said c.loop-read.desk) (g.D.Desk.said c.take_all.new.desk) c.loop-read.run _ (is.told bytes before all begun)
-      (rw c.deref.ensures.value c.in_ok-piece.ensures.taken) (did.ok start));
-  shows = λ bytes before all begun first kept. let behind = is.told bytes before all begun in
-      shows_piece desk first start c.loop-read.read bytes before c.deref.result.now (g.S.Source.left c.loop-read.input) (g.S.Source.left c.next_piece.new.input) (is_file c.new-run.result.keeper) c.loop-read.run c.args.desk.now c.loop-read.desk c.take_all.new.desk
-      behind is.kind (rw c.deref.ensures.value c.in_ok-piece.ensures.taken) (is.shows bytes before all begun first kept)
-      (c.take_all.ensures.shows start (take c.loop-read.read bytes) before first behind.at (is.kept first kept));
-  kind = did.kind ∙ is.kind;
-  kept = λ first kept. did.kept first (is.kept first kept);
-  in_limit = omega (arith, c.in_ok-piece.ensures.within, c.deref.ensures.len, ap length c.deref.ensures.value);
-  no_read_fault = c.in_ok-piece.ensures.counted.stands (λ e. none-some _ (ap result_err e)) ∙ is.no_read_fault;
-  no_say_fault = did.says_counted.stands (λ e. none-some _ (ap result_err e)) ∙ is.no_say_fault;
-  no_device_fault = did.device_counted.stands (λ e. none-some _ (ap result_err e)) ∙ is.no_device_fault;
-  alone = λ memory. alone_on desk c.args.desk.now c.loop-read.desk c.take_all.new.desk (is.alone memory) (did.alone (is.kind ∙ memory));
-}
+loop-read-preserved g c = let desk = g.D.Desk in let is = c.loop-read.invariant in
+    let start = store_of c.new-run.result.keeper in let did = c.in_ok-run.ensures in record {
+      told = λ bytes before all begun.
+          rw (c.len-read.ensures ∙ sym c.deref.ensures.len)
+          (goes_on_behind start c.loop-read.read bytes before c.deref.result.now (g.S.Source.left c.loop-read.input)
+          (g.S.Source.left c.next_piece.new.input) (g.D.Desk.said c.loop-read.desk) (g.D.Desk.said c.take_all.new.desk)
+          c.loop-read.run _ (is.told bytes before all begun)
+          (rw c.deref.ensures.value c.in_ok-piece.ensures.taken) (did.ok start));
+      shows = λ bytes before all begun first kept. let behind = is.told bytes before all begun in
+          shows_piece desk first start c.loop-read.read bytes before c.deref.result.now (g.S.Source.left c.loop-read.input)
+          (g.S.Source.left c.next_piece.new.input) (is_file c.new-run.result.keeper) c.loop-read.run c.args.desk.now
+          c.loop-read.desk c.take_all.new.desk
+          behind is.kind (rw c.deref.ensures.value c.in_ok-piece.ensures.taken) (is.shows bytes before all begun first kept)
+          (c.take_all.ensures.shows start (take c.loop-read.read bytes) before first behind.at (is.kept first kept));
+      kind = did.kind ∙ is.kind;
+      kept = λ first kept. did.kept first (is.kept first kept);
+      in_limit = omega (arith, c.in_ok-piece.ensures.within, c.deref.ensures.len, ap length c.deref.ensures.value);
+      no_read_fault = c.in_ok-piece.ensures.counted.stands (λ e. none-some _ (ap result_err e)) ∙ is.no_read_fault;
+      no_say_fault = did.says_counted.stands (λ e. none-some _ (ap result_err e)) ∙ is.no_say_fault;
+      no_device_fault = did.device_counted.stands (λ e. none-some _ (ap result_err e)) ∙ is.no_device_fault;
+      alone =
+          λ memory. alone_on desk c.args.desk.now c.loop-read.desk c.take_all.new.desk (is.alone memory)
+          (did.alone (is.kind ∙ memory));
+    }
 
 pub returns-clause-shows : goal.returns-clause-shows
 returns-clause-shows g c = rw (← c.new-run.ensures.keeper) c.loop-read.invariant.shows
@@ -79,40 +102,70 @@ returns-clause-shows g c = rw (← c.new-run.ensures.keeper) c.loop-read.invaria
 pub returns-in_err-piece-clause-ends : goal.returns-in_err-piece-clause-ends
 returns-in_err-piece-clause-ends g c =
     let p = err_from_is_err_and c.from_residual.result c.from_residual.ensures.1 in
-    rw (p.1, p.2, ← c.new-run.ensures.keeper) (λ status ends bytes before all begun first kept. let desk = g.D.Desk in let is = c.loop-read.invariant in let start = store_of c.new-run.result.keeper in let kind = is_file c.new-run.result.keeper in let left = g.S.Source.left in let read = c.loop-read.read in
+    rw (p.1, p.2, ← c.new-run.ensures.keeper)
+    (λ status ends bytes before all begun first kept. let desk = g.D.Desk in let is = c.loop-read.invariant in
+    let start = store_of c.new-run.result.keeper in let kind = is_file c.new-run.result.keeper in
+    let left = g.S.Source.left in let read = c.loop-read.read in
     let now = c.loop-read.desk in
-    ends_reading desk kind first start read bytes before [] (left c.loop-read.input) (left c.next_piece.new.input) c.loop-read.run (desk.said now) now
-    _ status c.in_err-piece.ensures.errors ends (is.told bytes before all begun) is.kind (is.kept first kept) c.loop-read-test.true c.in_err-piece.ensures.kept)
+    ends_reading desk kind first start read bytes before [] (left c.loop-read.input) (left c.next_piece.new.input)
+    c.loop-read.run (desk.said now) now
+    _ status c.in_err-piece.ensures.errors ends (is.told bytes before all begun) is.kind (is.kept first kept)
+    c.loop-read-test.true c.in_err-piece.ensures.kept)
 
 pub returns-in_err-finish-clause-ends : goal.returns-in_err-finish-clause-ends
 returns-in_err-finish-clause-ends g c =
     let p = err_from_is_err_and c.from_residual-in_err-finish.result c.from_residual-in_err-finish.ensures.1 in
-    rw (p.1, ← c.new-run.ensures.keeper) (λ status ends bytes before all begun first kept. let desk = g.D.Desk in let is = c.loop-read.invariant in let start = store_of c.new-run.result.keeper in let kind = is_file c.new-run.result.keeper in let left = g.S.Source.left in let read = c.loop-read.read in
+    rw (p.1, ← c.new-run.ensures.keeper)
+    (λ status ends bytes before all begun first kept. let desk = g.D.Desk in let is = c.loop-read.invariant in
+    let start = store_of c.new-run.result.keeper in let kind = is_file c.new-run.result.keeper in
+    let left = g.S.Source.left in let read = c.loop-read.read in
     let now = c.loop-read.desk in let new = c.finish.new.desk in let behind = is.told bytes before all begun in
-    ends_last desk kind first start read bytes before c.in_ok-piece.piece.items (left c.loop-read.input) (left c.next_piece.new.input) c.loop-read.run (desk.said now) new
-    _ _ status p.2 ends behind is.kind c.loop-read-test.true (empty_piece _ c.in_ok-piece.piece.ok.0 (sym c.if-is_empty.ensures)) c.in_ok-piece.ensures.taken
+    ends_last desk kind first start read bytes before c.in_ok-piece.piece.items (left c.loop-read.input)
+    (left c.next_piece.new.input) c.loop-read.run (desk.said now) new
+    _ _ status p.2 ends behind is.kind c.loop-read-test.true
+    (empty_piece _ c.in_ok-piece.piece.ok.0 (sym c.if-is_empty.ensures)) c.in_ok-piece.ensures.taken
     (c.in_ok-piece.ensures.ended (empty_piece _ c.in_ok-piece.piece.ok.0 (sym c.if-is_empty.ensures)))
     (c.in_err-finish.ensures.ends start (take read bytes) before first behind.at (is.kept first kept)))
 
 pub returns-in_err-run-clause-ends : goal.returns-in_err-run-clause-ends
 returns-in_err-run-clause-ends g c =
     let p = err_from_is_err_and c.from_residual-in_err-run.result c.from_residual-in_err-run.ensures.1 in
-    rw (p.1, ← c.new-run.ensures.keeper) (λ status ends bytes before all begun first kept. let desk = g.D.Desk in let is = c.loop-read.invariant in let start = store_of c.new-run.result.keeper in let kind = is_file c.new-run.result.keeper in let left = g.S.Source.left in let read = c.loop-read.read in
+    rw (p.1, ← c.new-run.ensures.keeper)
+    (λ status ends bytes before all begun first kept. let desk = g.D.Desk in let is = c.loop-read.invariant in
+    let start = store_of c.new-run.result.keeper in let kind = is_file c.new-run.result.keeper in
+    let left = g.S.Source.left in let read = c.loop-read.read in
     let now = c.loop-read.desk in let new = c.take_all.new.desk in let behind = is.told bytes before all begun in
-    ends_piece desk kind first start read bytes before c.deref.result.now (left c.loop-read.input) (left c.next_piece.new.input) c.loop-read.run (desk.said now) new
-    _ _ status p.2 ends behind is.kind (omega (arith, c.in_ok-piece.ensures.within, c.deref.ensures.len, ap length c.deref.ensures.value)) (rw c.deref.ensures.value c.in_ok-piece.ensures.taken)
+    ends_piece desk kind first start read bytes before c.deref.result.now (left c.loop-read.input)
+    (left c.next_piece.new.input) c.loop-read.run (desk.said now) new
+    _ _ status p.2 ends behind is.kind
+    (omega (arith, c.in_ok-piece.ensures.within, c.deref.ensures.len, ap length c.deref.ensures.value))
+    (rw c.deref.ensures.value c.in_ok-piece.ensures.taken)
     (c.in_err-run.ensures.ends start (take read bytes) before first behind.at (is.kept first kept)))
 
 pub returns-then-is_empty-clause-ends : goal.returns-then-is_empty-clause-ends
-returns-then-is_empty-clause-ends g c = rw (← c.new-run.ensures.keeper) (λ status ends bytes before all begun first kept. let desk = g.D.Desk in let is = c.loop-read.invariant in let start = store_of c.new-run.result.keeper in let kind = is_file c.new-run.result.keeper in let left = g.S.Source.left in let read = c.loop-read.read in
-    let now = c.loop-read.desk in let new = c.finish.new.desk in let did = c.in_ok-finish.ensures in let keeper = c.in_ok-finish.field-0 in
+returns-then-is_empty-clause-ends g c =
+    rw (← c.new-run.ensures.keeper)
+    (λ status ends bytes before all begun first kept. let desk = g.D.Desk in let is = c.loop-read.invariant in
+    let start = store_of c.new-run.result.keeper in let kind = is_file c.new-run.result.keeper in
+    let left = g.S.Source.left in let read = c.loop-read.read in
+    let now = c.loop-read.desk in let new = c.finish.new.desk in let did = c.in_ok-finish.ensures in
+    let keeper = c.in_ok-finish.field-0 in
     let nothing = empty_piece _ c.in_ok-piece.piece.ok.0 (sym c.if-is_empty.ensures) in
-    ends_done desk kind first start read bytes before c.in_ok-piece.piece.items (left c.loop-read.input) (left c.next_piece.new.input) c.loop-read.run (desk.said now) new
-    status (store_of keeper) ends (is.told bytes before all begun) c.loop-read-test.true nothing c.in_ok-piece.ensures.taken (c.in_ok-piece.ensures.ended nothing)
-    (did.ok start) (did.store start) (rw (did.kind, is.kind) at (kept_keeps desk keeper first new (did.kept first (is.kept first kept)))))
+    ends_done desk kind first start read bytes before c.in_ok-piece.piece.items (left c.loop-read.input)
+    (left c.next_piece.new.input) c.loop-read.run (desk.said now) new
+    status (store_of keeper) ends (is.told bytes before all begun) c.loop-read-test.true nothing
+    c.in_ok-piece.ensures.taken (c.in_ok-piece.ensures.ended nothing)
+    (did.ok start) (did.store start)
+    (rw (did.kind, is.kind) at (kept_keeps desk keeper first new (did.kept first (is.kept first kept)))))
 
 pub returns-clause-ends : goal.returns-clause-ends
-returns-clause-ends g c = rw (← c.new-run.ensures.keeper) (λ status ends bytes before all begun first kept. let desk = g.D.Desk in let is = c.loop-read.invariant in let start = store_of c.new-run.result.keeper in let kind = is_file c.new-run.result.keeper in let left = g.S.Source.left in let read = c.loop-read.read in
+returns-clause-ends g c =
+    rw (← c.new-run.ensures.keeper)
+    (λ status ends bytes before all begun first kept. let desk = g.D.Desk in let is = c.loop-read.invariant in
+    let start = store_of c.new-run.result.keeper in let kind = is_file c.new-run.result.keeper in
+    let left = g.S.Source.left in let read = c.loop-read.read in
     let now = c.loop-read.desk in
-    ends_too_long desk kind first start read bytes before [] (left c.loop-read.input) (left c.loop-read.input) c.loop-read.run (desk.said now) now
-    status ends (is.told bytes before all begun) is.kind (is.kept first kept) (omega (arith, is.in_limit, c.loop-read-test.false)))
+    ends_too_long desk kind first start read bytes before [] (left c.loop-read.input) (left c.loop-read.input)
+    c.loop-read.run (desk.said now) now
+    status ends (is.told bytes before all begun) is.kind (is.kept first kept)
+    (omega (arith, is.in_limit, c.loop-read-test.false)))

@@ -18,7 +18,8 @@ invariant-loop-read g l = let input = g.S.Source in let desk = g.D.Desk in let k
       (λ bytes before. IsBehind (store_of keeper) l.read bytes before (input.left l.input) l.run (desk.said l.desk));
   shows : IfTold (input.left l.initial.input) (desk.said l.initial.desk) (λ bytes before. (first : g.row.D.Denot)
       → IsKept desk keeper first l.initial.desk
-      → ShowsOnly desk l.initial.desk l.desk (ShowsAnswered desk (is_file keeper) first slot_limit (store_of keeper) (script bytes) before));
+      → ShowsOnly desk l.initial.desk l.desk
+      (ShowsAnswered desk (is_file keeper) first slot_limit (store_of keeper) (script bytes) before));
   kind : is_file l.run.keeper ≡ is_file keeper;
   kept : (first : g.row.D.Denot) → IsKept desk keeper first l.initial.desk
       → IsKept desk l.run.keeper first l.desk;

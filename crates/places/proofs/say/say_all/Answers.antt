@@ -33,21 +33,28 @@ loop-said-preserved g c = let desk = g.D.Desk in let so_far = c.loop-said.invari
   front =
       rw (take_further c.args.bytes.now c.loop-said.said c.in_ok-said.field-0 so_far.within)
       (says_more _ _ _ _ _ so_far.front c.in_ok-said.ensures.said);
-  shows = λ before is. says_on desk c.args.desk.now c.loop-said.desk c.say.new.self before c.args.bytes.now c.loop-said.said _
-      so_far.within is so_far.front so_far.file.kept.left c.in_ok-said.ensures.leaves (so_far.shows before is) c.in_ok-said.ensures.time;
+  shows =
+      λ before is. says_on desk c.args.desk.now c.loop-said.desk c.say.new.self before c.args.bytes.now c.loop-said.said
+      _
+      so_far.within is so_far.front so_far.file.kept.left c.in_ok-said.ensures.leaves (so_far.shows before is)
+      c.in_ok-said.ensures.time;
   no_fault = c.in_ok-said.ensures.counted ∙ so_far.no_fault;
-  file = still_left g.D.Desk c.args.desk.now c.loop-said.desk c.say.new.self c.loop-said.invariant.file c.in_ok-said.ensures.held
+  file =
+      still_left g.D.Desk c.args.desk.now c.loop-said.desk c.say.new.self c.loop-said.invariant.file
+      c.in_ok-said.ensures.held
       c.in_ok-said.ensures.written c.in_ok-said.ensures.device c.in_ok-said.ensures.leaves;
 }
 
 pub returns-in_err-said-clause-shows : goal.returns-in_err-said-clause-shows
 returns-in_err-said-clause-shows g c before is = let desk = g.D.Desk in let so_far = c.loop-said.invariant in
     says_on desk c.args.desk.now c.loop-said.desk c.say.new.self before c.args.bytes.now c.loop-said.said _
-    so_far.within is so_far.front so_far.file.kept.left c.in_err-said.ensures.leaves (so_far.shows before is) c.in_err-said.ensures.time
+    so_far.within is so_far.front so_far.file.kept.left c.in_err-said.ensures.leaves (so_far.shows before is)
+    c.in_err-said.ensures.time
 
 pub returns-in_err-said-clause-file : goal.returns-in_err-said-clause-file
 returns-in_err-said-clause-file g c =
-    still_left g.D.Desk c.args.desk.now c.loop-said.desk c.say.new.self c.loop-said.invariant.file c.in_err-said.ensures.held
+    still_left g.D.Desk c.args.desk.now c.loop-said.desk c.say.new.self c.loop-said.invariant.file
+    c.in_err-said.ensures.held
     c.in_err-said.ensures.written c.in_err-said.ensures.device c.in_err-said.ensures.leaves
 
 pub returns-clause-shows : goal.returns-clause-shows

@@ -10,7 +10,8 @@ abbrev pub invariant-loop-said : goal.invariant-loop-said
 invariant-loop-said g l = let desk = g.D.Desk in record {
   within : l.said ≤ length l.bytes;
   front : Says (desk.said l.initial.desk) (take l.said l.bytes) (desk.said l.desk);
-  shows : (before : List ℕ) → desk.said l.initial.desk ≡ Some before → ShowsOnly desk l.initial.desk l.desk (ShowsFront desk l.initial.desk before l.bytes);
+  shows : (before : List ℕ) → desk.said l.initial.desk ≡ Some before
+      → ShowsOnly desk l.initial.desk l.desk (ShowsFront desk l.initial.desk before l.bytes);
   no_fault : desk.line_faults l.desk ≡ desk.line_faults l.initial.desk;
   file : LeavesFile desk l.initial.desk l.desk;
 }

@@ -15,19 +15,27 @@ use Rattle.pl_desk.specs.AnyMoment.{begun}
 
 pub returns-in-Ok-clause-ends : goal.returns-in-Ok-clause-ends
 returns-in-Ok-clause-ends g c = λ file start held stands bytes before told begun.
-    let desk = g.D.Desk in let old = c.args.desk.now in let new = c.run_script.new.desk in let left = g.S.Source.left c.run_script.new.input in
-    let is : store_of c.in-Ok.session ≡ start = sym (MatchOption-at_some _ _ file held c.in-Ok.ensures.ends.1.only start stands) in
+    let desk = g.D.Desk in let old = c.args.desk.now in let new = c.run_script.new.desk in
+    let left = g.S.Source.left c.run_script.new.input in
+    let is : store_of c.in-Ok.session ≡ start =
+    sym (MatchOption-at_some _ _ file held c.in-Ok.ensures.ends.1.only start stands) in
     subst (λ (s : Store). LeavesAtEnd desk c.status_of.result true old s bytes before left new) is
-    (c.run_script.ensures.ends c.status_of.result c.status_of.ensures bytes before told (c.reopen.ensures.line.said ∙ begun) old (c.in-Ok.ensures.ends.1.settled file held))
+    (c.run_script.ensures.ends c.status_of.result c.status_of.ensures bytes before told
+    (c.reopen.ensures.line.said ∙ begun) old (c.in-Ok.ensures.ends.1.settled file held))
 
 pub returns-in-Ok-clause-stops : goal.returns-in-Ok-clause-stops
 returns-in-Ok-clause-stops g c = λ file start held stands bytes before told begun.
-    let desk = g.D.Desk in let old = c.args.desk.now in let mid = c.reopen.new.desk in let new = c.run_script.new.desk in let first = old in
-    let is : store_of c.in-Ok.session ≡ start = sym (MatchOption-at_some _ _ file held c.in-Ok.ensures.ends.1.only start stands) in
-    settles_on desk old mid new (ShowsUnopened desk first before) (ShowsAnswered desk true first slot_limit start (script bytes) before)
-    (shows_opening desk first file start (script bytes) before old mid stands begun (c.reopen.ensures.any_moment file held))
+    let desk = g.D.Desk in let old = c.args.desk.now in let mid = c.reopen.new.desk in
+    let new = c.run_script.new.desk in let first = old in
+    let is : store_of c.in-Ok.session ≡ start =
+    sym (MatchOption-at_some _ _ file held c.in-Ok.ensures.ends.1.only start stands) in
+    settles_on desk old mid new (ShowsUnopened desk first before)
+    (ShowsAnswered desk true first slot_limit start (script bytes) before)
+    (shows_opening desk first file start (script bytes) before old mid stands begun
+    (c.reopen.ensures.any_moment file held))
     (subst (λ (s : Store). ShowsOnly desk mid new (ShowsAnswered desk true first slot_limit s (script bytes) before)) is
-    (c.run_script.ensures.shows bytes before told (c.reopen.ensures.line.said ∙ begun) old (c.in-Ok.ensures.ends.1.settled file held)))
+    (c.run_script.ensures.shows bytes before told (c.reopen.ensures.line.said ∙ begun) old
+    (c.in-Ok.ensures.ends.1.settled file held)))
 
 pub returns-in-Ok-clause-no_store : goal.returns-in-Ok-clause-no_store
 returns-in-Ok-clause-no_store g c = λ file held none.
@@ -36,7 +44,8 @@ returns-in-Ok-clause-no_store g c = λ file held none.
 pub returns-in-Err-clause-stops : goal.returns-in-Err-clause-stops
 returns-in-Err-clause-stops g c = λ file start held stands bytes before told begun.
     let desk = g.D.Desk in let old = c.args.desk.now in
-    shows_opening desk old file start (script bytes) before old c.reopen.new.desk stands begun (c.reopen.ensures.any_moment file held)
+    shows_opening desk old file start (script bytes) before old c.reopen.new.desk stands begun
+    (c.reopen.ensures.any_moment file held)
 
 pub returns-in-Err-clause-ends : goal.returns-in-Err-clause-ends
 returns-in-Err-clause-ends g c = λ file start held stands bytes before told begun.
@@ -46,13 +55,18 @@ returns-in-Err-clause-ends g c = λ file start held stands bytes before told beg
     (c.reopen.ensures.any_moment file held)
 
 pub returns-in-Ok-clause-status : goal.returns-in-Ok-clause-status
-returns-in-Ok-clause-status g c = script_may_end ⊥ ⊥ ⊤ c.run_script.result c.status_of.result (inr tt) c.status_of.ensures
+returns-in-Ok-clause-status g c =
+    script_may_end ⊥ ⊥ ⊤ c.run_script.result c.status_of.result (inr tt) c.status_of.ensures
 
 pub returns-in-Err-clause-status : goal.returns-in-Err-clause-status
-returns-in-Err-clause-status g c = opening_may_end g.D.Desk slot_limit c.in-Err.ended c.from.result c.args.desk.now c.reopen.new.desk c.from.ensures c.in-Err.ensures.ends
+returns-in-Err-clause-status g c =
+    opening_may_end g.D.Desk slot_limit c.in-Err.ended c.from.result c.args.desk.now c.reopen.new.desk c.from.ensures
+    c.in-Err.ensures.ends
 
 pub returns-in-Ok-clause-refused : goal.returns-in-Ok-clause-refused
-returns-in-Ok-clause-refused g c = λ none. absurd (no_refusal c.run_script.result c.status_of.result c.status_of.ensures none)
+returns-in-Ok-clause-refused g c =
+    λ none. absurd (no_refusal c.run_script.result c.status_of.result c.status_of.ensures none)
 
 pub returns-in-Ok-clause-not_run : goal.returns-in-Ok-clause-not_run
-returns-in-Ok-clause-not_run g c = λ none. absurd (no_refusal c.run_script.result c.status_of.result c.status_of.ensures none)
+returns-in-Ok-clause-not_run g c =
+    λ none. absurd (no_refusal c.run_script.result c.status_of.result c.status_of.ensures none)

@@ -17,18 +17,25 @@ returns-clause-value c =
     ap (λ (d : DeskState). slice_get (begun_at d.calls) c.args.call) (sym c.self.view_is)
     ∙ slice_get-map (λ (call : Recorded). call.said_before) (calls_of items) c.args.call
     ∙ ap (option_map (λ (call : Recorded). call.said_before)) (slice_get-map call_of items c.args.call
-    ∙ ap (option_map call_of) (slice_get_read items (length items) c.args.call c.index.result.now refl (omega (arith, count, mapped, c.requires)) c.index.ensures))
+    ∙ ap (option_map call_of)
+    (slice_get_read items (length items) c.args.call c.index.result.now refl
+    (omega (arith, count, mapped, c.requires)) c.index.ensures))
 
 pub returns-clause-within : goal.returns-clause-within
 returns-clause-within c =
     let desk = c.args.self.now in
     let begun = subst Begun c.self.view_is c.self.invariant.within in
     let mapped = length-map desk.calls (λ (call : Recorded). call.said_before) in
-    subst (λ (n : ℕ). n ≤ length desk.said) (get_or_from_slice_get (begun_at desk.calls) c.args.call c.index.result.now.said_before 0 (returns-clause-value c))
-    (All-get_or (λ n. n ≤ length desk.said) (begun_at desk.calls) c.args.call 0 (omega (arith, mapped, c.requires)) begun)
+    subst (λ (n : ℕ). n ≤ length desk.said)
+    (get_or_from_slice_get (begun_at desk.calls) c.args.call c.index.result.now.said_before 0
+    (returns-clause-value c))
+    (All-get_or (λ n. n ≤ length desk.said) (begun_at desk.calls) c.args.call 0 (omega (arith, mapped, c.requires))
+    begun)
 
 pub returns-clause-line : goal.returns-clause-line
 returns-clause-line c =
     let desk = c.args.self.now in
-    let is = get_or_from_slice_get (begun_at desk.calls) c.args.call c.index.result.now.said_before (length desk.said) (returns-clause-value c) in
+    let is =
+    get_or_from_slice_get (begun_at desk.calls) c.args.call c.index.result.now.said_before (length desk.said)
+    (returns-clause-value c) in
     omega (arith, is, length-take (said_len_at desk.calls desk.said c.args.call) desk.said, returns-clause-within c)

@@ -12,19 +12,22 @@ pub returns-in_err-image-clause-allowed : goal.returns-in_err-image-clause-allow
 returns-in_err-image-clause-allowed c = left_in c.args.self.now c.args.call c.args.filler c.requires
 
 pub returns-in_err-image-clause-shown : goal.returns-in_err-image-clause-shown
-returns-in_err-image-clause-shown c = shown_in c.args.self.now c.args.call c.args.filler c.requires (subst Quiet c.self.view_is c.self.invariant.quiet)
+returns-in_err-image-clause-shown c =
+    shown_in c.args.self.now c.args.call c.args.filler c.requires (subst Quiet c.self.view_is c.self.invariant.quiet)
 
 pub returns-in_err-fill-clause-allowed : goal.returns-in_err-fill-clause-allowed
 returns-in_err-fill-clause-allowed c = left_in c.args.self.now c.args.call c.args.filler c.requires
 
 pub returns-in_err-fill-clause-shown : goal.returns-in_err-fill-clause-shown
-returns-in_err-fill-clause-shown c = shown_in c.args.self.now c.args.call c.args.filler c.requires (subst Quiet c.self.view_is c.self.invariant.quiet)
+returns-in_err-fill-clause-shown c =
+    shown_in c.args.self.now c.args.call c.args.filler c.requires (subst Quiet c.self.view_is c.self.invariant.quiet)
 
 pub returns-clause-allowed : goal.returns-clause-allowed
 returns-clause-allowed c = left_in c.args.self.now c.args.call c.args.filler c.requires
 
 pub returns-clause-shown : goal.returns-clause-shown
-returns-clause-shown c = shown_in c.args.self.now c.args.call c.args.filler c.requires (subst Quiet c.self.view_is c.self.invariant.quiet)
+returns-clause-shown c =
+    shown_in c.args.self.now c.args.call c.args.filler c.requires (subst Quiet c.self.view_is c.self.invariant.quiet)
 
 pub returns-clause-left : goal.returns-clause-left
 returns-clause-left c =
@@ -34,7 +37,9 @@ returns-clause-left c =
     let first = c.self.inside.first.items in
     let count = ap (λ (d : DeskState). length d.calls) c.self.view_is in
     let mapped = length-map items call_of in
-    let calls_are = ap (λ (l : List RecordedInMemory). calls_of (take call l)) c.deref-2.ensures.value ∙ sym (take-map call_of call items) in
+    let calls_are =
+    ap (λ (l : List RecordedInMemory). calls_of (take call l)) c.deref-2.ensures.value
+    ∙ sym (take-map call_of call items) in
     let image_is : c.in_ok-image.image.items ≡ image_after filler first first (take call (calls_of items)) =
     c.in_ok-image.ensures
     ∙ ap (λ (l : List ℕ). image_after filler l l (calls_of (take call c.deref-2.result.now))) c.deref.ensures.value

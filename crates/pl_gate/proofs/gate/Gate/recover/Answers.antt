@@ -23,7 +23,8 @@ place_read g c =
     let first = len_read g c.before.before.before.before.before in
     read_on g.D.Desk c.args.self.now.desk.now c.len.new.self c.read_place.new.desk first c.read_place.ensures.reads
 
-journal_read : (g : Over) (c : After-check_journal g) → OnlyReads g.D.Desk c.args.self.now.desk.now c.check_journal.new.desk
+journal_read : (g : Over) (c : After-check_journal g)
+    → OnlyReads g.D.Desk c.args.self.now.desk.now c.check_journal.new.desk
 journal_read g c =
     let first = place_read g c.before.before.before.before.before.before in
     read_on g.D.Desk c.args.self.now.desk.now c.read_place.new.desk c.check_journal.new.desk first
@@ -41,7 +42,8 @@ pub returns-then-len-clause-any_moment : goal.returns-then-len-clause-any_moment
 returns-then-len-clause-any_moment g c file is = inl ((len_read g c.before.before.before).shows (some g _ file is))
 
 pub returns-in_err-place-clause-any_moment : goal.returns-in_err-place-clause-any_moment
-returns-in_err-place-clause-any_moment g c file is = inl ((place_read g c.before.before.before).shows (some g _ file is))
+returns-in_err-place-clause-any_moment g c file is =
+    inl ((place_read g c.before.before.before).shows (some g _ file is))
 
 pub returns-else-place-clause-any_moment : goal.returns-else-place-clause-any_moment
 returns-else-place-clause-any_moment g c file is = inl ((place_read g c.before.before.before).shows (some g _ file is))

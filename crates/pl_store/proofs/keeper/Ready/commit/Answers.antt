@@ -4,11 +4,13 @@ use Rattle.pl_store.proofs.keeper.Ready.commit.Goals as goal
 
 pub returns-in_err-commit-in-File-clause-any_moment : goal.returns-in_err-commit-in-File-clause-any_moment
 returns-in_err-commit-in-File-clause-any_moment g c = rw c.in-File.is (λ before first line from kept told.
-    commits g.D.Desk before first c.args.desk.now c.commit.new.desk c.in-File.prepared from kept c.commit.ensures.any_moment)
+    commits g.D.Desk before first c.args.desk.now c.commit.new.desk c.in-File.prepared from kept
+    c.commit.ensures.any_moment)
 
 pub returns-in_ok-commit-in-File-clause-any_moment : goal.returns-in_ok-commit-in-File-clause-any_moment
 returns-in_ok-commit-in-File-clause-any_moment g c = rw c.in-File.is (λ before first line from kept told.
-    commits g.D.Desk before first c.args.desk.now c.commit.new.desk c.in-File.prepared from kept c.commit.ensures.any_moment)
+    commits g.D.Desk before first c.args.desk.now c.commit.new.desk c.in-File.prepared from kept
+    c.commit.ensures.any_moment)
 
 pub returns-in_ok-commit-in-File-clause-kept : goal.returns-in_ok-commit-in-File-clause-kept
 returns-in_ok-commit-in-File-clause-kept g c = rw c.in-File.is (λ before first from kept.

@@ -5,14 +5,16 @@ use Rattle.pl_gate.specs.States.{HoldsEither, IsClosed}
 use Rattle.pl_store.specs.declared.pending.Pending.{Pending}
 use Rattle.pl_store.specs.declared.session.Prepared.{Prepared}
 use Rattle.pl_store.specs.declared.session.Session.{Session}
-use Rattle.pl_store.specs.Session.{IsPreparedFrom, IsSettled, StandsForEither, bytes_of, next_bytes, next_store, store_of}
+use Rattle.pl_store.specs.Session.{IsPreparedFrom, IsSettled, StandsForEither, bytes_of, next_bytes, next_store}
+use Rattle.pl_store.specs.Session.{store_of}
 use Rattle.pl_store.specs.StandsLaws.{settled_stands, stands_by_either}
 use Rattle.pl_store.proofs.session.Prepared.commit.Given.{Over}
 use Rattle.pl_store.proofs.session.Prepared.commit.Goals as goal
 use Rattle.pl_desk.specs.Shown.{AtAnyMoment, Rests}
 
 -- what a stop within the write of the change shows
-write_shown : (g : Over) (old new : g.row.D.Denot) (prepared : Prepared) (pending : Pending) → prepared.change ≡ Some pending
+write_shown : (g : Over) (old new : g.row.D.Denot) (prepared : Prepared) (pending : Pending)
+    → prepared.change ≡ Some pending
     → ((pages : List ℕ) → Rests g.D.Desk old (IsClosed pages) → length pages ≡ bytes_before pending.touched.before
     → AtAnyMoment g.D.Desk old new (HoldsEither pending.touched pages))
     → (before : Session) → IsPreparedFrom before prepared → IsSettled g.D.Desk before old
@@ -21,7 +23,8 @@ write_shown g old new prepared pending is shows before from settled =
     let desk = g.D.Desk in let change = pending.touched in let leads = rw is at from.leads in
     weaker desk old new (HoldsEither change (bytes_of before)) (StandsForEither (store_of before) (next_store prepared))
     (shows (bytes_of before) settled.rests leads.1)
-    (stands_by_either change (bytes_of before) (next_bytes prepared) (store_of before) (next_store prepared) leads.0 settled.stands from.stands)
+    (stands_by_either change (bytes_of before) (next_bytes prepared) (store_of before) (next_store prepared) leads.0
+    settled.stands from.stands)
 
 pub returns-in_default-clause-settled : goal.returns-in_default-clause-settled
 returns-in_default-clause-settled g c before from settled =
@@ -40,28 +43,34 @@ returns-in_default-clause-any_moment g c before from settled =
 
 pub returns-in_err-write_change-clause-any_moment : goal.returns-in_err-write_change-clause-any_moment
 returns-in_err-write_change-clause-any_moment g c before from settled =
-    write_shown g c.args.desk.now c.write_change.new.desk c.args.self c.in-Some.pending c.in-Some.is c.write_change.ensures.any_moment before from settled
+    write_shown g c.args.desk.now c.write_change.new.desk c.args.self c.in-Some.pending c.in-Some.is
+    c.write_change.ensures.any_moment before from settled
 
 pub returns-clause-settled : goal.returns-clause-settled
 returns-clause-settled g c before from settled =
     let desk = g.D.Desk in let new = c.write_change.new.desk in let leads = rw c.in-Some.is at from.leads in
     record {
-      rests = subst (λ (bytes : List ℕ). Rests desk new (IsClosed bytes)) leads.0 (c.in_ok-write_change.ensures.closed (bytes_of before) settled.rests leads.1);
+      rests =
+          subst (λ (bytes : List ℕ). Rests desk new (IsClosed bytes)) leads.0
+          (c.in_ok-write_change.ensures.closed (bytes_of before) settled.rests leads.1);
       stands = from.stands;
     }
 
 pub returns-clause-any_moment : goal.returns-clause-any_moment
 returns-clause-any_moment g c before from settled =
-    write_shown g c.args.desk.now c.write_change.new.desk c.args.self c.in-Some.pending c.in-Some.is c.write_change.ensures.any_moment before from settled
+    write_shown g c.args.desk.now c.write_change.new.desk c.args.self c.in-Some.pending c.in-Some.is
+    c.write_change.ensures.any_moment before from settled
 
 -- what a stop after it leaves
-write_left : (g : Over) (old new : g.row.D.Denot) (prepared : Prepared) (before : Session) → IsSettled g.D.Desk before old → g.D.Desk.said new ≡ g.D.Desk.said old
+write_left : (g : Over) (old new : g.row.D.Denot) (prepared : Prepared) (before : Session)
+    → IsSettled g.D.Desk before old → g.D.Desk.said new ≡ g.D.Desk.said old
     → AtAnyMoment g.D.Desk old new (StandsForEither (store_of before) (next_store prepared))
     → (file : List ℕ) → g.D.Desk.may_leave new file → StandsForEither (store_of before) (next_store prepared) file
 write_left g old new prepared before settled unsaid shows =
     let desk = g.D.Desk in
     let some = some_said desk old settled.rests.file (g.met.D.Desk.told_together old) settled.rests.is_held in
-    left_now desk g.met.D.Desk.counts_now old new (StandsForEither (store_of before) (next_store prepared)) (subst IsSome (sym unsaid) some) shows
+    left_now desk g.met.D.Desk.counts_now old new (StandsForEither (store_of before) (next_store prepared))
+    (subst IsSome (sym unsaid) some) shows
 
 pub returns-in_default-clause-left : goal.returns-in_default-clause-left
 returns-in_default-clause-left g c before from settled file left =
@@ -70,9 +79,11 @@ returns-in_default-clause-left g c before from settled file left =
 pub returns-in_err-write_change-clause-left : goal.returns-in_err-write_change-clause-left
 returns-in_err-write_change-clause-left g c before from settled =
     write_left g c.args.desk.now c.write_change.new.desk c.args.self before settled c.write_change.ensures.line.said
-    (write_shown g c.args.desk.now c.write_change.new.desk c.args.self c.in-Some.pending c.in-Some.is c.write_change.ensures.any_moment before from settled)
+    (write_shown g c.args.desk.now c.write_change.new.desk c.args.self c.in-Some.pending c.in-Some.is
+    c.write_change.ensures.any_moment before from settled)
 
 pub returns-clause-left : goal.returns-clause-left
 returns-clause-left g c before from settled =
     write_left g c.args.desk.now c.write_change.new.desk c.args.self before settled c.write_change.ensures.line.said
-    (write_shown g c.args.desk.now c.write_change.new.desk c.args.self c.in-Some.pending c.in-Some.is c.write_change.ensures.any_moment before from settled)
+    (write_shown g c.args.desk.now c.write_change.new.desk c.args.self c.in-Some.pending c.in-Some.is
+    c.write_change.ensures.any_moment before from settled)

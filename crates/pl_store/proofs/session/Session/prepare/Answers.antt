@@ -24,5 +24,6 @@ returns-clause-from c =
     record {
       leads = (c.in_ok-touched.ensures.whole before base, c.in_ok-touched.ensures.before before base);
       stands = subst (λ (bytes : List ℕ). StandsFor bytes (store_of (kept_of new))) (sym c.touched.ensures.bytes)
-          (subst (λ kept. StandsFor (bytes_of mid) (store_of kept)) (sym c.touched.ensures.kept) c.in_ok-engine.ensures.stands);
+          (subst (λ kept. StandsFor (bytes_of mid) (store_of kept)) (sym c.touched.ensures.kept)
+          c.in_ok-engine.ensures.stands);
     }

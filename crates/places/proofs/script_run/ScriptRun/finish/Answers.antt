@@ -16,19 +16,27 @@ use Rattle.pl_desk.specs.AnyMoment.{begun}
 
 pub returns-clause-ok : goal.returns-clause-ok
 returns-clause-ok g c =
-    on_ok_weaker c.answer.result (λ says. λ start bytes begun at. finished start bytes c.deref.result.now begun _ _ c.args.self at c.deref.ensures.value says) c.answer.ensures.said
+    on_ok_weaker c.answer.result
+    (λ says. λ start bytes begun at. finished start bytes c.deref.result.now begun _ _ c.args.self
+    at c.deref.ensures.value says) c.answer.ensures.said
 
 pub returns-clause-store : goal.returns-clause-store
 returns-clause-store g c =
-    IfOk-weaker c.answer.result _ _ (λ keeper stepped. λ start bytes begun at. finished_store start bytes c.deref.result.now begun _ c.args.self (store_of keeper) at c.deref.ensures.value stepped) c.answer.ensures.store
+    IfOk-weaker c.answer.result _ _
+    (λ keeper stepped. λ start bytes begun at. finished_store start bytes c.deref.result.now begun _ c.args.self
+    (store_of keeper) at c.deref.ensures.value stepped) c.answer.ensures.store
 
 pub returns-clause-ends : goal.returns-clause-ends
 returns-clause-ends g c = let desk = g.D.Desk in let new = c.answer.new.desk in
-    if_err_both c.answer.result _ _ _ c.answer.ensures.stopped c.answer.ensures.left (λ error says left. λ start bytes begun first at kept.
-    last_leaves desk error (is_file c.args.self.keeper) first start begun new bytes c.deref.result.now (desk.said c.args.desk.now) c.args.self at says (left first kept) c.deref.ensures.value)
+    if_err_both c.answer.result _ _ _ c.answer.ensures.stopped c.answer.ensures.left
+    (λ error says left. λ start bytes begun first at kept.
+    last_leaves desk error (is_file c.args.self.keeper) first start begun new bytes c.deref.result.now
+    (desk.said c.args.desk.now) c.args.self at says (left first kept) c.deref.ensures.value)
 
 pub returns-clause-shows : goal.returns-clause-shows
 returns-clause-shows g c = λ start bytes begun first at kept. let desk = g.D.Desk in
-    shows_less desk c.args.desk.now c.answer.new.desk _ (ShowsAnswered desk (is_file c.args.self.keeper) first slot_limit start (script bytes) begun)
+    shows_less desk c.args.desk.now c.answer.new.desk _
+    (ShowsAnswered desk (is_file c.args.self.keeper) first slot_limit start (script bytes) begun)
     (c.answer.ensures.shows first (begun ++ texts (replies slot_limit start (ended_entries bytes))) at.text kept)
-    (last_shows desk (is_file c.args.self.keeper) first start bytes c.deref.result.now begun _ c.args.self at c.deref.ensures.value)
+    (last_shows desk (is_file c.args.self.keeper) first start bytes c.deref.result.now begun _ c.args.self
+    at c.deref.ensures.value)

@@ -5,7 +5,8 @@ use Rattle.pl_desk.specs.AnyMoment.{begun}
 
 pub returns-clause-ok : goal.returns-clause-ok
 returns-clause-ok c = λ start bytes begun said at.
-    line_kept start bytes c.args.byte begun said c.args.self _ at c.requires refl (omega arith) c.in_ok-push.ensures.items
+    line_kept start bytes c.args.byte begun said c.args.self _ at c.requires refl (omega arith)
+    c.in_ok-push.ensures.items
 
 pub returns-then-len-ge-KEPT-clause-ok : goal.returns-then-len-ge-KEPT-clause-ok
 returns-then-len-ge-KEPT-clause-ok c = λ start bytes begun said at.

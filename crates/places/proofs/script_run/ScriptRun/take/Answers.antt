@@ -22,7 +22,9 @@ returns-in_ok-keep-clause-ok g c = λ start bytes begun at. c.in_ok-keep.ensures
 
 pub returns-in_ok-keep-clause-shows : goal.returns-in_ok-keep-clause-shows
 returns-in_ok-keep-clause-shows g c = λ start bytes begun first at kept. let desk = g.D.Desk in
-    shows_less desk c.args.desk.now c.args.desk.now _ (ShowsAnswered desk (is_file c.args.self.keeper) first slot_limit start (ended_entries (bytes ++ c.args.byte ∷ [])) begun)
+    shows_less desk c.args.desk.now c.args.desk.now _
+    (ShowsAnswered desk (is_file c.args.self.keeper) first slot_limit start
+    (ended_entries (bytes ++ c.args.byte ∷ [])) begun)
     (shows_here desk g.met.D.Desk.only_now first start bytes begun c.args.self c.args.desk.now at kept)
     (shows_later desk (is_file c.args.self.keeper) first start bytes (c.args.byte ∷ []) begun)
 
@@ -35,6 +37,8 @@ returns-in_err-keep-clause-ends g c =
 
 pub returns-in_err-keep-clause-shows : goal.returns-in_err-keep-clause-shows
 returns-in_err-keep-clause-shows g c = λ start bytes begun first at kept. let desk = g.D.Desk in
-    shows_less desk c.args.desk.now c.args.desk.now _ (ShowsAnswered desk (is_file c.args.self.keeper) first slot_limit start (ended_entries (bytes ++ c.args.byte ∷ [])) begun)
+    shows_less desk c.args.desk.now c.args.desk.now _
+    (ShowsAnswered desk (is_file c.args.self.keeper) first slot_limit start
+    (ended_entries (bytes ++ c.args.byte ∷ [])) begun)
     (shows_here desk g.met.D.Desk.only_now first start bytes begun c.args.self c.args.desk.now at kept)
     (shows_later desk (is_file c.args.self.keeper) first start bytes (c.args.byte ∷ []) begun)

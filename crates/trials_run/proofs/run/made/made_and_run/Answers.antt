@@ -12,7 +12,8 @@ returns-in-Done g c = record {
   said =
       λ done one two before told told_too begun empty.
       let new = c.run.new.desk in
-      let made : EndsNew g.D.Desk status.Done c.args.desk.now new = rw c.in-Done.is at (c.run.ensures.made (codes "s", refl)) in
+      let made : EndsNew g.D.Desk status.Done c.args.desk.now new =
+      rw c.in-Done.is at (c.run.ensures.made (codes "s", refl)) in
       let rest = (made.1 _ empty).1 in
       c.run_on.ensures.said done rest.file opening rest.is_held rest.has.1
       one two (before ++ made_text)
