@@ -13,16 +13,19 @@ use Rattle.pl_desk.specs.declared.desk.Desk.{Ghosts}
 module _ {D : Type 0} (desk : Ghosts D) where
   -- ---- the laws of a desk
 
+  -- since this moment there is no other
   abbrev pub OnlyNow : Type 0
   OnlyNow = (now : D) (line_now file line : List ℕ) → desk.said now ≡ Some line_now
       → desk.shown_since now (desk.moment now) file line
       → desk.may_leave now file × (line ≡ line_now)
 
+  -- a stop may always show what a read gives now, and what was said
   abbrev pub ShownNow : Type 0
   ShownNow =
       (now : D) (t : ℕ) (file line : List ℕ) → t ≤ desk.moment now → desk.held now ≡ Some file
       → desk.said now ≡ Some line → desk.shown_since now t file line
 
+  -- this moment is one of those since an earlier one
   abbrev pub CountsNow : Type 0
   CountsNow = (now : D) (t : ℕ) (file line : List ℕ) → t ≤ desk.moment now → desk.may_leave now file
       → desk.said now ≡ Some line → desk.shown_since now t file line

@@ -6,6 +6,7 @@ use Rattle.pl_base.specs.Touched.{Change, PageImage, page_size}
 use Rattle.pl_desk.specs.Desk.{overwritten, Torn}
 use Rattle.pl_gate.specs.Gate.{entry_size}
 
+-- the bytes of an entry: its page in 8 bytes, and the image
 abbrev pub entry_bytes : PageImage → List ℕ
 entry_bytes p = to_le_bytes w64 p.page ++ p.image
 
@@ -42,6 +43,7 @@ abbrev pub entry_ranges : ℕ → List PageImage → List Range
 entry_ranges at [] = []
 entry_ranges at (p ∷ pages) = (at, entry_size) ∷ entry_ranges (at + entry_size) pages
 
+-- the ranges of these pages' images
 abbrev pub image_ranges : List PageImage → List Range
 image_ranges pages = map (λ (p : PageImage). (page_size * p.page, page_size)) pages
 

@@ -20,18 +20,23 @@ entry_size = 1032
 abbrev pub commit_bytes : ℕ → ℕ
 commit_bytes pages = (entry_size + page_size) * pages + 18
 
+-- whether the gate is set
 abbrev pub is_set : List ℕ → Bool
 is_set file = slice_index file 0 == 1
 
+-- where the journal begins
 abbrev pub journal_start : List ℕ → ℕ
 journal_start file = from_le_bytes w64 (slice_range file 8 16)
 
+-- how many entries it has
 abbrev pub journal_len : List ℕ → ℕ
 journal_len file = from_le_bytes w32 (slice_range file 16 20)
 
+-- the length of the store in pages once it is installed
 abbrev pub pages_after : List ℕ → ℕ
 pages_after file = from_le_bytes w32 (slice_range file 20 24)
 
+-- the entry at an offset
 abbrev pub entry_at : ℕ → List ℕ → PageImage
 entry_at at file =
     record {
@@ -45,6 +50,7 @@ abbrev pub entries : ℕ → ℕ → List ℕ → List PageImage
 entries zero at file = []
 entries (suc n) at file = entry_at at file ∷ entries n (at + entry_size) file
 
+-- the pages of the journal
 abbrev pub journal : List ℕ → List PageImage
 journal file = entries (journal_len file) (journal_start file) file
 

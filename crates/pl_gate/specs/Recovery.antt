@@ -22,5 +22,5 @@ pub record IsSettledAs (file later : List ℕ) : Type 0 where
   pub stands : StandsAs file later
 
 -- how many bytes its recovery writes
-abbrev pub written_by : List ℕ → ℕ
-written_by file = if is_set file then page_size * journal_len file + 1 else 0
+abbrev pub recovery_bytes : List ℕ → ℕ
+recovery_bytes file = if is_set file then page_size * journal_len file + 1 else 0

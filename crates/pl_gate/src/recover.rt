@@ -4,7 +4,7 @@ ghost use Rattle.pl_base.specs.Touched.{page_size};
 ghost use Rattle.pl_desk.specs.Desk.{last_offset, Only};
 ghost use Rattle.pl_desk.specs.Settling.{Settles};
 ghost use Rattle.pl_gate.specs.Gate.{entry_size, has_gate, is_set};
-ghost use Rattle.pl_gate.specs.Recovery.{IsPlaceOf, IsSettledAs, StandsAs, written_by};
+ghost use Rattle.pl_gate.specs.Recovery.{IsPlaceOf, IsSettledAs, StandsAs, recovery_bytes};
 ghost use Rattle.pl_desk.specs.Shown.{AtAnyMoment, Rests};
 ghost use Rattle.pl_desk.specs.Counts.{CountsAt, Writes};
 ghost use Rattle.pl_desk.specs.Calls.{KeepsLine};
@@ -49,9 +49,9 @@ impl<'d, D: Desk> Gate<'d, D> {
 
         ensures written { OnOk result
             ((file : List ℕ) → D.held self.old.desk.now ≡ Some file
-            → D.written self.new.desk.now ≡ D.written self.old.desk.now + written_by file) }
+            → D.written self.new.desk.now ≡ D.written self.old.desk.now + recovery_bytes file) }
         ensures no_more { (file : List ℕ) → D.held self.old.desk.now ≡ Some file
-            → D.written self.new.desk.now ≤ D.written self.old.desk.now + written_by file }
+            → D.written self.new.desk.now ≤ D.written self.old.desk.now + recovery_bytes file }
         ensures no_less { D.written self.old.desk.now ≤ D.written self.new.desk.now }
         ensures line { KeepsLine D.Desk self.old.desk.now self.new.desk.now }
         ensures counted { CountsAt (result ≡ Err GateError.DeviceFault)

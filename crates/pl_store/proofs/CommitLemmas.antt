@@ -4,23 +4,22 @@ use Rattle.pl_desk.specs.Shown.{AtAnyMoment}
 use Rattle.pl_desk.specs.declared.desk.Desk.{Ghosts}
 use Rattle.pl_store.specs.declared.session.Prepared.{Prepared}
 use Rattle.pl_store.specs.declared.session.Session.{Session}
-use Rattle.pl_store.specs.Session as session
-use Rattle.pl_store.specs.Session.{IsPreparedFrom, IsSettled, StandsForEither, next_store}
+use Rattle.pl_store.specs.Session.{IsPreparedFrom, IsSettled, StandsForEither, next_store, session_store}
 use Rattle.pl_store.specs.declared.keeper.Keeper.{Keeper}
 use Rattle.pl_store.specs.declared.keeper.Keeper.TheVariants.{Memory, File}
 use Rattle.pl_store.specs.declared.keeper.Ready.TheVariants as ready
-use Rattle.pl_store.specs.Keeper.{IsKept, IsReadyFrom, LeavesEither, is_file, store_of}
+use Rattle.pl_store.specs.Keeper.{IsKept, IsReadyFrom, LeavesEither, is_file, keeper_store}
 
 module _ {D : Type 0} (desk : Ghosts D) (before : Keeper) (first old new : D) (prepared : Prepared)
     (from : IsReadyFrom before (ready.File prepared)) (kept : IsKept desk before first old) where
   -- a stop within it leaves the store before or the one after
   pub commits : ((s : Session) → IsPreparedFrom s prepared → IsSettled desk s old
-      → AtAnyMoment desk old new (StandsForEither (session.store_of s) (next_store prepared)))
-      → AtAnyMoment desk old new (LeavesEither desk (is_file before) first (store_of before) (next_store prepared))
+      → AtAnyMoment desk old new (StandsForEither (session_store s) (next_store prepared)))
+      → AtAnyMoment desk old new (LeavesEither desk (is_file before) first (keeper_store before) (next_store prepared))
   commits shows = at before from kept
     where
       at : (b : Keeper) → IsReadyFrom b (ready.File prepared) → IsKept desk b first old
-          → AtAnyMoment desk old new (LeavesEither desk (is_file b) first (store_of b) (next_store prepared))
+          → AtAnyMoment desk old new (LeavesEither desk (is_file b) first (keeper_store b) (next_store prepared))
       at (Memory memory) from' kept' = absurd from'
       at (File s) from' kept' = shows s from' kept'
 
@@ -37,11 +36,12 @@ module _ {D : Type 0} (desk : Ghosts D) (before : Keeper) (first old new : D) (p
   -- and so does a stop after it
   pub leaves_either : (file : List ℕ)
       → ((s : Session) → IsPreparedFrom s prepared → IsSettled desk s old → (f : List ℕ) → desk.may_leave new f
-      → StandsForEither (session.store_of s) (next_store prepared) f)
-      → desk.may_leave new file → LeavesEither desk (is_file before) first (store_of before) (next_store prepared) file
+      → StandsForEither (session_store s) (next_store prepared) f)
+      → desk.may_leave new file
+      → LeavesEither desk (is_file before) first (keeper_store before) (next_store prepared) file
   leaves_either file leaves left = at before from kept
     where
       at : (b : Keeper) → IsReadyFrom b (ready.File prepared) → IsKept desk b first old
-          → LeavesEither desk (is_file b) first (store_of b) (next_store prepared) file
+          → LeavesEither desk (is_file b) first (keeper_store b) (next_store prepared) file
       at (Memory memory) from' kept' = absurd from'
       at (File s) from' kept' = leaves s from' kept' file left

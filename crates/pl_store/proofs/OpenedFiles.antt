@@ -5,7 +5,7 @@ use Rattle.std.proofs.lemmas.Bool.{both_ways}
 use Rattle.std.proofs.lemmas.Option.{MatchOption-at_some, same_Some}
 use Rattle.pl_base.specs.Store.{Store}
 use Rattle.pl_gate.specs.Gate.{has_gate, is_set, laid}
-use Rattle.pl_gate.specs.Recovery.{IsSettledAs, StandsAs, written_by}
+use Rattle.pl_gate.specs.Recovery.{IsSettledAs, StandsAs, recovery_bytes}
 use Rattle.pl_gate.specs.States.{IsClosed}
 use Rattle.pl_form.specs.Form.{StandsFor}
 use Rattle.pl_desk.specs.AnyMoment.{rests_less, still_rests}
@@ -17,8 +17,8 @@ use Rattle.pl_store.specs.declared.ended.Ended.{Ended}
 use Rattle.pl_store.specs.declared.ended.Ended.TheVariants as ended
 use Rattle.pl_store.specs.declared.session.Session.{Session}
 use Rattle.pl_store.specs.Ending.{Opens, OpensStore, RefusesFile}
-use Rattle.pl_store.specs.Reading.{HoldNone, IsReadFrom, Reads}
-use Rattle.pl_store.specs.Session.{Stands, StandsAlike, bytes_of, store_of}
+use Rattle.pl_store.specs.Reading.{HoldNone, IsReadFrom, EndsReading}
+use Rattle.pl_store.specs.Session.{Stands, StandsAlike, session_bytes, session_store}
 
 -- what holds of each value that there may be
 pub if_some : {X : Type 0} (o : Option X) (P : X → Type 0) → ((x : X) → o ≡ Some x → P x) → IfSome o P
@@ -68,7 +68,7 @@ module _ (file later : List ℕ) (settled : IsSettledAs file later) where
   }
 
 -- a recovery of a file whose gate is not set writes nothing
-pub writes_none : (file : List ℕ) (old new : ℕ) → is_set file ≡ false → old ≤ new → new ≤ old + written_by file
+pub writes_none : (file : List ℕ) (old new : ℕ) → is_set file ≡ false → old ≤ new → new ≤ old + recovery_bytes file
     → new ≡ old
 writes_none file old new unset no_less no_more = let most = rw unset at no_more in omega (arith, no_less, most)
 
@@ -87,16 +87,16 @@ module _ {D : Type 0} (desk : Ghosts D) (told : (now : D) → IsSome (desk.held 
   opens_store session read = record {
     stands = if_some (desk.held old) _ (λ file is. let has = read_of file is in
         stands_settled file (settled file is).file (settled file is).has (MatchOption-at_some _ _ file is good)
-        (store_of session) has.stands);
+        (session_store session) has.stands);
     only = if_some (desk.held old) _ (λ file is store stands.
         (read_of file is).only store (settled_form file (settled file is).file (settled file is).has store stands));
     settled = λ file is. record {
-      rests = still_rests desk mid new (IsClosed (bytes_of session)) reads.file.held reads.file.left (record {
+      rests = still_rests desk mid new (IsClosed (session_bytes session)) reads.file.held reads.file.left (record {
         file = (settled file is).file;
         is_held = (settled file is).is_held;
         only = (settled file is).only;
         has =
-            closed file (settled file is).file (settled file is).has (bytes_of session)
+            closed file (settled file is).file (settled file is).has (session_bytes session)
             (MatchOption-at_some _ _ file is good) (read_of file is).begins;
       });
       stands = (read_of file is).own;
@@ -122,7 +122,7 @@ module _ {D : Type 0} (desk : Ghosts D) (told : (now : D) → IsSome (desk.held 
     bad_gate = λ file is lacks. absurd (both_ways (has_gate file) lacks (MatchOption-at_some _ _ file is good));
   }
 
-  pub opens : (limit : ℕ) (result : Result Session Ended) → Reads limit (desk.held mid) result
+  pub opens : (limit : ℕ) (result : Result Session Ended) → EndsReading limit (desk.held mid) result
       → Opens desk limit result old new
   opens limit (Ok session) read = (read.0, opens_store session read.1)
   opens limit (Err ended.DeviceFault) read = tt

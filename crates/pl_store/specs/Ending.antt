@@ -6,7 +6,7 @@ use Rattle.pl_desk.specs.Calls.{KeepsFile}
 use Rattle.pl_desk.specs.Shown.{Rests}
 use Rattle.pl_desk.specs.declared.desk.Desk.{Ghosts}
 use Rattle.pl_gate.specs.Gate.{has_gate, is_set}
-use Rattle.pl_store.specs.Session.{IsSettled, Stands, StandsAlike, limit_of, store_of}
+use Rattle.pl_store.specs.Session.{IsSettled, Stands, StandsAlike, session_limit, session_store}
 use Rattle.pl_base.specs.Live.{slot_limit}
 use Rattle.pl_store.specs.declared.ended.Ended.{Ended}
 use Rattle.pl_store.specs.declared.ended.Ended.TheVariants as ended
@@ -32,8 +32,8 @@ IsFinished file = is_set file ≡ false
 -- the session is that of the store before its first command, which an empty file holds now
 pub record MakesStore {D : Type 0} (desk : Ghosts D) (session : Session) (old new : D) : Type 0
   where
-    pub store : store_of session ≡ opening
-    pub limit : limit_of session ≡ slot_limit
+    pub store : session_store session ≡ opening
+    pub limit : session_limit session ≡ slot_limit
     pub was_empty : IfSome (desk.held old) (λ file. file ≡ [])
     pub settled : (file : List ℕ) → desk.held old ≡ Some file → IsSettled desk session new
 
@@ -61,9 +61,9 @@ Makes desk (Err (ended.NotEmpty len)) old new = FindsBytes desk len old new
 -- the session is that of the one store that the file stands for, which holds it still
 pub record OpensStore {D : Type 0} (desk : Ghosts D) (session : Session) (old new : D) : Type 0
   where
-    pub stands : IfSome (desk.held old) (λ file. Stands file (store_of session))
+    pub stands : IfSome (desk.held old) (λ file. Stands file (session_store session))
     pub only : IfSome (desk.held old)
-        (λ file. (store : Store) → Stands file store → store ≡ store_of session)
+        (λ file. (store : Store) → Stands file store → store ≡ session_store session)
     pub settled : (file : List ℕ) → desk.held old ≡ Some file → IsSettled desk session new
 
 -- the file stands for no store, and still for none; one that no stop left is as it was
@@ -75,7 +75,8 @@ pub record RefusesFile {D : Type 0} (desk : Ghosts D) (old new : D) : Type 0 whe
 
 -- how an opening of a file ends; it never tells how many bytes there are
 abbrev pub Opens : {D : Type 0} (desk : Ghosts D) → ℕ → Result Session Ended → D → D → Type 0
-Opens desk limit (Ok session) old new = (limit_of session ≡ limit) × OpensStore desk session old new
+Opens desk limit (Ok session) old new =
+    (session_limit session ≡ limit) × OpensStore desk session old new
 Opens desk limit (Err ended.DeviceFault) old new = ⊤
 Opens desk limit (Err ended.NoMemory) old new =
     (file : List ℕ) → desk.held old ≡ Some file → Rests desk new (StandsAlike file)

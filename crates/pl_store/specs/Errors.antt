@@ -6,10 +6,12 @@ use Rattle.pl_form.specs.declared.check_error.CheckError.TheVariants.{NoMemory, 
 use Rattle.pl_store.specs.declared.ended.Ended.{Ended}
 use Rattle.pl_store.specs.declared.ended.Ended.TheVariants as ended
 
+-- an error of the gate as the opening's end
 abbrev pub ended_by_gate : GateError → Ended
 ended_by_gate BadGate = ended.NotAStore
 ended_by_gate DeviceFault = ended.DeviceFault
 
+-- an error of the check as the opening's end
 abbrev pub ended_by_check : CheckError → Ended
 ended_by_check NotAStore = ended.NotAStore
 ended_by_check NoMemory = ended.NoMemory

@@ -4,30 +4,34 @@ use Rattle.pl_base.specs.Store.{Store}
 use Rattle.pl_desk.specs.Calls.{LeavesNoMore}
 use Rattle.pl_desk.specs.Shown.{Rests}
 use Rattle.pl_desk.specs.declared.desk.Desk.{Ghosts}
-use Rattle.pl_store.specs.Session as session
 use Rattle.pl_store.specs.Session.{IsPreparedFrom, IsSettled, Stands, memory_limit, memory_store}
-use Rattle.pl_store.specs.Session.{next_limit, next_store}
+use Rattle.pl_store.specs.Session.{next_limit, next_store, session_limit, session_store}
 use Rattle.pl_store.specs.declared.keeper.Keeper.{Keeper}
 use Rattle.pl_store.specs.declared.keeper.Keeper.TheVariants.{Memory, File}
 use Rattle.pl_store.specs.declared.keeper.Ready.{Ready}
 use Rattle.pl_store.specs.declared.keeper.Ready.TheVariants as ready
 
-abbrev pub store_of : Keeper → Store
-store_of (Memory memory) = memory_store memory
-store_of (File s) = session.store_of s
+-- the store that is kept
+abbrev pub keeper_store : Keeper → Store
+keeper_store (Memory memory) = memory_store memory
+keeper_store (File s) = session_store s
 
-abbrev pub limit_of : Keeper → ℕ
-limit_of (Memory memory) = memory_limit memory
-limit_of (File s) = session.limit_of s
+-- how many slots it may take
+abbrev pub keeper_limit : Keeper → ℕ
+keeper_limit (Memory memory) = memory_limit memory
+keeper_limit (File s) = session_limit s
 
+-- whether the store is in a file
 abbrev pub is_file : Keeper → Bool
 is_file (Memory memory) = false
 is_file (File s) = true
 
+-- the store after the command
 abbrev pub ready_store : Ready → Store
 ready_store (ready.Memory memory) = memory_store memory
 ready_store (ready.File prepared) = next_store prepared
 
+-- how many slots it may take
 abbrev pub ready_limit : Ready → ℕ
 ready_limit (ready.Memory memory) = memory_limit memory
 ready_limit (ready.File prepared) = next_limit prepared

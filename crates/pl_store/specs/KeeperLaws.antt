@@ -7,25 +7,25 @@ use Rattle.pl_desk.specs.declared.desk.Desk.{Ghosts}
 use Rattle.pl_store.specs.StandsLaws.{settled_stands, stands_by}
 use Rattle.pl_store.specs.declared.keeper.Keeper.{Keeper}
 use Rattle.pl_store.specs.declared.keeper.Keeper.TheVariants.{Memory, File}
-use Rattle.pl_store.specs.Keeper.{IsKept, Keeps, Leaves, is_file, store_of}
+use Rattle.pl_store.specs.Keeper.{IsKept, Keeps, Leaves, is_file, keeper_store}
 use Rattle.pl_store.specs.Session.{Stands}
 
 module _ {D : Type 0} (desk : Ghosts D) where
   -- the file that a stop leaves is one of the keeper's
   pub kept_leaves : (keeper : Keeper) (first now : D) → IsKept desk keeper first now
       → (file : List ℕ) → desk.may_leave now file
-      → Leaves desk (is_file keeper) first (store_of keeper) file
+      → Leaves desk (is_file keeper) first (keeper_store keeper) file
   kept_leaves (Memory memory) first now kept file left = kept file left
   kept_leaves (File session) first now kept file left =
       settled_stands desk session now kept file left
 
   -- a keeper's file holds its store
   pub kept_keeps : (keeper : Keeper) (first now : D) → IsKept desk keeper first now
-      → Keeps desk (is_file keeper) first (store_of keeper) now
+      → Keeps desk (is_file keeper) first (keeper_store keeper) now
   kept_keeps (Memory memory) first now kept = kept
   kept_keeps (File session) first now kept =
-      rests_less desk now _ (λ file. Stands file (store_of (File session))) kept.rests
-      (λ file closed. stands_by _ file (store_of (File session)) kept.stands closed.holds)
+      rests_less desk now _ (λ file. Stands file (keeper_store (File session))) kept.rests
+      (λ file closed. stands_by _ file (keeper_store (File session)) kept.stands closed.holds)
 
   -- calls that leave the file as it was leave it kept
   pub still_kept : (keeper : Keeper) (first old new : D) → desk.held new ≡ desk.held old

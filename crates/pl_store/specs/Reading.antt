@@ -7,7 +7,7 @@ use Rattle.pl_form.specs.Form.{StandsFor, form_bytes, most_pages, store_rows}
 use Rattle.pl_store.specs.declared.ended.Ended.{Ended}
 use Rattle.pl_store.specs.declared.ended.Ended.TheVariants as ended
 use Rattle.pl_store.specs.declared.session.Session.{Session}
-use Rattle.pl_store.specs.Session.{bytes_of, limit_of, store_of}
+use Rattle.pl_store.specs.Session.{session_bytes, session_limit, session_store}
 
 -- the bytes from page 1 on stand for no store
 abbrev pub HoldNone : List ℕ → Type 0
@@ -38,17 +38,17 @@ pub record IsStoreOf (bytes front : List ℕ) : Type 0 where
 -- the bytes from page 1 on stand for the session's store and for no other, and begin with its own
 -- bytes
 pub record IsReadFrom (session : Session) (bytes : List ℕ) : Type 0 where
-  pub stands : StandsFor bytes (store_of session)
-  pub only : (store : Store) → StandsFor bytes store → store ≡ store_of session
-  pub begins : take (length (bytes_of session)) bytes ≡ bytes_of session
-  pub own : StandsFor (bytes_of session) (store_of session)
+  pub stands : StandsFor bytes (session_store session)
+  pub only : (store : Store) → StandsFor bytes store → store ≡ session_store session
+  pub begins : take (length (session_bytes session)) bytes ≡ session_bytes session
+  pub own : StandsFor (session_bytes session) (session_store session)
 
 -- how the reading of a store ends, of a file whose gate is not set; it never tells how many bytes
 -- there are
-abbrev pub Reads : ℕ → Option (List ℕ) → Result Session Ended → Type 0
-Reads limit held (Ok session) =
-    (limit_of session ≡ limit) × IfSome held (λ file. IsReadFrom session (drop page_size file))
-Reads limit held (Err ended.DeviceFault) = ⊤
-Reads limit held (Err ended.NoMemory) = ⊤
-Reads limit held (Err ended.NotAStore) = IfSome held (λ file. HoldNone (drop page_size file))
-Reads limit held (Err (ended.NotEmpty len)) = ⊥
+abbrev pub EndsReading : ℕ → Option (List ℕ) → Result Session Ended → Type 0
+EndsReading limit held (Ok session) =
+    (session_limit session ≡ limit) × IfSome held (λ file. IsReadFrom session (drop page_size file))
+EndsReading limit held (Err ended.DeviceFault) = ⊤
+EndsReading limit held (Err ended.NoMemory) = ⊤
+EndsReading limit held (Err ended.NotAStore) = IfSome held (λ file. HoldNone (drop page_size file))
+EndsReading limit held (Err (ended.NotEmpty len)) = ⊥

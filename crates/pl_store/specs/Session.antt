@@ -23,6 +23,7 @@ pub record Stands (file : List ℕ) (store : Store) : Type 0 where
   pub gate : has_gate file ≡ true
   pub form : StandsFor (laid file) store
 
+-- the file stands for one of two stores
 abbrev pub StandsForEither : Store → Store → List ℕ → Type 0
 StandsForEither before after file = Stands file before ⊎ Stands file after
 
@@ -32,39 +33,45 @@ StandsAlike file later = (store : Store) → Stands file store ↔ Stands later 
 
 -- ---- a store in memory
 
+-- the store in memory
 abbrev pub memory_store : Memory → Store
 memory_store memory = rows.store_of (kept_of memory.engine.rows)
 
+-- how many slots it may take
 abbrev pub memory_limit : Memory → ℕ
 memory_limit memory = memory.engine.limit
 
 -- ---- a session
 
-abbrev pub store_of : Session → Store
-store_of session = rows.store_of (kept_of session.engine.rows)
+-- the session's store
+abbrev pub session_store : Session → Store
+session_store session = rows.store_of (kept_of session.engine.rows)
 
 -- the bytes of its store from page 1 on
-abbrev pub bytes_of : Session → List ℕ
-bytes_of session = flat.bytes_of session.engine.rows
+abbrev pub session_bytes : Session → List ℕ
+session_bytes session = flat.bytes_of session.engine.rows
 
 -- how many slots of 128 bytes its store may take
-abbrev pub limit_of : Session → ℕ
-limit_of session = session.engine.limit
+abbrev pub session_limit : Session → ℕ
+session_limit session = session.engine.limit
 
 -- The desk's file holds the session's store: its gate is not set, it begins with the store's pages,
 -- and a stop leaves just what a read gives.
 pub record IsSettled {D : Type 0} (desk : Ghosts D) (session : Session) (now : D) : Type 0 where
-  pub rests : Rests desk now (IsClosed (bytes_of session))
-  pub stands : StandsFor (bytes_of session) (store_of session)
+  pub rests : Rests desk now (IsClosed (session_bytes session))
+  pub stands : StandsFor (session_bytes session) (session_store session)
 
 -- ---- a prepared command
 
+-- the store after the command
 abbrev pub next_store : Prepared → Store
 next_store prepared = rows.store_of (kept_of prepared.engine.rows)
 
+-- its bytes from page 1 on
 abbrev pub next_bytes : Prepared → List ℕ
 next_bytes prepared = flat.bytes_of prepared.engine.rows
 
+-- how many slots it may take
 abbrev pub next_limit : Prepared → ℕ
 next_limit prepared = prepared.engine.limit
 
@@ -88,5 +95,5 @@ LeadsTo before (Some pending) after =
 
 -- the command was prepared in this session
 pub record IsPreparedFrom (session : Session) (prepared : Prepared) : Type 0 where
-  pub leads : LeadsTo (bytes_of session) prepared.change (next_bytes prepared)
+  pub leads : LeadsTo (session_bytes session) prepared.change (next_bytes prepared)
   pub stands : StandsFor (next_bytes prepared) (next_store prepared)

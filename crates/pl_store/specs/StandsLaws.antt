@@ -9,7 +9,7 @@ use Rattle.pl_gate.specs.States.{HoldsEither, IsClosed}
 use Rattle.pl_form.specs.Form.{StandsFor, form_bytes, store_rows}
 use Rattle.pl_desk.specs.declared.desk.Desk.{Ghosts}
 use Rattle.pl_store.specs.declared.session.Session.{Session}
-use Rattle.pl_store.specs.Session.{IsSettled, Stands, StandsForEither, store_of}
+use Rattle.pl_store.specs.Session.{IsSettled, Stands, StandsForEither, session_store}
 
 -- bytes that begin with bytes that begin with a front, begin with it
 begins_by : (front bytes more : List ℕ) → take (length front) bytes ≡ front
@@ -46,7 +46,7 @@ stands_by_either change bytes later before after is first second file either =
 -- a stop leaves files that stand for the session's store where the file is settled for it
 pub settled_stands : {D : Type 0} (desk : Ghosts D) (session : Session) (now : D)
     → IsSettled desk session now
-    → (file : List ℕ) → desk.may_leave now file → Stands file (store_of session)
+    → (file : List ℕ) → desk.may_leave now file → Stands file (session_store session)
 settled_stands desk session now settled file left =
-    stands_by _ file (store_of session) settled.stands
+    stands_by _ file (session_store session) settled.stands
     (subst (IsClosed _) (sym (settled.rests.only file left)) settled.rests.has).holds

@@ -1,7 +1,7 @@
 ghost use Rattle.std.specs.Prelude.{◌≡◌, ℕ, List, IfOk, IsOk};
 ghost use Rattle.pl_store.specs.Session.{IsPreparedFrom, IsSettled, StandsForEither};
-ghost use Rattle.pl_store.specs.Session.{bytes_to_write, limit_of, next_limit, next_store};
-ghost use Rattle.pl_store.specs.Session.{store_of, writes_nothing};
+ghost use Rattle.pl_store.specs.Session.{bytes_to_write, session_limit, next_limit, next_store};
+ghost use Rattle.pl_store.specs.Session.{session_store, writes_nothing};
 ghost use Rattle.pl_desk.specs.Shown.{AtAnyMoment};
 ghost use Rattle.pl_desk.specs.Counts.{Counts, Writes};
 ghost use Rattle.pl_desk.specs.Calls.{KeepsLine};
@@ -16,18 +16,18 @@ impl Prepared {
     /// where there is no change. After an `Err` the session is gone, and the file stands for the
     /// store before or for the one after.
     pub fn commit<D: Desk>(self, desk: &mut D) -> Result<Session, DeviceFault>
-        ensures store { IfOk result (λ session. store_of session ≡ next_store self) }
-        ensures limit { IfOk result (λ session. limit_of session ≡ next_limit self) }
+        ensures store { IfOk result (λ session. session_store session ≡ next_store self) }
+        ensures limit { IfOk result (λ session. session_limit session ≡ next_limit self) }
         ensures settled { IfOk result (λ session. (before : Session) → IsPreparedFrom before self
             → IsSettled D.Desk before desk.old → IsSettled D.Desk session desk.new) }
         ensures any_moment { (before : Session) → IsPreparedFrom before self
             → IsSettled D.Desk before desk.old
             → AtAnyMoment D.Desk desk.old desk.new
-            (StandsForEither (store_of before) (next_store self)) }
+            (StandsForEither (session_store before) (next_store self)) }
         ensures left { (before : Session) → IsPreparedFrom before self
             → IsSettled D.Desk before desk.old
             → (file : List ℕ) → D.may_leave desk.new file
-            → StandsForEither (store_of before) (next_store self) file }
+            → StandsForEither (session_store before) (next_store self) file }
         ensures unasked { writes_nothing self → desk.new ≡ desk.old }
         ensures unasked_ok { writes_nothing self → IsOk result }
         ensures written { Writes result (bytes_to_write self)

@@ -1,8 +1,8 @@
 // A store in memory alone, or in a file too.
 ghost use Rattle.std.specs.Prelude.{◌≡◌, ◌≤◌, List, ℕ, Some, false, IfOk, OnErr};
 ghost use Rattle.pl_engine.specs.Step.{HasDates, perform};
-ghost use Rattle.pl_store.specs.Keeper.{IsKept, IsReadyFrom, LeavesEither, is_file, limit_of};
-ghost use Rattle.pl_store.specs.Keeper.{ready_limit, ready_store, store_of};
+ghost use Rattle.pl_store.specs.Keeper.{IsKept, IsReadyFrom, LeavesEither, is_file, keeper_limit};
+ghost use Rattle.pl_store.specs.Keeper.{ready_limit, ready_store, keeper_store};
 ghost use Rattle.pl_desk.specs.Shown.{AtAnyMoment};
 ghost use Rattle.pl_desk.specs.Counts.{Counts};
 ghost use Rattle.pl_desk.specs.Calls.{KeepsLine};
@@ -32,8 +32,8 @@ impl Keeper {
     pub fn prepare(self, command: &Command) -> Result<(Ready, Reply), NoMemory>
         requires dates { HasDates command.now }
         ensures step { IfOk result (λ done. (done.1, ready_store done.0)
-            ≡ perform (limit_of self) (store_of self) command.now) }
-        ensures limit { IfOk result (λ done. ready_limit done.0 ≡ limit_of self) }
+            ≡ perform (keeper_limit self) (keeper_store self) command.now) }
+        ensures limit { IfOk result (λ done. ready_limit done.0 ≡ keeper_limit self) }
         ensures from { IfOk result (λ done. IsReadyFrom self done.0) }
     {
         match self {
@@ -52,8 +52,8 @@ impl Keeper {
 impl Ready {
     /// Writes the change to the file, if there is one. No memory is taken.
     pub fn commit<D: Desk>(self, desk: &mut D) -> Result<Keeper, DeviceFault>
-        ensures store { IfOk result (λ keeper. store_of keeper ≡ ready_store self) }
-        ensures limit { IfOk result (λ keeper. limit_of keeper ≡ ready_limit self) }
+        ensures store { IfOk result (λ keeper. keeper_store keeper ≡ ready_store self) }
+        ensures limit { IfOk result (λ keeper. keeper_limit keeper ≡ ready_limit self) }
         ensures kept { IfOk result
             (λ keeper. (before : Keeper) (first : D) → IsReadyFrom before self
             → IsKept D.Desk before first desk.old → IsKept D.Desk keeper first desk.new) }
@@ -63,12 +63,12 @@ impl Ready {
         ensures any_moment { (before : Keeper) (first : D) (line : List ℕ) → IsReadyFrom before self
             → IsKept D.Desk before first desk.old → D.said desk.old ≡ Some line
             → AtAnyMoment D.Desk desk.old desk.new
-            (LeavesEither D.Desk (is_file before) first (store_of before) (ready_store self)) }
+            (LeavesEither D.Desk (is_file before) first (keeper_store before) (ready_store self)) }
         ensures left { OnErr result
             ((before : Keeper) (first : D) (file : List ℕ) → IsReadyFrom before self
             → IsKept D.Desk before first desk.old → D.may_leave desk.new file
             → LeavesEither D.Desk (is_file before) first
-            (store_of before) (ready_store self) file) }
+            (keeper_store before) (ready_store self) file) }
         ensures alone { (before : Keeper) → IsReadyFrom before self → is_file before ≡ false
             → desk.new ≡ desk.old }
         ensures no_less { D.written desk.old ≤ D.written desk.new }

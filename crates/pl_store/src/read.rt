@@ -7,10 +7,10 @@ ghost use Rattle.pl_desk.specs.Counts.{Counts, CountsAt};
 ghost use Rattle.pl_desk.specs.Settling.{Settles};
 ghost use Rattle.pl_desk.specs.Shown.{Rests};
 ghost use Rattle.pl_gate.specs.Gate.{has_gate, is_set};
-ghost use Rattle.pl_gate.specs.Recovery.{IsSettledAs, StandsAs, written_by};
+ghost use Rattle.pl_gate.specs.Recovery.{IsSettledAs, StandsAs, recovery_bytes};
 ghost use Rattle.pl_base.specs.Live.{slot_limit};
-ghost use Rattle.pl_store.specs.Reading.{HoldNone, IsReadFrom, Reads, TellsPages};
-ghost use Rattle.pl_store.specs.Session.{limit_of};
+ghost use Rattle.pl_store.specs.Reading.{HoldNone, IsReadFrom, EndsReading, TellsPages};
+ghost use Rattle.pl_store.specs.Session.{session_limit};
 
 use crate::ended::Ended;
 use crate::session::Session;
@@ -35,7 +35,7 @@ pub(crate) fn settle<D: Desk>(desk: &mut D) -> Result<(), GateError>
     ensures any_moment { (file : List ℕ) → D.held desk.old ≡ Some file
         → Settles D.Desk desk.old desk.new (StandsAs file) }
     ensures no_more { (file : List ℕ) → D.held desk.old ≡ Some file
-        → D.written desk.new ≤ D.written desk.old + written_by file }
+        → D.written desk.new ≤ D.written desk.old + recovery_bytes file }
     ensures no_less { D.written desk.old ≤ D.written desk.new }
     ensures line { KeepsLine D.Desk desk.old desk.new }
     ensures counted { CountsAt (result ≡ Err GateError.DeviceFault)
@@ -72,7 +72,7 @@ fn store_pages<D: Desk>(desk: &mut D) -> Result<Option<u32>, Failed>
 fn session_of(alloc: Global, bytes: &[u8], limit: u32) -> Result<Session, CheckError>
     requires { limit ≤ slot_limit }
     ensures read { IfOk result (λ session. IsReadFrom session (drop page_size bytes.now)) }
-    ensures limit { IfOk result (λ session. limit_of session ≡ limit) }
+    ensures limit { IfOk result (λ session. session_limit session ≡ limit) }
     ensures not_a_store { result ≡ Err CheckError.NotAStore → HoldNone (drop page_size bytes.now) }
 {
     let flat = Flat::check(alloc, bytes)?;
@@ -88,7 +88,7 @@ pub(crate) fn read_session<D: Desk>(
     limit: u32,
 ) -> Result<Session, Ended>
     requires { limit ≤ slot_limit }
-    ensures ends { Reads limit (D.held desk.old) result }
+    ensures ends { EndsReading limit (D.held desk.old) result }
     ensures reads { OnlyReads D.Desk desk.old desk.new }
     ensures counted { CountsAt (result ≡ Err Ended.DeviceFault)
         (D.device_faults desk.old) (D.device_faults desk.new) }

@@ -27,16 +27,16 @@ pub struct Prepared {
 impl Session {
     ghost use Rattle.std.specs.Prelude.{◌≡◌, IfOk};
     ghost use Rattle.pl_engine.specs.Step.{HasDates, perform};
-    ghost use Rattle.pl_store.specs.Session.{IsPreparedFrom, limit_of, next_limit, next_store};
-    ghost use Rattle.pl_store.specs.Session.{store_of, writes_nothing};
+    ghost use Rattle.pl_store.specs.Session.{IsPreparedFrom, session_limit, next_limit, next_store};
+    ghost use Rattle.pl_store.specs.Session.{session_store, writes_nothing};
 
     /// Performs a command in memory: no call of the file is made. A refusal is a reply, and leaves
     /// nothing to commit. After `NoMemory` the session is gone, and the file is as it was.
     pub fn prepare(self, command: &Command) -> Result<(Prepared, Reply), NoMemory>
         requires dates { HasDates command.now }
         ensures step { IfOk result (λ done. (done.1, next_store done.0)
-            ≡ perform (limit_of self) (store_of self) command.now) }
-        ensures limit { IfOk result (λ done. next_limit done.0 ≡ limit_of self) }
+            ≡ perform (session_limit self) (session_store self) command.now) }
+        ensures limit { IfOk result (λ done. next_limit done.0 ≡ session_limit self) }
         ensures from { IfOk result (λ done. IsPreparedFrom self done.0) }
         ensures refused { IfOk result
             (λ done. (refusal : Refusal) → done.1 ≡ Reply.Refused refusal → writes_nothing done.0) }

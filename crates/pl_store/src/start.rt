@@ -3,7 +3,7 @@ ghost use Rattle.pl_base.specs.Store.{opening};
 ghost use Rattle.pl_base.specs.Touched.{IsWithin, changed};
 ghost use Rattle.pl_form.specs.Form.{StandsFor};
 ghost use Rattle.pl_base.specs.Live.{slot_limit};
-ghost use Rattle.pl_store.specs.Session.{bytes_of, limit_of, store_of};
+ghost use Rattle.pl_store.specs.Session.{session_bytes, session_limit, session_store};
 
 use crate::session::Session;
 use crate::uncounted;
@@ -16,10 +16,10 @@ use std::alloc::Global;
 /// file.
 pub(crate) fn start(alloc: Global, limit: u32) -> Result<(Session, Touched), NoMemory>
     requires { limit ≤ slot_limit }
-    ensures store { IfOk result (λ done. store_of done.0 ≡ opening) }
-    ensures limit { IfOk result (λ done. limit_of done.0 ≡ limit) }
-    ensures stands { IfOk result (λ done. StandsFor (bytes_of done.0) (store_of done.0)) }
-    ensures whole { IfOk result (λ done. changed done.1 [] ≡ bytes_of done.0) }
+    ensures store { IfOk result (λ done. session_store done.0 ≡ opening) }
+    ensures limit { IfOk result (λ done. session_limit done.0 ≡ limit) }
+    ensures stands { IfOk result (λ done. StandsFor (session_bytes done.0) (session_store done.0)) }
+    ensures whole { IfOk result (λ done. changed done.1 [] ≡ session_bytes done.0) }
     ensures within { IfOk result (λ done. IsWithin done.1) }
     ensures before { IfOk result (λ done. done.1.before ≡ 1) }
     ensures after { IfOk result (λ done. 1 < done.1.after) }

@@ -13,7 +13,7 @@ use Rattle.pl_engine.specs.Run.{replies, after}
 use Rattle.pl_engine.specs.Step.{perform}
 use Rattle.pl_script.specs.Reply.{reply_text}
 use Rattle.pl_store.specs.declared.keeper.Keeper.{Keeper}
-use Rattle.pl_store.specs.Keeper.{IsKept, Keeps, Leaves, LeavesEither, is_file, store_of}
+use Rattle.pl_store.specs.Keeper.{IsKept, Keeps, Leaves, LeavesEither, is_file, keeper_store}
 use Rattle.places.specs.declared.answer_error.AnswerError.{AnswerError}
 use Rattle.places.specs.declared.answer_error.AnswerError.TheVariants as answer
 use Rattle.places.specs.Said.{texts}
@@ -46,13 +46,15 @@ pub keeps_refused : {D : Type 0} (desk : Ghosts D) (keeper : Keeper) (limit : �
     (refusal : Refusal) (first old new : D) (error : AnswerError)
     → entries ≡ Err refusal ∷ [] → KeepsFile desk old new → (error ≡ answer.DeviceFault → ⊥)
     → IsKept desk keeper first old
-    → LeavesOfAnswer desk error (is_file keeper) first (store_of keeper) (after limit (store_of keeper) entries) new
+    → LeavesOfAnswer desk error (is_file keeper) first (keeper_store keeper) (after limit (keeper_store keeper) entries)
+    new
 keeps_refused {D} desk keeper limit entries refusal first old new error one same no_fault kept =
-    at error no_fault (still_keeps desk (is_file keeper) first (store_of keeper) old new same.held same.left
+    at error no_fault (still_keeps desk (is_file keeper) first (keeper_store keeper) old new same.held same.left
     (kept_keeps desk keeper first old kept))
   where
-    at : (e : AnswerError) → (e ≡ answer.DeviceFault → ⊥) → Keeps desk (is_file keeper) first (store_of keeper) new
-        → LeavesOfAnswer desk e (is_file keeper) first (store_of keeper) (after limit (store_of keeper) entries) new
+    at : (e : AnswerError) → (e ≡ answer.DeviceFault → ⊥) → Keeps desk (is_file keeper) first (keeper_store keeper) new
+        → LeavesOfAnswer desk e (is_file keeper) first (keeper_store keeper) (after limit (keeper_store keeper) entries)
+        new
     at answer.SayFault other keeps = rw one keeps
     at answer.DeviceFault other keeps = absurd (other refl)
     at answer.NoMemory other keeps = keeps
@@ -74,9 +76,9 @@ module _ {D : Type 0} (desk : Ghosts D) where
       → (old first : D) (keeper : Keeper) (limit : ℕ) (entries : List (Parsed Command)) (before : List ℕ)
       → desk.said old ≡ Some before
       → IsKept desk keeper first old
-      → ShowsOnly desk old old (ShowsAnswer desk (is_file keeper) first limit (store_of keeper) entries before)
+      → ShowsOnly desk old old (ShowsAnswer desk (is_file keeper) first limit (keeper_store keeper) entries before)
   unanswered only_now old first keeper limit entries before is kept =
-      started desk old (ShowsAnswer desk (is_file keeper) first limit (store_of keeper) entries before)
+      started desk old (ShowsAnswer desk (is_file keeper) first limit (keeper_store keeper) entries before)
       (λ file line shown. let now = only_now old before file line is shown in record {
         part = 0;
         said = now.1 ∙ sym (append-nil before);
@@ -85,13 +87,13 @@ module _ {D : Type 0} (desk : Ghosts D) where
 
   -- while the file takes the step, nothing is said
   pub committing : (old new first : D) (keeper : Keeper) (limit : ℕ) (entries : List (Parsed Command)) (before : List ℕ)
-      (next : Store) → desk.said old ≡ Some before → next ≡ after limit (store_of keeper) entries
-      → AtAnyMoment desk old new (LeavesEither desk (is_file keeper) first (store_of keeper) next)
-      → ShowsOnly desk old new (ShowsAnswer desk (is_file keeper) first limit (store_of keeper) entries before)
+      (next : Store) → desk.said old ≡ Some before → next ≡ after limit (keeper_store keeper) entries
+      → AtAnyMoment desk old new (LeavesEither desk (is_file keeper) first (keeper_store keeper) next)
+      → ShowsOnly desk old new (ShowsAnswer desk (is_file keeper) first limit (keeper_store keeper) entries before)
   committing old new first keeper limit entries before next is stepped shows =
-      shows_less desk old new (λ file line. LeavesEither desk (is_file keeper) first (store_of keeper) next file
+      shows_less desk old new (λ file line. LeavesEither desk (is_file keeper) first (keeper_store keeper) next file
       × (desk.said old ≡ Some line))
-      (ShowsAnswer desk (is_file keeper) first limit (store_of keeper) entries before) shows
+      (ShowsAnswer desk (is_file keeper) first limit (keeper_store keeper) entries before) shows
       (λ file line has. record {
         part = 0;
         said = same_Some line before (sym has.1 ∙ is) ∙ sym (append-nil before);
@@ -103,14 +105,14 @@ module _ {D : Type 0} (desk : Ghosts D) where
   -- the reply is said, beside a keeper of the store after the step
   pub answering : (old mid new first : D) (keeper next : Keeper) (limit : ℕ) (entries : List (Parsed Command))
       (before text : List ℕ)
-      → is_file next ≡ is_file keeper → store_of next ≡ after limit (store_of keeper) entries
-      → texts (replies limit (store_of keeper) entries) ≡ text
+      → is_file next ≡ is_file keeper → keeper_store next ≡ after limit (keeper_store keeper) entries
+      → texts (replies limit (keeper_store keeper) entries) ≡ text
       → IsKept desk next first mid
-      → ShowsOnly desk old mid (ShowsAnswer desk (is_file keeper) first limit (store_of keeper) entries before)
+      → ShowsOnly desk old mid (ShowsAnswer desk (is_file keeper) first limit (keeper_store keeper) entries before)
       → ShowsOnly desk mid new (ShowsFront desk mid before text)
-      → ShowsOnly desk old new (ShowsAnswer desk (is_file keeper) first limit (store_of keeper) entries before)
+      → ShowsOnly desk old new (ShowsAnswer desk (is_file keeper) first limit (keeper_store keeper) entries before)
   answering old mid new first keeper next limit entries before text same_kind stepped texts_are kept so_far saying =
-      and_on desk old mid new (ShowsAnswer desk (is_file keeper) first limit (store_of keeper) entries before)
+      and_on desk old mid new (ShowsAnswer desk (is_file keeper) first limit (keeper_store keeper) entries before)
       (ShowsFront desk mid before text) so_far saying
       (λ file line shows. record {
         part = shows.1.0;
@@ -124,18 +126,18 @@ module _ {D : Type 0} (desk : Ghosts D) where
   pub performing : (old mid new first : D) (keeper next : Keeper) (limit : ℕ) (entries : List (Parsed Command))
       (command : Command) (done : Reply × Store) (before text : List ℕ) → desk.said old ≡ Some before
       → desk.said mid ≡ desk.said old
-      → entries ≡ Ok command ∷ [] → done ≡ perform limit (store_of keeper) command → text ≡ reply_text done.0
-      → is_file next ≡ is_file keeper → store_of next ≡ done.1 → IsKept desk next first mid
-      → AtAnyMoment desk old mid (LeavesEither desk (is_file keeper) first (store_of keeper) done.1)
+      → entries ≡ Ok command ∷ [] → done ≡ perform limit (keeper_store keeper) command → text ≡ reply_text done.0
+      → is_file next ≡ is_file keeper → keeper_store next ≡ done.1 → IsKept desk next first mid
+      → AtAnyMoment desk old mid (LeavesEither desk (is_file keeper) first (keeper_store keeper) done.1)
       → ((line : List ℕ) → desk.said mid ≡ Some line → ShowsOnly desk mid new (ShowsFront desk mid line text))
-      → ShowsOnly desk old new (ShowsAnswer desk (is_file keeper) first limit (store_of keeper) entries before)
+      → ShowsOnly desk old new (ShowsAnswer desk (is_file keeper) first limit (keeper_store keeper) entries before)
   performing old mid new first keeper next limit entries command done before text is unsaid one step written same_kind
       stepped kept shows saying =
       answering old mid new first keeper next limit entries before text same_kind
-      (after_command limit (store_of keeper) (store_of next) entries command done one step stepped)
-      (text_of_command limit (store_of keeper) entries command done text one step written) kept
+      (after_command limit (keeper_store keeper) (keeper_store next) entries command done one step stepped)
+      (text_of_command limit (keeper_store keeper) entries command done text one step written) kept
       (committing old mid first keeper limit entries before done.1 is
-      (after_command limit (store_of keeper) done.1 entries command done one step refl) shows)
+      (after_command limit (keeper_store keeper) done.1 entries command done one step refl) shows)
       (saying before (unsaid ∙ is))
 
   -- a refusal is said, and the store stays
@@ -144,10 +146,10 @@ module _ {D : Type 0} (desk : Ghosts D) where
       (before : List ℕ) → desk.said old ≡ Some before → entries ≡ Err refusal ∷ []
       → IsKept desk keeper first old
       → ShowsOnly desk old new (ShowsFront desk old before (reply_text (Refused refusal)))
-      → ShowsOnly desk old new (ShowsAnswer desk (is_file keeper) first limit (store_of keeper) entries before)
+      → ShowsOnly desk old new (ShowsAnswer desk (is_file keeper) first limit (keeper_store keeper) entries before)
   refusing only_now old new first keeper limit entries refusal before is one kept saying =
       answering old old new first keeper keeper limit entries before (reply_text (Refused refusal)) refl
-      (sym (ap (after limit (store_of keeper)) one))
-      (ap (λ (es : List (Parsed Command)). texts (replies limit (store_of keeper) es)) one
+      (sym (ap (after limit (keeper_store keeper)) one))
+      (ap (λ (es : List (Parsed Command)). texts (replies limit (keeper_store keeper) es)) one
       ∙ append-nil (reply_text (Refused refusal))) kept
       (unanswered only_now old first keeper limit entries before is kept) saying

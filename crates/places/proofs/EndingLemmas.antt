@@ -287,7 +287,8 @@ module _ {D : Type 0} (desk : Ghosts D) (kind : Bool) (first : D) (start : Store
     pub ends_piece : (error : AnswerError) (e : Stop) (s : Status) → Becomes error e → EndsIn e s
         → IsBehind start read bytes before left run was → is_file run.keeper ≡ kind → read + length piece ≤ script_limit
         → left ≡ option_map (λ rest. piece ++ rest) left_now
-        → LeavesAtEntry desk error (is_file run.keeper) first slot_limit start (ended_entries (take read bytes ++ piece))
+        → LeavesAtEntry desk error (is_file run.keeper) first slot_limit start
+        (ended_entries (take read bytes ++ piece))
         before now → LeavesAtEnd desk s kind first start bytes before left_now now
     ends_piece error e s becomes ends behind is few taken leaves =
         let part = piece_of read bytes piece left_now behind.in_input (sym behind.rest_left ∙ taken) in

@@ -10,7 +10,7 @@ use Rattle.pl_engine.specs.Parsed.{Parsed}
 use Rattle.pl_engine.specs.Run.{replies, after}
 use Rattle.pl_script.specs.Script.{entry, script}
 use Rattle.pl_base.specs.Live.{slot_limit}
-use Rattle.pl_store.specs.Keeper.{IsKept, Keeps, is_file, limit_of, store_of}
+use Rattle.pl_store.specs.Keeper.{IsKept, Keeps, is_file, keeper_limit, keeper_store}
 use Rattle.pl_store.specs.KeeperLaws.{kept_keeps}
 use Rattle.places.specs.declared.answer_error.AnswerError.{AnswerError}
 use Rattle.places.specs.declared.answer_error.AnswerError.TheVariants.{NoMemory}
@@ -91,10 +91,10 @@ module _ {D : Type 0} (desk : Ghosts D) (error : AnswerError) (kind : Bool) (fir
 
   module _ (bytes line : List ℕ) (before : Option (List ℕ)) (run : ScriptRun)
       (at : IsAt start bytes (Some begun) run before)
-      (says : SaysOfAnswer error (replies (limit_of run.keeper) (store_of run.keeper) (entries_in line)) before
+      (says : SaysOfAnswer error (replies (keeper_limit run.keeper) (keeper_store run.keeper) (entries_in line)) before
       (desk.said now))
-      (file : LeavesOfAnswer desk error kind first (store_of run.keeper)
-      (after (limit_of run.keeper) (store_of run.keeper) (entries_in line)) now) where
+      (file : LeavesOfAnswer desk error kind first (keeper_store run.keeper)
+      (after (keeper_limit run.keeper) (keeper_store run.keeper) (entries_in line)) now) where
     -- a line that ends with LF, and the last one
     pub line_leaves : line ≡ strip_carriage_return run.line.items → Leaves (ended_entries (bytes ++ 10 ∷ []))
     line_leaves is =

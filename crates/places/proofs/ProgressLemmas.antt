@@ -16,7 +16,7 @@ use Rattle.pl_script.specs.Reply.{reply_text}
 use Rattle.pl_script.specs.Script.{script}
 use Rattle.places.specs.declared.script_run.ScriptRun.{ScriptRun}
 use Rattle.pl_base.specs.Live.{slot_limit}
-use Rattle.pl_store.specs.Keeper.{limit_of, store_of}
+use Rattle.pl_store.specs.Keeper.{keeper_limit, keeper_store}
 use Rattle.places.specs.Lines.{ended_lines, entries_of, entries_in, open_line}
 use Rattle.places.specs.Progress.{IsAt, ended_entries}
 use Rattle.places.specs.Said.{Says, texts}
@@ -139,22 +139,23 @@ module _ (start : Store) where
 
   pub line_ended : (bytes line : List ℕ) (begun said now : Option (List ℕ)) (old new : ScriptRun)
       → IsAt start bytes begun old said → line ≡ strip_carriage_return old.line.items
-      → limit_of new.keeper ≡ limit_of old.keeper
-      → store_of new.keeper ≡ after (limit_of old.keeper) (store_of old.keeper) (entries_in line)
+      → keeper_limit new.keeper ≡ keeper_limit old.keeper
+      → keeper_store new.keeper ≡ after (keeper_limit old.keeper) (keeper_store old.keeper) (entries_in line)
       → new.line.items ≡ []
-      → Says said (texts (replies (limit_of old.keeper) (store_of old.keeper) (entries_in line))) now
+      → Says said (texts (replies (keeper_limit old.keeper) (keeper_store old.keeper) (entries_in line))) now
       → IsAt start (bytes ++ 10 ∷ []) begun new now
   line_ended bytes line begun said now old new at is limit store empty says =
       let same = kept_stripped bytes old.line.items line at.line is in
       let more = entries_in (strip_carriage_return (open_line bytes)) in
-      let store_now : store_of new.keeper ≡ after slot_limit (store_of old.keeper) (entries_in line) =
-      store ∙ ap (λ (most : ℕ). after most (store_of old.keeper) (entries_in line)) at.limit in
+      let store_now : keeper_store new.keeper ≡ after slot_limit (keeper_store old.keeper) (entries_in line) =
+      store ∙ ap (λ (most : ℕ). after most (keeper_store old.keeper) (entries_in line)) at.limit in
       record {
         limit = limit ∙ at.limit;
         store = rw (ended_lf bytes, after-append start (ended_entries bytes) more, ← at.store, ← same) store_now;
         line = rw (open_line-lf bytes) empty;
         text =
-            rw (ended_lf bytes) (says_further (ended_entries bytes) more (store_of old.keeper) begun said now at.store
+            rw (ended_lf bytes) (says_further (ended_entries bytes) more (keeper_store old.keeper) begun said now
+            at.store
             at.text (rw (at.limit, same) at says));
       }
 
@@ -185,16 +186,16 @@ module _ (start : Store) where
 
   pub finished : (bytes line : List ℕ) (begun said now : Option (List ℕ)) (run : ScriptRun)
       → IsAt start bytes begun run said → line ≡ run.line.items
-      → Says said (texts (replies (limit_of run.keeper) (store_of run.keeper) (entries_in line))) now
+      → Says said (texts (replies (keeper_limit run.keeper) (keeper_store run.keeper) (entries_in line))) now
       → Says begun (texts (replies slot_limit start (script bytes))) now
   finished bytes line begun said now run at is says =
       let same = ap entries_in is ∙ kept_open bytes run.line.items at.line in
-      rw (script-is bytes) (says_further (ended_entries bytes) (entries_in (open_line bytes)) (store_of run.keeper)
+      rw (script-is bytes) (says_further (ended_entries bytes) (entries_in (open_line bytes)) (keeper_store run.keeper)
       begun said now at.store at.text (rw (at.limit, same) at says))
 
   pub finished_store : (bytes line : List ℕ) (begun said : Option (List ℕ)) (run : ScriptRun) (store : Store)
       → IsAt start bytes begun run said → line ≡ run.line.items
-      → store ≡ after (limit_of run.keeper) (store_of run.keeper) (entries_in line)
+      → store ≡ after (keeper_limit run.keeper) (keeper_store run.keeper) (entries_in line)
       → store ≡ after slot_limit start (script bytes)
   finished_store bytes line begun said run store at is stepped =
       rw (
@@ -203,4 +204,4 @@ module _ (start : Store) where
         ← at.store,
         ← ap entries_in is ∙ kept_open bytes run.line.items at.line,
       )
-      (stepped ∙ ap (λ (most : ℕ). after most (store_of run.keeper) (entries_in line)) at.limit)
+      (stepped ∙ ap (λ (most : ℕ). after most (keeper_store run.keeper) (entries_in line)) at.limit)

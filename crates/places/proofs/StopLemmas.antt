@@ -10,7 +10,7 @@ use Rattle.pl_engine.specs.Run.{replies, after}
 use Rattle.pl_script.specs.Script.{entry, script}
 use Rattle.places.specs.declared.script_run.ScriptRun.{ScriptRun}
 use Rattle.pl_base.specs.Live.{slot_limit}
-use Rattle.pl_store.specs.Keeper.{IsKept, Leaves, is_file, limit_of, store_of}
+use Rattle.pl_store.specs.Keeper.{IsKept, Leaves, is_file, keeper_limit, keeper_store}
 use Rattle.places.specs.Lines.{entries_in, open_line}
 use Rattle.places.specs.Progress.{IsAt, ended_entries}
 use Rattle.places.specs.Said.{texts}
@@ -102,7 +102,7 @@ module _ {D : Type 0} (desk : Ghosts D) (kind : Bool) (first : D) (start : Store
   -- a line that ends with LF, and the last one
   pub line_shows : (bytes line begun : List ℕ) (said : Option (List ℕ)) (run : ScriptRun)
       → IsAt start bytes (Some begun) run said → line ≡ strip_carriage_return run.line.items → (file shown : List ℕ)
-      → ShowsAnswer desk kind first (limit_of run.keeper) (store_of run.keeper) (entries_in line)
+      → ShowsAnswer desk kind first (keeper_limit run.keeper) (keeper_store run.keeper) (entries_in line)
       (begun ++ texts (replies slot_limit start (ended_entries bytes))) file shown
       → ShowsAnswered desk kind first slot_limit start (ended_entries (bytes ++ 10 ∷ [])) begun file shown
   line_shows bytes line begun said run at is file shown shows =
@@ -112,7 +112,7 @@ module _ {D : Type 0} (desk : Ghosts D) (kind : Bool) (first : D) (start : Store
 
   pub last_shows : (bytes line begun : List ℕ) (said : Option (List ℕ)) (run : ScriptRun)
       → IsAt start bytes (Some begun) run said → line ≡ run.line.items → (file shown : List ℕ)
-      → ShowsAnswer desk kind first (limit_of run.keeper) (store_of run.keeper) (entries_in line)
+      → ShowsAnswer desk kind first (keeper_limit run.keeper) (keeper_store run.keeper) (entries_in line)
       (begun ++ texts (replies slot_limit start (ended_entries bytes))) file shown
       → ShowsAnswered desk kind first slot_limit start (script bytes) begun file shown
   last_shows bytes line begun said run at is file shown shows =

@@ -37,13 +37,15 @@ Becomes answer.NoMemory e = e ≡ stop.NoMemory
 abbrev pub spelled : List (Bor (List ℕ)) → List (List ℕ)
 spelled words = map (λ word. word.now) words
 
--- `try`; `new` and `run` with the name of a file
+-- `try` alone
 abbrev pub IsTry : List (List ℕ) → Type 0
 IsTry words = words ≡ codes "try" ∷ []
 
+-- `new` with the name of a file
 abbrev pub IsNew : List (List ℕ) → Type 0
 IsNew words = (path : List ℕ) × (words ≡ codes "new" ∷ path ∷ [])
 
+-- `run` with the name of a file
 abbrev pub IsRun : List (List ℕ) → Type 0
 IsRun words = (path : List ℕ) × (words ≡ codes "run" ∷ path ∷ [])
 

@@ -12,6 +12,7 @@ all_but_last [] = []
 all_but_last (part ∷ []) = []
 all_but_last (part ∷ next ∷ more) = part ∷ all_but_last (next ∷ more)
 
+-- the last part alone
 abbrev pub last_part : List (List ℕ) → List ℕ
 last_part [] = []
 last_part (part ∷ []) = part
@@ -29,5 +30,6 @@ open_line bytes = last_part (slice_split (λ b. b == 10) bytes)
 abbrev pub entries_of : List (List ℕ) → List (Parsed Command)
 entries_of lines = filter_map entry lines
 
+-- what one line asks for, if anything
 abbrev pub entries_in : List ℕ → List (Parsed Command)
 entries_in line = option_to_list (entry line)

@@ -10,7 +10,7 @@ use Rattle.pl_desk.specs.Shown.{ShowsOnly}
 use Rattle.pl_desk.specs.declared.desk.Desk.{Ghosts}
 use Rattle.pl_store.specs.declared.keeper.Keeper.{Keeper}
 use Rattle.pl_base.specs.Live.{slot_limit}
-use Rattle.pl_store.specs.Keeper.{IsKept, is_file, limit_of, store_of}
+use Rattle.pl_store.specs.Keeper.{IsKept, is_file, keeper_limit, keeper_store}
 use Rattle.places.specs.declared.answer_error.AnswerError.{AnswerError}
 use Rattle.places.specs.Limits.{script_limit}
 use Rattle.places.specs.Lines.{ended_lines, entries_of, open_line}
@@ -37,8 +37,8 @@ pub record HasRead (bytes read rest : List ℕ) (left : Option (List ℕ)) : Typ
 -- as much is kept as tells its entry
 pub record IsAt (start : Store) (bytes : List ℕ) (begun : Option (List ℕ)) (run : ScriptRun)
     (said : Option (List ℕ)) : Type 0 where
-  pub limit : limit_of run.keeper ≡ slot_limit
-  pub store : store_of run.keeper ≡ after slot_limit start (ended_entries bytes)
+  pub limit : keeper_limit run.keeper ≡ slot_limit
+  pub store : keeper_store run.keeper ≡ after slot_limit start (ended_entries bytes)
   pub line : run.line.items ≡ take 262_146 (open_line bytes)
   pub text : Says begun (texts (replies slot_limit start (ended_entries bytes))) said
 

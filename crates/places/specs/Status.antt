@@ -10,6 +10,7 @@ use Rattle.places.specs.declared.stop.Stop.{Stop}
 use Rattle.places.specs.declared.stop.Stop.TheVariants as stop
 use Rattle.places.specs.Limits.{script_limit}
 
+-- the exit status of the program
 abbrev pub status_number : Status → ℕ
 status_number Done = 0
 status_number Usage = 2

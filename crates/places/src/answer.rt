@@ -2,7 +2,7 @@
 ghost use Rattle.std.specs.Prelude.{◌≡◌, ℕ, List, [], ◌∷◌, Some, Err, false, IfOk, IfErr, OnOk};
 ghost use Rattle.pl_engine.specs.Run.{replies, after};
 ghost use Rattle.pl_script.specs.Reply.{reply_text as text_of_reply};
-ghost use Rattle.pl_store.specs.Keeper.{IsKept, is_file, limit_of, store_of};
+ghost use Rattle.pl_store.specs.Keeper.{IsKept, is_file, keeper_limit, keeper_store};
 ghost use Rattle.places.specs.Lines.{entries_in};
 ghost use Rattle.places.specs.Progress.{StaysKept};
 ghost use Rattle.places.specs.Said.{Says, SaysOfAnswer, texts};
@@ -28,24 +28,26 @@ pub fn answer<D: Desk>(
     bytes: &[u8],
     desk: &mut D,
 ) -> Result<Keeper, AnswerError>
-    ensures store { IfOk result (λ next. store_of next
-        ≡ after (limit_of keeper) (store_of keeper) (entries_in bytes.now)) }
-    ensures limit { IfOk result (λ next. limit_of next ≡ limit_of keeper) }
+    ensures store { IfOk result (λ next. keeper_store next
+        ≡ after (keeper_limit keeper) (keeper_store keeper) (entries_in bytes.now)) }
+    ensures limit { IfOk result (λ next. keeper_limit next ≡ keeper_limit keeper) }
     ensures kind { IfOk result (λ next. is_file next ≡ is_file keeper) }
     ensures kept { IfOk result (λ next. StaysKept D.Desk keeper desk.old next desk.new) }
     ensures said { OnOk result (Says (D.said desk.old)
-        (texts (replies (limit_of keeper) (store_of keeper) (entries_in bytes.now)))
+        (texts (replies (keeper_limit keeper) (keeper_store keeper) (entries_in bytes.now)))
         (D.said desk.new)) }
     ensures stopped { IfErr result (λ error. SaysOfAnswer error
-        (replies (limit_of keeper) (store_of keeper) (entries_in bytes.now)) (D.said desk.old)
+        (replies (keeper_limit keeper) (keeper_store keeper) (entries_in bytes.now))
+        (D.said desk.old)
         (D.said desk.new)) }
     ensures left { IfErr result (λ error. (first : D) → IsKept D.Desk keeper first desk.old
-        → LeavesOfAnswer D.Desk error (is_file keeper) first (store_of keeper)
-        (after (limit_of keeper) (store_of keeper) (entries_in bytes.now)) desk.new) }
+        → LeavesOfAnswer D.Desk error (is_file keeper) first (keeper_store keeper)
+        (after (keeper_limit keeper) (keeper_store keeper) (entries_in bytes.now)) desk.new) }
     ensures shows { (first : D) (before : List ℕ) → D.said desk.old ≡ Some before
         → IsKept D.Desk keeper first desk.old
         → ShowsOnly D.Desk desk.old desk.new (ShowsAnswer D.Desk
-        (is_file keeper) first (limit_of keeper) (store_of keeper) (entries_in bytes.now) before) }
+        (is_file keeper) first (keeper_limit keeper) (keeper_store keeper) (entries_in bytes.now)
+        before) }
     ensures alone { is_file keeper ≡ false → LeavesFile D.Desk desk.old desk.new }
     ensures no_memory { result ≡ Err AnswerError.NoMemory → desk.new ≡ desk.old }
     ensures says_counted { CountsAt (result ≡ Err AnswerError.SayFault)

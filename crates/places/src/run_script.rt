@@ -3,7 +3,7 @@ ghost use Rattle.std.specs.Prelude.{◌≡◌, false, Err};
 ghost use Rattle.pl_script.specs.Script.{script};
 ghost use Rattle.places.specs.Ending.{IfTold, LeavesAtEnd};
 ghost use Rattle.pl_base.specs.Live.{slot_limit};
-ghost use Rattle.pl_store.specs.Keeper.{IsKept, is_file, limit_of, store_of};
+ghost use Rattle.pl_store.specs.Keeper.{IsKept, is_file, keeper_limit, keeper_store};
 ghost use Rattle.places.specs.declared.status.Status.{Status};
 ghost use Rattle.places.specs.Status.{EndsAs};
 ghost use Rattle.places.specs.Stops.{ShowsAnswered};
@@ -31,14 +31,14 @@ pub fn run_script<S: Source, D: Desk>(
     input: &mut S,
     desk: &mut D,
 ) -> Result<(), Stop>
-    requires limit { limit_of keeper ≡ slot_limit }
+    requires limit { keeper_limit keeper ≡ slot_limit }
     ensures ends { (status : Status) → EndsAs result status
         → IfTold (S.left input.old) (D.said desk.old) (λ bytes before. (first : D)
         → IsKept D.Desk keeper first desk.old → LeavesAtEnd D.Desk status (is_file keeper) first
-        (store_of keeper) bytes before (S.left input.new) desk.new) }
+        (keeper_store keeper) bytes before (S.left input.new) desk.new) }
     ensures shows { IfTold (S.left input.old) (D.said desk.old) (λ bytes before. (first : D)
         → IsKept D.Desk keeper first desk.old → ShowsOnly D.Desk desk.old desk.new
-        (ShowsAnswered D.Desk (is_file keeper) first slot_limit (store_of keeper) (script bytes)
+        (ShowsAnswered D.Desk (is_file keeper) first slot_limit (keeper_store keeper) (script bytes)
         before)) }
     ensures alone { is_file keeper ≡ false → LeavesFile D.Desk desk.old desk.new }
     ensures reads_counted { CountsAt (result ≡ Err Stop.ReadFault) (S.faults input.old)

@@ -29,14 +29,14 @@ impl ScriptRun {
     ghost use Rattle.pl_engine.specs.Run.{replies, after};
     ghost use Rattle.pl_script.specs.Script.{script};
     ghost use Rattle.pl_base.specs.Live.{slot_limit};
-    ghost use Rattle.pl_store.specs.Keeper.{is_file, limit_of, store_of};
+    ghost use Rattle.pl_store.specs.Keeper.{is_file, keeper_limit, keeper_store};
     ghost use Rattle.places.specs.Progress.{GoesOn, IsAt, ShowsIn, StaysKept, StopsIn};
     ghost use Rattle.places.specs.Progress.{ended_entries};
     ghost use Rattle.places.specs.Said.{Says, texts};
 
     pub fn new(alloc: Global, keeper: Keeper) -> Self
-        ensures at { limit_of keeper ≡ slot_limit → (begun : Option (List ℕ))
-            → IsAt (store_of keeper) [] begun result begun }
+        ensures at { keeper_limit keeper ≡ slot_limit → (begun : Option (List ℕ))
+            → IsAt (keeper_store keeper) [] begun result begun }
         ensures keeper { result.keeper ≡ keeper }
     {
         ScriptRun {
@@ -147,7 +147,7 @@ impl ScriptRun {
         ensures store { IfOk result
             (λ keeper. (start : Store) (bytes : List ℕ) (begun : Option (List ℕ))
             → IsAt start bytes begun self (D.said desk.old)
-            → store_of keeper ≡ after slot_limit start (script bytes)) }
+            → keeper_store keeper ≡ after slot_limit start (script bytes)) }
         ensures kind { IfOk result (λ keeper. is_file keeper ≡ is_file self.keeper) }
         ensures kept { IfOk result (λ keeper.
             StaysKept D.Desk self.keeper desk.old keeper desk.new) }

@@ -12,8 +12,8 @@ use Rattle.pl_form.specs.declared.check_error.CheckError.TheVariants as check
 use Rattle.pl_form.specs.Form.{form_bytes, store_rows}
 use Rattle.pl_store.specs.declared.session.Session.{Session}
 use Rattle.pl_store.specs.Errors.{ended_by_check}
-use Rattle.pl_store.specs.Reading.{HoldNone, HoldPages, IsReadFrom, IsStoreOf, Reads}
-use Rattle.pl_store.specs.Session.{bytes_of, store_of}
+use Rattle.pl_store.specs.Reading.{HoldNone, HoldPages, IsReadFrom, IsStoreOf, EndsReading}
+use Rattle.pl_store.specs.Session.{session_bytes, session_store}
 use Rattle.pl_store.specs.StandsLaws.{stands_for_more}
 use Rattle.pl_store.proofs.OpenedFiles.{if_some}
 use Rattle.pl_store.proofs.read.read_session.Goals as goal
@@ -53,9 +53,9 @@ read_back out rest len same = rw same (take-append_seam out rest)
 read_from : (session : Session) (bytes front : List ℕ) → IsStoreOf bytes front → IsReadFrom session front
     → IsReadFrom session bytes
 read_from session bytes front is read =
-    let own : List ℕ = bytes_of session in
+    let own : List ℕ = session_bytes session in
     record {
-      stands = stands_for_more front bytes (store_of session) read.stands is.begins;
+      stands = stands_for_more front bytes (session_store session) read.stands is.begins;
       only = λ store stands. read.only store (is.whole store stands);
       begins =
           sym (take-take (length own) (length front) bytes
@@ -73,7 +73,7 @@ returns-clause-reads g c =
 -- a check that failed for want of memory tells nothing of the file
 check_failed : (limit : ℕ) (held : Option (List ℕ)) (error : CheckError)
     → (error ≡ check.NotAStore → IfSome held (λ file. HoldNone (drop page_size file)))
-    → Reads limit held (Err (ended_by_check error))
+    → EndsReading limit held (Err (ended_by_check error))
 check_failed limit held check.NotAStore none = none refl
 check_failed limit held check.NoMemory none = tt
 

@@ -2,7 +2,7 @@ use Rattle.std.proofs.Common.{Err, refl, sym, ap, subst, ◌∙◌, option_to_li
 use Rattle.std.proofs.lemmas.Result.{err_from_is_err_and}
 use Rattle.pl_base.specs.Store.{Store}
 use Rattle.pl_engine.specs.Run.{after}
-use Rattle.pl_store.specs.Keeper.{LeavesEither, is_file, limit_of, ready_store, store_of}
+use Rattle.pl_store.specs.Keeper.{LeavesEither, is_file, keeper_limit, ready_store, keeper_store}
 use Rattle.pl_store.specs.KeeperLaws.{kept_keeps, still_keeps, still_kept}
 use Rattle.places.specs.Lines.{entries_in}
 use Rattle.places.proofs.AnswerLemmas.{after_command, committing, keeps_as, keeps_refused, performing, refusing}
@@ -13,7 +13,7 @@ use Rattle.pl_desk.specs.Calls.{LeavesFile}
 -- nothing happens on the desk
 pub returns-in-Ok-None-clause-shows : goal.returns-in-Ok-None-clause-shows
 returns-in-Ok-None-clause-shows g c first before is kept = let desk = g.D.Desk in
-    unanswered desk g.met.D.Desk.only_now c.args.desk.now first c.args.keeper (limit_of c.args.keeper)
+    unanswered desk g.met.D.Desk.only_now c.args.desk.now first c.args.keeper (keeper_limit c.args.keeper)
     (entries_in c.args.bytes.now) before is kept
 
 pub returns-in-Err-NoMemory-clause-left : goal.returns-in-Err-NoMemory-clause-left
@@ -22,7 +22,7 @@ returns-in-Err-NoMemory-clause-left g c first kept = let desk = g.D.Desk in
 
 pub returns-in-Err-NoMemory-clause-shows : goal.returns-in-Err-NoMemory-clause-shows
 returns-in-Err-NoMemory-clause-shows g c first before is kept = let desk = g.D.Desk in
-    unanswered desk g.met.D.Desk.only_now c.args.desk.now first c.args.keeper (limit_of c.args.keeper)
+    unanswered desk g.met.D.Desk.only_now c.args.desk.now first c.args.keeper (keeper_limit c.args.keeper)
     (entries_in c.args.bytes.now) before is kept
 
 -- a refusal
@@ -34,7 +34,8 @@ returns-in-Err-Refused-clause-kept g c first kept = let desk = g.D.Desk in
 pub returns-in-Err-Refused-clause-shows : goal.returns-in-Err-Refused-clause-shows
 returns-in-Err-Refused-clause-shows g c first before is kept = let desk = g.D.Desk in
     let read = rw c.in-Err-Refused.field-0-is at c.in-Err-Refused.ensures in
-    refusing desk g.met.D.Desk.only_now c.args.desk.now c.refuse.new.desk first c.args.keeper (limit_of c.args.keeper)
+    refusing desk g.met.D.Desk.only_now c.args.desk.now c.refuse.new.desk first c.args.keeper
+    (keeper_limit c.args.keeper)
     (entries_in c.args.bytes.now)
     c.in-Err-Refused.refusal before is (ap option_to_list read.entry) kept (c.refuse.ensures.shows before is)
 
@@ -42,7 +43,8 @@ pub returns-in_err-refuse-in-Err-Refused-clause-left : goal.returns-in_err-refus
 returns-in_err-refuse-in-Err-Refused-clause-left g c = let desk = g.D.Desk in
     let read = rw c.in-Err-Refused.field-0-is at c.in-Err-Refused.ensures in
     let p = err_from_is_err_and c.from_residual.result c.from_residual.ensures.1 in
-    rw (p.1, p.2) (λ first kept. keeps_refused desk c.args.keeper (limit_of c.args.keeper) (entries_in c.args.bytes.now)
+    rw (p.1, p.2) (λ first kept. keeps_refused desk c.args.keeper (keeper_limit c.args.keeper)
+    (entries_in c.args.bytes.now)
     c.in-Err-Refused.refusal first
     c.args.desk.now c.refuse.new.desk c.in_err-refuse-in-Err-Refused.field-0.0
     (ap option_to_list read.entry) c.refuse.ensures.file.kept
@@ -51,7 +53,8 @@ returns-in_err-refuse-in-Err-Refused-clause-left g c = let desk = g.D.Desk in
 pub returns-in_err-refuse-in-Err-Refused-clause-shows : goal.returns-in_err-refuse-in-Err-Refused-clause-shows
 returns-in_err-refuse-in-Err-Refused-clause-shows g c first before is kept = let desk = g.D.Desk in
     let read = rw c.in-Err-Refused.field-0-is at c.in-Err-Refused.ensures in
-    refusing desk g.met.D.Desk.only_now c.args.desk.now c.refuse.new.desk first c.args.keeper (limit_of c.args.keeper)
+    refusing desk g.met.D.Desk.only_now c.args.desk.now c.refuse.new.desk first c.args.keeper
+    (keeper_limit c.args.keeper)
     (entries_in c.args.bytes.now)
     c.in-Err-Refused.refusal before is (ap option_to_list read.entry) kept (c.refuse.ensures.shows before is)
 
@@ -63,7 +66,7 @@ returns-in_err-ready-clause-left g c = let desk = g.D.Desk in
 
 pub returns-in_err-ready-clause-shows : goal.returns-in_err-ready-clause-shows
 returns-in_err-ready-clause-shows g c first before is kept = let desk = g.D.Desk in
-    unanswered desk g.met.D.Desk.only_now c.args.desk.now first c.args.keeper (limit_of c.args.keeper)
+    unanswered desk g.met.D.Desk.only_now c.args.desk.now first c.args.keeper (keeper_limit c.args.keeper)
     (entries_in c.args.bytes.now) before is kept
 
 pub returns-in_err-text-clause-left : goal.returns-in_err-text-clause-left
@@ -73,7 +76,7 @@ returns-in_err-text-clause-left g c = let desk = g.D.Desk in
 
 pub returns-in_err-text-clause-shows : goal.returns-in_err-text-clause-shows
 returns-in_err-text-clause-shows g c first before is kept = let desk = g.D.Desk in
-    unanswered desk g.met.D.Desk.only_now c.args.desk.now first c.args.keeper (limit_of c.args.keeper)
+    unanswered desk g.met.D.Desk.only_now c.args.desk.now first c.args.keeper (keeper_limit c.args.keeper)
     (entries_in c.args.bytes.now) before is kept
 
 -- the commit
@@ -82,8 +85,8 @@ returns-in_err-next-clause-left g c = let desk = g.D.Desk in
     let read = rw c.in-Ok-Some.field-0-is at c.in-Ok-Some.ensures in
     let p = err_from_is_err_and c.from_residual-in_err-next.result c.from_residual-in_err-next.ensures.1 in
     rw (p.1, p.2) (λ first kept file left.
-    subst (λ (s : Store). LeavesEither desk (is_file c.args.keeper) first (store_of c.args.keeper) s file)
-    (after_command (limit_of c.args.keeper) (store_of c.args.keeper) (ready_store c.in_ok-ready.ready)
+    subst (λ (s : Store). LeavesEither desk (is_file c.args.keeper) first (keeper_store c.args.keeper) s file)
+    (after_command (keeper_limit c.args.keeper) (keeper_store c.args.keeper) (ready_store c.in_ok-ready.ready)
     (entries_in c.args.bytes.now) c.in-Ok-Some.command (c.in_ok-ready.reply, ready_store c.in_ok-ready.ready)
     (ap option_to_list read.entry) c.in_ok-ready.ensures.step refl)
     (c.in_err-next.ensures.left c.args.keeper first file c.in_ok-ready.ensures.from kept left))
@@ -91,10 +94,10 @@ returns-in_err-next-clause-left g c = let desk = g.D.Desk in
 pub returns-in_err-next-clause-shows : goal.returns-in_err-next-clause-shows
 returns-in_err-next-clause-shows g c first before is kept = let desk = g.D.Desk in
     let read = rw c.in-Ok-Some.field-0-is at c.in-Ok-Some.ensures in
-    committing desk c.args.desk.now c.commit.new.desk first c.args.keeper (limit_of c.args.keeper)
+    committing desk c.args.desk.now c.commit.new.desk first c.args.keeper (keeper_limit c.args.keeper)
     (entries_in c.args.bytes.now) before
     (ready_store c.in_ok-ready.ready) is
-    (after_command (limit_of c.args.keeper) (store_of c.args.keeper) (ready_store c.in_ok-ready.ready)
+    (after_command (keeper_limit c.args.keeper) (keeper_store c.args.keeper) (ready_store c.in_ok-ready.ready)
     (entries_in c.args.bytes.now) c.in-Ok-Some.command (c.in_ok-ready.reply, ready_store c.in_ok-ready.ready)
     (ap option_to_list read.entry) c.in_ok-ready.ensures.step refl)
     (c.commit.ensures.any_moment c.args.keeper first before c.in_ok-ready.ensures.from kept is)
@@ -111,7 +114,7 @@ returns-in-Ok-clause-kept g c first kept = let desk = g.D.Desk in
 
 pub returns-in-Ok-clause-said : goal.returns-in-Ok-clause-said
 returns-in-Ok-clause-said g c = let read = rw c.in-Ok-Some.field-0-is at c.in-Ok-Some.ensures in
-    rw (text_of_command (limit_of c.args.keeper) (store_of c.args.keeper) (entries_in c.args.bytes.now)
+    rw (text_of_command (keeper_limit c.args.keeper) (keeper_store c.args.keeper) (entries_in c.args.bytes.now)
     c.in-Ok-Some.command (c.in_ok-ready.reply, ready_store c.in_ok-ready.ready) c.as_bytes.result.now
     (ap option_to_list read.entry) c.in_ok-ready.ensures.step
     (c.as_bytes.ensures.value ∙ c.as_str.ensures ∙ c.in_ok-text.ensures))
@@ -121,7 +124,7 @@ pub returns-in-Ok-clause-shows : goal.returns-in-Ok-clause-shows
 returns-in-Ok-clause-shows g c first before is kept = let desk = g.D.Desk in
     let read = rw c.in-Ok-Some.field-0-is at c.in-Ok-Some.ensures in
     performing desk c.args.desk.now c.commit.new.desk c.say_all.new.desk first c.args.keeper c.in_ok-next.next
-    (limit_of c.args.keeper) (entries_in c.args.bytes.now) c.in-Ok-Some.command
+    (keeper_limit c.args.keeper) (entries_in c.args.bytes.now) c.in-Ok-Some.command
     (c.in_ok-ready.reply, ready_store c.in_ok-ready.ready) before c.as_bytes.result.now is
     c.commit.ensures.line.said
     (ap option_to_list read.entry) c.in_ok-ready.ensures.step
@@ -138,7 +141,7 @@ returns-in-Ok-clause-alone g c memory = let desk = g.D.Desk in
 -- a reply that was not said whole
 pub returns-clause-stopped : goal.returns-clause-stopped
 returns-clause-stopped g c = let read = rw c.in-Ok-Some.field-0-is at c.in-Ok-Some.ensures in
-    rw (text_of_command (limit_of c.args.keeper) (store_of c.args.keeper) (entries_in c.args.bytes.now)
+    rw (text_of_command (keeper_limit c.args.keeper) (keeper_store c.args.keeper) (entries_in c.args.bytes.now)
     c.in-Ok-Some.command (c.in_ok-ready.reply, ready_store c.in_ok-ready.ready) c.as_bytes.result.now
     (ap option_to_list read.entry) c.in_ok-ready.ensures.step
     (c.as_bytes.ensures.value ∙ c.as_str.ensures ∙ c.in_ok-text.ensures))
@@ -148,13 +151,13 @@ pub returns-clause-left : goal.returns-clause-left
 returns-clause-left g c first kept = let desk = g.D.Desk in
     let read = rw c.in-Ok-Some.field-0-is at c.in-Ok-Some.ensures in
     let after_it =
-    after_command (limit_of c.args.keeper) (store_of c.args.keeper) (store_of c.in_ok-next.next)
+    after_command (keeper_limit c.args.keeper) (keeper_store c.args.keeper) (keeper_store c.in_ok-next.next)
     (entries_in c.args.bytes.now) c.in-Ok-Some.command (c.in_ok-ready.reply, ready_store c.in_ok-ready.ready)
     (ap option_to_list read.entry) c.in_ok-ready.ensures.step c.in_ok-next.ensures.store in
-    keeps_as desk (is_file c.in_ok-next.next) (is_file c.args.keeper) first (store_of c.in_ok-next.next)
-    (after (limit_of c.args.keeper) (store_of c.args.keeper) (entries_in c.args.bytes.now)) c.say_all.new.desk
+    keeps_as desk (is_file c.in_ok-next.next) (is_file c.args.keeper) first (keeper_store c.in_ok-next.next)
+    (after (keeper_limit c.args.keeper) (keeper_store c.args.keeper) (entries_in c.args.bytes.now)) c.say_all.new.desk
     (c.in_ok-next.ensures.kind c.args.keeper c.in_ok-ready.ensures.from) after_it
-    (still_keeps desk (is_file c.in_ok-next.next) first (store_of c.in_ok-next.next) c.commit.new.desk
+    (still_keeps desk (is_file c.in_ok-next.next) first (keeper_store c.in_ok-next.next) c.commit.new.desk
     c.say_all.new.desk
     c.say_all.ensures.file.kept.held c.say_all.ensures.file.kept.left
     (kept_keeps desk c.in_ok-next.next first c.commit.new.desk
@@ -164,7 +167,7 @@ pub returns-clause-shows : goal.returns-clause-shows
 returns-clause-shows g c first before is kept = let desk = g.D.Desk in
     let read = rw c.in-Ok-Some.field-0-is at c.in-Ok-Some.ensures in
     performing desk c.args.desk.now c.commit.new.desk c.say_all.new.desk first c.args.keeper c.in_ok-next.next
-    (limit_of c.args.keeper) (entries_in c.args.bytes.now) c.in-Ok-Some.command
+    (keeper_limit c.args.keeper) (entries_in c.args.bytes.now) c.in-Ok-Some.command
     (c.in_ok-ready.reply, ready_store c.in_ok-ready.ready) before c.as_bytes.result.now is
     c.commit.ensures.line.said
     (ap option_to_list read.entry) c.in_ok-ready.ensures.step

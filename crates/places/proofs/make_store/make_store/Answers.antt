@@ -9,7 +9,7 @@ use Rattle.pl_store.specs.declared.ended.Ended.{Ended}
 use Rattle.pl_store.specs.declared.ended.Ended.TheVariants as ended
 use Rattle.pl_store.specs.declared.session.Session.{Session}
 use Rattle.pl_store.specs.Ending.{IsFinished, Makes, MakesStore}
-use Rattle.pl_store.specs.Session.{Stands, bytes_of, store_of}
+use Rattle.pl_store.specs.Session.{Stands, session_bytes, session_store}
 use Rattle.pl_store.specs.StandsLaws.{stands_by}
 use Rattle.places.specs.Ending.{EndsNew, MadeOfEmpty, MayEnd}
 use Rattle.places.specs.declared.status.Status.{Status}
@@ -27,7 +27,7 @@ made desk session old mid new makes kept file is =
           (rests_less desk mid _ (λ f. IsFinished f × Stands f opening) settled.rests (λ f closed. (
             closed.closed,
             subst (Stands f) makes.store
-                (stands_by (bytes_of session) f (store_of session) settled.stands closed.holds),
+                (stands_by (session_bytes session) f (session_store session) settled.stands closed.holds),
           ))),
     )
 

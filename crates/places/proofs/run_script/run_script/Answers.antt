@@ -3,7 +3,7 @@ use Rattle.std.proofs.lemmas.Option.{none-some}
 use Rattle.std.proofs.lemmas.Result.{err_from_is_err_and}
 use Rattle.std.specs.Result.{result_err}
 use Rattle.pl_store.specs.declared.keeper.Keeper.{Keeper}
-use Rattle.pl_store.specs.Keeper.{is_file, store_of}
+use Rattle.pl_store.specs.Keeper.{is_file, keeper_store}
 use Rattle.pl_desk.specs.AnyMoment.{alone_on, begun, left_alone}
 use Rattle.pl_store.specs.KeeperLaws.{kept_keeps}
 use Rattle.places.specs.Progress.{IsAt}
@@ -12,10 +12,10 @@ use Rattle.places.proofs.EndingLemmas.{goes_on_behind, shows_begun, shows_last, 
 use Rattle.places.proofs.run_script.run_script.Goals as goal
 
 pub loop-read-init : goal.loop-read-init
-loop-read-init g c = let desk = g.D.Desk in let run = c.new-run.result in let start = store_of run.keeper in
+loop-read-init g c = let desk = g.D.Desk in let run = c.new-run.result in let start = keeper_store run.keeper in
     let all_left = g.S.Source.left c.args.input.now in
     let opens : (begun : Option (List ℕ)) → IsAt start [] begun run begun =
-    subst (λ (keeper : Keeper). (begun : Option (List ℕ)) → IsAt (store_of keeper) [] begun run begun)
+    subst (λ (keeper : Keeper). (begun : Option (List ℕ)) → IsAt (keeper_store keeper) [] begun run begun)
     (sym c.new-run.ensures.keeper) (c.new-run.ensures.at c.requires.limit) in
     record {
       told =
@@ -38,7 +38,7 @@ returns-in_err-piece-clause-shows g c = rw (← c.new-run.ensures.keeper) c.loop
 
 pub returns-in_err-finish-clause-shows : goal.returns-in_err-finish-clause-shows
 returns-in_err-finish-clause-shows g c = rw (← c.new-run.ensures.keeper) (λ bytes before all begun first kept.
-    let desk = g.D.Desk in let is = c.loop-read.invariant in let start = store_of c.new-run.result.keeper in
+    let desk = g.D.Desk in let is = c.loop-read.invariant in let start = keeper_store c.new-run.result.keeper in
     let behind = is.told bytes before all begun in
     shows_last desk first start c.loop-read.read bytes before c.in_ok-piece.piece.items
     (g.S.Source.left c.loop-read.input) (is_file c.new-run.result.keeper) c.loop-read.run c.args.desk.now
@@ -49,7 +49,7 @@ returns-in_err-finish-clause-shows g c = rw (← c.new-run.ensures.keeper) (λ b
 
 pub returns-then-is_empty-clause-shows : goal.returns-then-is_empty-clause-shows
 returns-then-is_empty-clause-shows g c = rw (← c.new-run.ensures.keeper) (λ bytes before all begun first kept.
-    let desk = g.D.Desk in let is = c.loop-read.invariant in let start = store_of c.new-run.result.keeper in
+    let desk = g.D.Desk in let is = c.loop-read.invariant in let start = keeper_store c.new-run.result.keeper in
     let behind = is.told bytes before all begun in
     shows_last desk first start c.loop-read.read bytes before c.in_ok-piece.piece.items
     (g.S.Source.left c.loop-read.input) (is_file c.new-run.result.keeper) c.loop-read.run c.args.desk.now
@@ -60,7 +60,7 @@ returns-then-is_empty-clause-shows g c = rw (← c.new-run.ensures.keeper) (λ b
 
 pub returns-in_err-run-clause-shows : goal.returns-in_err-run-clause-shows
 returns-in_err-run-clause-shows g c = rw (← c.new-run.ensures.keeper) (λ bytes before all begun first kept.
-    let desk = g.D.Desk in let is = c.loop-read.invariant in let start = store_of c.new-run.result.keeper in
+    let desk = g.D.Desk in let is = c.loop-read.invariant in let start = keeper_store c.new-run.result.keeper in
     let behind = is.told bytes before all begun in
     shows_piece desk first start c.loop-read.read bytes before c.deref.result.now (g.S.Source.left c.loop-read.input)
     (g.S.Source.left c.next_piece.new.input) (is_file c.new-run.result.keeper) c.loop-read.run c.args.desk.now
@@ -70,7 +70,7 @@ returns-in_err-run-clause-shows g c = rw (← c.new-run.ensures.keeper) (λ byte
 
 pub loop-read-preserved : goal.loop-read-preserved
 loop-read-preserved g c = let desk = g.D.Desk in let is = c.loop-read.invariant in
-    let start = store_of c.new-run.result.keeper in let did = c.in_ok-run.ensures in record {
+    let start = keeper_store c.new-run.result.keeper in let did = c.in_ok-run.ensures in record {
       told = λ bytes before all begun.
           rw (c.len-read.ensures ∙ sym c.deref.ensures.len)
           (goes_on_behind start c.loop-read.read bytes before c.deref.result.now (g.S.Source.left c.loop-read.input)
@@ -78,10 +78,12 @@ loop-read-preserved g c = let desk = g.D.Desk in let is = c.loop-read.invariant 
           c.loop-read.run _ (is.told bytes before all begun)
           (rw c.deref.ensures.value c.in_ok-piece.ensures.taken) (did.ok start));
       shows = λ bytes before all begun first kept. let behind = is.told bytes before all begun in
-          shows_piece desk first start c.loop-read.read bytes before c.deref.result.now (g.S.Source.left c.loop-read.input)
+          shows_piece desk first start c.loop-read.read bytes before c.deref.result.now
+          (g.S.Source.left c.loop-read.input)
           (g.S.Source.left c.next_piece.new.input) (is_file c.new-run.result.keeper) c.loop-read.run c.args.desk.now
           c.loop-read.desk c.take_all.new.desk
-          behind is.kind (rw c.deref.ensures.value c.in_ok-piece.ensures.taken) (is.shows bytes before all begun first kept)
+          behind is.kind (rw c.deref.ensures.value c.in_ok-piece.ensures.taken)
+          (is.shows bytes before all begun first kept)
           (c.take_all.ensures.shows start (take c.loop-read.read bytes) before first behind.at (is.kept first kept));
       kind = did.kind ∙ is.kind;
       kept = λ first kept. did.kept first (is.kept first kept);
@@ -104,7 +106,7 @@ returns-in_err-piece-clause-ends g c =
     let p = err_from_is_err_and c.from_residual.result c.from_residual.ensures.1 in
     rw (p.1, p.2, ← c.new-run.ensures.keeper)
     (λ status ends bytes before all begun first kept. let desk = g.D.Desk in let is = c.loop-read.invariant in
-    let start = store_of c.new-run.result.keeper in let kind = is_file c.new-run.result.keeper in
+    let start = keeper_store c.new-run.result.keeper in let kind = is_file c.new-run.result.keeper in
     let left = g.S.Source.left in let read = c.loop-read.read in
     let now = c.loop-read.desk in
     ends_reading desk kind first start read bytes before [] (left c.loop-read.input) (left c.next_piece.new.input)
@@ -117,7 +119,7 @@ returns-in_err-finish-clause-ends g c =
     let p = err_from_is_err_and c.from_residual-in_err-finish.result c.from_residual-in_err-finish.ensures.1 in
     rw (p.1, ← c.new-run.ensures.keeper)
     (λ status ends bytes before all begun first kept. let desk = g.D.Desk in let is = c.loop-read.invariant in
-    let start = store_of c.new-run.result.keeper in let kind = is_file c.new-run.result.keeper in
+    let start = keeper_store c.new-run.result.keeper in let kind = is_file c.new-run.result.keeper in
     let left = g.S.Source.left in let read = c.loop-read.read in
     let now = c.loop-read.desk in let new = c.finish.new.desk in let behind = is.told bytes before all begun in
     ends_last desk kind first start read bytes before c.in_ok-piece.piece.items (left c.loop-read.input)
@@ -132,7 +134,7 @@ returns-in_err-run-clause-ends g c =
     let p = err_from_is_err_and c.from_residual-in_err-run.result c.from_residual-in_err-run.ensures.1 in
     rw (p.1, ← c.new-run.ensures.keeper)
     (λ status ends bytes before all begun first kept. let desk = g.D.Desk in let is = c.loop-read.invariant in
-    let start = store_of c.new-run.result.keeper in let kind = is_file c.new-run.result.keeper in
+    let start = keeper_store c.new-run.result.keeper in let kind = is_file c.new-run.result.keeper in
     let left = g.S.Source.left in let read = c.loop-read.read in
     let now = c.loop-read.desk in let new = c.take_all.new.desk in let behind = is.told bytes before all begun in
     ends_piece desk kind first start read bytes before c.deref.result.now (left c.loop-read.input)
@@ -146,14 +148,14 @@ pub returns-then-is_empty-clause-ends : goal.returns-then-is_empty-clause-ends
 returns-then-is_empty-clause-ends g c =
     rw (← c.new-run.ensures.keeper)
     (λ status ends bytes before all begun first kept. let desk = g.D.Desk in let is = c.loop-read.invariant in
-    let start = store_of c.new-run.result.keeper in let kind = is_file c.new-run.result.keeper in
+    let start = keeper_store c.new-run.result.keeper in let kind = is_file c.new-run.result.keeper in
     let left = g.S.Source.left in let read = c.loop-read.read in
     let now = c.loop-read.desk in let new = c.finish.new.desk in let did = c.in_ok-finish.ensures in
     let keeper = c.in_ok-finish.field-0 in
     let nothing = empty_piece _ c.in_ok-piece.piece.ok.0 (sym c.if-is_empty.ensures) in
     ends_done desk kind first start read bytes before c.in_ok-piece.piece.items (left c.loop-read.input)
     (left c.next_piece.new.input) c.loop-read.run (desk.said now) new
-    status (store_of keeper) ends (is.told bytes before all begun) c.loop-read-test.true nothing
+    status (keeper_store keeper) ends (is.told bytes before all begun) c.loop-read-test.true nothing
     c.in_ok-piece.ensures.taken (c.in_ok-piece.ensures.ended nothing)
     (did.ok start) (did.store start)
     (rw (did.kind, is.kind) at (kept_keeps desk keeper first new (did.kept first (is.kept first kept)))))
@@ -162,7 +164,7 @@ pub returns-clause-ends : goal.returns-clause-ends
 returns-clause-ends g c =
     rw (← c.new-run.ensures.keeper)
     (λ status ends bytes before all begun first kept. let desk = g.D.Desk in let is = c.loop-read.invariant in
-    let start = store_of c.new-run.result.keeper in let kind = is_file c.new-run.result.keeper in
+    let start = keeper_store c.new-run.result.keeper in let kind = is_file c.new-run.result.keeper in
     let left = g.S.Source.left in let read = c.loop-read.read in
     let now = c.loop-read.desk in
     ends_too_long desk kind first start read bytes before [] (left c.loop-read.input) (left c.loop-read.input)

@@ -2,7 +2,7 @@ use Rattle.std.proofs.Common.{◌≡◌, ◌≤◌, ◌-◌, false}
 use Rattle.pl_script.specs.Script.{script}
 use Rattle.places.specs.Ending.{IfTold}
 use Rattle.pl_base.specs.Live.{slot_limit}
-use Rattle.pl_store.specs.Keeper.{IsKept, is_file, store_of}
+use Rattle.pl_store.specs.Keeper.{IsKept, is_file, keeper_store}
 use Rattle.places.specs.Limits.{script_limit}
 use Rattle.places.specs.Stops.{ShowsAnswered}
 use Rattle.places.proofs.EndingLemmas.{IsBehind}
@@ -15,11 +15,12 @@ use Rattle.pl_desk.specs.Calls.{LeavesFile}
 abbrev pub invariant-loop-read : goal.invariant-loop-read
 invariant-loop-read g l = let input = g.S.Source in let desk = g.D.Desk in let keeper = l.initial.run.keeper in record {
   told : IfTold (input.left l.initial.input) (desk.said l.initial.desk)
-      (λ bytes before. IsBehind (store_of keeper) l.read bytes before (input.left l.input) l.run (desk.said l.desk));
+      (λ bytes before. IsBehind (keeper_store keeper) l.read bytes before (input.left l.input) l.run
+      (desk.said l.desk));
   shows : IfTold (input.left l.initial.input) (desk.said l.initial.desk) (λ bytes before. (first : g.row.D.Denot)
       → IsKept desk keeper first l.initial.desk
       → ShowsOnly desk l.initial.desk l.desk
-      (ShowsAnswered desk (is_file keeper) first slot_limit (store_of keeper) (script bytes) before));
+      (ShowsAnswered desk (is_file keeper) first slot_limit (keeper_store keeper) (script bytes) before));
   kind : is_file l.run.keeper ≡ is_file keeper;
   kept : (first : g.row.D.Denot) → IsKept desk keeper first l.initial.desk
       → IsKept desk l.run.keeper first l.desk;

@@ -4,7 +4,7 @@ use Rattle.std.proofs.lemmas.Option.{MatchOption-at_some}
 use Rattle.pl_base.specs.Store.{Store}
 use Rattle.pl_desk.specs.Settling.{settles_on}
 use Rattle.pl_script.specs.Script.{script}
-use Rattle.pl_store.specs.Session.{store_of}
+use Rattle.pl_store.specs.Session.{session_store}
 use Rattle.places.specs.Ending.{LeavesAtEnd}
 use Rattle.pl_base.specs.Live.{slot_limit}
 use Rattle.places.specs.Stops.{ShowsAnswered, ShowsUnopened}
@@ -17,7 +17,7 @@ pub returns-in-Ok-clause-ends : goal.returns-in-Ok-clause-ends
 returns-in-Ok-clause-ends g c = λ file start held stands bytes before told begun.
     let desk = g.D.Desk in let old = c.args.desk.now in let new = c.run_script.new.desk in
     let left = g.S.Source.left c.run_script.new.input in
-    let is : store_of c.in-Ok.session ≡ start =
+    let is : session_store c.in-Ok.session ≡ start =
     sym (MatchOption-at_some _ _ file held c.in-Ok.ensures.ends.1.only start stands) in
     subst (λ (s : Store). LeavesAtEnd desk c.status_of.result true old s bytes before left new) is
     (c.run_script.ensures.ends c.status_of.result c.status_of.ensures bytes before told
@@ -27,7 +27,7 @@ pub returns-in-Ok-clause-stops : goal.returns-in-Ok-clause-stops
 returns-in-Ok-clause-stops g c = λ file start held stands bytes before told begun.
     let desk = g.D.Desk in let old = c.args.desk.now in let mid = c.reopen.new.desk in
     let new = c.run_script.new.desk in let first = old in
-    let is : store_of c.in-Ok.session ≡ start =
+    let is : session_store c.in-Ok.session ≡ start =
     sym (MatchOption-at_some _ _ file held c.in-Ok.ensures.ends.1.only start stands) in
     settles_on desk old mid new (ShowsUnopened desk first before)
     (ShowsAnswered desk true first slot_limit start (script bytes) before)
@@ -39,7 +39,7 @@ returns-in-Ok-clause-stops g c = λ file start held stands bytes before told beg
 
 pub returns-in-Ok-clause-no_store : goal.returns-in-Ok-clause-no_store
 returns-in-Ok-clause-no_store g c = λ file held none.
-    absurd (none (store_of c.in-Ok.session) (MatchOption-at_some _ _ file held c.in-Ok.ensures.ends.1.stands))
+    absurd (none (session_store c.in-Ok.session) (MatchOption-at_some _ _ file held c.in-Ok.ensures.ends.1.stands))
 
 pub returns-in-Err-clause-stops : goal.returns-in-Err-clause-stops
 returns-in-Err-clause-stops g c = λ file start held stands bytes before told begun.

@@ -5,8 +5,8 @@ use Rattle.pl_gate.specs.States.{HoldsEither, IsClosed}
 use Rattle.pl_store.specs.declared.pending.Pending.{Pending}
 use Rattle.pl_store.specs.declared.session.Prepared.{Prepared}
 use Rattle.pl_store.specs.declared.session.Session.{Session}
-use Rattle.pl_store.specs.Session.{IsPreparedFrom, IsSettled, StandsForEither, bytes_of, next_bytes, next_store}
-use Rattle.pl_store.specs.Session.{store_of}
+use Rattle.pl_store.specs.Session.{IsPreparedFrom, IsSettled, StandsForEither, session_bytes, next_bytes, next_store}
+use Rattle.pl_store.specs.Session.{session_store}
 use Rattle.pl_store.specs.StandsLaws.{settled_stands, stands_by_either}
 use Rattle.pl_store.proofs.session.Prepared.commit.Given.{Over}
 use Rattle.pl_store.proofs.session.Prepared.commit.Goals as goal
@@ -18,12 +18,14 @@ write_shown : (g : Over) (old new : g.row.D.Denot) (prepared : Prepared) (pendin
     → ((pages : List ℕ) → Rests g.D.Desk old (IsClosed pages) → length pages ≡ bytes_before pending.touched.before
     → AtAnyMoment g.D.Desk old new (HoldsEither pending.touched pages))
     → (before : Session) → IsPreparedFrom before prepared → IsSettled g.D.Desk before old
-    → AtAnyMoment g.D.Desk old new (StandsForEither (store_of before) (next_store prepared))
+    → AtAnyMoment g.D.Desk old new (StandsForEither (session_store before) (next_store prepared))
 write_shown g old new prepared pending is shows before from settled =
     let desk = g.D.Desk in let change = pending.touched in let leads = rw is at from.leads in
-    weaker desk old new (HoldsEither change (bytes_of before)) (StandsForEither (store_of before) (next_store prepared))
-    (shows (bytes_of before) settled.rests leads.1)
-    (stands_by_either change (bytes_of before) (next_bytes prepared) (store_of before) (next_store prepared) leads.0
+    weaker desk old new (HoldsEither change (session_bytes before))
+    (StandsForEither (session_store before) (next_store prepared))
+    (shows (session_bytes before) settled.rests leads.1)
+    (stands_by_either change (session_bytes before) (next_bytes prepared) (session_store before) (next_store prepared)
+    leads.0
     settled.stands from.stands)
 
 pub returns-in_default-clause-settled : goal.returns-in_default-clause-settled
@@ -37,7 +39,7 @@ returns-in_default-clause-settled g c before from settled =
 pub returns-in_default-clause-any_moment : goal.returns-in_default-clause-any_moment
 returns-in_default-clause-any_moment g c before from settled =
     let desk = g.D.Desk in let old = c.args.desk.now in let some = g.met.D.Desk.told_together old in
-    begun desk g.met.D.Desk.only_now old (StandsForEither (store_of before) (next_store c.args.self))
+    begun desk g.met.D.Desk.only_now old (StandsForEither (session_store before) (next_store c.args.self))
     (some_said desk old settled.rests.file some settled.rests.is_held)
     (λ file left. inl (settled_stands desk before old settled file left))
 
@@ -52,7 +54,7 @@ returns-clause-settled g c before from settled =
     record {
       rests =
           subst (λ (bytes : List ℕ). Rests desk new (IsClosed bytes)) leads.0
-          (c.in_ok-write_change.ensures.closed (bytes_of before) settled.rests leads.1);
+          (c.in_ok-write_change.ensures.closed (session_bytes before) settled.rests leads.1);
       stands = from.stands;
     }
 
@@ -64,12 +66,12 @@ returns-clause-any_moment g c before from settled =
 -- what a stop after it leaves
 write_left : (g : Over) (old new : g.row.D.Denot) (prepared : Prepared) (before : Session)
     → IsSettled g.D.Desk before old → g.D.Desk.said new ≡ g.D.Desk.said old
-    → AtAnyMoment g.D.Desk old new (StandsForEither (store_of before) (next_store prepared))
-    → (file : List ℕ) → g.D.Desk.may_leave new file → StandsForEither (store_of before) (next_store prepared) file
+    → AtAnyMoment g.D.Desk old new (StandsForEither (session_store before) (next_store prepared))
+    → (file : List ℕ) → g.D.Desk.may_leave new file → StandsForEither (session_store before) (next_store prepared) file
 write_left g old new prepared before settled unsaid shows =
     let desk = g.D.Desk in
     let some = some_said desk old settled.rests.file (g.met.D.Desk.told_together old) settled.rests.is_held in
-    left_now desk g.met.D.Desk.counts_now old new (StandsForEither (store_of before) (next_store prepared))
+    left_now desk g.met.D.Desk.counts_now old new (StandsForEither (session_store before) (next_store prepared))
     (subst IsSome (sym unsaid) some) shows
 
 pub returns-in_default-clause-left : goal.returns-in_default-clause-left

@@ -4,7 +4,7 @@ use Rattle.pl_desk.specs.Moments.{shows_less}
 use Rattle.pl_engine.specs.Run.{replies}
 use Rattle.pl_script.specs.Script.{script}
 use Rattle.pl_base.specs.Live.{slot_limit}
-use Rattle.pl_store.specs.Keeper.{is_file, store_of}
+use Rattle.pl_store.specs.Keeper.{is_file, keeper_store}
 use Rattle.places.specs.Progress.{ended_entries}
 use Rattle.places.specs.Said.{texts}
 use Rattle.places.specs.Stops.{ShowsAnswered}
@@ -24,7 +24,7 @@ pub returns-clause-store : goal.returns-clause-store
 returns-clause-store g c =
     IfOk-weaker c.answer.result _ _
     (λ keeper stepped. λ start bytes begun at. finished_store start bytes c.deref.result.now begun _ c.args.self
-    (store_of keeper) at c.deref.ensures.value stepped) c.answer.ensures.store
+    (keeper_store keeper) at c.deref.ensures.value stepped) c.answer.ensures.store
 
 pub returns-clause-ends : goal.returns-clause-ends
 returns-clause-ends g c = let desk = g.D.Desk in let new = c.answer.new.desk in
