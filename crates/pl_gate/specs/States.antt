@@ -1,6 +1,6 @@
 -- The states of a commit.
-use Rattle.std.specs.Prelude.{◌≡◌, ◌⊎◌, ℕ, true, false, List, drop}
-use Rattle.pl_base.specs.Touched.{Change, changed}
+use Rattle.std.specs.Prelude.{◌≡◌, ◌⊎◌, ℕ, true, false, List}
+use Rattle.pl_base.specs.Touched.{Change, behind_gate, changed}
 use Rattle.pl_gate.specs.Device.{start_of, with_gate}
 use Rattle.pl_gate.specs.Gate.{Holds, is_set, journal, journal_start, laid, pages_after}
 
@@ -30,4 +30,4 @@ pub record IsStaged (change : Change) (pages file : List ℕ) : Type 0 where
 -- armed, and each page is in its place
 pub record IsInstalled (change : Change) (pages file : List ℕ) : Type 0 where
   pub armed : IsArmed change pages file
-  pub in_place : drop 1024 file ≡ laid file
+  pub in_place : behind_gate file ≡ laid file

@@ -9,5 +9,6 @@ mod reply;
 mod word;
 
 pub use field::escaped;
+pub use fields::LONGEST_LINE;
 pub use lines::{LineError, line};
 pub use reply::reply_text;

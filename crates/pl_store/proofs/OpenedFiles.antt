@@ -41,23 +41,23 @@ stands_alike file later as_file store = (
 )
 
 module _ (file later : List ℕ) (settled : IsSettledAs file later) where
-  lies : laid later ≡ drop 1024 later
+  lies : laid later ≡ drop page_size later
   lies = rw settled.closed refl
 
-  pub stands_settled : has_gate file ≡ true → (store : Store) → StandsFor (drop 1024 later) store → Stands file store
+  pub stands_settled : has_gate file ≡ true → (store : Store) → StandsFor (drop page_size later) store → Stands file store
   stands_settled gate store stands = record {
     gate = gate;
     form = subst (λ (bytes : List ℕ). StandsFor bytes store) (sym lies ∙ settled.stands.laid) stands;
   }
 
-  pub settled_form : (store : Store) → Stands file store → StandsFor (drop 1024 later) store
+  pub settled_form : (store : Store) → Stands file store → StandsFor (drop page_size later) store
   settled_form store stands =
       subst (λ (bytes : List ℕ). StandsFor bytes store) (sym settled.stands.laid ∙ lies) stands.form
 
-  pub later_form : (store : Store) → Stands later store → StandsFor (drop 1024 later) store
+  pub later_form : (store : Store) → Stands later store → StandsFor (drop page_size later) store
   later_form store stands = subst (λ (bytes : List ℕ). StandsFor bytes store) lies stands.form
 
-  pub closed : (bytes : List ℕ) → has_gate file ≡ true → take (length bytes) (drop 1024 later) ≡ bytes
+  pub closed : (bytes : List ℕ) → has_gate file ≡ true → take (length bytes) (drop page_size later) ≡ bytes
       → IsClosed bytes later
   closed bytes gate begins = record {
     closed = settled.closed;

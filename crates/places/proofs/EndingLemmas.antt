@@ -31,7 +31,7 @@ use Rattle.places.proofs.StopLemmas.{shows_here, shows_script}
 use Rattle.places.specs.Limits.{script_limit}
 use Rattle.pl_desk.specs.declared.desk.Desk.{Ghosts}
 use Rattle.pl_desk.specs.Shown.{ShowsOnly}
-use Rattle.pl_desk.specs.AnyMoment.{OnlyNow, begun, left_now}
+use Rattle.pl_desk.specs.AnyMoment.{OnlyNow, left_now}
 
 -- the bytes read are a front of the input, and the run stands behind them
 pub record IsBehind (start : Store) (read : ℕ) (bytes before : List ℕ) (left : Option (List ℕ)) (run : ScriptRun)

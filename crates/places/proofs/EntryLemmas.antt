@@ -22,7 +22,6 @@ use Rattle.places.specs.Stops.{LeavesAtEntry, LeavesOfAnswer}
 use Rattle.places.proofs.LineLemmas.{script-is}
 use Rattle.places.proofs.ProgressLemmas.{around, ended_further, ended_lf, kept_open, kept_stripped}
 use Rattle.pl_desk.specs.declared.desk.Desk.{Ghosts}
-use Rattle.pl_desk.specs.AnyMoment.{begun}
 
 -- two facts of an error
 pub if_err_both : {X E : Type 0} (result : Result X E) (P Q R : E → Type 0) → IfErr result P → IfErr result Q

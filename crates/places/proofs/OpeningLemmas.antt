@@ -34,7 +34,7 @@ use Rattle.places.proofs.StopLemmas.{shows_nothing}
 use Rattle.pl_store.specs.Ending.{Opens}
 use Rattle.pl_desk.specs.declared.desk.Desk.{Ghosts}
 use Rattle.pl_desk.specs.Shown.{ShowsOnly, Unsaid}
-use Rattle.pl_desk.specs.AnyMoment.{CountsNow, OnlyNow, begun, rests_less}
+use Rattle.pl_desk.specs.AnyMoment.{CountsNow, OnlyNow, rests_less}
 
 -- ---- a script that was run
 

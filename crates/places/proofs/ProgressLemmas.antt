@@ -17,6 +17,7 @@ use Rattle.pl_script.specs.Script.{script}
 use Rattle.places.specs.declared.script_run.ScriptRun.{ScriptRun}
 use Rattle.pl_base.specs.Live.{slot_limit}
 use Rattle.pl_store.specs.Keeper.{keeper_limit, keeper_store}
+use Rattle.places.specs.Limits.{kept_of_line}
 use Rattle.places.specs.Lines.{ended_lines, entries_of, entries_in, open_line}
 use Rattle.places.specs.Progress.{IsAt, ended_entries}
 use Rattle.places.specs.Said.{Says, texts}
@@ -24,7 +25,6 @@ use Rattle.places.proofs.LineLemmas.{ended_lines-lf, ended_lines-on, entries_of-
 use Rattle.places.proofs.LineLemmas.{open_line-on, script-is}
 use Rattle.places.proofs.LongLines.{entry-kept, entry-kept_stripped}
 use Rattle.places.proofs.SaidLemmas.{says_more}
-use Rattle.pl_desk.specs.AnyMoment.{begun}
 
 -- ---- runs, one after another
 
@@ -59,13 +59,13 @@ ended_lf bytes =
 ended_on : (bytes : List ℕ) (b : ℕ) → b ≢ 10 → ended_entries (bytes ++ b ∷ []) ≡ ended_entries bytes
 ended_on bytes b on = ap entries_of (ended_lines-on bytes b on)
 
-pub kept_stripped : (bytes kept line : List ℕ) → kept ≡ take 262_146 (open_line bytes)
+pub kept_stripped : (bytes kept line : List ℕ) → kept ≡ take kept_of_line (open_line bytes)
     → line ≡ strip_carriage_return kept → entries_in line ≡ entries_in (strip_carriage_return (open_line bytes))
 kept_stripped bytes kept line is stripped =
     ap entries_in stripped ∙ ap (λ l. entries_in (strip_carriage_return l)) is
     ∙ ap option_to_list (entry-kept_stripped (open_line bytes))
 
-pub kept_open : (bytes kept : List ℕ) → kept ≡ take 262_146 (open_line bytes)
+pub kept_open : (bytes kept : List ℕ) → kept ≡ take kept_of_line (open_line bytes)
     → entries_in kept ≡ entries_in (open_line bytes)
 kept_open bytes kept is = ap entries_in is ∙ ap option_to_list (entry-kept (open_line bytes))
 
@@ -160,27 +160,27 @@ module _ (start : Store) where
       }
 
   pub line_kept : (bytes : List ℕ) (b : ℕ) (begun said : Option (List ℕ)) (old new : ScriptRun)
-      → IsAt start bytes begun old said → b ≢ 10 → new.keeper ≡ old.keeper → length old.line.items < 262_146
+      → IsAt start bytes begun old said → b ≢ 10 → new.keeper ≡ old.keeper → length old.line.items < kept_of_line
       → new.line.items ≡ old.line.items ++ b ∷ [] → IsAt start (bytes ++ b ∷ []) begun new said
   line_kept bytes b begun said old new at on keeper short pushed =
       record {
         limit = rw keeper at.limit;
         store = rw (ended_on bytes b on, keeper) at.store;
         line =
-            pushed ∙ keeps_all 262_146 (open_line bytes) old.line.items b at.line short
-            ∙ ap (take 262_146) (sym (open_line-on bytes b on));
+            pushed ∙ keeps_all kept_of_line (open_line bytes) old.line.items b at.line short
+            ∙ ap (take kept_of_line) (sym (open_line-on bytes b on));
         text = rw (ended_on bytes b on) at.text;
       }
 
   pub line_passed : (bytes : List ℕ) (b : ℕ) (begun said : Option (List ℕ)) (run : ScriptRun)
-      → IsAt start bytes begun run said → b ≢ 10 → 262_146 ≤ length run.line.items
+      → IsAt start bytes begun run said → b ≢ 10 → kept_of_line ≤ length run.line.items
       → IsAt start (bytes ++ b ∷ []) begun run said
   line_passed bytes b begun said run at on long = record {
     limit = at.limit;
     store = rw (ended_on bytes b on) at.store;
     line =
-        keeps_front 262_146 (open_line bytes) run.line.items b at.line long
-        ∙ ap (take 262_146) (sym (open_line-on bytes b on));
+        keeps_front kept_of_line (open_line bytes) run.line.items b at.line long
+        ∙ ap (take kept_of_line) (sym (open_line-on bytes b on));
     text = rw (ended_on bytes b on) at.text;
   }
 

@@ -21,7 +21,7 @@ use Rattle.places.proofs.ProgressLemmas.{around, ended_further, ended_lf, kept_o
 use Rattle.places.proofs.EntryLemmas.{one_entry}
 use Rattle.pl_desk.specs.declared.desk.Desk.{Ghosts}
 use Rattle.pl_desk.specs.Shown.{ShowsOnly}
-use Rattle.pl_desk.specs.AnyMoment.{OnlyNow, begun}
+use Rattle.pl_desk.specs.AnyMoment.{OnlyNow}
 
 module _ {D : Type 0} (desk : Ghosts D) (kind : Bool) (first : D) (start : Store) where
   -- a run of more entries

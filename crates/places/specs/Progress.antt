@@ -12,7 +12,7 @@ use Rattle.pl_store.specs.declared.keeper.Keeper.{Keeper}
 use Rattle.pl_base.specs.Live.{slot_limit}
 use Rattle.pl_store.specs.Keeper.{IsKept, is_file, keeper_limit, keeper_store}
 use Rattle.places.specs.declared.answer_error.AnswerError.{AnswerError}
-use Rattle.places.specs.Limits.{script_limit}
+use Rattle.places.specs.Limits.{kept_of_line, script_limit}
 use Rattle.places.specs.Lines.{ended_lines, entries_of, open_line}
 use Rattle.places.specs.Said.{Says, texts}
 use Rattle.places.specs.Stops.{LeavesAtEntry, ShowsAnswered}
@@ -39,7 +39,7 @@ pub record IsAt (start : Store) (bytes : List ℕ) (begun : Option (List ℕ)) (
     (said : Option (List ℕ)) : Type 0 where
   pub limit : keeper_limit run.keeper ≡ slot_limit
   pub store : keeper_store run.keeper ≡ after slot_limit start (ended_entries bytes)
-  pub line : run.line.items ≡ take 262_146 (open_line bytes)
+  pub line : run.line.items ≡ take kept_of_line (open_line bytes)
   pub text : Says begun (texts (replies slot_limit start (ended_entries bytes))) said
 
 module _ {D : Type 0} (desk : Ghosts D) where

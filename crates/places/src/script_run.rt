@@ -7,12 +7,13 @@ use crate::answer::answer;
 use crate::answer_error::AnswerError;
 use pl_base::NoMemory;
 use pl_desk::Desk;
+use pl_script::LONGEST_LINE;
 use pl_store::Keeper;
 use std::alloc::Global;
 
 /// As much of a line is kept as tells what it asks for: past the longest line two bytes more, of
 /// which the last may be the CR before its LF.
-const KEPT: usize = 262_146;
+const KEPT: usize = LONGEST_LINE + 2;
 
 /// The store after the lines that have ended, and the line that has not.
 #[derive(Drop)]

@@ -6,7 +6,6 @@ use Rattle.places.proofs.OpeningLemmas.{begins_in_memory, begins_on_file, may_en
 use Rattle.places.proofs.OpeningLemmas.{no_script_words}
 use Rattle.places.proofs.OpeningLemmas.{says_at_end, two_words}
 use Rattle.places.proofs.run.Goals as goal
-use Rattle.pl_desk.specs.AnyMoment.{begun}
 
 pub returns-in-try-clause-ends : goal.returns-in-try-clause-ends
 returns-in-try-clause-ends g c = λ kind start begins bytes before told begun.

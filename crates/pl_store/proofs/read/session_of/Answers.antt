@@ -1,6 +1,7 @@
 use Rattle.std.proofs.Common.{◌≡◌, length, take, drop, refl, sym, subst}
 use Rattle.pl_base.specs.Rows.{store_of}
 use Rattle.pl_base.specs.Store.{Store}
+use Rattle.pl_base.specs.Touched.{page_size}
 use Rattle.pl_plain.specs.declared.flat.Flat.{Flat}
 use Rattle.pl_plain.specs.Flat.{IsBase, bytes_of, kept_of}
 use Rattle.pl_form.specs.Form.{StandsFor}
@@ -15,7 +16,7 @@ invariant_of-result c = record {
 
 pub returns-clause-read : goal.returns-clause-read
 returns-clause-read c =
-    let same = sym c.in_ok-engine.ensures.rows in let bytes = drop 1024 c.args.bytes.now in
+    let same = sym c.in_ok-engine.ensures.rows in let bytes = drop page_size c.args.bytes.now in
     let read = c.in_ok-flat.ensures in
     record {
       stands = subst (λ (rows : Flat). StandsFor bytes (store_of (kept_of rows))) same read.stands;

@@ -11,7 +11,6 @@ use Rattle.places.specs.Stops.{ShowsAnswered, ShowsUnopened}
 use Rattle.places.proofs.OpeningLemmas.{ends_without, no_refusal, opening_may_end, script_may_end, shows_opening}
 use Rattle.places.proofs.script.run_stored.Goals as goal
 use Rattle.pl_desk.specs.Shown.{ShowsOnly}
-use Rattle.pl_desk.specs.AnyMoment.{begun}
 
 pub returns-in-Ok-clause-ends : goal.returns-in-Ok-clause-ends
 returns-in-Ok-clause-ends g c = λ file start held stands bytes before told begun.

@@ -8,7 +8,6 @@ use Rattle.places.specs.Stops.{ShowsAnswered}
 use Rattle.places.proofs.OpeningLemmas.{ends_unread, script_may_end, shows_unopened}
 use Rattle.places.proofs.script.try_script.Goals as goal
 use Rattle.pl_desk.specs.Shown.{ShowsOnly}
-use Rattle.pl_desk.specs.AnyMoment.{begun}
 
 pub returns-in-Ok-clause-ends : goal.returns-in-Ok-clause-ends
 returns-in-Ok-clause-ends g c = λ bytes before told begun.

@@ -12,7 +12,6 @@ use Rattle.places.proofs.EntryLemmas.{line_leaves}
 use Rattle.places.proofs.ProgressLemmas.{line_ended}
 use Rattle.places.proofs.StopLemmas.{line_shows}
 use Rattle.places.proofs.script_run.ScriptRun.end_line.Goals as goal
-use Rattle.pl_desk.specs.AnyMoment.{begun}
 
 pub returns-clause-ok : goal.returns-clause-ok
 returns-clause-ok g c = λ start bytes begun at.

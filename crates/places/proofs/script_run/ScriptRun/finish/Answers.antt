@@ -12,7 +12,6 @@ use Rattle.places.proofs.EntryLemmas.{if_err_both, last_leaves}
 use Rattle.places.proofs.ProgressLemmas.{finished, finished_store}
 use Rattle.places.proofs.StopLemmas.{last_shows}
 use Rattle.places.proofs.script_run.ScriptRun.finish.Goals as goal
-use Rattle.pl_desk.specs.AnyMoment.{begun}
 
 pub returns-clause-ok : goal.returns-clause-ok
 returns-clause-ok g c =

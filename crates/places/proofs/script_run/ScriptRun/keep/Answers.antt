@@ -1,7 +1,6 @@
 use Rattle.std.proofs.Common.{refl, arith}
 use Rattle.places.proofs.ProgressLemmas.{line_kept, line_passed}
 use Rattle.places.proofs.script_run.ScriptRun.keep.Goals as goal
-use Rattle.pl_desk.specs.AnyMoment.{begun}
 
 pub returns-clause-ok : goal.returns-clause-ok
 returns-clause-ok c = λ start bytes begun said at.

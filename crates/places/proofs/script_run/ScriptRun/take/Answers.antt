@@ -9,7 +9,6 @@ use Rattle.places.specs.Stops.{ShowsAnswered}
 use Rattle.places.proofs.EntryLemmas.{leaves_here, leaves_later}
 use Rattle.places.proofs.StopLemmas.{shows_here, shows_later}
 use Rattle.places.proofs.script_run.ScriptRun.take.Goals as goal
-use Rattle.pl_desk.specs.AnyMoment.{begun}
 
 pub returns-then-byte-eq10-clause-ok : goal.returns-then-byte-eq10-clause-ok
 returns-then-byte-eq10-clause-ok g c = rw c.if-byte-eq10.true c.end_line.ensures.ok

@@ -8,7 +8,7 @@ use Rattle.pl_store.specs.Keeper.{is_file}
 use Rattle.places.specs.Progress.{IsAt, ended_entries}
 use Rattle.places.specs.Stops.{ShowsAnswered}
 use Rattle.places.proofs.EntryLemmas.{leaves_within}
-use Rattle.pl_desk.specs.AnyMoment.{alone_on, begun, left_alone}
+use Rattle.pl_desk.specs.AnyMoment.{alone_on, left_alone}
 use Rattle.places.proofs.ProgressLemmas.{taken_further}
 use Rattle.places.proofs.StopLemmas.{shows_here, shows_later, shows_taken}
 use Rattle.places.proofs.script_run.ScriptRun.take_all.Goals as goal

@@ -7,7 +7,6 @@ use Rattle.places.specs.Stops.{ShowsAnswered}
 use Rattle.places.proofs.script_run.ScriptRun.take_all.Given as goal
 use Rattle.pl_desk.specs.Shown.{ShowsOnly}
 use Rattle.pl_desk.specs.Calls.{LeavesFile}
-use Rattle.pl_desk.specs.AnyMoment.{begun}
 
 -- the run stands behind the bytes taken so far, and a stop since the start shows some of the whole piece's answers
 abbrev pub invariant-loop-byte : goal.invariant-loop-byte

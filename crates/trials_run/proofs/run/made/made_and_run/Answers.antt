@@ -5,7 +5,6 @@ use Rattle.pl_base.specs.Store.{opening}
 use Rattle.places.specs.Ending.{EndsNew, made_text}
 use Rattle.places.specs.declared.status.Status.TheVariants as status
 use Rattle.trials_run.proofs.run.made.made_and_run.Goals as goal
-use Rattle.pl_desk.specs.AnyMoment.{begun}
 
 pub returns-in-Done : goal.returns-in-Done
 returns-in-Done g c = record {

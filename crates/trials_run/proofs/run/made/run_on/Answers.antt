@@ -7,7 +7,6 @@ use Rattle.places.specs.Ending.{LeavesAtEnd, SaysAll}
 use Rattle.places.specs.declared.status.Status.TheVariants as status
 use Rattle.places.specs.Said.{texts}
 use Rattle.trials_run.proofs.run.made.run_on.Goals as goal
-use Rattle.pl_desk.specs.AnyMoment.{begun}
 
 pub returns-in-Done : goal.returns-in-Done
 returns-in-Done g c = record {
