@@ -72,50 +72,42 @@ says_whole start answered more entries order = record {
   text = refl;
 }
 
+-- a run that stopped within what was read, and what it had said
+front_of : {D : Type 0} (desk : Ghosts D) (error : AnswerError) (kind : Bool) (first : D) (start : Store)
+    (bytes before : List ℕ) (left : Option (List ℕ)) (now : D)
+    (within : LeavesWithin desk error kind first start bytes before left now) (piece : List ℕ)
+    → desk.said now ≡ Some (before ++ piece)
+    → SaysUntil error (replies slot_limit start (entries_read within.read within.rest)) piece
+    → SaysFront error start bytes before left (desk.said now)
+front_of desk error kind first start bytes before left now within piece said until = record {
+  read = within.read;
+  rest = within.rest;
+  has_read = within.has_read;
+  piece = piece;
+  front_said = said;
+  until = until;
+}
+
 says_front : {D : Type 0} (desk : Ghosts D) (error : AnswerError) (kind : Bool) (first : D) (start : Store)
     (bytes before : List ℕ) (left : Option (List ℕ)) (now : D)
     → LeavesWithin desk error kind first start bytes before left now
     → SaysFront error start bytes before left (desk.said now)
-says_front desk answer.SayFault kind first start bytes before left now within =
-    let leaves = within.leaves in
-    let part =
-    says_part start leaves.answered leaves.next leaves.more (entries_read within.read within.rest) before
-    (desk.said now) leaves.text.0 leaves.order leaves.one leaves.text.1 leaves.text.2 in
-    record {
-      read = within.read;
-      rest = within.rest;
-      has_read = within.has_read;
-      piece = part.0;
-      front_said =
-          part.1;
-      until = part.2;
-    }
-says_front desk answer.DeviceFault kind first start bytes before left now within =
-    let leaves = within.leaves in
-    record {
-      read = within.read;
-      rest = within.rest;
-      has_read = within.has_read;
-      piece =
-          texts (replies slot_limit start leaves.answered);
-      front_said = leaves.text;
-      until =
-          says_whole start leaves.answered (leaves.next ++ leaves.more) (entries_read within.read within.rest)
-          leaves.order;
-    }
-says_front desk answer.NoMemory kind first start bytes before left now within =
-    let leaves = within.leaves in
-    record {
-      read = within.read;
-      rest = within.rest;
-      has_read = within.has_read;
-      piece =
-          texts (replies slot_limit start leaves.answered);
-      front_said = leaves.text;
-      until =
-          says_whole start leaves.answered (leaves.next ++ leaves.more) (entries_read within.read within.rest)
-          leaves.order;
-    }
+says_front desk error kind first start bytes before left now within = at error within
+  where
+    at : (e : AnswerError) → LeavesWithin desk e kind first start bytes before left now
+        → SaysFront e start bytes before left (desk.said now)
+    at answer.SayFault within' =
+        let leaves = within'.leaves in
+        let part =
+        says_part start leaves.answered leaves.next leaves.more (entries_read within'.read within'.rest) before
+        (desk.said now) leaves.text.0 leaves.order leaves.one leaves.text.1 leaves.text.2 in
+        front_of desk answer.SayFault kind first start bytes before left now within' part.0 part.1 part.2
+    at answer.DeviceFault within' = front_of desk answer.DeviceFault kind first start bytes before left now within'
+        (texts (replies slot_limit start within'.leaves.answered)) within'.leaves.text
+        (says_whole start within'.leaves.answered (within'.leaves.next ++ within'.leaves.more) _ within'.leaves.order)
+    at answer.NoMemory within' = front_of desk answer.NoMemory kind first start bytes before left now within'
+        (texts (replies slot_limit start within'.leaves.answered)) within'.leaves.text
+        (says_whole start within'.leaves.answered (within'.leaves.next ++ within'.leaves.more) _ within'.leaves.order)
 
 -- nothing was read yet
 unread : (bytes : List ℕ) (left : Option (List ℕ)) → left ≡ Some bytes → HasRead bytes [] bytes left
