@@ -75,7 +75,7 @@ first_page (p ∷ ps) = Some p.page.id
 not_less : (m n : ℕ) → n ≤ m → ltb m n ≡ false
 not_less m n le = grind (arith, nat_tests)
 
-not_equal : (m n : ℕ) → m < n → eqb m n ≡ false
+pub not_equal : (m n : ℕ) → m < n → eqb m n ≡ false
 not_equal m n less = grind (arith, nat_tests)
 
 behind : (n : ℕ) (front rest : List KeptPage) → AllByRecursion (λ (p : KeptPage). p.page.id.0 ≤ n) front

@@ -1,10 +1,8 @@
 -- What holds of the rows and of the page before a visit to it is added.
-use Rattle.std.proofs.Common.{◌≡◌, ◌∙◌, ◌<◌, ◌==◌, ◌&&◌, ◌||◌, ℕ, All, Bool, true, false}
-use Rattle.std.proofs.Common.{IsTrue, List, [], ◌∷◌, Option, Some, None, ap, arith, count_by}
-use Rattle.std.proofs.Common.{eq-eqb, eqb, filter, if◌then◌else◌, pos, refl, subst, sym}
+use Rattle.std.proofs.Common.{◌≡◌, ◌∙◌, ◌<◌, ◌==◌, ◌&&◌, ◌||◌, ℕ, All, Bool, true, false, IsTrue, List, [], ◌∷◌, Option}
+use Rattle.std.proofs.Common.{Some, None, ap, arith, count_by, eq-eqb, filter, if◌then◌else◌, pos, refl, subst, sym}
 use Rattle.std.specs.List.{AllByRecursion, list_all, list_any}
 use Rattle.std.proofs.lemmas.Bool.{eqb-true, false≢true}
-use Rattle.std.proofs.lemmas.Bool.Decides.{nat_tests}
 use Rattle.std.proofs.lemmas.List.Elements.{All-push, All-weaker, recursion_from_All}
 use Rattle.std.proofs.lemmas.List.Sums.{sum_by-cons}
 use Rattle.pl_base.specs.declared.id.PageId.{PageId}
@@ -28,6 +26,7 @@ use Rattle.pl_engine.proofs.KnownPage.{IsKnown, has_known, holds_known, known, m
 use Rattle.pl_base.proofs.ListLaws.{All-from_map, list_all-alike, list_any_last}
 use Rattle.pl_base.proofs.SourceLaws.{no_redirect_source}
 use Rattle.pl_engine.proofs.RightAfter.{of_visits_page}
+use Rattle.pl_engine.proofs.PageWalk.{not_equal}
 
 -- what was computed of the page last is right
 abbrev pub IsRightPage : Store → KeptPage → Type 0
@@ -140,9 +139,6 @@ ids_below kept h k d within =
     (All-from_map (λ n. (0 < n) × (n < kept.ids.page)) (λ (p : KeptPage). p.page.id.0) kept.pages h.page_ids.given k d
     within).1
 
-not_next : (m n : ℕ) → m < n → eqb m n ≡ false
-not_next m n less = grind (arith, nat_tests)
-
 visit_below : (ps : List KeptPage) (n m : ℕ) → AllByRecursion (λ (p : KeptPage). p.page.id.0 < n) ps
     → list_any (λ (p : KeptPage). p.page.id.0 == m) ps ≡ true → m < n
 visit_below [] n m all some = absurd (cc)
@@ -181,7 +177,7 @@ elsewhere : (kept : Kept) (page : PageId) → IsWellKept kept → page.0 ≡ kep
     → All (λ (v : Visit). (v.page.0 == page.0) ≡ false) kept.visits
 elsewhere kept page h is =
     All-weaker (λ (v : Visit). v.page.0 < kept.ids.page) (λ (v : Visit). (v.page.0 == page.0) ≡ false)
-    (λ v less. not_next v.page.0 page.0 (omega (arith, less))) kept.visits (visits_below kept h)
+    (λ v less. not_equal v.page.0 page.0 (omega (arith, less))) kept.visits (visits_below kept h)
 
 no_visits : (kept : Kept) (page : PageId) → IsWellKept kept → page.0 ≡ kept.ids.page
     → visits_of (store_of kept) page ≡ []
@@ -208,7 +204,7 @@ ready_fresh kept url origin page before h sound is mark =
     let here : (new.page.id.0 == page.0) ≡ true = eq-eqb kept.ids.page page.0 (sym is) in
     let others : All (λ (p : KeptPage). (p.page.id.0 == page.0) ≡ false) kept.pages =
     All-weaker (λ (p : KeptPage). p.page.id.0 < kept.ids.page) (λ (p : KeptPage). (p.page.id.0 == page.0) ≡ false)
-    (λ p less. not_next p.page.id.0 page.0 (omega (arith, less))) kept.pages (ids_below kept h) in
+    (λ p less. not_equal p.page.id.0 page.0 (omega (arith, less))) kept.pages (ids_below kept h) in
     record {
       there = list_any_last (λ (p : KeptPage). p.page.id.0 == page.0) kept.pages new here;
       own =

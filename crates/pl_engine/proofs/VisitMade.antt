@@ -3,7 +3,6 @@ use Rattle.std.proofs.Common.{◌≡◌, ◌∙◌, ◌+◌, ◌++◌, ◌==◌,
 use Rattle.std.proofs.Common.{List, [], ◌∷◌, Option, Some, None, ap, eq-eqb, if◌then◌else◌}
 use Rattle.std.proofs.Common.{get_or, refl, subst, sym, unwrap_or, Result, Ok, Err}
 use Rattle.std.specs.Result.{IfOk, OnOk}
-use Rattle.std.proofs.lemmas.Bool.{eqb-true}
 use Rattle.std.proofs.lemmas.List.Elements.{filter-append}
 use Rattle.std.proofs.lemmas.List.Folds.{list_all-append}
 use Rattle.std.proofs.lemmas.List.Sums.{sum_by_push}
@@ -35,6 +34,7 @@ use Rattle.pl_engine.proofs.KnownPage.{IsKnown, known, mark_known}
 use Rattle.pl_engine.proofs.ReadyPage.{IsReady, hidden_by, hidden_by-framed, is_within_frames}
 use Rattle.pl_engine.proofs.RightAfter.{of_visits_after, right_after, visited_after}
 use Rattle.pl_engine.proofs.VisitRows.{after_found, after_new, store_with_page}
+use Rattle.pl_base.proofs.IdsLaws.{same_page}
 
 -- ---- the count
 
@@ -105,9 +105,6 @@ typed_by t false is = ap is_typed is
 typed_still : (a b c : Bool) → a ≡ b → a ≡ true → (b || c) ≡ true
 typed_still a b c same is = ap (λ (x : Bool). x || c) (sym same ∙ is)
 
-id_from : (p page : PageId) → (p.0 == page.0) ≡ true → p ≡ page
-id_from p page same = ap (λ (n : ℕ). record { 0 = n }) (eqb-true p.0 page.0 same)
-
 sound_marked : (kept : Kept) (url : List ℕ) (row : VisitRow) (before : Mark) (frecency : ℤ)
     → IsReady kept row.page url before → IsWellKept (with_visit row kept) → row.source ≡ None
     → ((p : Page) → p.id ≡ row.page → frecency ≡ frecency_of (store_of (with_visit row kept)) p)
@@ -129,7 +126,7 @@ sound_marked kept url row before frecency r h none scored =
           right_after kept row.page row mark h r.of_visits refl none r.right
           (λ k d within same.
           let p : KeptPage = get_or kept.pages k d in
-          let id : p.page.id ≡ row.page = id_from p.page.id row.page same in (
+          let id : p.page.id ≡ row.page = same_page p.page.id row.page same in (
             scored (marked mark p).page id,
             count_made kept url row (is_place_url url) before r ∙ ap (visit_count after) (sym id),
             hidden_made kept url row after before r few refl

@@ -61,3 +61,6 @@ arrived {left = left} x one whole same here =
           let there = here.at y others other begins in
           (same y other there.0, there.1);
     }
+
+pub regroup_five : (a b c d e : List ℕ) → (((a ++ b) ++ c) ++ d) ++ e ≡ a ++ (b ++ (c ++ (d ++ e)))
+regroup_five a b c d e = simp append_assoc

@@ -1,5 +1,5 @@
 -- Pages and visits at the beginning of bytes.
-use Rattle.std.proofs.Common.{◌≡◌, ◌∙◌, ℕ, ℤ, Bool, List, [], ◌∷◌, ◌++◌, Ok, Err, ap, refl, append_assoc}
+use Rattle.std.proofs.Common.{◌≡◌, ◌∙◌, ℕ, ℤ, Bool, List, [], ◌∷◌, ◌++◌, Ok, Err, ap, refl}
 use Rattle.pl_base.specs.Transition.{transition_number}
 use Rattle.pl_form.specs.declared.check_error.CheckError.{CheckError}
 use Rattle.pl_form.specs.declared.stored.StoredVisit.{StoredVisit}
@@ -7,10 +7,7 @@ use Rattle.pl_form.specs.declared.stored.StoredPage.{StoredPage}
 use Rattle.pl_form.specs.Form.{four, eight, signed_eight, flag, text_bytes, visit_or_zero}
 use Rattle.pl_form.specs.Reading.{IsAny, IsFour, IsSignedEight, IsUrl, Reads}
 use Rattle.pl_form.specs.Stored.{IsStoredPage, IsStoredVisit, stored_page_bytes, stored_visit_bytes}
-use Rattle.pl_form.proofs.FormReads.{Reached, started, further, stopped, arrived}
-
-regroup : (a b c d e : List ℕ) → (((a ++ b) ++ c) ++ d) ++ e ≡ a ++ (b ++ (c ++ (d ++ e)))
-regroup a b c d e = simp append_assoc
+use Rattle.pl_form.proofs.FormReads.{Reached, started, further, stopped, arrived, regroup_five}
 
 abbrev pub nothing : Unit {0} → List ℕ
 nothing _ = 0 ∷ 0 ∷ 0 ∷ 0 ∷ []
@@ -21,7 +18,7 @@ pub visit_pieces : (v : StoredVisit) → IsStoredVisit v
 visit_pieces v one =
     ap (λ o. four v.id.0 ++ four v.page.0 ++ four (visit_or_zero o) ++ eight v.date.0
     ++ (transition_number v.transition ∷ [])) one.2
-    ∙ regroup (four v.id.0) (four v.page.0) (nothing tt) (eight v.date.0) (transition_number v.transition ∷ [])
+    ∙ regroup_five (four v.id.0) (four v.page.0) (nothing tt) (eight v.date.0) (transition_number v.transition ∷ [])
 
 -- a visit with a source where none is asked for
 pub visit_stopped : (bytes b c d : List ℕ) (id page : ℕ) (e : CheckError) → Reads four IsFour bytes (Ok id) b
@@ -42,7 +39,8 @@ visit_stopped bytes b c d id page e first second third =
 pub page_pieces : (p : StoredPage) → IsStoredPage p
     → stored_page_bytes p ≡ four p.id.0
     ++ ((flag p.typed ∷ []) ++ (signed_eight p.frecency ++ (text_bytes p.url ++ nothing tt)))
-page_pieces p one = regroup (four p.id.0) (flag p.typed ∷ []) (signed_eight p.frecency) (text_bytes p.url) (nothing tt)
+page_pieces p one =
+    regroup_five (four p.id.0) (flag p.typed ∷ []) (signed_eight p.frecency) (text_bytes p.url) (nothing tt)
 
 -- the page as far as its title
 page_reached : (bytes b c d e : List ℕ) (id : ℕ) (typed : Bool) (frecency : ℤ) (url : List ℕ)

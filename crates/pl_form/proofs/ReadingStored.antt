@@ -11,7 +11,7 @@ use Rattle.pl_form.specs.Form.{four, item_bytes, listed, page_bytes, visit_bytes
 use Rattle.pl_form.specs.Reading.{IsAny, IsFour, Reads}
 use Rattle.pl_form.specs.Stored.{AreIdsFour, AreListed, AreStored, IsStoredPage, IsStoredVisit, Stored, ids_bytes}
 use Rattle.pl_form.specs.Stored.{page_row, stored_bytes, stored_page_bytes, stored_visit_bytes, visit_of}
-use Rattle.pl_form.proofs.FormReads.{Reached, started, further, stopped, arrived}
+use Rattle.pl_form.proofs.FormReads.{Reached, started, further, stopped, arrived, regroup_five}
 
 -- ---- the next ids
 
@@ -141,9 +141,6 @@ pub same_rows : (i j : ℕ) (k l : Ids) (p q : List StoredPage) (v w : List Stor
     (record { day = record { 0 = j }; ids = l; pages = q; visits = w })
 same_rows i j k l p q v w a b c d = cc
 
-regroup_front : (a b c d e : List ℕ) → (((a ++ b) ++ c) ++ d) ++ e ≡ a ++ (b ++ (c ++ (d ++ e)))
-regroup_front a b c d e = simp append_assoc
-
 pub rows_read : (bytes b c d e f : List ℕ) (day : ℕ) (ids : Ids) (pages : List StoredPage) (visits : List StoredVisit)
     → Reads four IsFour bytes (Ok day) b → Reads ids_bytes AreIdsFour b (Ok ids) c
     → Reads (listed stored_page_bytes) (AreListed IsStoredPage) c (Ok pages) d
@@ -156,7 +153,7 @@ rows_read bytes b c d e f day ids pages visits first second third fourth fifth =
     let one : AreStored rows =
     record { day = first.ok.0; ids = second.ok.0; pages = third.ok.0; visits = fourth.ok.0 } in
     arrived {left = f} rows one
-    (regroup_front (four day) (ids_bytes ids) (listed stored_page_bytes pages) (listed stored_visit_bytes visits)
+    (regroup_five (four day) (ids_bytes ids) (listed stored_page_bytes pages) (listed stored_visit_bytes visits)
     (roots_bytes tt) ∙ sym (rows_pieces rows one))
     (λ other ones same. same_rows day other.day.0 ids other.ids pages other.pages visits other.visits same.0.0.0.0.1
     same.0.0.0.1 same.0.0.1 same.0.1)

@@ -5,7 +5,7 @@ use Rattle.std.proofs.Common.{get_or, length, nat_le, nat_lt, sym, ap, refl, sub
 use Rattle.std.specs.List.{AllPairs, list_all, list_any}
 use Rattle.std.specs.List.Sorted.{IsStrictlyIncreasing}
 use Rattle.std.specs.Option.{IfSome, IsSome}
-use Rattle.std.proofs.lemmas.Bool.{and_from, and_parts, eqb-true, false≢true, le-leb, leb-true}
+use Rattle.std.proofs.lemmas.Bool.{and_from, and_parts, false≢true, le-leb, leb-true}
 use Rattle.std.proofs.lemmas.Bool.{lt-ltb, ltb-true, not-true, not_from_false, true≢false}
 use Rattle.std.proofs.lemmas.List.Elements.{All-cons, All-head, All-map, All-nil, All-tail, All-weaker}
 use Rattle.std.proofs.lemmas.List.Folds.{Any-from_list_any}
@@ -30,6 +30,8 @@ use Rattle.pl_form.specs.Stored.{AreStored, IsStoredPage, IsStoredVisit, Stored,
 use Rattle.pl_base.proofs.ListLaws.{All-from_map, list_any-map, map-map, AllPairs-from_map, AllPairs-map}
 use Rattle.pl_base.proofs.RootsLaws.{has_roots, no_tags, roots_are_good, roots_are_tree}
 use Rattle.pl_base.specs.Date.{last_date, last_day}
+use Rattle.pl_base.proofs.IdsLaws.{same_page}
+use Rattle.pl_plain.proofs.CheckMarks.{or_false}
 
 -- ---- tests of lists
 
@@ -161,9 +163,6 @@ typed_number Download h = absurd (false≢true h)
 typed_number FramedLink h = absurd (false≢true h)
 typed_number Reload h = absurd (false≢true h)
 
-same_page : (a b : PageId) → (a.0 == b.0) ≡ true → a ≡ b
-same_page a b h = ap (λ (n : ℕ). record { 0 = n }) (eqb-true a.0 b.0 h)
-
 abbrev IsTypedBy : PageId → Bool → Visit → Type 0
 IsTypedBy id t v = v.page ≡ id → v.transition ≡ Typed → IsTrue t
 
@@ -191,10 +190,6 @@ typed-from id false visits h =
     false≢true (typed (same_page at.1.page id parts.0) (typed_number at.1.transition parts.1))))
 
 -- ---- the rows
-
-or_false : (a : Bool) → (a || false) ≡ a
-or_false true = refl
-or_false false = refl
 
 page-to : (rows : Stored) (p : StoredPage) → IsStoredPage p → is_good_page rows.visits p ≡ true
     → IsGoodPage (stored_store rows) (stored_page p)

@@ -82,7 +82,7 @@ sampled_of-row : (rows : Stored) (row : StoredVisit) → HaveNoSource rows.visit
 sampled_of-row rows row none own =
     rw (own, no_source_by (is_redirect row.transition) None refl, no_redirect_sources (visit_of row) rows.visits none)
 
-or_false : (a : Bool) → (a || false) ≡ a
+pub or_false : (a : Bool) → (a || false) ≡ a
 or_false true = refl
 or_false false = refl
 

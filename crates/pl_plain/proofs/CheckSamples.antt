@@ -11,7 +11,7 @@ use Rattle.pl_base.specs.Store.{Visit}
 use Rattle.pl_base.specs.Visits.{in_place, is_later, latest_first}
 use Rattle.pl_form.specs.declared.stored.StoredVisit.{StoredVisit}
 use Rattle.pl_form.specs.Stored.{visit_of}
-use Rattle.pl_plain.proofs.LatestVisits.{filter-reverse, walked, walked-push}
+use Rattle.pl_plain.proofs.LatestVisits.{filter-reverse, walked, walked-push, map_at}
 
 -- the place before the first row that a visit is later than, and the end where there is none
 abbrev pub place_in : StoredVisit → List StoredVisit → ℕ
@@ -81,16 +81,11 @@ sample_more seen row vs so_far =
 abbrev pub of_page : PageId → StoredVisit → Bool
 of_page page row = row.page.0 == page.0
 
-visits_at : (b : Bool) (row : StoredVisit) (rows : List StoredVisit) (vs : List Visit) → map visit_of rows ≡ vs
-    → map visit_of (if b then row ∷ rows else rows) ≡ (if b then visit_of row ∷ vs else vs)
-visits_at true row rows vs e = ap (λ ws. visit_of row ∷ ws) e
-visits_at false row rows vs e = e
-
 pub visits_of-rows : (page : PageId) (rows : List StoredVisit)
     → map visit_of (filter (of_page page) rows) ≡ filter (λ (v : Visit). v.page.0 == page.0) (map visit_of rows)
 visits_of-rows page [] = refl
 visits_of-rows page (row ∷ rows) =
-    visits_at (of_page page row) row (filter (of_page page) rows)
+    map_at (of_page page row) row (filter (of_page page) rows)
     (filter (λ (v : Visit). v.page.0 == page.0) (map visit_of rows)) (visits_of-rows page rows)
 
 -- all rows of the page

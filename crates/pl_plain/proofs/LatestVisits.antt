@@ -53,7 +53,7 @@ filter-reverse p (x ∷ xs) =
 abbrev pub is_row_within : PageId → Option Visit → StoredVisit → Bool
 is_row_within page limit row = is_within page limit (visit_of row)
 
-map_at : (b : Bool) (row : StoredVisit) (rows : List StoredVisit) (vs : List Visit) → map visit_of rows ≡ vs
+pub map_at : (b : Bool) (row : StoredVisit) (rows : List StoredVisit) (vs : List Visit) → map visit_of rows ≡ vs
     → map visit_of (if b then row ∷ rows else rows) ≡ (if b then visit_of row ∷ vs else vs)
 map_at true row rows vs e = ap (λ ws. visit_of row ∷ ws) e
 map_at false row rows vs e = e
