@@ -5,9 +5,9 @@ ghost use Rattle.std.specs.Option.{option_map};
 ghost use Rattle.std.proofs.lemmas.Option.{none-some};
 ghost use Rattle.pl_desk.specs.Desk.{last_offset, overwritten, Torn, Follows, Only, Shows};
 ghost use Rattle.pl_desk.specs.Desk.{ShowsSaying, said_by, Elapses};
+ghost use Rattle.pl_desk.specs.Counts.{Counts, Writes};
 ghost use Rattle.pl_file.specs.Calls.{new_file, after_write, after_failed_call, after_failed_say};
 ghost use Rattle.pl_file.specs.Calls.{after_failed_access, untold, AnyFile, AnyShown};
-ghost use Rattle.pl_desk.specs.Counts.{Counts, Writes};
 
 use crate::calls::Calls;
 use crate::store_file::StoreFile;

@@ -1,12 +1,12 @@
 -- Files whose gate is set, and what writes of their pages leave of them.
+use Rattle.std.specs.List.{list_all}
+use Rattle.std.specs.Int.{w32, w64, from_le_bytes}
 use Rattle.std.proofs.Common.{◌≡◌, ℕ, zero, suc, ◌+◌, ◌*◌, ◌≤◌, ◌<◌, ◌==◌, true, Contains, min, List, [], ◌∷◌, ◌++◌}
 use Rattle.std.proofs.Common.{length, take, drop, slice_index_or, nat_lt, inl, inr, refl, sym, ◌∙◌, ap, subst, arith}
 use Rattle.std.proofs.lemmas.Bool.{cases_lt, ltb-true}
 use Rattle.std.proofs.lemmas.List.{drop-drop, drop-take, length-take, length-drop, drop-append-le}
 use Rattle.std.proofs.lemmas.List.Sums.{AllPass-from_list_all}
 use Rattle.std.proofs.Common.{append_assoc}
-use Rattle.std.specs.List.{list_all}
-use Rattle.std.specs.Int.{w32, w64, from_le_bytes}
 use Rattle.pl_base.specs.Touched.{Change, PageImage, bytes_before, page_size, page_numbers, ascends_above, with_page}
 use Rattle.pl_base.specs.Touched.{with_pages}
 use Rattle.pl_desk.specs.Desk.{Torn, overwritten}

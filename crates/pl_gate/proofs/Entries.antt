@@ -1,11 +1,11 @@
 -- Entries that are written, and read back.
+use Rattle.std.specs.Int.{w64, from_le_bytes, to_le_bytes}
 use Rattle.std.proofs.Common.{◌≡◌, ℕ, ◌+◌, ◌-◌, ◌*◌, ◌≤◌, ◌<◌, ◌^◌, min, List, [], ◌∷◌, ◌++◌, length, take, drop}
 use Rattle.std.proofs.Common.{replicate, slice_range, refl, sym, ◌∙◌, ap, subst, arith}
 use Rattle.std.proofs.Common.{append_assoc, length-append}
 use Rattle.std.proofs.lemmas.List.{take-take, drop-drop, drop-take, length-take, length-replicate}
 use Rattle.std.proofs.lemmas.Nat.{from_le_bytes-to_le_bytes_8}
 use Rattle.std.proofs.Math.Seq.{take-append_seam, drop-append_seam}
-use Rattle.std.specs.Int.{w64, from_le_bytes, to_le_bytes}
 use Rattle.pl_base.specs.Touched.{PageImage, page_size}
 use Rattle.pl_desk.specs.Desk.{Torn, overwritten}
 use Rattle.pl_desk.specs.Overwritten.{torn_overwritten}

@@ -1,12 +1,12 @@
 -- What a file's journal depends on.
+use Rattle.std.specs.List.{list_all}
+use Rattle.std.specs.Int.{w64, from_le_bytes}
 use Rattle.std.proofs.Common.{◌≡◌, ℕ, zero, suc, ◌+◌, ◌-◌, ◌*◌, ◌≤◌, ◌<◌, Bool, true, false, ◌&&◌, ◌||◌, not, ◌⊎◌, inl}
 use Rattle.std.proofs.Common.{inr, List, [], ◌∷◌, length, drop, slice_range, nat_le, nat_lt, Option, Some, None, IfSome}
 use Rattle.std.proofs.Common.{refl, sym, ◌∙◌, ap, subst, arith}
 use Rattle.std.proofs.lemmas.Bool.{and_cases, and_from, and_left, and_parts, and_right, le-leb, le-ltb, leb-true}
 use Rattle.std.proofs.lemmas.Bool.{lt-ltb, ltb-true}
 use Rattle.std.proofs.lemmas.List.{length-take, length-drop}
-use Rattle.std.specs.List.{list_all}
-use Rattle.std.specs.Int.{w64, from_le_bytes}
 use Rattle.pl_base.specs.Touched.{PageImage, bytes_before, page_size, page_numbers, ascends_above}
 use Rattle.pl_gate.specs.Gate.{entries, entry_at, entry_size, has_gate, is_journal, is_set, journal, journal_len}
 use Rattle.pl_gate.specs.Gate.{journal_start, pages_after}

@@ -1,9 +1,9 @@
 -- Writes of several ranges, one after another.
+use Rattle.std.specs.Option.{option_map}
 use Rattle.std.proofs.Common.{◌≡◌, ℕ, zero, suc, ◌+◌, ◌*◌, ◌<◌, ◌≤◌, List, [], ◌∷◌, ◌++◌, length, take, drop}
 use Rattle.std.proofs.Common.{slice_index, slice_index_or, Option, Some, None, refl, sym, ◌∙◌, ap, subst, arith}
 use Rattle.std.proofs.lemmas.List.{take-append-drop, length-take}
 use Rattle.std.proofs.Math.Seq.{take-add}
-use Rattle.std.specs.Option.{option_map}
 use Rattle.pl_base.specs.Touched.{PageImage, page_images, page_numbers, page_size}
 use Rattle.pl_desk.specs.Desk.{Follows, Torn, overwritten}
 use Rattle.pl_desk.specs.Overwritten.{torn_same}

@@ -1,12 +1,12 @@
 -- The gate's byte, and files before and after it is set.
+use Rattle.std.specs.List.{list_all}
+use Rattle.std.specs.Int.{w32, w64, from_le_bytes}
 use Rattle.std.proofs.Common.{◌≡◌, ◌⊎◌, ℕ, ◌+◌, ◌*◌, ◌≤◌, ◌<◌, ◌^◌, true, false, List, [], ◌∷◌, length, take, drop}
 use Rattle.std.proofs.Common.{slice_index, nat_lt, inl, inr, refl, sym, ◌∙◌, ap, subst, arith}
 use Rattle.std.proofs.lemmas.Bool.{cases_eq, cases_lt, ne_eqb}
 use Rattle.std.proofs.lemmas.Map.Views.{exact_unsigned_eq}
 use Rattle.std.proofs.lemmas.List.{take-take, drop-drop, drop-take, drop_more, length-take, length-drop, take_all}
 use Rattle.std.proofs.lemmas.Nat.{from_le_bytes-to_le_bytes_4, from_le_bytes-to_le_bytes_8}
-use Rattle.std.specs.List.{list_all}
-use Rattle.std.specs.Int.{w32, w64, from_le_bytes}
 use Rattle.pl_base.specs.Touched.{Change, IsWithin, PageImage, ascends_above, changed, bytes_before, page_numbers}
 use Rattle.pl_base.specs.Touched.{page_size, with_pages}
 use Rattle.pl_desk.specs.Desk.{Torn, overwritten}

@@ -1,10 +1,10 @@
 -- What the journal of a change is told by.
+use Rattle.std.specs.List.{list_all}
 use Rattle.std.proofs.Common.{◌≡◌, ℕ, suc, ◌+◌, ◌*◌, ◌≤◌, ◌<◌, ◌^◌, true, max, Contains, List, [], ◌∷◌, length, nat_lt}
 use Rattle.std.proofs.Common.{inl, inr, refl, sym, ap, subst, arith}
 use Rattle.std.proofs.lemmas.Bool.{and_parts, cases_lt, lt-ltb, ltb-true}
 use Rattle.std.proofs.lemmas.List.{length-map}
 use Rattle.std.proofs.lemmas.List.Sums.{list_all-from_AllPass}
-use Rattle.std.specs.List.{list_all}
 use Rattle.pl_base.specs.Touched.{AreImages, Change, IsWithin, PageImage, ascends_above, bytes_before, page_numbers}
 use Rattle.pl_base.specs.Touched.{page_size}
 use Rattle.pl_desk.specs.Desk.{overwritten}

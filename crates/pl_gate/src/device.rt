@@ -4,12 +4,12 @@ ghost use Rattle.std.specs.Int.{w64, to_le_bytes};
 ghost use Rattle.std.specs.Option.{option_map};
 ghost use Rattle.pl_base.specs.Touched.{page_size};
 ghost use Rattle.pl_desk.specs.Desk.{last_offset, overwritten, Follows, Torn, Only};
-ghost use Rattle.pl_gate.specs.Gate.{entry_size};
-ghost use Rattle.pl_gate.specs.Device.{entry_ranges, image_ranges, place_bytes, with_entries};
-ghost use Rattle.pl_gate.specs.Device.{with_gate, with_images, TornIn};
 ghost use Rattle.pl_desk.specs.Shown.{ShowsStep};
 ghost use Rattle.pl_desk.specs.Counts.{Counts, Writes};
 ghost use Rattle.pl_desk.specs.Calls.{KeepsLine};
+ghost use Rattle.pl_gate.specs.Gate.{entry_size};
+ghost use Rattle.pl_gate.specs.Device.{entry_ranges, image_ranges, place_bytes, with_entries};
+ghost use Rattle.pl_gate.specs.Device.{with_gate, with_images, TornIn};
 
 use pl_base::{PAGE_SIZE, Touched};
 use pl_desk::{Desk, Failed};

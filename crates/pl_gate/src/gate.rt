@@ -1,12 +1,12 @@
 ghost use Rattle.std.specs.Prelude.{◌≡◌, ◌≤◌, ◌<◌, ◌+◌, ◌*◌, ℕ, List, [], Some, length, IfOk, OnOk};
 ghost use Rattle.std.specs.Option.{option_map};
 ghost use Rattle.pl_base.specs.Touched.{IsWithin, changed, bytes_before, page_size};
-ghost use Rattle.pl_gate.specs.Device.{with_gate, with_images};
-ghost use Rattle.pl_gate.specs.Gate.{Holds, entry_size};
-ghost use Rattle.pl_gate.specs.States.{HoldsEither, IsArmed, IsClosed, IsInstalled, IsStaged};
 ghost use Rattle.pl_desk.specs.Shown.{AtAnyMoment, Rests};
 ghost use Rattle.pl_desk.specs.Counts.{Counts, Writes};
 ghost use Rattle.pl_desk.specs.Calls.{KeepsLine};
+ghost use Rattle.pl_gate.specs.Device.{with_gate, with_images};
+ghost use Rattle.pl_gate.specs.Gate.{Holds, entry_size};
+ghost use Rattle.pl_gate.specs.States.{HoldsEither, IsArmed, IsClosed, IsInstalled, IsStaged};
 
 use crate::device::{write_entries, write_gate, write_images, write_place};
 use crate::states::{Armed, Closed, Installed, Staged};

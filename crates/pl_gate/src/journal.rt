@@ -4,12 +4,12 @@ ghost use Rattle.std.specs.Prelude.{◌≡◌, ◌≤◌, ◌<◌, ◌⊎◌, �
 ghost use Rattle.std.specs.Prelude.{true, false, length, IfOk, IfSome, OnOk};
 ghost use Rattle.pl_base.specs.Touched.{page_size};
 ghost use Rattle.pl_desk.specs.Desk.{last_offset, overwritten, Follows, Torn};
-ghost use Rattle.pl_gate.specs.Device.{image_ranges, with_images, TornIn};
-ghost use Rattle.pl_gate.specs.Gate.{entry_at, entry_size, has_gate, is_journal, is_set, journal};
-ghost use Rattle.pl_gate.specs.Recovery.{IsPlaceOf};
 ghost use Rattle.pl_desk.specs.Shown.{ShowsStep};
 ghost use Rattle.pl_desk.specs.Counts.{CountsAt, Writes};
 ghost use Rattle.pl_desk.specs.Calls.{KeepsLine, OnlyReads};
+ghost use Rattle.pl_gate.specs.Device.{image_ranges, with_images, TornIn};
+ghost use Rattle.pl_gate.specs.Gate.{entry_at, entry_size, has_gate, is_journal, is_set, journal};
+ghost use Rattle.pl_gate.specs.Recovery.{IsPlaceOf};
 
 use crate::device::ENTRY_SIZE;
 use crate::error::GateError;

@@ -3,9 +3,9 @@ ghost use Rattle.std.specs.Prelude.{◌≡◌, ◌≤◌, ◌+◌, length, slice
 ghost use Rattle.std.specs.Int.{w32, w64, from_le_bytes};
 ghost use Rattle.pl_base.specs.Touched.{page_size};
 ghost use Rattle.pl_desk.specs.Desk.{last_offset};
-ghost use Rattle.pl_gate.specs.Recovery.{IsPlaceOf};
 ghost use Rattle.pl_desk.specs.Counts.{Counts};
 ghost use Rattle.pl_desk.specs.Calls.{OnlyReads};
+ghost use Rattle.pl_gate.specs.Recovery.{IsPlaceOf};
 
 use pl_desk::{Desk, Failed};
 

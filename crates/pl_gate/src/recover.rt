@@ -3,11 +3,11 @@ ghost use Rattle.std.specs.Prelude.{IfSome, OnOk};
 ghost use Rattle.pl_base.specs.Touched.{page_size};
 ghost use Rattle.pl_desk.specs.Desk.{last_offset, Only};
 ghost use Rattle.pl_desk.specs.Settling.{Settles};
-ghost use Rattle.pl_gate.specs.Gate.{entry_size, has_gate, is_set};
-ghost use Rattle.pl_gate.specs.Recovery.{IsPlaceOf, IsSettledAs, StandsAs, recovery_bytes};
 ghost use Rattle.pl_desk.specs.Shown.{AtAnyMoment, Rests};
 ghost use Rattle.pl_desk.specs.Counts.{CountsAt, Writes};
 ghost use Rattle.pl_desk.specs.Calls.{KeepsLine};
+ghost use Rattle.pl_gate.specs.Gate.{entry_size, has_gate, is_set};
+ghost use Rattle.pl_gate.specs.Recovery.{IsPlaceOf, IsSettledAs, StandsAs, recovery_bytes};
 
 use crate::device::write_gate;
 use crate::error::GateError;

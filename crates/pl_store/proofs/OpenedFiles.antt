@@ -4,15 +4,15 @@ use Rattle.std.proofs.Common.{Result, Ok, Err, length, take, drop, refl, sym, â—
 use Rattle.std.proofs.lemmas.Bool.{both_ways}
 use Rattle.std.proofs.lemmas.Option.{MatchOption-at_some, same_Some}
 use Rattle.pl_base.specs.Store.{Store}
-use Rattle.pl_gate.specs.Gate.{has_gate, is_set, laid}
-use Rattle.pl_gate.specs.Recovery.{IsSettledAs, StandsAs, recovery_bytes}
-use Rattle.pl_gate.specs.States.{IsClosed}
-use Rattle.pl_form.specs.Form.{StandsFor}
+use Rattle.pl_base.specs.Touched.{page_size}
 use Rattle.pl_desk.specs.AnyMoment.{rests_less, still_rests}
 use Rattle.pl_desk.specs.Calls.{KeepsLine, OnlyReads}
 use Rattle.pl_desk.specs.Shown.{Rests}
 use Rattle.pl_desk.specs.declared.desk.Desk.{Ghosts}
-use Rattle.pl_base.specs.Touched.{page_size}
+use Rattle.pl_form.specs.Form.{StandsFor}
+use Rattle.pl_gate.specs.Gate.{has_gate, is_set, laid}
+use Rattle.pl_gate.specs.Recovery.{IsSettledAs, StandsAs, recovery_bytes}
+use Rattle.pl_gate.specs.States.{IsClosed}
 use Rattle.pl_store.specs.declared.ended.Ended.{Ended}
 use Rattle.pl_store.specs.declared.ended.Ended.TheVariants as ended
 use Rattle.pl_store.specs.declared.session.Session.{Session}

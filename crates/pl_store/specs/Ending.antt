@@ -2,12 +2,12 @@
 use Rattle.std.specs.Prelude.{◌≡◌, ⊤, ℕ, ◌<◌, false, List, [], Some, length, Result, Ok, Err}
 use Rattle.std.specs.Prelude.{IfSome}
 use Rattle.pl_base.specs.Store.{Store, opening}
+use Rattle.pl_base.specs.Live.{slot_limit}
 use Rattle.pl_desk.specs.Calls.{KeepsFile}
 use Rattle.pl_desk.specs.Shown.{Rests}
 use Rattle.pl_desk.specs.declared.desk.Desk.{Ghosts}
 use Rattle.pl_gate.specs.Gate.{has_gate, is_set}
 use Rattle.pl_store.specs.Session.{IsSettled, Stands, StandsAlike, session_limit, session_store}
-use Rattle.pl_base.specs.Live.{slot_limit}
 use Rattle.pl_store.specs.declared.ended.Ended.{Ended}
 use Rattle.pl_store.specs.declared.ended.Ended.TheVariants as ended
 use Rattle.pl_store.specs.declared.session.Session.{Session}

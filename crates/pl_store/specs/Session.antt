@@ -5,11 +5,11 @@ use Rattle.pl_base.specs.Store.{Store}
 use Rattle.pl_base.specs.Touched.{changed, bytes_before}
 use Rattle.pl_desk.specs.Shown.{Rests}
 use Rattle.pl_desk.specs.declared.desk.Desk.{Ghosts}
-use Rattle.pl_gate.specs.Gate.{commit_bytes, has_gate, laid}
-use Rattle.pl_gate.specs.States.{IsClosed}
+use Rattle.pl_form.specs.Form.{StandsFor}
 use Rattle.pl_plain.specs.Flat.{kept_of}
 use Rattle.pl_plain.specs.Flat as flat
-use Rattle.pl_form.specs.Form.{StandsFor}
+use Rattle.pl_gate.specs.Gate.{commit_bytes, has_gate, laid}
+use Rattle.pl_gate.specs.States.{IsClosed}
 use Rattle.pl_store.specs.declared.memory.Memory.{Memory}
 use Rattle.pl_store.specs.declared.pending.Pending.{Pending}
 use Rattle.pl_store.specs.declared.session.Prepared.{Prepared}

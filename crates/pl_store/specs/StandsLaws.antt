@@ -4,10 +4,10 @@ use Rattle.std.proofs.Common.{arith}
 use Rattle.std.proofs.lemmas.List.{length-take, take-take}
 use Rattle.pl_base.specs.Store.{Store}
 use Rattle.pl_base.specs.Touched.{Change, changed}
+use Rattle.pl_desk.specs.declared.desk.Desk.{Ghosts}
+use Rattle.pl_form.specs.Form.{StandsFor, form_bytes, store_rows}
 use Rattle.pl_gate.specs.Gate.{Holds, laid}
 use Rattle.pl_gate.specs.States.{HoldsEither, IsClosed}
-use Rattle.pl_form.specs.Form.{StandsFor, form_bytes, store_rows}
-use Rattle.pl_desk.specs.declared.desk.Desk.{Ghosts}
 use Rattle.pl_store.specs.declared.session.Session.{Session}
 use Rattle.pl_store.specs.Session.{IsSettled, Stands, StandsForEither, session_store}
 

@@ -1,10 +1,10 @@
 ghost use Rattle.std.specs.Prelude.{◌≡◌, ℕ, List, IfOk, IsOk};
-ghost use Rattle.pl_store.specs.Session.{IsPreparedFrom, IsSettled, StandsForEither};
-ghost use Rattle.pl_store.specs.Session.{bytes_to_write, session_limit, next_limit, next_store};
-ghost use Rattle.pl_store.specs.Session.{session_store, writes_nothing};
 ghost use Rattle.pl_desk.specs.Shown.{AtAnyMoment};
 ghost use Rattle.pl_desk.specs.Counts.{Counts, Writes};
 ghost use Rattle.pl_desk.specs.Calls.{KeepsLine};
+ghost use Rattle.pl_store.specs.Session.{IsPreparedFrom, IsSettled, StandsForEither};
+ghost use Rattle.pl_store.specs.Session.{bytes_to_write, session_limit, next_limit, next_store};
+ghost use Rattle.pl_store.specs.Session.{session_store, writes_nothing};
 
 use crate::session::{Prepared, Session};
 use crate::write::write_change;

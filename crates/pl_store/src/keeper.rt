@@ -1,11 +1,11 @@
 // A store in memory alone, or in a file too.
 ghost use Rattle.std.specs.Prelude.{◌≡◌, ◌≤◌, List, ℕ, Some, false, IfOk, OnErr};
-ghost use Rattle.pl_engine.specs.Step.{HasDates, perform};
-ghost use Rattle.pl_store.specs.Keeper.{IsKept, IsReadyFrom, LeavesEither, is_file, keeper_limit};
-ghost use Rattle.pl_store.specs.Keeper.{ready_limit, ready_store, keeper_store};
 ghost use Rattle.pl_desk.specs.Shown.{AtAnyMoment};
 ghost use Rattle.pl_desk.specs.Counts.{Counts};
 ghost use Rattle.pl_desk.specs.Calls.{KeepsLine};
+ghost use Rattle.pl_engine.specs.Step.{HasDates, perform};
+ghost use Rattle.pl_store.specs.Keeper.{IsKept, IsReadyFrom, LeavesEither, is_file, keeper_limit};
+ghost use Rattle.pl_store.specs.Keeper.{ready_limit, ready_store, keeper_store};
 
 use crate::memory::Memory;
 use crate::session::{Prepared, Session};

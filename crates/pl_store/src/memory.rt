@@ -1,7 +1,7 @@
 ghost use Rattle.std.specs.Prelude.{◌≡◌, ◌≤◌, IfOk};
 ghost use Rattle.pl_base.specs.Store.{opening};
-ghost use Rattle.pl_engine.specs.Step.{HasDates, perform};
 ghost use Rattle.pl_base.specs.Live.{slot_limit};
+ghost use Rattle.pl_engine.specs.Step.{HasDates, perform};
 ghost use Rattle.pl_store.specs.Session.{memory_limit, memory_store};
 
 use crate::uncounted;

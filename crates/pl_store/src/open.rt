@@ -1,9 +1,9 @@
 ghost use Rattle.std.specs.Prelude.{◌≡◌, ◌≤◌, ℕ, List, Err, Some};
+ghost use Rattle.pl_base.specs.Live.{slot_limit};
 ghost use Rattle.pl_desk.specs.Calls.{KeepsLine};
 ghost use Rattle.pl_desk.specs.Counts.{CountsAt};
 ghost use Rattle.pl_desk.specs.Settling.{Settles};
 ghost use Rattle.pl_store.specs.Ending.{KeepsFinished, Makes, Opens};
-ghost use Rattle.pl_base.specs.Live.{slot_limit};
 ghost use Rattle.pl_store.specs.Session.{StandsAlike};
 
 use crate::ended::Ended;

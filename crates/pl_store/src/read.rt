@@ -2,13 +2,13 @@
 ghost use Rattle.std.specs.Prelude.{◌≡◌, ◌≤◌, ◌+◌, ℕ, List, Err, Some, true, false, drop, IfOk};
 ghost use Rattle.std.specs.Prelude.{IfSome, OnOk};
 ghost use Rattle.pl_base.specs.Touched.{page_size};
+ghost use Rattle.pl_base.specs.Live.{slot_limit};
 ghost use Rattle.pl_desk.specs.Calls.{KeepsLine, OnlyReads};
 ghost use Rattle.pl_desk.specs.Counts.{Counts, CountsAt};
 ghost use Rattle.pl_desk.specs.Settling.{Settles};
 ghost use Rattle.pl_desk.specs.Shown.{Rests};
 ghost use Rattle.pl_gate.specs.Gate.{has_gate, is_set};
 ghost use Rattle.pl_gate.specs.Recovery.{IsSettledAs, StandsAs, recovery_bytes};
-ghost use Rattle.pl_base.specs.Live.{slot_limit};
 ghost use Rattle.pl_store.specs.Reading.{HoldNone, IsReadFrom, EndsReading, TellsPages};
 ghost use Rattle.pl_store.specs.Session.{session_limit};
 

@@ -1,8 +1,8 @@
 ghost use Rattle.std.specs.Prelude.{◌≡◌, ◌≤◌, ◌<◌, [], IfOk};
 ghost use Rattle.pl_base.specs.Store.{opening};
 ghost use Rattle.pl_base.specs.Touched.{IsWithin, changed};
-ghost use Rattle.pl_form.specs.Form.{StandsFor};
 ghost use Rattle.pl_base.specs.Live.{slot_limit};
+ghost use Rattle.pl_form.specs.Form.{StandsFor};
 ghost use Rattle.pl_store.specs.Session.{session_bytes, session_limit, session_store};
 
 use crate::session::Session;

@@ -2,9 +2,9 @@
 ghost use Rattle.std.specs.Prelude.{◌≡◌, ◌≤◌, ◌<◌, ℕ, List, length, IfOk, OnOk};
 ghost use Rattle.pl_base.specs.Rows.{store_of};
 ghost use Rattle.pl_base.specs.Touched.{IsWithin, changed, bytes_before};
-ghost use Rattle.pl_engine.specs.Step.{HasDates, perform};
-ghost use Rattle.pl_plain.specs.Flat.{IsBase, bytes_of, kept_of};
 ghost use Rattle.pl_form.specs.Form.{StandsFor};
+ghost use Rattle.pl_plain.specs.Flat.{IsBase, bytes_of, kept_of};
+ghost use Rattle.pl_engine.specs.Step.{HasDates, perform};
 
 use pl_base::{NoMemory, Refusal, Steps, Touched};
 use pl_engine::{Command, Engine, Reply};

@@ -1,10 +1,10 @@
 ghost use Rattle.std.specs.Prelude.{◌≡◌, ◌≤◌, ◌<◌, ℕ, List, [], Some, length, OnOk};
 ghost use Rattle.pl_base.specs.Touched.{IsWithin, changed, bytes_before};
-ghost use Rattle.pl_gate.specs.Gate.{commit_bytes};
-ghost use Rattle.pl_gate.specs.States.{HoldsEither, IsClosed};
 ghost use Rattle.pl_desk.specs.Shown.{AtAnyMoment, Rests};
 ghost use Rattle.pl_desk.specs.Counts.{Counts, Writes};
 ghost use Rattle.pl_desk.specs.Calls.{KeepsLine};
+ghost use Rattle.pl_gate.specs.Gate.{commit_bytes};
+ghost use Rattle.pl_gate.specs.States.{HoldsEither, IsClosed};
 
 use pl_base::{DeviceFault, Touched};
 use pl_desk::Desk;

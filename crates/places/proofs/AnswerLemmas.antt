@@ -5,24 +5,24 @@ use Rattle.std.proofs.lemmas.Option.{same_Some}
 use Rattle.pl_base.specs.declared.refusal.Refusal.{Refusal}
 use Rattle.pl_base.specs.Store.{Store}
 use Rattle.pl_desk.specs.Moments.{started, and_on, shows_less}
+use Rattle.pl_desk.specs.declared.desk.Desk.{Ghosts}
+use Rattle.pl_desk.specs.Shown.{AtAnyMoment, ShowsOnly}
+use Rattle.pl_desk.specs.Calls.{KeepsFile}
+use Rattle.pl_desk.specs.AnyMoment.{OnlyNow}
 use Rattle.pl_engine.specs.declared.command.Command.{Command}
 use Rattle.pl_engine.specs.declared.reply.Reply.{Reply}
 use Rattle.pl_engine.specs.declared.reply.Reply.TheVariants.{Refused}
 use Rattle.pl_engine.specs.Parsed.{Parsed}
 use Rattle.pl_engine.specs.Run.{replies, after}
 use Rattle.pl_engine.specs.Step.{perform}
-use Rattle.pl_script.specs.Reply.{reply_text}
 use Rattle.pl_store.specs.declared.keeper.Keeper.{Keeper}
 use Rattle.pl_store.specs.Keeper.{IsKept, Keeps, Leaves, LeavesEither, is_file, keeper_store}
+use Rattle.pl_store.specs.KeeperLaws.{kept_keeps, kept_leaves, still_keeps}
+use Rattle.pl_script.specs.Reply.{reply_text}
 use Rattle.places.specs.declared.answer_error.AnswerError.{AnswerError}
 use Rattle.places.specs.declared.answer_error.AnswerError.TheVariants as answer
 use Rattle.places.specs.Said.{texts}
 use Rattle.places.specs.Stops.{LeavesOfAnswer, ShowsAnswer, ShowsFront}
-use Rattle.pl_store.specs.KeeperLaws.{kept_keeps, kept_leaves, still_keeps}
-use Rattle.pl_desk.specs.declared.desk.Desk.{Ghosts}
-use Rattle.pl_desk.specs.Shown.{AtAnyMoment, ShowsOnly}
-use Rattle.pl_desk.specs.Calls.{KeepsFile}
-use Rattle.pl_desk.specs.AnyMoment.{OnlyNow}
 
 -- the text of a command's reply
 pub text_of_command : (limit : ℕ) (store : Store) (entries : List (Parsed Command)) (command : Command)

@@ -1,16 +1,21 @@
 -- The ends of a run, from how far it has come.
+use Rattle.std.specs.Prelude.{IfSome}
+use Rattle.std.specs.Option.{option_map}
 use Rattle.std.proofs.Common.{◌≡◌, ◌⊎◌, Bool, eqb, true, ◌<◌, ◌≤◌, ◌+◌, ℕ, List, [], ◌∷◌, ◌++◌, append-nil, length}
 use Rattle.std.proofs.Common.{take, drop, Some, None, Option, refl, ap, sym, subst, ◌∙◌, arith, inl, inr, length-append}
 use Rattle.std.proofs.Common.{length-drop}
-use Rattle.std.specs.Prelude.{IfSome}
-use Rattle.std.specs.Option.{option_map}
 use Rattle.std.proofs.lemmas.List.{drop_at, length-take-le, take-append-drop, take_all, take_at}
 use Rattle.std.proofs.Math.Seq.{take-add}
 use Rattle.std.proofs.lemmas.List.{drop-drop}
 use Rattle.std.proofs.lemmas.Bool.{eqb-true}
 use Rattle.pl_base.specs.Store.{Store}
+use Rattle.pl_base.specs.Live.{slot_limit}
 use Rattle.pl_desk.specs.Moments.{and_on, shows_less}
+use Rattle.pl_desk.specs.declared.desk.Desk.{Ghosts}
+use Rattle.pl_desk.specs.Shown.{ShowsOnly}
+use Rattle.pl_desk.specs.AnyMoment.{OnlyNow, left_now}
 use Rattle.pl_engine.specs.Run.{replies, after}
+use Rattle.pl_store.specs.Keeper.{IsKept, Keeps, is_file}
 use Rattle.pl_script.specs.Script.{script}
 use Rattle.places.specs.declared.answer_error.AnswerError.{AnswerError}
 use Rattle.places.specs.declared.answer_error.AnswerError.TheVariants as answer
@@ -20,18 +25,13 @@ use Rattle.places.specs.declared.status.Status.TheVariants as status
 use Rattle.places.specs.declared.stop.Stop.{Stop}
 use Rattle.places.specs.declared.stop.Stop.TheVariants as stop
 use Rattle.places.specs.Ending.{Becomes, LeavesAtEnd, LeavesWithin, SaysAll, SaysEnded}
-use Rattle.pl_base.specs.Live.{slot_limit}
-use Rattle.pl_store.specs.Keeper.{IsKept, Keeps, is_file}
 use Rattle.places.specs.Status.{EndsIn}
 use Rattle.places.specs.Progress.{HasRead, IsAt, ended_entries, entries_read}
 use Rattle.places.specs.Said.{Says, texts}
 use Rattle.places.specs.Stops.{LeavesAtEntry, ShowsAnswered}
+use Rattle.places.specs.Limits.{script_limit}
 use Rattle.places.proofs.EntryLemmas.{keeps_here, leaves_here, leaves_script}
 use Rattle.places.proofs.StopLemmas.{shows_here, shows_script}
-use Rattle.places.specs.Limits.{script_limit}
-use Rattle.pl_desk.specs.declared.desk.Desk.{Ghosts}
-use Rattle.pl_desk.specs.Shown.{ShowsOnly}
-use Rattle.pl_desk.specs.AnyMoment.{OnlyNow, left_now}
 
 -- the bytes read are a front of the input, and the run stands behind them
 pub record IsBehind (start : Store) (read : ℕ) (bytes before : List ℕ) (left : Option (List ℕ)) (run : ScriptRun)

@@ -1,17 +1,18 @@
 -- What a run leaves that stops at one of its lines is what it leaves of a run with more lines.
+use Rattle.std.specs.Prelude.{IfErr}
+use Rattle.std.specs.Str.Lines.{strip_carriage_return}
 use Rattle.std.proofs.Common.{◌≡◌, ◌≤◌, ◌<◌, ◌+◌, Bool, ℕ, List, [], ◌∷◌, ◌++◌, length, take, drop, get_or, Some, None}
 use Rattle.std.proofs.Common.{Option, Result, Ok, Err, option_to_list, ap, sym, subst, ◌∙◌, append_assoc, append-nil}
 use Rattle.std.proofs.Common.{arith}
-use Rattle.std.specs.Prelude.{IfErr}
-use Rattle.std.specs.Str.Lines.{strip_carriage_return}
 use Rattle.pl_base.specs.Store.{Store}
+use Rattle.pl_base.specs.Live.{slot_limit}
+use Rattle.pl_desk.specs.declared.desk.Desk.{Ghosts}
 use Rattle.pl_engine.specs.declared.command.Command.{Command}
 use Rattle.pl_engine.specs.Parsed.{Parsed}
 use Rattle.pl_engine.specs.Run.{replies, after}
-use Rattle.pl_script.specs.Script.{entry, script}
-use Rattle.pl_base.specs.Live.{slot_limit}
 use Rattle.pl_store.specs.Keeper.{IsKept, Keeps, is_file, keeper_limit, keeper_store}
 use Rattle.pl_store.specs.KeeperLaws.{kept_keeps}
+use Rattle.pl_script.specs.Script.{entry, script}
 use Rattle.places.specs.declared.answer_error.AnswerError.{AnswerError}
 use Rattle.places.specs.declared.answer_error.AnswerError.TheVariants.{NoMemory}
 use Rattle.places.specs.declared.script_run.ScriptRun.{ScriptRun}
@@ -21,7 +22,6 @@ use Rattle.places.specs.Said.{SaysOfAnswer, texts}
 use Rattle.places.specs.Stops.{LeavesAtEntry, LeavesOfAnswer}
 use Rattle.places.proofs.LineLemmas.{script-is}
 use Rattle.places.proofs.ProgressLemmas.{around, ended_further, ended_lf, kept_open, kept_stripped}
-use Rattle.pl_desk.specs.declared.desk.Desk.{Ghosts}
 
 -- two facts of an error
 pub if_err_both : {X E : Type 0} (result : Result X E) (P Q R : E → Type 0) → IfErr result P → IfErr result Q

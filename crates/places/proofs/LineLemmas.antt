@@ -1,8 +1,8 @@
 -- Lines as bytes come.
-use Rattle.std.proofs.Common.{◌≡◌, option_to_list, ◌≢◌, ℕ, Bool, true, false, cond, eqb, List, [], ◌∷◌, ◌++◌, length}
-use Rattle.std.proofs.Common.{map, Some, None, Option, refl, ap, ◌∙◌, arith}
 use Rattle.std.specs.List.{cons_option, slice_split, onto_first}
 use Rattle.std.specs.Str.Lines.{lines_of_parts, strip_carriage_return}
+use Rattle.std.proofs.Common.{◌≡◌, option_to_list, ◌≢◌, ℕ, Bool, true, false, cond, eqb, List, [], ◌∷◌, ◌++◌, length}
+use Rattle.std.proofs.Common.{map, Some, None, Option, refl, ap, ◌∙◌, arith}
 use Rattle.std.proofs.lemmas.Bool.{cond-true, cond-false, ne_eqb}
 use Rattle.std.proofs.lemmas.List.{map-append}
 use Rattle.std.proofs.lemmas.List.Elements.{filter_map-append}

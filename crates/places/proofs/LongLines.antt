@@ -1,7 +1,7 @@
 -- Of a line that is too long its first 262,146 bytes tell the entry.
+use Rattle.std.specs.Str.Lines.{strip_carriage_return}
 use Rattle.std.proofs.Common.{◌≡◌, ◌<◌, ◌≤◌, ◌+◌, ◌-◌, ℕ, Bool, true, false, cond, eqb, List, [], ◌∷◌, length, get_or}
 use Rattle.std.proofs.Common.{take, Some, None, Option, Err, refl, ap, sym, ◌∙◌, arith, ⊎_elim}
-use Rattle.std.specs.Str.Lines.{strip_carriage_return}
 use Rattle.std.proofs.lemmas.Bool.{cases_lt, cond-true, lt-ltb}
 use Rattle.std.proofs.lemmas.List.{get_or-take, length-take-le, take_all}
 use Rattle.pl_base.specs.declared.refusal.Refusal.TheVariants.{BadLine}

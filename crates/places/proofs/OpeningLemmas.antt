@@ -1,21 +1,27 @@
 -- The ends of a run by its status, and the runs that have no store to begin with.
+use Rattle.std.specs.Prelude.{⊤, codes}
 use Rattle.std.proofs.Common.{◌≡◌, ◌≢◌, ◌⊎◌, ◌≤◌, ◌<◌, Bool, true, false, ℕ, List, [], ◌∷◌, ◌++◌, append_assoc, take}
 use Rattle.std.proofs.Common.{length, map, slice_index_or, Bor, arith, Some, Option, Result, Ok, Err, refl, ap, sym}
 use Rattle.std.proofs.Common.{subst, ◌∙◌, append-nil, inl, inr, ⊎_elim}
-use Rattle.std.specs.Prelude.{⊤, codes}
 use Rattle.std.proofs.lemmas.List.{length-map}
 use Rattle.std.proofs.lemmas.Option.{MatchOption-at_some, same_Some}
 use Rattle.pl_base.specs.Store.{Store, opening}
+use Rattle.pl_base.specs.Live.{slot_limit}
 use Rattle.pl_desk.specs.Moments.{started}
 use Rattle.pl_desk.specs.Settling.{Settles, ShowsThen, left_settled, shows_then_less}
+use Rattle.pl_desk.specs.declared.desk.Desk.{Ghosts}
+use Rattle.pl_desk.specs.Shown.{ShowsOnly, Unsaid}
+use Rattle.pl_desk.specs.AnyMoment.{CountsNow, OnlyNow, rests_less}
 use Rattle.pl_engine.specs.declared.command.Command.{Command}
 use Rattle.pl_engine.specs.Parsed.{Parsed}
 use Rattle.pl_engine.specs.Run.{replies, after}
 use Rattle.pl_engine.specs.Step.{step}
-use Rattle.pl_script.specs.Reply.{reply_text}
 use Rattle.pl_store.specs.declared.ended.Ended.{Ended}
 use Rattle.pl_store.specs.declared.ended.Ended.TheVariants as ended
 use Rattle.pl_store.specs.Session.{Stands, StandsAlike}
+use Rattle.pl_store.specs.Keeper.{Keeps}
+use Rattle.pl_store.specs.Ending.{Opens}
+use Rattle.pl_script.specs.Reply.{reply_text}
 use Rattle.places.specs.declared.answer_error.AnswerError.{AnswerError}
 use Rattle.places.specs.declared.answer_error.AnswerError.TheVariants as answer
 use Rattle.places.specs.declared.status.Status.{Status}
@@ -24,17 +30,11 @@ use Rattle.places.specs.declared.stop.Stop.{Stop}
 use Rattle.places.specs.declared.stop.Stop.TheVariants as stop
 use Rattle.places.specs.Ending.{BeginsWith, EndsScript, LeavesAtEnd, LeavesWithin, MayEnd, SaysFront}
 use Rattle.places.specs.Progress.{HasRead, entries_read}
-use Rattle.pl_base.specs.Live.{slot_limit}
-use Rattle.pl_store.specs.Keeper.{Keeps}
 use Rattle.places.specs.Said.{Says, SaysOfAnswer, SaysPart, SaysUntil, SaysWhole, texts}
 use Rattle.places.specs.Status.{EndsAs, without_session}
 use Rattle.places.specs.Stops.{LeavesAtEntry, LeavesOfAnswer, ShowsAnswered, ShowsUnopened}
 use Rattle.places.proofs.ProgressLemmas.{replies-append}
 use Rattle.places.proofs.StopLemmas.{shows_nothing}
-use Rattle.pl_store.specs.Ending.{Opens}
-use Rattle.pl_desk.specs.declared.desk.Desk.{Ghosts}
-use Rattle.pl_desk.specs.Shown.{ShowsOnly, Unsaid}
-use Rattle.pl_desk.specs.AnyMoment.{CountsNow, OnlyNow, rests_less}
 
 -- ---- a script that was run
 

@@ -1,22 +1,22 @@
 -- A run goes on by the bytes of its input.
+use Rattle.std.specs.Str.Lines.{strip_carriage_return}
 use Rattle.std.proofs.Common.{◌≡◌, ◌≢◌, ⊎_elim, ◌<◌, ◌≤◌, ◌+◌, ℕ, List, [], ◌∷◌, ◌++◌, length, take, drop, Option}
 use Rattle.std.proofs.Common.{option_to_list, refl, ap, sym, ◌∙◌, append_assoc, append-nil, arith, length-append}
 use Rattle.std.proofs.Common.{get_or, add-one, drop-cons}
-use Rattle.std.specs.Str.Lines.{strip_carriage_return}
 use Rattle.std.proofs.lemmas.Grind.{flat_map-append}
 use Rattle.std.proofs.Math.Seq.{take-add}
 use Rattle.std.proofs.lemmas.Bool.{cases_eq}
 use Rattle.std.proofs.lemmas.List.{length-take, take-append-drop, take-append-le, take_all}
 use Rattle.pl_base.specs.Store.{Store}
+use Rattle.pl_base.specs.Live.{slot_limit}
 use Rattle.pl_engine.specs.declared.command.Command.{Command}
 use Rattle.pl_engine.specs.Run.{replies, after}
 use Rattle.pl_engine.specs.Parsed.{Parsed}
 use Rattle.pl_engine.specs.Step.{step}
+use Rattle.pl_store.specs.Keeper.{keeper_limit, keeper_store}
 use Rattle.pl_script.specs.Reply.{reply_text}
 use Rattle.pl_script.specs.Script.{script}
 use Rattle.places.specs.declared.script_run.ScriptRun.{ScriptRun}
-use Rattle.pl_base.specs.Live.{slot_limit}
-use Rattle.pl_store.specs.Keeper.{keeper_limit, keeper_store}
 use Rattle.places.specs.Limits.{kept_of_line}
 use Rattle.places.specs.Lines.{ended_lines, entries_of, entries_in, open_line}
 use Rattle.places.specs.Progress.{IsAt, ended_entries}

@@ -1,7 +1,7 @@
 -- One piece said after another.
+use Rattle.std.specs.Option.{option_map}
 use Rattle.std.proofs.Common.{◌≡◌, append-nil, option_to_list, ◌≤◌, ◌+◌, ◌-◌, ℕ, List, ◌++◌, length, take, drop, Some}
 use Rattle.std.proofs.Common.{None, Option, refl, ap, sym, ◌∙◌, append_assoc, arith, length-drop}
-use Rattle.std.specs.Option.{option_map}
 use Rattle.std.proofs.lemmas.List.{take_all}
 use Rattle.std.proofs.Math.Seq.{take-add}
 use Rattle.pl_engine.specs.declared.reply.Reply.{Reply}

@@ -1,16 +1,16 @@
 -- What a stop shows while a text is said.
+use Rattle.std.specs.Option.{option_map}
 use Rattle.std.proofs.Common.{◌≡◌, ◌≤◌, ◌+◌, ◌-◌, ℕ, List, ◌++◌, length, take, drop, Option, Some, sym, ap, ◌∙◌}
 use Rattle.std.proofs.Common.{append-nil}
-use Rattle.std.specs.Option.{option_map}
 use Rattle.std.proofs.lemmas.Option.{same_Some}
 use Rattle.pl_desk.specs.Desk.{Elapses, ShowsSaying}
 use Rattle.pl_desk.specs.Moments.{started, goes_on}
-use Rattle.places.specs.Said.{Says}
-use Rattle.places.specs.Stops.{ShowsFront}
-use Rattle.places.proofs.SaidLemmas.{says_more, take_further}
 use Rattle.pl_desk.specs.declared.desk.Desk.{Ghosts}
 use Rattle.pl_desk.specs.Shown.{ShowsOnly}
 use Rattle.pl_desk.specs.AnyMoment.{OnlyNow}
+use Rattle.places.specs.Said.{Says}
+use Rattle.places.specs.Stops.{ShowsFront}
+use Rattle.places.proofs.SaidLemmas.{says_more, take_further}
 
 -- a front of the rest behind what was said is a longer front
 pub front_further : (before bytes line : List ℕ) (s k : ℕ) (at_first now : Option (List ℕ)) → s ≤ length bytes

@@ -1,27 +1,27 @@
 -- What a stop shows of a line is what it shows of a run with more lines.
+use Rattle.std.specs.Str.Lines.{strip_carriage_return}
 use Rattle.std.proofs.Common.{◌≡◌, ◌<◌, ◌+◌, Bool, ℕ, List, [], ◌∷◌, ◌++◌, length, take, drop, get_or, Some, Option}
 use Rattle.std.proofs.Common.{option_to_list, ap, sym, subst, ◌∙◌, append_assoc, append-nil, arith, inl}
-use Rattle.std.specs.Str.Lines.{strip_carriage_return}
 use Rattle.pl_base.specs.Store.{Store}
+use Rattle.pl_base.specs.Live.{slot_limit}
 use Rattle.pl_desk.specs.Moments.{and_on, started}
+use Rattle.pl_desk.specs.declared.desk.Desk.{Ghosts}
+use Rattle.pl_desk.specs.Shown.{ShowsOnly}
+use Rattle.pl_desk.specs.AnyMoment.{OnlyNow}
 use Rattle.pl_engine.specs.declared.command.Command.{Command}
 use Rattle.pl_engine.specs.Parsed.{Parsed}
 use Rattle.pl_engine.specs.Run.{replies, after}
+use Rattle.pl_store.specs.Keeper.{IsKept, Leaves, is_file, keeper_limit, keeper_store}
+use Rattle.pl_store.specs.KeeperLaws.{kept_leaves}
 use Rattle.pl_script.specs.Script.{entry, script}
 use Rattle.places.specs.declared.script_run.ScriptRun.{ScriptRun}
-use Rattle.pl_base.specs.Live.{slot_limit}
-use Rattle.pl_store.specs.Keeper.{IsKept, Leaves, is_file, keeper_limit, keeper_store}
 use Rattle.places.specs.Lines.{entries_in, open_line}
 use Rattle.places.specs.Progress.{IsAt, ended_entries}
 use Rattle.places.specs.Said.{texts}
 use Rattle.places.specs.Stops.{ShowsAnswer, ShowsAnswered}
-use Rattle.pl_store.specs.KeeperLaws.{kept_leaves}
 use Rattle.places.proofs.LineLemmas.{script-is}
 use Rattle.places.proofs.ProgressLemmas.{around, ended_further, ended_lf, kept_open, kept_stripped}
 use Rattle.places.proofs.EntryLemmas.{one_entry}
-use Rattle.pl_desk.specs.declared.desk.Desk.{Ghosts}
-use Rattle.pl_desk.specs.Shown.{ShowsOnly}
-use Rattle.pl_desk.specs.AnyMoment.{OnlyNow}
 
 module _ {D : Type 0} (desk : Ghosts D) (kind : Bool) (first : D) (start : Store) where
   -- a run of more entries

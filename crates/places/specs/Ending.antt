@@ -4,16 +4,16 @@ use Rattle.std.specs.Prelude.{codes, length, take}
 use Rattle.std.specs.Prelude.{Option, Some}
 use denote.Ref.{Bor}
 use Rattle.pl_base.specs.Store.{Store, opening}
+use Rattle.pl_base.specs.Live.{slot_limit}
 use Rattle.pl_desk.specs.Calls.{KeepsFile, LeavesNoMore}
 use Rattle.pl_desk.specs.Shown.{Rests}
 use Rattle.pl_desk.specs.declared.desk.Desk as desks
 use Rattle.pl_desk.specs.declared.source.Source as sources
 use Rattle.pl_engine.specs.Run.{replies, after}
-use Rattle.pl_script.specs.Script.{script}
 use Rattle.pl_store.specs.Ending.{FindsBytes, IsFinished, SparesBytes}
-use Rattle.pl_base.specs.Live.{slot_limit}
 use Rattle.pl_store.specs.Keeper.{Keeps}
 use Rattle.pl_store.specs.Session.{Stands}
+use Rattle.pl_script.specs.Script.{script}
 use Rattle.places.specs.declared.answer_error.AnswerError.{AnswerError}
 use Rattle.places.specs.declared.answer_error.AnswerError.TheVariants as answer
 use Rattle.places.specs.declared.status.Status.{Status}

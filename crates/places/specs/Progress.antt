@@ -1,16 +1,16 @@
 -- How far a run has come.
 use Rattle.std.specs.Prelude.{◌≡◌, ◌≤◌, ℕ, List, [], ◌∷◌, ◌++◌, length, take, Option, Some}
 use Rattle.pl_base.specs.Store.{Store}
+use Rattle.pl_base.specs.Live.{slot_limit}
+use Rattle.pl_desk.specs.Shown.{ShowsOnly}
+use Rattle.pl_desk.specs.declared.desk.Desk.{Ghosts}
 use Rattle.pl_engine.specs.declared.command.Command.{Command}
 use Rattle.pl_engine.specs.Run.{replies, after}
 use Rattle.pl_engine.specs.Parsed.{Parsed}
+use Rattle.pl_store.specs.declared.keeper.Keeper.{Keeper}
+use Rattle.pl_store.specs.Keeper.{IsKept, is_file, keeper_limit, keeper_store}
 use Rattle.pl_script.specs.Script.{script}
 use Rattle.places.specs.declared.script_run.ScriptRun.{ScriptRun}
-use Rattle.pl_desk.specs.Shown.{ShowsOnly}
-use Rattle.pl_desk.specs.declared.desk.Desk.{Ghosts}
-use Rattle.pl_store.specs.declared.keeper.Keeper.{Keeper}
-use Rattle.pl_base.specs.Live.{slot_limit}
-use Rattle.pl_store.specs.Keeper.{IsKept, is_file, keeper_limit, keeper_store}
 use Rattle.places.specs.declared.answer_error.AnswerError.{AnswerError}
 use Rattle.places.specs.Limits.{kept_of_line, script_limit}
 use Rattle.places.specs.Lines.{ended_lines, entries_of, open_line}

@@ -1,15 +1,15 @@
 // The answer to one line.
 ghost use Rattle.std.specs.Prelude.{◌≡◌, ℕ, List, [], ◌∷◌, Some, Err, false, IfOk, IfErr, OnOk};
+ghost use Rattle.pl_desk.specs.Shown.{ShowsOnly};
+ghost use Rattle.pl_desk.specs.Counts.{CountsAt};
+ghost use Rattle.pl_desk.specs.Calls.{LeavesFile};
 ghost use Rattle.pl_engine.specs.Run.{replies, after};
-ghost use Rattle.pl_script.specs.Reply.{reply_text as text_of_reply};
 ghost use Rattle.pl_store.specs.Keeper.{IsKept, is_file, keeper_limit, keeper_store};
+ghost use Rattle.pl_script.specs.Reply.{reply_text as text_of_reply};
 ghost use Rattle.places.specs.Lines.{entries_in};
 ghost use Rattle.places.specs.Progress.{StaysKept};
 ghost use Rattle.places.specs.Said.{Says, SaysOfAnswer, texts};
 ghost use Rattle.places.specs.Stops.{LeavesOfAnswer, ShowsAnswer, ShowsFront};
-ghost use Rattle.pl_desk.specs.Shown.{ShowsOnly};
-ghost use Rattle.pl_desk.specs.Counts.{CountsAt};
-ghost use Rattle.pl_desk.specs.Calls.{LeavesFile};
 
 use crate::answer_error::AnswerError;
 use crate::say::say_all;

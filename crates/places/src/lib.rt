@@ -17,12 +17,12 @@ mod status;
 mod stop;
 
 ghost use Rattle.std.specs.Prelude.{◌≡◌, ℕ, List, Some};
+ghost use Rattle.pl_base.specs.Live.{slot_limit};
 ghost use Rattle.pl_desk.specs.Calls.{LeavesFile};
 ghost use Rattle.pl_desk.specs.Counts.{CountsAt};
 ghost use Rattle.pl_desk.specs.Settling.{ShowsThen};
-ghost use Rattle.pl_script.specs.Script.{script};
 ghost use Rattle.pl_store.specs.Ending.{KeepsFinished, RefusesFile, StandsForNone};
-ghost use Rattle.pl_base.specs.Live.{slot_limit};
+ghost use Rattle.pl_script.specs.Script.{script};
 ghost use Rattle.places.specs.Ending.{EndsNew, EndsScript, EndsUnopened, IsNew, IsRun, IsTry};
 ghost use Rattle.places.specs.Ending.{LeavesAtEnd, MayEnd, OfScript, spelled};
 ghost use Rattle.places.specs.Stops.{ShowsAnswered, ShowsUnopened};

@@ -1,15 +1,15 @@
 // The script of the input on a store.
 ghost use Rattle.std.specs.Prelude.{◌≡◌, false, Err};
-ghost use Rattle.pl_script.specs.Script.{script};
-ghost use Rattle.places.specs.Ending.{IfTold, LeavesAtEnd};
 ghost use Rattle.pl_base.specs.Live.{slot_limit};
-ghost use Rattle.pl_store.specs.Keeper.{IsKept, is_file, keeper_limit, keeper_store};
-ghost use Rattle.places.specs.declared.status.Status.{Status};
-ghost use Rattle.places.specs.Status.{EndsAs};
-ghost use Rattle.places.specs.Stops.{ShowsAnswered};
 ghost use Rattle.pl_desk.specs.Shown.{ShowsOnly};
 ghost use Rattle.pl_desk.specs.Counts.{CountsAt};
 ghost use Rattle.pl_desk.specs.Calls.{LeavesFile};
+ghost use Rattle.pl_store.specs.Keeper.{IsKept, is_file, keeper_limit, keeper_store};
+ghost use Rattle.pl_script.specs.Script.{script};
+ghost use Rattle.places.specs.Ending.{IfTold, LeavesAtEnd};
+ghost use Rattle.places.specs.declared.status.Status.{Status};
+ghost use Rattle.places.specs.Status.{EndsAs};
+ghost use Rattle.places.specs.Stops.{ShowsAnswered};
 
 use crate::input::next_piece;
 use crate::script_run::ScriptRun;

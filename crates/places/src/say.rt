@@ -1,10 +1,10 @@
 // Saying a whole text.
 ghost use Rattle.std.specs.Prelude.{◌≡◌, ℕ, List, Some, ◌<◌, length, take, OnOk, OnErr};
-ghost use Rattle.places.specs.Said.{Says};
-ghost use Rattle.places.specs.Stops.{ShowsFront};
 ghost use Rattle.pl_desk.specs.Shown.{ShowsOnly};
 ghost use Rattle.pl_desk.specs.Counts.{Counts};
 ghost use Rattle.pl_desk.specs.Calls.{LeavesFile};
+ghost use Rattle.places.specs.Said.{Says};
+ghost use Rattle.places.specs.Stops.{ShowsFront};
 
 use pl_desk::{Desk, Failed};
 

@@ -1,13 +1,13 @@
 // A script on a store in memory, and on one in a file.
 ghost use Rattle.std.specs.Prelude.{◌≡◌, ⊤, ℕ, List, Some, true, false};
 ghost use Rattle.pl_base.specs.Store.{Store, opening};
+ghost use Rattle.pl_base.specs.Live.{slot_limit};
 ghost use Rattle.pl_desk.specs.Calls.{LeavesFile};
 ghost use Rattle.pl_desk.specs.Counts.{CountsAt};
 ghost use Rattle.pl_desk.specs.Settling.{ShowsThen};
-ghost use Rattle.pl_script.specs.Script.{script};
 ghost use Rattle.pl_store.specs.Ending.{KeepsFinished, RefusesFile, StandsForNone};
-ghost use Rattle.pl_base.specs.Live.{slot_limit};
 ghost use Rattle.pl_store.specs.Session.{Stands};
+ghost use Rattle.pl_script.specs.Script.{script};
 ghost use Rattle.places.specs.Ending.{EndsUnopened, IfTold, LeavesAtEnd, MayEnd};
 ghost use Rattle.places.specs.Status.{EndsAs};
 ghost use Rattle.places.specs.Stops.{ShowsAnswered, ShowsUnopened};

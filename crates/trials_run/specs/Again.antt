@@ -1,14 +1,14 @@
 -- A run behind one whose file failed.
 use Rattle.std.specs.Prelude.{◌≡◌, ◌≤◌, ℕ, List, ◌++◌, length, Some}
 use Rattle.pl_base.specs.Store.{Store}
+use Rattle.pl_base.specs.Live.{slot_limit}
 use Rattle.pl_desk.specs.Shown.{Rests}
 use Rattle.pl_desk.specs.declared.desk.Desk.{Ghosts}
 use Rattle.pl_engine.specs.declared.command.Command.{Command}
 use Rattle.pl_engine.specs.Parsed.{Parsed}
 use Rattle.pl_engine.specs.Run.{replies, after}
-use Rattle.pl_script.specs.Script.{script}
-use Rattle.pl_base.specs.Live.{slot_limit}
 use Rattle.pl_store.specs.Session.{Stands}
+use Rattle.pl_script.specs.Script.{script}
 use Rattle.places.specs.Said.{texts}
 
 -- the store has these entries behind it: those that were answered, or one more

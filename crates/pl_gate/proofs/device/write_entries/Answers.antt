@@ -1,7 +1,8 @@
+use Rattle.std.specs.Int.{w64, to_le_bytes}
 use Rattle.std.proofs.Common.{◌≡◌, ◌<◌, ℕ, ◌+◌, ◌*◌, List, ◌++◌, length, take, drop, refl, sym, ◌∙◌, ap, subst, arith}
 use Rattle.std.proofs.lemmas.List.{length-append}
-use Rattle.std.specs.Int.{w64, to_le_bytes}
 use Rattle.pl_desk.specs.Desk.{Follows, Torn}
+use Rattle.pl_desk.specs.Shown.{ShowsStep}
 use Rattle.pl_gate.specs.Gate.{entry_size}
 use Rattle.pl_gate.specs.Device.{Range, TornIn, entry_bytes, entry_ranges}
 use Rattle.pl_gate.proofs.Moments.{began, went}
@@ -10,7 +11,6 @@ use Rattle.pl_gate.proofs.Ranges.{map_none, nth}
 use Rattle.pl_gate.proofs.device.write_entries.Given.{Over}
 use Rattle.pl_gate.proofs.device.write_entries.Goals.{After-write_at}
 use Rattle.pl_gate.proofs.device.write_entries.Goals as goal
-use Rattle.pl_desk.specs.Shown.{ShowsStep}
 
 pub loop-index-init : goal.loop-index-init
 loop-index-init g c =

@@ -1,11 +1,11 @@
-use Rattle.std.proofs.Common.{◌≡◌, ◌≤◌, ◌+◌, ◌*◌, ◌-◌, length, take}
 use Rattle.std.specs.Option.{option_map}
+use Rattle.std.proofs.Common.{◌≡◌, ◌≤◌, ◌+◌, ◌*◌, ◌-◌, length, take}
 use Rattle.pl_desk.specs.Desk.{Follows}
+use Rattle.pl_desk.specs.Shown.{ShowsStep}
+use Rattle.pl_desk.specs.Calls.{KeepsLine}
 use Rattle.pl_gate.specs.Gate.{entry_size}
 use Rattle.pl_gate.specs.Device.{entry_ranges, with_entries, TornIn}
 use Rattle.pl_gate.proofs.device.write_entries.Given as goal
-use Rattle.pl_desk.specs.Shown.{ShowsStep}
-use Rattle.pl_desk.specs.Calls.{KeepsLine}
 
 -- the first entries are written
 abbrev pub invariant-loop-index : goal.invariant-loop-index

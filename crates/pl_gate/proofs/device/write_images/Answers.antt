@@ -1,7 +1,8 @@
-use Rattle.std.proofs.Common.{◌≡◌, ◌<◌, ℕ, ◌+◌, ◌*◌, List, length, take, drop, refl, sym, ◌∙◌, ap, subst, arith}
 use Rattle.std.specs.Option.{option_map}
-use Rattle.pl_desk.specs.Desk.{Follows, Torn, overwritten}
+use Rattle.std.proofs.Common.{◌≡◌, ◌<◌, ℕ, ◌+◌, ◌*◌, List, length, take, drop, refl, sym, ◌∙◌, ap, subst, arith}
 use Rattle.pl_base.specs.Touched.{page_size}
+use Rattle.pl_desk.specs.Desk.{Follows, Torn, overwritten}
+use Rattle.pl_desk.specs.Shown.{ShowsStep}
 use Rattle.pl_gate.specs.Device.{Range, TornIn, image_ranges}
 use Rattle.pl_gate.proofs.Moments.{began, went}
 use Rattle.pl_gate.proofs.Ranges.{torn_in_same, follows_more, follows_front, images_more, images_all, held_images}
@@ -9,7 +10,6 @@ use Rattle.pl_gate.proofs.Ranges.{map_none, nth}
 use Rattle.pl_gate.proofs.device.write_images.Given.{Over}
 use Rattle.pl_gate.proofs.device.write_images.Goals.{After-write_at}
 use Rattle.pl_gate.proofs.device.write_images.Goals as goal
-use Rattle.pl_desk.specs.Shown.{ShowsStep}
 
 pub loop-index-init : goal.loop-index-init
 loop-index-init g c =

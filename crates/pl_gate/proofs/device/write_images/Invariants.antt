@@ -1,11 +1,11 @@
-use Rattle.std.proofs.Common.{◌≡◌, ◌≤◌, ◌+◌, ◌*◌, ◌-◌, length, take}
 use Rattle.std.specs.Option.{option_map}
-use Rattle.pl_desk.specs.Desk.{Follows}
+use Rattle.std.proofs.Common.{◌≡◌, ◌≤◌, ◌+◌, ◌*◌, ◌-◌, length, take}
 use Rattle.pl_base.specs.Touched.{page_size}
-use Rattle.pl_gate.specs.Device.{image_ranges, with_images, TornIn}
-use Rattle.pl_gate.proofs.device.write_images.Given as goal
+use Rattle.pl_desk.specs.Desk.{Follows}
 use Rattle.pl_desk.specs.Shown.{ShowsStep}
 use Rattle.pl_desk.specs.Calls.{KeepsLine}
+use Rattle.pl_gate.specs.Device.{image_ranges, with_images, TornIn}
+use Rattle.pl_gate.proofs.device.write_images.Given as goal
 
 -- the first images are written
 abbrev pub invariant-loop-index : goal.invariant-loop-index

@@ -1,9 +1,9 @@
 use Rattle.std.proofs.Common.{◌≡◌, ◌≤◌, ◌-◌, IfSome, drop}
 use Rattle.pl_base.specs.Touched.{page_numbers}
+use Rattle.pl_desk.specs.Calls.{OnlyReads}
 use Rattle.pl_gate.specs.Gate.{journal}
 use Rattle.pl_gate.proofs.JournalFiles.{numbers_fit}
 use Rattle.pl_gate.proofs.journal.check_journal.Given as goal
-use Rattle.pl_desk.specs.Calls.{OnlyReads}
 
 -- all numbers are right exactly where those that are left are, behind the last one
 abbrev pub invariant-loop-index : goal.invariant-loop-index

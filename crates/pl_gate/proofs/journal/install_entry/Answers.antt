@@ -3,12 +3,12 @@ use Rattle.std.proofs.lemmas.Option.{MatchOption-at_some}
 use Rattle.pl_base.specs.Touched.{page_size}
 use Rattle.pl_desk.specs.Desk.{Follows, Torn}
 use Rattle.pl_desk.specs.Overwritten.{torn_same}
+use Rattle.pl_desk.specs.Shown.{ShowsStep}
 use Rattle.pl_gate.specs.Gate.{entry_at}
 use Rattle.pl_gate.proofs.Moments.{read_as, went}
 use Rattle.pl_gate.proofs.journal.install_entry.Given.{Over}
 use Rattle.pl_gate.proofs.journal.install_entry.Goals.{After-read_page, After-read_at, After-write_at}
 use Rattle.pl_gate.proofs.journal.install_entry.Goals as goal
-use Rattle.pl_desk.specs.Shown.{ShowsStep}
 
 -- a write of the entry's page that a stop may cut short
 abbrev Step : ℕ → List ℕ → List ℕ → List ℕ → Type 0

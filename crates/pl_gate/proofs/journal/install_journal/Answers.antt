@@ -1,13 +1,14 @@
+use Rattle.std.specs.Result.{result_err}
+use Rattle.std.specs.Option.{option_map}
 use Rattle.std.proofs.Common.{◌≡◌, ◌≤◌, ◌+◌, ◌*◌, ℕ, List, ◌∷◌, Option, Some, None, Err, true, length, drop, take, refl}
 use Rattle.std.proofs.Common.{sym, ◌∙◌, ap, subst, arith}
 use Rattle.std.proofs.lemmas.Bool.{and_from, both_ways}
 use Rattle.std.proofs.lemmas.List.{take_all}
 use Rattle.std.proofs.lemmas.Option.{MatchOption-at_some, none-some, same_Some}
 use Rattle.std.proofs.lemmas.Result.{err_from_is_err_and, IfErr-at_err}
-use Rattle.std.specs.Result.{result_err}
-use Rattle.std.specs.Option.{option_map}
 use Rattle.pl_base.specs.Touched.{PageImage, page_numbers, page_size}
 use Rattle.pl_desk.specs.Desk.{Follows, Torn, overwritten}
+use Rattle.pl_desk.specs.Shown.{ShowsStep}
 use Rattle.pl_gate.specs.declared.error.GateError.TheVariants.{BadGate}
 use Rattle.pl_gate.specs.Device.{Range, TornIn, image_ranges, with_images}
 use Rattle.pl_gate.specs.Gate.{entry_at, entry_size, journal, journal_len, journal_start}
@@ -20,7 +21,6 @@ use Rattle.pl_gate.proofs.Ranges.{torn_in_same}
 use Rattle.pl_gate.proofs.journal.install_journal.Given.{Over}
 use Rattle.pl_gate.proofs.journal.install_journal.Goals.{After-install_entry, In-loop-index}
 use Rattle.pl_gate.proofs.journal.install_journal.Goals as goal
-use Rattle.pl_desk.specs.Shown.{ShowsStep}
 
 pub loop-index-init : goal.loop-index-init
 loop-index-init g c =

@@ -1,12 +1,12 @@
 use Rattle.std.proofs.Common.{◌≡◌, ◌≤◌, ◌+◌, ◌*◌, ◌-◌, true, List, ℕ, Some, None, drop, take}
 use Rattle.pl_base.specs.Touched.{page_numbers, page_size}
 use Rattle.pl_desk.specs.Desk.{Follows}
+use Rattle.pl_desk.specs.Shown.{ShowsStep}
+use Rattle.pl_desk.specs.Calls.{KeepsLine}
 use Rattle.pl_gate.specs.Device.{image_ranges, with_images, TornIn}
 use Rattle.pl_gate.specs.Gate.{journal}
 use Rattle.pl_gate.proofs.JournalFiles.{numbers_fit}
 use Rattle.pl_gate.proofs.journal.install_journal.Given as goal
-use Rattle.pl_desk.specs.Shown.{ShowsStep}
-use Rattle.pl_desk.specs.Calls.{KeepsLine}
 
 -- the first images are in their places
 abbrev pub invariant-loop-index : goal.invariant-loop-index

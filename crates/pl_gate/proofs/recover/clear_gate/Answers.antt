@@ -1,17 +1,17 @@
+use Rattle.std.specs.Option.{option_map}
 use Rattle.std.proofs.Common.{◌≡◌, ℕ, List, Some, refl, ◌∙◌, ap, subst}
 use Rattle.std.proofs.lemmas.Option.{MatchOption-at_some}
-use Rattle.std.specs.Option.{option_map}
 use Rattle.pl_desk.specs.Desk.{Torn}
+use Rattle.pl_desk.specs.AnyMoment.{and_call, rests_at, some_said}
+use Rattle.pl_desk.specs.Shown.{AtAnyMoment, Rests}
 use Rattle.pl_gate.specs.Device.{TornIn, image_ranges, with_gate, with_images}
 use Rattle.pl_gate.specs.Gate.{journal}
 use Rattle.pl_gate.specs.Recovery.{IsSettledAs, StandsAs}
-use Rattle.pl_desk.specs.AnyMoment.{and_call, rests_at, some_said}
 use Rattle.pl_gate.proofs.Moments.{and_then, from_rest}
 use Rattle.pl_gate.proofs.SettledFiles.{settled, torn_cleared, torn_stands}
 use Rattle.pl_gate.proofs.recover.clear_gate.Given.{Over}
 use Rattle.pl_gate.proofs.recover.clear_gate.Goals.{After-install_journal, After-sync, After-write_gate}
 use Rattle.pl_gate.proofs.recover.clear_gate.Goals as goal
-use Rattle.pl_desk.specs.Shown.{AtAnyMoment, Rests}
 
 abbrev Held : (g : Over) → After-install_journal g → List ℕ → Type 0
 Held g c file = g.D.Desk.held c.args.desk.now ≡ Some file

@@ -2,9 +2,9 @@ use Rattle.std.proofs.Common.{◌≡◌, length, take, drop, refl, sym, subst}
 use Rattle.pl_base.specs.Rows.{store_of}
 use Rattle.pl_base.specs.Store.{Store}
 use Rattle.pl_base.specs.Touched.{page_size}
+use Rattle.pl_form.specs.Form.{StandsFor}
 use Rattle.pl_plain.specs.declared.flat.Flat.{Flat}
 use Rattle.pl_plain.specs.Flat.{IsBase, bytes_of, kept_of}
-use Rattle.pl_form.specs.Form.{StandsFor}
 use Rattle.pl_store.proofs.read.session_of.Goals as goal
 
 pub invariant_of-result : goal.invariant_of-result

@@ -1,8 +1,8 @@
 use Rattle.std.proofs.Common.{◌≡◌, ℕ, List, [], refl, sym, subst, arith}
 use Rattle.pl_base.specs.Rows.{Kept, store_of}
+use Rattle.pl_form.specs.Form.{StandsFor}
 use Rattle.pl_plain.specs.declared.flat.Flat.{Flat}
 use Rattle.pl_plain.specs.Flat.{IsBase, bytes_of, kept_of}
-use Rattle.pl_form.specs.Form.{StandsFor}
 use Rattle.pl_store.proofs.start.start.Goals as goal
 
 -- the rows are made over nothing

@@ -1,6 +1,7 @@
 use Rattle.std.proofs.Common.{Err, refl, sym, ap, subst, ◌∙◌, option_to_list}
 use Rattle.std.proofs.lemmas.Result.{err_from_is_err_and}
 use Rattle.pl_base.specs.Store.{Store}
+use Rattle.pl_desk.specs.Calls.{LeavesFile}
 use Rattle.pl_engine.specs.Run.{after}
 use Rattle.pl_store.specs.Keeper.{LeavesEither, is_file, keeper_limit, ready_store, keeper_store}
 use Rattle.pl_store.specs.KeeperLaws.{kept_keeps, still_keeps, still_kept}
@@ -8,7 +9,6 @@ use Rattle.places.specs.Lines.{entries_in}
 use Rattle.places.proofs.AnswerLemmas.{after_command, committing, keeps_as, keeps_refused, performing, refusing}
 use Rattle.places.proofs.AnswerLemmas.{text_of_command, unanswered}
 use Rattle.places.proofs.answer.answer.Goals as goal
-use Rattle.pl_desk.specs.Calls.{LeavesFile}
 
 -- nothing happens on the desk
 pub returns-in-Ok-None-clause-shows : goal.returns-in-Ok-None-clause-shows

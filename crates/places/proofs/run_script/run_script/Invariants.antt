@@ -1,14 +1,14 @@
 use Rattle.std.proofs.Common.{◌≡◌, ◌≤◌, ◌-◌, false}
+use Rattle.pl_base.specs.Live.{slot_limit}
+use Rattle.pl_desk.specs.Shown.{ShowsOnly}
+use Rattle.pl_desk.specs.Calls.{LeavesFile}
+use Rattle.pl_store.specs.Keeper.{IsKept, is_file, keeper_store}
 use Rattle.pl_script.specs.Script.{script}
 use Rattle.places.specs.Ending.{IfTold}
-use Rattle.pl_base.specs.Live.{slot_limit}
-use Rattle.pl_store.specs.Keeper.{IsKept, is_file, keeper_store}
 use Rattle.places.specs.Limits.{script_limit}
 use Rattle.places.specs.Stops.{ShowsAnswered}
 use Rattle.places.proofs.EndingLemmas.{IsBehind}
 use Rattle.places.proofs.run_script.run_script.Given as goal
-use Rattle.pl_desk.specs.Shown.{ShowsOnly}
-use Rattle.pl_desk.specs.Calls.{LeavesFile}
 
 -- the bytes read so far are a front of the input, the run stands behind them, and a stop since the start shows some of
 -- the script's answers

@@ -1,9 +1,9 @@
 use Rattle.std.proofs.Common.{◌≡◌, ◌≤◌, ◌-◌, ℕ, List, Some, length, take}
+use Rattle.pl_desk.specs.Shown.{ShowsOnly}
+use Rattle.pl_desk.specs.Calls.{LeavesFile}
 use Rattle.places.specs.Said.{Says}
 use Rattle.places.specs.Stops.{ShowsFront}
 use Rattle.places.proofs.say.say_all.Given as goal
-use Rattle.pl_desk.specs.Shown.{ShowsOnly}
-use Rattle.pl_desk.specs.Calls.{LeavesFile}
 
 -- the bytes said so far are a front
 abbrev pub invariant-loop-said : goal.invariant-loop-said

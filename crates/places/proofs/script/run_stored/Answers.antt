@@ -2,15 +2,15 @@ use Rattle.std.specs.Prelude.{⊤}
 use Rattle.std.proofs.Common.{◌∙◌, ◌≡◌, inr, true, subst, sym}
 use Rattle.std.proofs.lemmas.Option.{MatchOption-at_some}
 use Rattle.pl_base.specs.Store.{Store}
-use Rattle.pl_desk.specs.Settling.{settles_on}
-use Rattle.pl_script.specs.Script.{script}
-use Rattle.pl_store.specs.Session.{session_store}
-use Rattle.places.specs.Ending.{LeavesAtEnd}
 use Rattle.pl_base.specs.Live.{slot_limit}
+use Rattle.pl_desk.specs.Settling.{settles_on}
+use Rattle.pl_desk.specs.Shown.{ShowsOnly}
+use Rattle.pl_store.specs.Session.{session_store}
+use Rattle.pl_script.specs.Script.{script}
+use Rattle.places.specs.Ending.{LeavesAtEnd}
 use Rattle.places.specs.Stops.{ShowsAnswered, ShowsUnopened}
 use Rattle.places.proofs.OpeningLemmas.{ends_without, no_refusal, opening_may_end, script_may_end, shows_opening}
 use Rattle.places.proofs.script.run_stored.Goals as goal
-use Rattle.pl_desk.specs.Shown.{ShowsOnly}
 
 pub returns-in-Ok-clause-ends : goal.returns-in-Ok-clause-ends
 returns-in-Ok-clause-ends g c = λ file start held stands bytes before told begun.

@@ -1,13 +1,13 @@
 use Rattle.std.specs.Prelude.{⊤}
 use Rattle.std.proofs.Common.{false, inl, inr, subst}
 use Rattle.pl_base.specs.Store.{Store, opening}
+use Rattle.pl_base.specs.Live.{slot_limit}
+use Rattle.pl_desk.specs.Shown.{ShowsOnly}
 use Rattle.pl_script.specs.Script.{script}
 use Rattle.places.specs.Ending.{LeavesAtEnd}
-use Rattle.pl_base.specs.Live.{slot_limit}
 use Rattle.places.specs.Stops.{ShowsAnswered}
 use Rattle.places.proofs.OpeningLemmas.{ends_unread, script_may_end, shows_unopened}
 use Rattle.places.proofs.script.try_script.Goals as goal
-use Rattle.pl_desk.specs.Shown.{ShowsOnly}
 
 pub returns-in-Ok-clause-ends : goal.returns-in-Ok-clause-ends
 returns-in-Ok-clause-ends g c = λ bytes before told begun.

@@ -1,5 +1,5 @@
-use Rattle.std.proofs.Common.{◌≡◌, ◌≤◌, ◌<◌, true, ℕ}
 use Rattle.std.specs.List.{All}
+use Rattle.std.proofs.Common.{◌≡◌, ◌≤◌, ◌<◌, true, ℕ}
 use Rattle.pl_base.specs.Touched.{has_number, page_numbers}
 use Rattle.trials_gate.proofs.gate.touch_added.Given as goal
 

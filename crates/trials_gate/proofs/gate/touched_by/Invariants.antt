@@ -1,5 +1,5 @@
-use Rattle.std.proofs.Common.{◌≡◌, ◌<◌}
 use Rattle.std.specs.List.{All}
+use Rattle.std.proofs.Common.{◌≡◌, ◌<◌}
 use Rattle.pl_base.specs.Touched.{page_numbers}
 use Rattle.trials_gate.proofs.gate.touched_by.Given as goal
 

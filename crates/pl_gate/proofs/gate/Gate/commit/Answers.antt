@@ -1,13 +1,13 @@
 use Rattle.std.proofs.Common.{◌≡◌, ℕ, List, [], length, inl, inr, sym, ◌∙◌, subst}
 use Rattle.std.proofs.lemmas.Result.{on_ok_weaker}
 use Rattle.pl_base.specs.Touched.{Change, changed, bytes_before}
+use Rattle.pl_desk.specs.AnyMoment.{and_more, weaker}
+use Rattle.pl_desk.specs.Shown.{AtAnyMoment, Rests}
 use Rattle.pl_gate.specs.Gate.{Holds}
 use Rattle.pl_gate.specs.States.{HoldsEither, IsArmed, IsClosed, IsInstalled, IsStaged}
-use Rattle.pl_desk.specs.AnyMoment.{and_more, weaker}
 use Rattle.pl_gate.proofs.gate.Gate.commit.Given.{Over}
 use Rattle.pl_gate.proofs.gate.Gate.commit.Goals.{After-arm, After-install, After-disarm}
 use Rattle.pl_gate.proofs.gate.Gate.commit.Goals as goal
-use Rattle.pl_desk.specs.Shown.{AtAnyMoment, Rests}
 
 abbrev Before : (g : Over) → After-arm g → List ℕ → Type 0
 Before g c pages =

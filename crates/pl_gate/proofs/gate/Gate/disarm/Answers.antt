@@ -1,10 +1,10 @@
-use Rattle.std.proofs.Common.{◌≡◌, Some, sym, ◌∙◌, ap, subst}
 use Rattle.std.specs.Option.{option_map}
+use Rattle.std.proofs.Common.{◌≡◌, Some, sym, ◌∙◌, ap, subst}
 use Rattle.pl_desk.specs.Desk.{Torn}
+use Rattle.pl_desk.specs.AnyMoment.{rests_at}
 use Rattle.pl_gate.specs.Device.{with_gate}
 use Rattle.pl_gate.specs.Gate.{Holds}
 use Rattle.pl_gate.specs.States.{IsClosed, IsInstalled}
-use Rattle.pl_desk.specs.AnyMoment.{rests_at}
 use Rattle.pl_gate.proofs.Moments.{from_rest}
 use Rattle.pl_gate.proofs.StagedFiles.{cleared_gate, torn_installed}
 use Rattle.pl_gate.proofs.gate.Gate.disarm.Goals as goal

@@ -1,17 +1,17 @@
-use Rattle.std.proofs.Common.{◌≡◌, List, ℕ, sym, ◌∙◌, ap, subst}
 use Rattle.std.specs.Option.{option_map}
+use Rattle.std.proofs.Common.{◌≡◌, List, ℕ, sym, ◌∙◌, ap, subst}
 use Rattle.pl_base.specs.Touched.{Change}
 use Rattle.pl_desk.specs.Desk.{Follows}
+use Rattle.pl_desk.specs.AnyMoment.{and_call, rests_synced}
+use Rattle.pl_desk.specs.Shown.{AtAnyMoment, Rests, ShowsStep}
 use Rattle.pl_gate.specs.Device.{TornIn, image_ranges, with_images}
 use Rattle.pl_gate.specs.Gate.{Holds}
 use Rattle.pl_gate.specs.States.{IsArmed, IsInstalled}
-use Rattle.pl_desk.specs.AnyMoment.{and_call, rests_synced}
 use Rattle.pl_gate.proofs.Moments.{from_rest}
 use Rattle.pl_gate.proofs.ArmedFiles.{armed_torn, installed}
 use Rattle.pl_gate.proofs.gate.Gate.install.Given.{Over}
 use Rattle.pl_gate.proofs.gate.Gate.install.Goals.{After-write_images, After-sync}
 use Rattle.pl_gate.proofs.gate.Gate.install.Goals as goal
-use Rattle.pl_desk.specs.Shown.{AtAnyMoment, Rests, ShowsStep}
 
 -- whatever the images' writes leave is armed
 left : (g : Over) (c : After-write_images g) (pages : List ℕ)

@@ -1,11 +1,12 @@
-use Rattle.std.proofs.Common.{◌≡◌, ◌<◌, ◌*◌, ◌^◌, List, ℕ, [], Some, length, sym, ◌∙◌, ap, subst, arith}
 use Rattle.std.specs.Option.{option_map}
+use Rattle.std.proofs.Common.{◌≡◌, ◌<◌, ◌*◌, ◌^◌, List, ℕ, [], Some, length, sym, ◌∙◌, ap, subst, arith}
 use Rattle.pl_base.specs.Touched.{bytes_before, page_size}
 use Rattle.pl_desk.specs.Desk.{overwritten, Torn}
+use Rattle.pl_desk.specs.AnyMoment.{and_call, rests_synced, some_said}
+use Rattle.pl_desk.specs.Shown.{AtAnyMoment, Rests}
 use Rattle.pl_gate.specs.Device.{TornIn, entry_ranges, place_bytes, start_of, with_entries}
 use Rattle.pl_gate.specs.Gate.{Holds}
 use Rattle.pl_gate.specs.States.{IsClosed, IsStaged}
-use Rattle.pl_desk.specs.AnyMoment.{and_call, rests_synced, some_said}
 use Rattle.pl_gate.proofs.Moments.{and_then, from_rest}
 use Rattle.pl_gate.proofs.ClosedFiles.{closed_entries, closed_torn_place}
 use Rattle.pl_gate.proofs.Told.{count, staged_file, staged_empty}
@@ -13,7 +14,6 @@ use Rattle.pl_gate.proofs.gate.Gate.stage.Given.{Over}
 use Rattle.pl_gate.proofs.gate.Gate.stage.Goals.{After-count-count, After-write_entries, After-write_place, After-sync}
 use Rattle.pl_gate.proofs.gate.Gate.stage.Goals.{In_ok-sync}
 use Rattle.pl_gate.proofs.gate.Gate.stage.Goals as goal
-use Rattle.pl_desk.specs.Shown.{AtAnyMoment, Rests}
 
 less_before : (g : Over) (c : After-count-count g) → c.args.touched.now.before < 2 ^ 32
 less_before g c = rw (sym c.before-2.ensures) c.before-2.type_inv

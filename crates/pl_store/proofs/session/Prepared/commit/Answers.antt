@@ -1,6 +1,7 @@
 use Rattle.std.proofs.Common.{◌≡◌, ℕ, IsSome, List, Some, length, inl, sym, subst}
 use Rattle.pl_base.specs.Touched.{bytes_before}
 use Rattle.pl_desk.specs.AnyMoment.{begun, left_now, some_said, weaker}
+use Rattle.pl_desk.specs.Shown.{AtAnyMoment, Rests}
 use Rattle.pl_gate.specs.States.{HoldsEither, IsClosed}
 use Rattle.pl_store.specs.declared.pending.Pending.{Pending}
 use Rattle.pl_store.specs.declared.session.Prepared.{Prepared}
@@ -10,7 +11,6 @@ use Rattle.pl_store.specs.Session.{session_store}
 use Rattle.pl_store.specs.StandsLaws.{settled_stands, stands_by_either}
 use Rattle.pl_store.proofs.session.Prepared.commit.Given.{Over}
 use Rattle.pl_store.proofs.session.Prepared.commit.Goals as goal
-use Rattle.pl_desk.specs.Shown.{AtAnyMoment, Rests}
 
 -- what a stop within the write of the change shows
 write_shown : (g : Over) (old new : g.row.D.Denot) (prepared : Prepared) (pending : Pending)

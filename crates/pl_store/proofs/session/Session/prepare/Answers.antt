@@ -1,8 +1,8 @@
 use Rattle.std.proofs.Common.{ℕ, List, sym, ap, subst}
+use Rattle.pl_base.specs.Rows.{store_of}
+use Rattle.pl_form.specs.Form.{StandsFor}
 use Rattle.pl_plain.specs.declared.flat.Flat.{Flat}
 use Rattle.pl_plain.specs.Flat.{IsBase, bytes_of}
-use Rattle.pl_form.specs.Form.{StandsFor}
-use Rattle.pl_base.specs.Rows.{store_of}
 use Rattle.pl_plain.specs.Flat.{kept_of}
 use Rattle.pl_store.proofs.session.Session.prepare.Goals as goal
 

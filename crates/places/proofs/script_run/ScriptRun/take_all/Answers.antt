@@ -1,14 +1,14 @@
+use Rattle.std.specs.Result.{result_err}
 use Rattle.std.proofs.Common.{◌∙◌, ◌++◌, ℕ, List, Some, append-nil, ap, refl, subst, take}
 use Rattle.std.proofs.lemmas.Option.{none-some}
 use Rattle.std.proofs.lemmas.Result.{err_from_is_err_and}
-use Rattle.std.specs.Result.{result_err}
-use Rattle.pl_desk.specs.Moments.{shows_less}
 use Rattle.pl_base.specs.Live.{slot_limit}
+use Rattle.pl_desk.specs.Moments.{shows_less}
+use Rattle.pl_desk.specs.AnyMoment.{alone_on, left_alone}
 use Rattle.pl_store.specs.Keeper.{is_file}
 use Rattle.places.specs.Progress.{IsAt, ended_entries}
 use Rattle.places.specs.Stops.{ShowsAnswered}
 use Rattle.places.proofs.EntryLemmas.{leaves_within}
-use Rattle.pl_desk.specs.AnyMoment.{alone_on, left_alone}
 use Rattle.places.proofs.ProgressLemmas.{taken_further}
 use Rattle.places.proofs.StopLemmas.{shows_here, shows_later, shows_taken}
 use Rattle.places.proofs.script_run.ScriptRun.take_all.Goals as goal

@@ -1,12 +1,12 @@
 use Rattle.std.proofs.Common.{◌≡◌, ◌++◌, List, Option, ℕ, Some, false, take}
 use Rattle.pl_base.specs.Store.{Store}
 use Rattle.pl_base.specs.Live.{slot_limit}
+use Rattle.pl_desk.specs.Shown.{ShowsOnly}
+use Rattle.pl_desk.specs.Calls.{LeavesFile}
 use Rattle.pl_store.specs.Keeper.{IsKept, is_file}
 use Rattle.places.specs.Progress.{IsAt, ended_entries}
 use Rattle.places.specs.Stops.{ShowsAnswered}
 use Rattle.places.proofs.script_run.ScriptRun.take_all.Given as goal
-use Rattle.pl_desk.specs.Shown.{ShowsOnly}
-use Rattle.pl_desk.specs.Calls.{LeavesFile}
 
 -- the run stands behind the bytes taken so far, and a stop since the start shows some of the whole piece's answers
 abbrev pub invariant-loop-byte : goal.invariant-loop-byte

@@ -1,6 +1,6 @@
-use Rattle.std.proofs.Common.{◌∙◌, ◌++◌, ap, refl}
 use Rattle.std.specs.Prelude.{codes}
 use Rattle.std.specs.Option.{option_map}
+use Rattle.std.proofs.Common.{◌∙◌, ◌++◌, ap, refl}
 use Rattle.pl_base.specs.Store.{opening}
 use Rattle.places.specs.Ending.{EndsNew, made_text}
 use Rattle.places.specs.declared.status.Status.TheVariants as status

@@ -1,8 +1,8 @@
-use Rattle.std.proofs.Common.{◌++◌, inr, refl, true}
 use Rattle.std.specs.Prelude.{codes}
+use Rattle.std.proofs.Common.{◌++◌, inr, refl, true}
+use Rattle.pl_base.specs.Live.{slot_limit}
 use Rattle.pl_engine.specs.Run.{after, replies}
 use Rattle.pl_script.specs.Script.{script}
-use Rattle.pl_base.specs.Live.{slot_limit}
 use Rattle.places.specs.Ending.{LeavesAtEnd, SaysAll}
 use Rattle.places.specs.declared.status.Status.TheVariants as status
 use Rattle.places.specs.Said.{texts}
