@@ -1,6 +1,6 @@
 -- The ends of a run by its status, and the runs that have no store to begin with.
 use Rattle.std.specs.Prelude.{⊤, codes}
-use Rattle.std.proofs.Common.{◌≡◌, ◌≢◌, ◌⊎◌, ◌≤◌, ◌<◌, Bool, true, false, ℕ, List, [], ◌∷◌, ◌++◌, append_assoc, take}
+use Rattle.std.proofs.Common.{◌≡◌, ◌⊎◌, ◌≤◌, ◌<◌, Bool, true, false, ℕ, List, [], ◌∷◌, ◌++◌, append_assoc, take}
 use Rattle.std.proofs.Common.{length, map, slice_index_or, Bor, arith, Some, Option, Result, Ok, Err, refl, ap, sym}
 use Rattle.std.proofs.Common.{subst, ◌∙◌, append-nil, inl, inr, ⊎_elim}
 use Rattle.std.proofs.lemmas.List.{length-map}

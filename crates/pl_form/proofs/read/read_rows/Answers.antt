@@ -1,4 +1,4 @@
-use Rattle.std.proofs.Common.{◌∙◌, drop}
+use Rattle.std.proofs.Common.{◌∙◌}
 use Rattle.std.proofs.lemmas.Result.{err_from_is_err_and}
 use Rattle.pl_form.proofs.OneForm.{one_rows}
 use Rattle.pl_form.proofs.ReadingFile.{holds_rows, no_plain, plain_is}

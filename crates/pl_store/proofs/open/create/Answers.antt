@@ -2,9 +2,7 @@ use Rattle.std.proofs.Common.{◌≡◌, List, ℕ, Some, [], ◌∙◌, ap, ari
 use Rattle.std.proofs.lemmas.List.{nil_from_length}
 use Rattle.std.proofs.lemmas.Option.{IfSome_then, MatchOption-at_some}
 use Rattle.pl_desk.specs.Shown.{Rests}
-use Rattle.pl_form.specs.Form.{StandsFor}
 use Rattle.pl_gate.specs.States.{IsClosed}
-use Rattle.pl_store.specs.Session.{session_bytes, session_store}
 use Rattle.pl_store.proofs.open.create.Goals as goal
 
 pub returns-clause-ends : goal.returns-clause-ends

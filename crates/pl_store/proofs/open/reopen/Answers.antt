@@ -1,4 +1,4 @@
-use Rattle.std.proofs.Common.{◌≡◌, ℕ, List, IsSome, sym, ◌∙◌, subst}
+use Rattle.std.proofs.Common.{ℕ, List, IsSome, sym, ◌∙◌, subst}
 use Rattle.pl_desk.specs.AnyMoment.{some_said}
 use Rattle.pl_desk.specs.Moments.{shows_less}
 use Rattle.pl_desk.specs.Settling.{Settles, settles_less, settles_on}

@@ -13,7 +13,6 @@ use Rattle.pl_store.specs.Session.{Stands, session_bytes, session_store}
 use Rattle.pl_store.specs.StandsLaws.{stands_by}
 use Rattle.places.specs.Ending.{EndsNew, MadeOfEmpty, MayEnd}
 use Rattle.places.specs.declared.status.Status.{Status}
-use Rattle.places.specs.declared.status.Status.TheVariants as status
 use Rattle.places.specs.Status.{without_session}
 use Rattle.places.proofs.make_store.make_store.Goals as goal
 

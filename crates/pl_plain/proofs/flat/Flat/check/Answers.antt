@@ -1,4 +1,4 @@
-use Rattle.std.proofs.Common.{◌∙◌, arith, drop, subst, sym}
+use Rattle.std.proofs.Common.{◌∙◌, arith, subst, sym}
 use Rattle.std.proofs.lemmas.Bool.{true≢false}
 use Rattle.std.proofs.lemmas.Result.{err_from_is_err_and}
 use Rattle.pl_base.specs.Rows.{IsRight, Kept, store_of}
