@@ -12,7 +12,7 @@ fn lists_pages_with_their_images(rt: HostRuntime) -> Result<(), Fail> {
     touched.push(8, &[255; PAGE_SIZE])?;
     assert_eq!(rt; (touched.before(), touched.after()), (3, 9));
     assert_eq!(rt; touched.count(), 3);
-    for (index, (page, byte)) in [(1, 7), (4, 0), (8, 255)].into_iter().enumerate() {
+    for (index, page, byte) in [(0, 1, 7), (1, 4, 0), (2, 8, 255)] {
         assert!(rt; index < touched.count());
         assert_eq!(rt; touched.page(index), page);
         assert_eq!(rt; touched.image(index), [byte; PAGE_SIZE].as_slice());

@@ -14,50 +14,59 @@ enum Step<'a> {
     Say(&'a [u8]),
 }
 
+fn write<D: Desk>(rt: &impl Abort, desk: &mut D, at: u64, bytes: &[u8]) -> bool {
+    assert!(rt; at < 100);
+    assert!(rt; bytes.len() < 100);
+    desk.write_at(at, bytes).is_ok()
+}
+
+fn say<D: Desk>(rt: &impl Abort, desk: &mut D, bytes: &[u8]) -> bool {
+    assert!(rt; !bytes.is_empty());
+    desk.say(bytes).is_ok()
+}
+
 // Whether the call succeeded.
 fn perform<D: Desk>(rt: &impl Abort, desk: &mut D, step: &Step) -> bool {
     match step {
         Step::Len => desk.len().is_ok(),
-        Step::Write(at, bytes) => {
-            assert!(rt; *at < 100 && bytes.len() < 100);
-            desk.write_at(*at, bytes).is_ok()
-        }
+        Step::Write(at, bytes) => write(rt, desk, *at, bytes),
         Step::Sync => desk.sync().is_ok(),
-        Step::Say(bytes) => {
-            assert!(rt; !bytes.is_empty());
-            desk.say(bytes).is_ok()
-        }
+        Step::Say(bytes) => say(rt, desk, bytes),
     }
 }
 
-// The stops within a call, for each of three fillers, leave these bytes, where `?` stands for the
-// filler.
-fn expect_stops(
+// The pattern with the filler for each `?`.
+fn filled(alloc: Global, pattern: &[u8], filler: u8) -> Result<Vec<u8>, NoMemory> {
+    let mut bytes = Vec::from_slice(alloc, pattern)?;
+    for byte in bytes.iter_mut() {
+        if *byte == b'?' {
+            *byte = filler;
+        }
+    }
+    Ok(bytes)
+}
+
+// A stop within the call leaves these bytes, where `?` stands for the filler.
+fn expect_stop(
     rt: &impl Abort,
     alloc: Global,
     desk: &MemDesk,
     call: u32,
+    filler: u8,
     pattern: &[u8],
 ) -> Result<(), NoMemory> {
-    for filler in [0, 1, 255] {
-        assert!(rt; call < desk.calls());
-        let stopped = desk.stopped(alloc, call, filler)?;
-        let mut expected = Vec::from_slice(alloc, pattern)?;
-        for byte in expected.iter_mut() {
-            if *byte == b'?' {
-                *byte = filler;
-            }
-        }
-        assert_eq!(rt; stopped.bytes(), expected.as_slice());
-        assert_eq!(rt; stopped.said(), b"".as_slice());
-        assert_eq!(rt; stopped.calls(), 0);
-    }
+    assert!(rt; call < desk.calls());
+    let stopped = desk.stopped(alloc, call, filler)?;
+    let expected = filled(alloc, pattern, filler)?;
+    assert_eq!(rt; stopped.bytes(), expected.as_slice());
+    assert_eq!(rt; stopped.said(), b"".as_slice());
+    assert_eq!(rt; stopped.calls(), 0);
     Ok(())
 }
 
 // Each call: whether it succeeds, the bytes of the file after it, how many bytes had been said when
 // it began, and what a stop within it leaves.
-const RUN: [(Step, bool, &[u8], usize, &[u8]); 12] = [
+const RUN: &[(Step, bool, &[u8], usize, &[u8])] = &[
     (Step::Write(1, b"XY"), true, b"aXYd", 0, b"a??d"),
     (Step::Say(b"hi"), true, b"aXYd", 0, b"a??d"),
     (Step::Write(6, b"Z"), true, b"aXYd\0\0Z", 2, b"a??d???"),
@@ -78,22 +87,33 @@ const RUN: [(Step, bool, &[u8], usize, &[u8]); 12] = [
     (Step::Say(b"!"), true, b"QXYd\0\0Z\0T", 2, b"QXYd\0\0Z\0T"),
 ];
 
-#[test]
-fn a_stop_leaves_what_the_disk_may_hold(rt: HostRuntime) -> Result<(), Fail> {
-    let mut desk = MemDesk::holding(rt.alloc(), b"abcd", &[6, 7, 8])?;
-    for (step, succeeds, bytes, said_len, _) in &RUN {
+fn perform_all(rt: &impl Abort, desk: &mut MemDesk) {
+    for (step, succeeds, bytes, said_len, _) in RUN {
         assert_eq!(rt; desk.said().len(), *said_len);
-        assert_eq!(rt; perform(&rt, &mut desk, step), *succeeds);
+        assert_eq!(rt; perform(rt, desk, step), *succeeds);
         assert_eq!(rt; desk.bytes(), *bytes);
     }
-    assert_eq!(rt; desk.said(), b"hi!".as_slice());
-    assert_eq!(rt; desk.calls(), 12);
+}
+
+fn expect_all_stops(rt: &impl Abort, alloc: Global, desk: &MemDesk) -> Result<(), NoMemory> {
     for (call, (_, _, _, said_len, pattern)) in RUN.iter().enumerate() {
         let call = call as u32;
         assert!(rt; call < desk.calls());
         assert_eq!(rt; desk.said_at(call), *said_len);
-        expect_stops(&rt, rt.alloc(), &desk, call, pattern)?;
+        for filler in [0, 1, 255] {
+            expect_stop(rt, alloc, desk, call, filler, pattern)?;
+        }
     }
+    Ok(())
+}
+
+#[test]
+fn a_stop_leaves_what_the_disk_may_hold(rt: HostRuntime) -> Result<(), Fail> {
+    let mut desk = MemDesk::holding(rt.alloc(), b"abcd", &[6, 7, 8])?;
+    perform_all(&rt, &mut desk);
+    assert_eq!(rt; desk.said(), b"hi!".as_slice());
+    assert_eq!(rt; desk.calls(), 12);
+    expect_all_stops(&rt, rt.alloc(), &desk)?;
     Ok(())
 }
 

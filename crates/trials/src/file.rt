@@ -1,102 +1,157 @@
 // A real file: made, written, synced, locked and opened again, and what is no file.
 
-use pl_desk::{Desk, Failed};
+use pl_desk::Desk;
 use pl_file::FileDesk;
 use std::fs;
 use std::os::unix::fs::symlink;
+use std::process::Abort;
 use std::test::Fail;
 
-const FOLDER: &str = "pl_file_test";
+// A folder of this name, with nothing in it.
+fn empty_folder(files: &HostRuntime, folder: &str) -> Result<(), Fail> {
+    let _ = fs::remove_dir_all(files, folder);
+    fs::create_dir(files, folder)?;
+    Ok(())
+}
 
-const PATH: &str = "pl_file_test/store";
+// The calls of a desk, each with whether it succeeds.
 
-#[test]
-fn writes_syncs_reads_and_opens_again(rt: HostRuntime) -> Result<(), Fail> {
-    let _ = fs::remove_dir_all(&rt, FOLDER);
-    fs::create_dir(&rt, FOLDER)?;
-    let mut desk = FileDesk::at(&rt, PATH)?;
-    // A missing file reads as empty, and reading makes none.
-    assert_eq!(rt; desk.len(), Ok(0));
-    assert_eq!(rt; desk.read_at(0, &mut [0; 1]), Err(Failed));
-    assert_eq!(rt; desk.read_at(0, &mut []), Ok(()));
-    assert_eq!(rt; desk.sync(), Ok(()));
-    assert!(rt; !fs::exists(&rt, PATH)?);
-    // Past the end a gap reads as zero bytes, with no bytes to write too.
-    assert_eq!(rt; desk.write_at(2, b"abc"), Ok(()));
-    assert_eq!(rt; desk.write_at(1, b"x"), Ok(()));
-    assert_eq!(rt; desk.write_at(7, b""), Ok(()));
-    assert_eq!(rt; desk.sync(), Ok(()));
-    assert_eq!(rt; desk.len(), Ok(7));
-    let mut back = [9; 6];
-    assert_eq!(rt; desk.read_at(1, &mut back), Ok(()));
-    assert_eq!(rt; back, *b"xabc\0\0");
-    assert_eq!(rt; desk.read_at(2, &mut back), Err(Failed));
-    drop(desk);
-    let mut again = FileDesk::at(&rt, PATH)?;
-    let mut back = [9; 7];
-    assert_eq!(rt; again.read_at(0, &mut back), Ok(()));
-    assert_eq!(rt; back, *b"\0xabc\0\0");
-    fs::remove_dir_all(&rt, FOLDER)?;
+fn len(desk: &mut FileDesk<HostRuntime>) -> Option<u64> {
+    desk.len().ok()
+}
+
+fn sync(desk: &mut FileDesk<HostRuntime>) -> bool {
+    desk.sync().is_ok()
+}
+
+fn write(rt: &impl Abort, desk: &mut FileDesk<HostRuntime>, at: u64, bytes: &[u8]) -> bool {
+    assert!(rt; at < 100);
+    assert!(rt; bytes.len() < 100);
+    desk.write_at(at, bytes).is_ok()
+}
+
+fn read(rt: &impl Abort, desk: &mut FileDesk<HostRuntime>, at: u64, out: &mut [u8]) -> bool {
+    assert!(rt; at < 100);
+    assert!(rt; out.len() < 100);
+    desk.read_at(at, out).is_ok()
+}
+
+// A read from this offset on gives these bytes.
+fn expect_bytes(rt: &impl Abort, desk: &mut FileDesk<HostRuntime>, at: u64, bytes: &[u8]) {
+    let mut back = [9; 8];
+    assert!(rt; bytes.len() <= back.len());
+    let out = &mut back[..bytes.len()];
+    assert!(rt; read(rt, desk, at, out));
+    assert_eq!(rt; *out, *bytes);
+}
+
+// A file at this path holds these bytes.
+fn expect_file(rt: &impl Abort, files: &HostRuntime, path: &str, bytes: &[u8]) -> Result<(), Fail> {
+    let mut desk = FileDesk::at(files, path)?;
+    expect_bytes(rt, &mut desk, 0, bytes);
+    Ok(())
+}
+
+// A missing file reads as empty.
+fn expect_none(rt: &impl Abort, desk: &mut FileDesk<HostRuntime>) {
+    assert_eq!(rt; len(desk), Some(0));
+    assert!(rt; !read(rt, desk, 0, &mut [0; 1]));
+    assert!(rt; read(rt, desk, 0, &mut []));
+    assert!(rt; sync(desk));
+}
+
+// Past the end a gap reads as zero bytes, with no bytes to write too.
+fn write_with_gaps(rt: &impl Abort, desk: &mut FileDesk<HostRuntime>) {
+    assert!(rt; write(rt, desk, 2, b"abc"));
+    assert!(rt; write(rt, desk, 1, b"x"));
+    assert!(rt; write(rt, desk, 7, b""));
+    assert!(rt; sync(desk));
+    assert_eq!(rt; len(desk), Some(7));
+    expect_bytes(rt, desk, 1, b"xabc\0\0");
+    assert!(rt; !read(rt, desk, 2, &mut [9; 6]));
+}
+
+// A desk at this path reads none, makes none at that, and writes one.
+fn make_new(rt: &impl Abort, files: &HostRuntime, path: &str) -> Result<(), Fail> {
+    let mut desk = FileDesk::at(files, path)?;
+    expect_none(rt, &mut desk);
+    assert!(rt; !fs::exists(files, path)?);
+    write_with_gaps(rt, &mut desk);
     Ok(())
 }
 
 #[test]
+fn writes_syncs_reads_and_opens_again(rt: HostRuntime) -> Result<(), Fail> {
+    const FOLDER: &str = "pl_file_test";
+    const PATH: &str = "pl_file_test/store";
+    empty_folder(&rt, FOLDER)?;
+    make_new(&rt, &rt, PATH)?;
+    expect_file(&rt, &rt, PATH, b"\0xabc\0\0")?;
+    fs::remove_dir_all(&rt, FOLDER)?;
+    Ok(())
+}
+
+// Each call fails of a desk at this path.
+fn expect_no_file(rt: &impl Abort, files: &HostRuntime, path: &str) -> Result<(), Fail> {
+    let mut desk = FileDesk::at(files, path)?;
+    assert_eq!(rt; len(&mut desk), None, "{path}");
+    assert!(rt; !read(rt, &mut desk, 0, &mut []), "{path}");
+    assert!(rt; !write(rt, &mut desk, 0, b"lost"), "{path}");
+    assert!(rt; !sync(&mut desk), "{path}");
+    Ok(())
+}
+
+const NO_FILES: &[&str] = &[
+    "",
+    "pl_file_paths",
+    "/dev/null",
+    "pl_file_paths/none/store",
+    "pl_file_paths/file/store",
+    "pl_file_paths/astray",
+    "pl_file_paths/loop",
+];
+
+#[test]
 fn fails_where_there_can_be_no_file(rt: HostRuntime) -> Result<(), Fail> {
     const FOLDER: &str = "pl_file_paths";
-    let _ = fs::remove_dir_all(&rt, FOLDER);
-    fs::create_dir(&rt, FOLDER)?;
+    empty_folder(&rt, FOLDER)?;
     fs::write(&rt, "pl_file_paths/file", b"kept".as_slice())?;
     symlink(&rt, "none/store", "pl_file_paths/astray")?;
     symlink(&rt, "loop", "pl_file_paths/loop")?;
-    for path in [
-        "",
-        FOLDER,
-        "/dev/null",
-        "pl_file_paths/none/store",
-        "pl_file_paths/file/store",
-        "pl_file_paths/astray",
-        "pl_file_paths/loop",
-    ] {
-        let mut desk = FileDesk::at(&rt, path)?;
-        assert_eq!(rt; desk.len(), Err(Failed), "{path}");
-        assert_eq!(rt; desk.read_at(0, &mut []), Err(Failed), "{path}");
-        assert_eq!(rt; desk.write_at(0, b"a"), Err(Failed), "{path}");
-        assert_eq!(rt; desk.sync(), Err(Failed), "{path}");
+    for path in NO_FILES {
+        expect_no_file(&rt, &rt, path)?;
     }
     assert_eq!(rt; fs::metadata(&rt, "pl_file_paths/file")?.len(), 4);
     fs::remove_dir_all(&rt, FOLDER)?;
     Ok(())
 }
 
+const HELD: &str = "pl_file_held/store";
+
+const LINK: &str = "pl_file_held/link";
+
+// A link to a missing file leads to where it is made. Meanwhile no other desk has it.
+fn make_and_hold(rt: &impl Abort, files: &HostRuntime) -> Result<(), Fail> {
+    let mut first = FileDesk::at(files, LINK)?;
+    assert!(rt; write(rt, &mut first, 0, b"kept"));
+    assert!(rt; sync(&mut first));
+    assert!(rt; fs::symlink_metadata(files, HELD)?.is_file());
+    expect_no_file(rt, files, HELD)?;
+    expect_no_file(rt, files, LINK)?;
+    Ok(())
+}
+
 #[test]
 fn one_desk_holds_a_file(rt: HostRuntime) -> Result<(), Fail> {
     const FOLDER: &str = "pl_file_held";
-    const STORE: &str = "pl_file_held/store";
-    const LINK: &str = "pl_file_held/link";
-    let _ = fs::remove_dir_all(&rt, FOLDER);
-    fs::create_dir(&rt, FOLDER)?;
+    empty_folder(&rt, FOLDER)?;
     symlink(&rt, "store", LINK)?;
-    // A link to a missing file leads to where it is made.
-    let mut first = FileDesk::at(&rt, LINK)?;
-    let mut late = FileDesk::at(&rt, STORE)?;
-    assert_eq!(rt; late.len(), Ok(0));
-    assert_eq!(rt; first.write_at(0, b"kept"), Ok(()));
-    assert_eq!(rt; first.sync(), Ok(()));
-    assert!(rt; fs::symlink_metadata(&rt, STORE)?.is_file());
-    for path in [STORE, LINK] {
-        let mut second = FileDesk::at(&rt, path)?;
-        assert_eq!(rt; second.len(), Err(Failed), "{path}");
-        assert_eq!(rt; second.read_at(0, &mut []), Err(Failed), "{path}");
-        assert_eq!(rt; second.write_at(0, b"lost"), Err(Failed), "{path}");
-        assert_eq!(rt; second.sync(), Err(Failed), "{path}");
-    }
-    drop(first);
+    let mut late = FileDesk::at(&rt, HELD)?;
+    assert_eq!(rt; len(&mut late), Some(0));
+    make_and_hold(&rt, &rt)?;
     // What was missing was made by another meanwhile.
-    assert_eq!(rt; late.write_at(0, b"lost"), Err(Failed));
-    let mut second = FileDesk::at(&rt, STORE)?;
-    let mut back = [9; 4];
-    assert_eq!(rt; second.read_at(0, &mut back), Ok(()));
-    assert_eq!(rt; back, *b"kept");
+    assert!(rt; !write(&rt, &mut late, 0, b"lost"));
+    expect_file(&rt, &rt, HELD, b"kept")?;
     fs::remove_dir_all(&rt, FOLDER)?;
     Ok(())
 }

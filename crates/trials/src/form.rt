@@ -1,7 +1,7 @@
 // The rows of a file and its header page, by hand.
 
 use pl_base::{Day, Micros, PAGE_SIZE, PageId, Transition, VisitId};
-use pl_form::{CheckError, FileRows, named_pages, read_rows};
+use pl_form::{CheckError, FileRows, StoredPage, StoredVisit, named_pages, read_rows};
 use std::alloc::Global;
 use std::process::Abort;
 use std::test::Fail;
@@ -43,24 +43,27 @@ fn file(alloc: Global) -> Result<Vec<u8>, Fail> {
     Ok(bytes)
 }
 
+fn check_page(rt: &impl Abort, page: &StoredPage) {
+    assert_eq!(rt; (page.id, page.typed, page.frecency), (PageId(4), true, -1));
+    assert_eq!(rt; page.url.text(), "https://a.example/");
+}
+
+fn check_visit(rt: &impl Abort, visit: &StoredVisit) {
+    let ids = (visit.id, visit.page, visit.source);
+    assert_eq!(rt; ids, (VisitId(7), PageId(4), None));
+    let what = (visit.date, visit.transition);
+    assert_eq!(rt; what, (Micros(258), Transition::Download));
+}
+
 fn check_rows(rt: &impl Abort, read: &FileRows) {
     let rows = &read.rows;
     assert_eq!(rt; read.pages, 3);
     assert_eq!(rt; rows.day, Day(9));
     assert_eq!(rt; (rows.ids.page, rows.ids.visit, rows.ids.item), (5, 8, 7));
-    assert_eq!(rt; (rows.pages.len(), rows.visits.len()), (1, 1));
-    let page = &rows.pages[0];
-    assert_eq!(rt; (page.id, page.typed, page.frecency), (PageId(4), true, -1));
-    assert_eq!(rt; page.url.text(), "https://a.example/");
-    let visit = &rows.visits[0];
-    assert_eq!(rt;
-        (visit.id, visit.page, visit.source),
-        (VisitId(7), PageId(4), None)
-    );
-    assert_eq!(rt;
-        (visit.date, visit.transition),
-        (Micros(258), Transition::Download)
-    );
+    assert!(rt; rows.pages.len() == 1);
+    check_page(rt, &rows.pages[0]);
+    assert!(rt; rows.visits.len() == 1);
+    check_visit(rt, &rows.visits[0]);
 }
 
 #[test]
@@ -88,7 +91,8 @@ fn refuses_each_cut(rt: HostRuntime) -> Result<(), Fail> {
 fn refuses_a_plain_byte_more(rt: HostRuntime) -> Result<(), Fail> {
     let alloc = rt.alloc();
     let mut bytes = file(alloc)?;
-    assert!(rt; bytes.len() > PAGE_SIZE + 12 && bytes[PAGE_SIZE + 12] == 0x32);
+    assert!(rt; bytes.len() > PAGE_SIZE + 12);
+    assert_eq!(rt; bytes[PAGE_SIZE + 12], 0x32);
     bytes[PAGE_SIZE + 12] = 0x33;
     let refused = read_rows(alloc, &bytes).err();
     assert_eq!(rt; refused, Some(CheckError::NotAStore));
@@ -96,7 +100,7 @@ fn refuses_a_plain_byte_more(rt: HostRuntime) -> Result<(), Fail> {
 }
 
 // What header pages begin with, and how many pages they name.
-const HEADERS: [(&[u8; 12], Option<u32>); 7] = [
+const HEADERS: &[(&[u8; 12], Option<u32>)] = &[
     (b"PLFLAT01\x02\0\0\0", Some(2)),
     (b"PLFLAT01\x03\0\0\0", Some(3)),
     (b"PLFLAT01\x02\0\x08\0", Some(524_290)),
@@ -110,8 +114,8 @@ const HEADERS: [(&[u8; 12], Option<u32>); 7] = [
 fn a_header_names_its_pages(rt: HostRuntime) -> Result<(), Fail> {
     for (start, pages) in HEADERS {
         let mut header = [0; PAGE_SIZE];
-        header[..12].copy_from_slice(start);
-        assert_eq!(rt; named_pages(&header), pages, "{start:?}");
+        header[..12].copy_from_slice(*start);
+        assert_eq!(rt; named_pages(&header), *pages, "{start:?}");
     }
     Ok(())
 }

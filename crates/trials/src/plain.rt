@@ -1,6 +1,7 @@
-use pl_base::PAGE_SIZE;
+use pl_base::{NoMemory, PAGE_SIZE};
 use pl_plain::{CheckError, Flat};
 use std::alloc::Global;
+use std::process::Abort;
 use std::test::Fail;
 
 // The gate's page, which is not looked at.
@@ -49,7 +50,7 @@ fn file(alloc: Global) -> Result<Vec<u8>, Fail> {
 }
 
 // One byte of the good file, and what it is instead.
-const DAMAGES: [(usize, u8, &str); 40] = [
+const DAMAGES: &[(usize, u8, &str)] = &[
     (1024, b'Q', "the form's name"),
     (1031, b'2', "the form's version"),
     (1032, 2, "too few pages"),
@@ -92,15 +93,29 @@ const DAMAGES: [(usize, u8, &str); 40] = [
     (2435, 1, "bytes behind the plain ones"),
 ];
 
+// The bytes with another one in this place.
+fn damaged(
+    rt: &impl Abort,
+    alloc: Global,
+    good: &[u8],
+    place: usize,
+    byte: u8,
+) -> Result<Vec<u8>, NoMemory> {
+    let mut bytes = Vec::from_slice(alloc, good)?;
+    assert!(rt; place < bytes.len());
+    assert!(rt; bytes[place] != byte);
+    bytes[place] = byte;
+    Ok(bytes)
+}
+
 #[test]
 fn refuses_each_damage(rt: HostRuntime) -> Result<(), Fail> {
     let alloc = rt.alloc();
+    let good = file(alloc)?;
+    assert_eq!(rt; good.len(), FILE_SIZE);
+    assert!(rt; Flat::check(alloc, &good).is_ok());
     for (place, byte, what) in DAMAGES {
-        let mut bytes = file(alloc)?;
-        assert_eq!(rt; bytes.len(), FILE_SIZE);
-        assert!(rt; Flat::check(alloc, &bytes).is_ok());
-        assert!(rt; place < bytes.len() && bytes[place] != byte, "{what}");
-        bytes[place] = byte;
+        let bytes = damaged(&rt, alloc, &good, *place, *byte)?;
         let refused = Flat::check(alloc, &bytes).err();
         assert_eq!(rt; refused, Some(CheckError::NotAStore), "{what}");
     }

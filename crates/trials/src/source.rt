@@ -24,54 +24,57 @@ fn expect_reads<S: Source>(
     expected: &[Option<&[u8]>],
 ) {
     let mut out = [0; 9];
-    assert!(rt; 0 < room && room <= out.len());
+    assert!(rt; 0 < room);
+    assert!(rt; room <= out.len());
     for bytes in expected {
         let read = source.read(&mut out[..room]);
         assert_eq!(rt; read.ok().map(|len| &out[..len]), *bytes);
     }
 }
 
+// The longest piece, the room of the reader, the reads that fail, and what each read gives.
+const READS: &[(usize, usize, &[u32], &[Option<&[u8]>])] = &[
+    (
+        1,
+        4,
+        &[1, 3],
+        &[
+            Some(b"a"),
+            None,
+            Some(b"b"),
+            None,
+            Some(b"c"),
+            Some(b"d"),
+            Some(b"e"),
+            Some(b""),
+        ],
+    ),
+    (
+        3,
+        4,
+        &[0],
+        &[None, Some(b"abc"), Some(b"de"), Some(b""), Some(b"")],
+    ),
+    (
+        3,
+        2,
+        &[],
+        &[Some(b"ab"), Some(b"cd"), Some(b"e"), Some(b"")],
+    ),
+    (
+        8,
+        4,
+        &[1, 2],
+        &[Some(b"abcd"), None, None, Some(b"e"), Some(b"")],
+    ),
+    (8, 9, &[], &[Some(b"abcde"), Some(b"")]),
+];
+
 #[test]
 fn bytes_come_in_pieces(rt: HostRuntime) -> Result<(), Fail> {
-    let cases: [(usize, usize, &[u32], &[Option<&[u8]>]); 5] = [
-        (
-            1,
-            4,
-            &[1, 3],
-            &[
-                Some(b"a"),
-                None,
-                Some(b"b"),
-                None,
-                Some(b"c"),
-                Some(b"d"),
-                Some(b"e"),
-                Some(b""),
-            ],
-        ),
-        (
-            3,
-            4,
-            &[0],
-            &[None, Some(b"abc"), Some(b"de"), Some(b""), Some(b"")],
-        ),
-        (
-            3,
-            2,
-            &[],
-            &[Some(b"ab"), Some(b"cd"), Some(b"e"), Some(b"")],
-        ),
-        (
-            8,
-            4,
-            &[1, 2],
-            &[Some(b"abcd"), None, None, Some(b"e"), Some(b"")],
-        ),
-        (8, 9, &[], &[Some(b"abcde"), Some(b"")]),
-    ];
-    for (piece, room, fails, expected) in cases {
-        let mut source = MemSource::over(rt.alloc(), b"abcde", piece, fails)?;
-        expect_reads(&rt, &mut source, room, expected);
+    for (piece, room, fails, expected) in READS {
+        let mut source = MemSource::over(rt.alloc(), b"abcde", *piece, fails)?;
+        expect_reads(&rt, &mut source, *room, expected);
     }
     Ok(())
 }

@@ -13,17 +13,18 @@ const SECOND: &[u8] = b"visit\t1\tpage\t1\tfrecency\t100\nrefused\t14\t1\n";
 const ALL: &[u8] = b"visit\t1\tpage\t1\tfrecency\t100\nrefused\t14\t1\nrefused\t14\t1\n";
 
 // In pieces of ten bytes the reads end at 10, 20, 30 and 40, and the fifth finds the end.
+const READS: &[(u32, Status, &[u8])] = &[
+    (0, Status::ReadFault, b""),
+    (1, Status::ReadFault, b""),
+    (2, Status::ReadFault, b""),
+    (3, Status::ReadFault, FIRST),
+    (4, Status::ReadFault, SECOND),
+    (5, Status::Done, ALL),
+];
+
 #[test]
 fn stops_at_a_read_that_fails(rt: HostRuntime) -> Result<(), Fail> {
     let alloc = rt.alloc();
-    let cases: [(u32, Status, &[u8]); 6] = [
-        (0, Status::ReadFault, b""),
-        (1, Status::ReadFault, b""),
-        (2, Status::ReadFault, b""),
-        (3, Status::ReadFault, FIRST),
-        (4, Status::ReadFault, SECOND),
-        (5, Status::Done, ALL),
-    ];
     for (call, ends, said) in cases {
         let mut input = MemSource::over(alloc, SCRIPT, 10, &[call])?;
         let mut desk = MemDesk::holding(alloc, &[], &[])?;
@@ -34,15 +35,16 @@ fn stops_at_a_read_that_fails(rt: HostRuntime) -> Result<(), Fail> {
     Ok(())
 }
 
+const SAYS: &[(u32, Status, &[u8])] = &[
+    (0, Status::SayFault, b""),
+    (1, Status::SayFault, FIRST),
+    (2, Status::SayFault, SECOND),
+    (3, Status::Done, ALL),
+];
+
 #[test]
 fn stops_at_a_say_that_fails(rt: HostRuntime) -> Result<(), Fail> {
     let alloc = rt.alloc();
-    let cases: [(u32, Status, &[u8]); 4] = [
-        (0, Status::SayFault, b""),
-        (1, Status::SayFault, FIRST),
-        (2, Status::SayFault, SECOND),
-        (3, Status::Done, ALL),
-    ];
     for (call, ends, said) in cases {
         let mut input = MemSource::over(alloc, SCRIPT, 64, &[])?;
         let mut desk = MemDesk::holding(alloc, &[], &[call])?;
@@ -53,19 +55,20 @@ fn stops_at_a_say_that_fails(rt: HostRuntime) -> Result<(), Fail> {
     Ok(())
 }
 
+const NUMBERS: &[(Status, u8, Option<u64>)] = &[
+    (Status::Done, 0, None),
+    (Status::Usage, 2, None),
+    (Status::ReadFault, 3, None),
+    (Status::SayFault, 4, None),
+    (Status::DeviceFault, 5, None),
+    (Status::NoMemory, 6, None),
+    (Status::NotAStore, 7, None),
+    (Status::NotEmpty(1), 8, Some(1)),
+    (Status::TooLong(2_147_483_648), 10, Some(2_147_483_648)),
+];
+
 #[test]
 fn tells_the_number_of_a_status(rt: HostRuntime) {
-    let cases: [(Status, u8, Option<u64>); 9] = [
-        (Status::Done, 0, None),
-        (Status::Usage, 2, None),
-        (Status::ReadFault, 3, None),
-        (Status::SayFault, 4, None),
-        (Status::DeviceFault, 5, None),
-        (Status::NoMemory, 6, None),
-        (Status::NotAStore, 7, None),
-        (Status::NotEmpty(1), 8, Some(1)),
-        (Status::TooLong(2_147_483_648), 10, Some(2_147_483_648)),
-    ];
     for (status, number, value) in cases {
         assert_eq!(rt; status.number(), number);
         assert_eq!(rt; status.value(), value);

@@ -5,7 +5,7 @@ use std::test::Fail;
 
 const VISITED: &[u8] = b"visit\t1\tpage\t1\tfrecency\t100\n";
 
-const LINES: [(&[u8], &[u8]); 14] = [
+const LINES: &[(&[u8], &[u8])] = &[
     (b"\n", b""),
     (b"\r\n", b""),
     (b"#\n", b""),
@@ -40,26 +40,28 @@ fn line(alloc: Global, start: &[u8], len: usize, end: &[u8]) -> Result<Vec<u8>, 
     Ok(line)
 }
 
+// What a line begins with, how many bytes follow, how it ends, and what is said.
+const LONG_LINES: &[(&[u8], usize, &[u8], &[u8])] = &[
+    (b"", 262_144, b"\n", b"refused\t14\t1\n"),
+    (b"", 262_144, b"\r\n", b"refused\t14\t1\n"),
+    (b"", 262_145, b"\n", b"refused\t14\t262145\n"),
+    (b"", 262_145, b"\r\n", b"refused\t14\t262145\n"),
+    (b"", 262_144, b"\r", b"refused\t14\t262145\n"),
+    (b"", 600_000, b"", b"refused\t14\t262145\n"),
+    (b"visit\t", 262_138, b"\n", b"refused\t14\t262145\n"),
+    (
+        b"visit\tdata:",
+        262_132,
+        b"\t1\t0\n",
+        b"refused\t14\t262145\n",
+    ),
+    (b"#", 600_000, b"\nfrob", b"refused\t14\t1\n"),
+];
+
 #[test]
 fn refuses_long_lines_and_goes_on(rt: HostRuntime) -> Result<(), Fail> {
-    let cases: [(&[u8], usize, &[u8], &[u8]); 9] = [
-        (b"", 262_144, b"\n", b"refused\t14\t1\n"),
-        (b"", 262_144, b"\r\n", b"refused\t14\t1\n"),
-        (b"", 262_145, b"\n", b"refused\t14\t262145\n"),
-        (b"", 262_145, b"\r\n", b"refused\t14\t262145\n"),
-        (b"", 262_144, b"\r", b"refused\t14\t262145\n"),
-        (b"", 600_000, b"", b"refused\t14\t262145\n"),
-        (b"visit\t", 262_138, b"\n", b"refused\t14\t262145\n"),
-        (
-            b"visit\tdata:",
-            262_132,
-            b"\t1\t0\n",
-            b"refused\t14\t262145\n",
-        ),
-        (b"#", 600_000, b"\nfrob", b"refused\t14\t1\n"),
-    ];
-    for (start, len, end, said) in cases {
-        let script = line(rt.alloc(), start, len, end)?;
+    for (start, len, end, said) in LONG_LINES {
+        let script = line(rt.alloc(), start, *len, end)?;
         expect_said(&rt, tried(rt.alloc(), &script, 65_536), said);
     }
     Ok(())

@@ -4,7 +4,7 @@ use pl_desk::{MemDesk, MemSource};
 use places::{Status, run};
 use std::test::Fail;
 
-const ROWS: [(&[u8], &[u8]); 14] = [
+const ROWS: &[(&[u8], &[u8])] = &[
     (b"", b""),
     (
         b"visit\thttps://www.mozilla.org/\t1\t0\n",
@@ -79,19 +79,20 @@ fn says_the_rows_in_any_pieces(rt: HostRuntime) {
     }
 }
 
+const OTHER_WORDS: &[&[&str]] = &[
+    &[],
+    &["run"],
+    &["new"],
+    &["try", "s"],
+    &["run", "s", "s"],
+    &["Try"],
+    &["old", "s"],
+];
+
 #[test]
 fn refuses_other_words(rt: HostRuntime) -> Result<(), Fail> {
     let alloc = rt.alloc();
-    let forms: [&[&str]; 7] = [
-        &[],
-        &["run"],
-        &["new"],
-        &["try", "s"],
-        &["run", "s", "s"],
-        &["Try"],
-        &["old", "s"],
-    ];
-    for words in forms {
+    for words in OTHER_WORDS {
         let mut input = MemSource::over(alloc, b"visit", 1, &[])?;
         let mut desk = MemDesk::holding(alloc, &[], &[])?;
         assert_eq!(rt; run(alloc, words, &mut input, &mut desk), Status::Usage);

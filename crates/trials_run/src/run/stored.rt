@@ -52,14 +52,15 @@ fn new_store(rt: &impl Abort, alloc: Global, fails: &[u32]) -> Result<MemDesk, N
     copied(alloc, &desk, fails)
 }
 
+const WORDS: &[(&[&str], &[u8], Status)] = &[
+    (&["new", "s"], b"x", Status::NotEmpty(1)),
+    (&["run", "s"], b"", Status::NotAStore),
+    (&["run", "s"], &[0; 4096], Status::NotAStore),
+];
+
 #[test]
 fn answers_by_its_words(rt: HostRuntime) -> Result<(), Fail> {
     let alloc = rt.alloc();
-    let cases: [(&[&str], &[u8], Status); 3] = [
-        (&["new", "s"], b"x", Status::NotEmpty(1)),
-        (&["run", "s"], b"", Status::NotAStore),
-        (&["run", "s"], &[0; 4096], Status::NotAStore),
-    ];
     for (words, bytes, ends) in cases {
         let mut desk = MemDesk::holding(alloc, bytes, &[])?;
         let status = run_on(alloc, words, SCRIPT, &mut desk)?;
