@@ -25,12 +25,12 @@ const READS: &[(u32, Status, &[u8])] = &[
 #[test]
 fn stops_at_a_read_that_fails(rt: HostRuntime) -> Result<(), Fail> {
     let alloc = rt.alloc();
-    for (call, ends, said) in cases {
-        let mut input = MemSource::over(alloc, SCRIPT, 10, &[call])?;
+    for (call, ends, said) in READS {
+        let mut input = MemSource::over(alloc, SCRIPT, 10, &[*call])?;
         let mut desk = MemDesk::holding(alloc, &[], &[])?;
         let status = run(alloc, &["try"], &mut input, &mut desk);
-        assert_eq!(rt; status, ends, "call {call}");
-        assert_eq!(rt; desk.said(), said, "call {call}");
+        assert_eq!(rt; status, *ends, "call {call}");
+        assert_eq!(rt; desk.said(), *said, "call {call}");
     }
     Ok(())
 }
@@ -45,12 +45,12 @@ const SAYS: &[(u32, Status, &[u8])] = &[
 #[test]
 fn stops_at_a_say_that_fails(rt: HostRuntime) -> Result<(), Fail> {
     let alloc = rt.alloc();
-    for (call, ends, said) in cases {
+    for (call, ends, said) in SAYS {
         let mut input = MemSource::over(alloc, SCRIPT, 64, &[])?;
-        let mut desk = MemDesk::holding(alloc, &[], &[call])?;
+        let mut desk = MemDesk::holding(alloc, &[], &[*call])?;
         let status = run(alloc, &["try"], &mut input, &mut desk);
-        assert_eq!(rt; status, ends, "call {call}");
-        assert_eq!(rt; desk.said(), said, "call {call}");
+        assert_eq!(rt; status, *ends, "call {call}");
+        assert_eq!(rt; desk.said(), *said, "call {call}");
     }
     Ok(())
 }
@@ -69,8 +69,8 @@ const NUMBERS: &[(Status, u8, Option<u64>)] = &[
 
 #[test]
 fn tells_the_number_of_a_status(rt: HostRuntime) {
-    for (status, number, value) in cases {
-        assert_eq!(rt; status.number(), number);
-        assert_eq!(rt; status.value(), value);
+    for (status, number, value) in NUMBERS {
+        assert_eq!(rt; status.number(), *number);
+        assert_eq!(rt; status.value(), *value);
     }
 }

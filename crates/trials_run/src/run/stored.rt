@@ -61,12 +61,12 @@ const WORDS: &[(&[&str], &[u8], Status)] = &[
 #[test]
 fn answers_by_its_words(rt: HostRuntime) -> Result<(), Fail> {
     let alloc = rt.alloc();
-    for (words, bytes, ends) in cases {
+    for (words, bytes, ends) in WORDS {
         let mut desk = MemDesk::holding(alloc, bytes, &[])?;
         let status = run_on(alloc, words, SCRIPT, &mut desk)?;
-        assert_eq!(rt; status, ends);
+        assert_eq!(rt; status, *ends);
         assert_eq!(rt; desk.said(), b"".as_slice());
-        assert_eq!(rt; desk.bytes(), bytes);
+        assert_eq!(rt; desk.bytes(), *bytes);
     }
     Ok(())
 }
