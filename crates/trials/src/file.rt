@@ -60,11 +60,13 @@ fn expect_none(rt: &impl Abort, desk: &mut FileDesk<HostRuntime>) {
     assert!(rt; sync(desk));
 }
 
+const WRITES: &[(u64, &[u8])] = &[(2, b"abc"), (1, b"x"), (7, b"")];
+
 // Past the end a gap reads as zero bytes, with no bytes to write too.
 fn write_with_gaps(rt: &impl Abort, desk: &mut FileDesk<HostRuntime>) {
-    assert!(rt; write(rt, desk, 2, b"abc"));
-    assert!(rt; write(rt, desk, 1, b"x"));
-    assert!(rt; write(rt, desk, 7, b""));
+    for (at, bytes) in WRITES {
+        assert!(rt; write(rt, desk, *at, bytes));
+    }
     assert!(rt; sync(desk));
     assert_eq!(rt; len(desk), Some(7));
     expect_bytes(rt, desk, 1, b"xabc\0\0");
@@ -75,7 +77,7 @@ fn write_with_gaps(rt: &impl Abort, desk: &mut FileDesk<HostRuntime>) {
 fn make_new(rt: &impl Abort, files: &HostRuntime, path: &str) -> Result<(), Fail> {
     let mut desk = FileDesk::at(files, path)?;
     expect_none(rt, &mut desk);
-    assert!(rt; !fs::exists(files, path)?);
+    assert!(rt; matches!(fs::exists(files, path), Ok(false)));
     write_with_gaps(rt, &mut desk);
     Ok(())
 }
@@ -130,15 +132,27 @@ const HELD: &str = "pl_file_held/store";
 
 const LINK: &str = "pl_file_held/link";
 
-// A link to a missing file leads to where it is made. Meanwhile no other desk has it.
+// The file is where the link leads, and a desk that has it leaves it to no other.
+fn expect_held(rt: &impl Abort, files: &HostRuntime) -> Result<(), Fail> {
+    assert!(rt; fs::symlink_metadata(files, HELD)?.is_file());
+    expect_no_file(rt, files, HELD)?;
+    expect_no_file(rt, files, LINK)
+}
+
 fn make_and_hold(rt: &impl Abort, files: &HostRuntime) -> Result<(), Fail> {
     let mut first = FileDesk::at(files, LINK)?;
     assert!(rt; write(rt, &mut first, 0, b"kept"));
     assert!(rt; sync(&mut first));
-    assert!(rt; fs::symlink_metadata(files, HELD)?.is_file());
-    expect_no_file(rt, files, HELD)?;
-    expect_no_file(rt, files, LINK)?;
-    Ok(())
+    expect_held(rt, files)
+}
+
+// A desk that found no file writes over none that another made meanwhile.
+fn expect_late(rt: &impl Abort, files: &HostRuntime) -> Result<(), Fail> {
+    let mut late = FileDesk::at(files, HELD)?;
+    assert_eq!(rt; len(&mut late), Some(0));
+    let made = make_and_hold(rt, files);
+    assert!(rt; !write(rt, &mut late, 0, b"lost"));
+    made
 }
 
 #[test]
@@ -146,11 +160,7 @@ fn one_desk_holds_a_file(rt: HostRuntime) -> Result<(), Fail> {
     const FOLDER: &str = "pl_file_held";
     empty_folder(&rt, FOLDER)?;
     symlink(&rt, "store", LINK)?;
-    let mut late = FileDesk::at(&rt, HELD)?;
-    assert_eq!(rt; len(&mut late), Some(0));
-    make_and_hold(&rt, &rt)?;
-    // What was missing was made by another meanwhile.
-    assert!(rt; !write(&rt, &mut late, 0, b"lost"));
+    expect_late(&rt, &rt)?;
     expect_file(&rt, &rt, HELD, b"kept")?;
     fs::remove_dir_all(&rt, FOLDER)?;
     Ok(())
