@@ -44,7 +44,8 @@ module _ (file later : List ℕ) (settled : IsSettledAs file later) where
   lies : laid later ≡ drop page_size later
   lies = rw settled.closed refl
 
-  pub stands_settled : has_gate file ≡ true → (store : Store) → StandsFor (drop page_size later) store → Stands file store
+  pub stands_settled : has_gate file ≡ true → (store : Store) → StandsFor (drop page_size later) store
+      → Stands file store
   stands_settled gate store stands = record {
     gate = gate;
     form = subst (λ (bytes : List ℕ). StandsFor bytes store) (sym lies ∙ settled.stands.laid) stands;

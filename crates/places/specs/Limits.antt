@@ -6,7 +6,7 @@ use Rattle.pl_script.specs.Script.{longest_line}
 abbrev pub script_limit : ℕ
 script_limit = 2_147_483_648
 
--- So many bytes of a line are kept at most, which tell its entry: past the longest line two more, of
--- which the last may be the CR before its LF.
+-- So many bytes of a line are kept at most, which tell its entry: past the longest line two more,
+-- of which the last may be the CR before its LF.
 abbrev pub kept_of_line : ℕ
 kept_of_line = longest_line + 2
