@@ -165,7 +165,7 @@ module _ (first : List ℕ) (calls : List Recorded) (said more : List ℕ) (call
         later = omega (arith, size);
         nothing_else = λ t file line le shown.
             elim (shown_then t file line le
-                (subst (λ (l : List ℕ). Since first calls' l t file line) (sym same) shown)) [
+            (subst (λ (l : List ℕ). Since first calls' l t file line) (sym same) shown)) [
               | inl past ↦ inl past
               | inr here ↦
                   let line_is : said ≡ line =
