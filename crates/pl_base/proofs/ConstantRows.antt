@@ -1,4 +1,5 @@
--- The constants of the crate are those of the definitions: the last date and its day, the ids, a page, the slots.
+-- The constants of the crate are those of the definitions: the last date and its day, the ids, a page, a title,
+-- the slots.
 use Rattle.std.proofs.Common.{◌≡◌, refl}
 use Rattle.pl_base.specs.declared.date.TheConstants.Micros.{LAST as LAST_DATE}
 use Rattle.pl_base.specs.declared.date.TheConstants.Day.{LAST as LAST_DAY}
@@ -6,8 +7,9 @@ use Rattle.pl_base.specs.declared.id.TheConstants.Ids.{END, OPENING}
 use Rattle.pl_base.specs.declared.date.TheConstants.{MICROS_PER_DAY}
 use Rattle.pl_base.specs.declared.rows.TheConstants.{SLOT_LIMIT}
 use Rattle.pl_base.specs.declared.touched.TheConstants.{PAGE_SIZE}
+use Rattle.pl_base.specs.declared.txt.TheConstants.{LONGEST_TITLE}
 use Rattle.pl_base.specs.Date.{day_number, last_date, last_day, micros_per_day}
-use Rattle.pl_base.specs.Good.{end_of_ids}
+use Rattle.pl_base.specs.Good.{end_of_ids, longest_title}
 use Rattle.pl_base.specs.Live.{slot_limit}
 use Rattle.pl_base.specs.Store.{opening}
 use Rattle.pl_base.specs.Touched.{page_size}
@@ -33,6 +35,9 @@ end_of_ids_is = refl
 
 page_size_is : PAGE_SIZE ≡ page_size
 page_size_is = refl
+
+longest_title_is : LONGEST_TITLE ≡ longest_title
+longest_title_is = refl
 
 slot_limit_is : SLOT_LIMIT ≡ slot_limit
 slot_limit_is = refl

@@ -7,7 +7,7 @@ use Rattle.std.proofs.lemmas.List.Elements.{All-cons, All-filter, All-head, All-
 use Rattle.std.proofs.lemmas.List.Folds.{list_any_none}
 use Rattle.pl_base.specs.declared.id.PageId.{PageId}
 use Rattle.pl_base.specs.declared.id.VisitId.{VisitId}
-use Rattle.pl_base.specs.Redirects.{came_from, is_redirect, is_redirect_source, source_transition, visit_transition}
+use Rattle.pl_base.specs.Redirects.{is_redirect, is_redirect_source, is_source, source_transition, visit_transition}
 use Rattle.pl_base.specs.Store.{Store, Visit}
 use Rattle.pl_base.specs.Visits.{in_place, is_later, latest_first, sample_of, sample_size, visits_of}
 
@@ -15,13 +15,13 @@ use Rattle.pl_base.specs.Visits.{in_place, is_later, latest_first, sample_of, sa
 abbrev pub HasNoSource : Visit → Type 0
 HasNoSource v = v.source ≡ None
 
-no_redirect : (v w : Visit) → HasNoSource w → (is_redirect w.transition && came_from v w.source) ≡ false
-no_redirect v w none = and_right (is_redirect w.transition) (came_from v w.source) (ap (came_from v) none)
+no_redirect : (v w : Visit) → HasNoSource w → (is_redirect w.transition && is_source v.id w.source) ≡ false
+no_redirect v w none = and_right (is_redirect w.transition) (is_source v.id w.source) (ap (is_source v.id) none)
 
 pub no_redirect_source : (store : Store) (v : Visit) → All HasNoSource store.visits → is_redirect_source store v ≡ false
 no_redirect_source store v none =
-    list_any_none (λ (w : Visit). is_redirect w.transition && came_from v w.source) store.visits
-    (All-weaker HasNoSource (λ (w : Visit). (is_redirect w.transition && came_from v w.source) ≡ false) (no_redirect v)
+    list_any_none (λ (w : Visit). is_redirect w.transition && is_source v.id w.source) store.visits
+    (All-weaker HasNoSource (λ (w : Visit). (is_redirect w.transition && is_source v.id w.source) ≡ false) (no_redirect v)
     store.visits none)
 
 if_same : {A : Type 0} (b : Bool) (x : A) → (if b then x else x) ≡ x

@@ -11,6 +11,7 @@ use Rattle.pl_base.specs.Address.{longest_url}
 use Rattle.pl_base.specs.Frecency.{frecency_of}
 use Rattle.pl_base.specs.Live.{chunks, live_slots}
 use Rattle.pl_base.specs.Marks.{is_hidden, visit_count}
+use Rattle.pl_base.specs.Redirects.{others_from, redirects_from}
 use Rattle.pl_base.specs.Store.{Store, Page, Visit, Item, item_id, bookmark, opening}
 
 abbrev page : ℕ → Page
@@ -83,6 +84,74 @@ redirect_source = refl
 redirect_target : frecency_of redirected (page 2) ≡ pos 2000
 redirect_target = refl
 
+-- the visit that came from visit `from`
+abbrev from : ℕ → Option VisitId
+from id = Some (record { 0 = id })
+
+-- a typed address and three redirects, one after the other: each visit that led on counts 25, and the
+-- last one what its own source would count, one step back and no further
+abbrev three_redirects : Store
+three_redirects =
+    on_day 0
+    (typed ∷ visit 2 2 1 RedirectPermanent (from 1) ∷ visit 3 3 2 RedirectTemporary (from 2)
+    ∷ visit 4 4 3 RedirectPermanent (from 3) ∷ [])
+
+along_three_redirects : map (λ n. frecency_of three_redirects (page n)) (1 ∷ 2 ∷ 3 ∷ 4 ∷ [])
+    ≡ pos 25 ∷ pos 25 ∷ pos 25 ∷ pos 40 ∷ []
+along_three_redirects = refl
+
+-- without a source a redirect counts what its own transition does
+no_source : map (λ t. frecency_of (on_day 0 (visit 1 1 0 t None ∷ [])) (page 1))
+    (RedirectPermanent ∷ RedirectTemporary ∷ []) ≡ pos 50 ∷ pos 40 ∷ []
+no_source = refl
+
+-- an embedded visit, and one that led to a redirect: 25 points of two visits, of which one counts
+abbrev embedded_and_left : List Visit
+embedded_and_left = visit 1 1 0 Embed None ∷ visit 2 1 1 Link None ∷ visit 3 2 2 RedirectPermanent (from 2) ∷ []
+
+half_a_redirect_source : frecency_of (on_day 0 embedded_and_left) (page 1) ≡ pos 13
+half_a_redirect_source = refl
+
+-- one more by a link: 125 points of three visits, of which two count
+abbrev linked_again : List Visit
+linked_again = embedded_and_left ++ visit 4 1 3 Link None ∷ []
+
+a_link_more : frecency_of (on_day 0 linked_again) (page 1) ≡ pos 84
+a_link_more = refl
+
+-- a redirect back to its own page: 25 and 100 points of two visits that count
+abbrev own_source : Store
+own_source = on_day 0 (link ∷ visit 2 1 1 RedirectPermanent (from 1) ∷ [])
+
+from_its_own_page : frecency_of own_source (page 1) ≡ pos 125
+from_its_own_page = refl
+
+-- two redirects from one source: each page has what the source would count
+abbrev two_targets : Store
+two_targets =
+    on_day 0 (typed ∷ visit 2 2 1 RedirectPermanent (from 1) ∷ visit 3 3 1 RedirectTemporary (from 1) ∷ [])
+
+from_one_source : map (λ n. frecency_of two_targets (page n)) (1 ∷ 2 ∷ 3 ∷ []) ≡ pos 25 ∷ pos 2000 ∷ pos 2000 ∷ []
+from_one_source = refl
+
+-- a source that led to no redirect counts as any visit, and so does what came from it
+no_redirect : map (λ n. frecency_of (on_day 0 (typed ∷ visit 2 2 1 Link (from 1) ∷ [])) (page n)) (1 ∷ 2 ∷ [])
+    ≡ pos 2000 ∷ pos 100 ∷ []
+no_redirect = refl
+
+-- what came from visit 1 goes by whether a redirect made it
+abbrev three_targets : Store
+three_targets =
+    on_day 0
+    (link ∷ visit 2 2 1 Link (from 1) ∷ visit 3 3 1 RedirectPermanent (from 1) ∷ visit 4 4 1 RedirectTemporary (from 1)
+    ∷ [])
+
+redirects_of_three : map (λ (v : Visit). v.id.0) (redirects_from three_targets (record { 0 = 1 })) ≡ 3 ∷ 4 ∷ []
+redirects_of_three = refl
+
+others_of_three : map (λ (v : Visit). v.id.0) (others_from three_targets (record { 0 = 1 })) ≡ 2 ∷ []
+others_of_three = refl
+
 -- ten visits by links push an earlier typed one out of the sample, and one that arrives late with an
 -- early date doesn't come into it
 sample_is_full : frecency_of (on_day 0 (typed ∷ ten_more Link)) (page 1) ≡ pos 1100
@@ -144,6 +213,23 @@ hidden_source = refl
 shown_target : is_hidden redirected (page 2) ≡ false
 unfolding url_on_literals
 shown_target = refl
+
+hidden_along_redirects : map (λ n. is_hidden three_redirects (page n)) (1 ∷ 2 ∷ 3 ∷ 4 ∷ [])
+    ≡ true ∷ true ∷ true ∷ false ∷ []
+unfolding url_on_literals
+hidden_along_redirects = refl
+
+embedded_or_left : is_hidden (on_day 0 embedded_and_left) (page 1) ≡ true
+unfolding url_on_literals
+embedded_or_left = refl
+
+shown_again : is_hidden (on_day 0 linked_again) (page 1) ≡ false
+unfolding url_on_literals
+shown_again = refl
+
+shown_by_its_own_redirect : is_hidden own_source (page 1) ≡ false
+unfolding url_on_literals
+shown_by_its_own_redirect = refl
 
 never_visited : is_hidden bookmarked (page 2) ≡ false
 unfolding url_on_literals

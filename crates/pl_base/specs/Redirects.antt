@@ -1,6 +1,7 @@
 -- Visits that came by a redirect, and visits that led to one.
-use Rattle.std.specs.Prelude.{◌&&◌, ◌==◌, Bool, true, false, Option, Some, None, if◌then◌else◌}
-use Rattle.std.specs.List.{list_any, find}
+use Rattle.std.specs.Prelude.{◌&&◌, ◌==◌, not, Bool, true, false, List}
+use Rattle.std.specs.Prelude.{Option, Some, None, if◌then◌else◌}
+use Rattle.std.specs.List.{filter, find, list_any}
 use Rattle.std.specs.Option.{option_and_then, option_map}
 use Rattle.pl_base.specs.declared.id.VisitId.{VisitId}
 use Rattle.pl_base.specs.declared.transition.Transition.{Transition}
@@ -36,11 +37,21 @@ source_transition store v =
     if is_redirect v.transition then option_and_then (visit_transition store) v.source else None
 
 -- the source is there, and is this visit
-abbrev pub came_from : Visit → Option VisitId → Bool
-came_from v None = false
-came_from v (Some source) = source.0 == v.id.0
+abbrev pub is_source : VisitId → Option VisitId → Bool
+is_source id None = false
+is_source id (Some source) = source.0 == id.0
 
 -- some redirect came from the visit
 abbrev pub is_redirect_source : Store → Visit → Bool
 is_redirect_source store v =
-    list_any (λ w. is_redirect w.transition && came_from v w.source) store.visits
+    list_any (λ w. is_redirect w.transition && is_source v.id w.source) store.visits
+
+-- the redirects that came from the visit with this id
+abbrev pub redirects_from : Store → VisitId → List Visit
+redirects_from store id =
+    filter (λ w. is_redirect w.transition && is_source id w.source) store.visits
+
+-- the other visits that came from it
+abbrev pub others_from : Store → VisitId → List Visit
+others_from store id =
+    filter (λ w. not (is_redirect w.transition) && is_source id w.source) store.visits

@@ -3,13 +3,14 @@ use Rattle.std.specs.Prelude.{ℕ, List, [], ◌∷◌}
 use Rattle.pl_base.specs.declared.id.IdKind.{IdKind}
 use Rattle.pl_base.specs.declared.id.IdKind.TheVariants.{Page, Visit, Item}
 use Rattle.pl_base.specs.declared.refusal.Refusal.{Refusal}
-use Rattle.pl_base.specs.declared.refusal.Refusal.TheVariants.{BadUrl, NotRecorded}
+use Rattle.pl_base.specs.declared.refusal.Refusal.TheVariants.{BadUrl, NotRecorded, NoVisit}
 use Rattle.pl_base.specs.declared.refusal.Refusal.TheVariants.{Full, NoIds, BadLine}
 
 -- the number of a refusal
 abbrev pub refusal_number : Refusal → ℕ
 refusal_number BadUrl = 1
 refusal_number NotRecorded = 2
+refusal_number (NoVisit id) = 3
 refusal_number (Full slots) = 12
 refusal_number (NoIds kind) = 13
 refusal_number (BadLine column) = 14
@@ -24,6 +25,7 @@ id_kind_number Item = 3
 abbrev pub refusal_values : Refusal → List ℕ
 refusal_values BadUrl = []
 refusal_values NotRecorded = []
+refusal_values (NoVisit id) = id.0 ∷ []
 refusal_values (Full slots) = slots ∷ []
 refusal_values (NoIds kind) = id_kind_number kind ∷ []
 refusal_values (BadLine column) = column ∷ []

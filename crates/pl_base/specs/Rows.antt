@@ -1,8 +1,9 @@
 -- What is kept of a store: its rows, and beside each page what was computed of it last.
 use Rattle.std.specs.Prelude.{◌≡◌, ◌≢◌, ◌↔◌, ◌&&◌, ℕ, ℤ, pos, ◌+◌, ◌≤◌, ◌<◌, ◌==◌, Bool}
 use Rattle.std.specs.Prelude.{true, false, IsTrue, IsFalse, Contains, List, [], ◌∷◌}
-use Rattle.std.specs.Prelude.{◌++◌, map, nat_lt, Option, Some, None, if◌then◌else◌}
+use Rattle.std.specs.Prelude.{◌++◌, map, nat_lt, Option, Some, None, IfSome, if◌then◌else◌}
 use Rattle.std.specs.List.{All, AllPairs, find, list_any}
+use Rattle.std.specs.List.Sorted.{IsPermutation}
 use Rattle.std.specs.Option.{option_and_then, option_map}
 use Rattle.pl_base.specs.declared.date.Day.{Day}
 use Rattle.pl_base.specs.declared.id.Ids.{Ids}
@@ -17,6 +18,7 @@ use Rattle.pl_base.specs.Frecency.{frecency_of}
 use Rattle.pl_base.specs.Good.{AreIds, IsTitle}
 use Rattle.pl_base.specs.Live.{live_slots, slot_limit}
 use Rattle.pl_base.specs.Marks.{is_hidden, visit_count}
+use Rattle.pl_base.specs.Redirects.{others_from, redirects_from}
 use Rattle.pl_base.specs.Store.{Store, Page, Visit, Item, roots}
 use Rattle.pl_base.specs.Visits.{latest_first, visits_of}
 
@@ -126,6 +128,10 @@ page_visits kept page = latest_first (visits_of (store_of kept) page)
 abbrev pub url_of : Kept → PageId → Option (List ℕ)
 url_of kept page = option_map (λ (p : KeptPage). p.page.url) (page_at kept page)
 
+-- the title of the page with this id
+abbrev pub title_of : Kept → PageId → Option (List ℕ)
+title_of kept page = option_map (λ (p : KeptPage). p.page.title) (page_at kept page)
+
 -- the name of the origin of the page with this id
 abbrev pub origin_of : Kept → PageId → Option Slot
 origin_of kept page = option_map (λ (p : KeptPage). p.origin) (page_at kept page)
@@ -134,6 +140,20 @@ origin_of kept page = option_map (λ (p : KeptPage). p.origin) (page_at kept pag
 abbrev pub older_visit : Kept → VisitId → Option VisitId
 older_visit kept id =
     option_and_then (λ (v : Visit). id_behind id (page_visits kept v.page)) (visit_at kept id)
+
+-- the visits that came from one: the redirects in some order, and behind them the others
+pub record AreTargets (store : Store) (source : VisitId) (targets : List Visit) : Type 0 where
+  pub redirects : List Visit
+  pub others : List Visit
+  pub is : targets ≡ redirects ++ others
+  pub all_redirects : IsPermutation redirects (redirects_from store source)
+  pub all_others : IsPermutation others (others_from store source)
+
+-- the visit that stands behind this one among the targets of its source
+abbrev pub target_behind : (VisitId → List Visit) → Kept → VisitId → Option VisitId
+target_behind targets kept id =
+    option_and_then (λ (v : Visit). option_and_then (λ source. id_behind id (targets source)) v.source)
+    (visit_at kept id)
 
 -- ---- changes
 
@@ -205,6 +225,21 @@ with_mark id mark kept =
       pages = map (λ (p : KeptPage). if p.page.id.0 == id.0 then marked mark p else p) kept.pages;
     }
 
+-- the page with this title
+abbrev pub titled : List ℕ → KeptPage → KeptPage
+titled title p = record p { page = record p.page { title = title } }
+
+-- the page with this id has this title
+abbrev pub with_title : PageId → List ℕ → Kept → Kept
+with_title id title kept =
+    record kept {
+      pages = map (λ (p : KeptPage). if p.page.id.0 == id.0 then titled title p else p) kept.pages;
+    }
+
+-- the slots of the store where the page has this title
+abbrev pub live_with_title : PageId → List ℕ → Kept → ℕ
+live_with_title id title kept = live_slots (store_of (with_title id title kept))
+
 -- ---- what holds of the rows
 
 -- the names of the origins
@@ -241,7 +276,12 @@ WithPageIn url (Some origin) old new = new ≡ with_new_page url origin old
 WithPageIn url None old new =
     (origin : Slot) × (new ≡ with_new_page url origin (with_origin origin old))
 
--- the numbers of each kind lie below the next, dates and days are in range, and no URL stands twice
+-- the source of a visit, if it has one, stands among the rows and has a smaller id
+abbrev pub HasSource : Kept → Visit → Type 0
+HasSource kept v = IfSome v.source (λ id. (id.0 < v.id.0) × IsTrue (has_visit kept id))
+
+-- the numbers of each kind lie below the next, dates and days are in range, sources stand before
+-- their visits, and no URL stands twice
 pub record IsWellKept (kept : Kept) : Type 0 where
   pub day : IsDay kept.day
   pub page_ids : AreIds 1 kept.ids.page (map (λ (p : KeptPage). p.page.id.0) kept.pages)
@@ -251,14 +291,13 @@ pub record IsWellKept (kept : Kept) : Type 0 where
   pub distinct_urls : AllPairs (λ (p q : KeptPage). p.page.url ≢ q.page.url) kept.pages
   pub titles : All (λ (p : KeptPage). IsTitle p.page.title) kept.pages
   pub visits : All (λ (v : Visit). IsDate v.date × IsTrue (has_page kept v.page)) kept.visits
+  pub sources : All (HasSource kept) kept.visits
   pub origins : NamesOrigins kept
   pub live : live_slots (store_of kept) ≤ slot_limit
 
--- Nothing but what visits without a source make: no source, no title, and no item but the roots.
-pub record IsOfVisits (store : Store) : Type 0 where
-  pub no_source : All (λ (v : Visit). v.source ≡ None) store.visits
-  pub no_title : All (λ (p : Page). p.title ≡ []) store.pages
-  pub no_item : store.items ≡ roots
+-- Nothing but what visits and titles make: no item but the roots.
+abbrev pub IsOfVisits : Store → Type 0
+IsOfVisits store = store.items ≡ roots
 
 -- what was computed of each page is what the definitions give on the store's day
 pub record IsRight (kept : Kept) : Type 0 where

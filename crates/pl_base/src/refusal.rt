@@ -1,7 +1,7 @@
 ghost use Rattle.std.specs.Prelude.{◌≡◌};
 ghost use Rattle.pl_base.specs.Refusal.{refusal_number};
 
-use crate::IdKind;
+use crate::{IdKind, VisitId};
 use thiserror::Error;
 
 /// Why a command was refused. A refused command changes nothing.
@@ -13,6 +13,9 @@ pub enum Refusal {
     /// Visits to this scheme are not recorded.
     #[error("visits to this scheme are not recorded")]
     NotRecorded,
+    /// No visit has this id.
+    #[error("no visit has this id")]
+    NoVisit(VisitId),
     /// The store would take so many slots of 128 bytes, which is more than it may.
     #[error("the store would take {0} slots")]
     Full(u64),
@@ -32,6 +35,7 @@ impl Refusal {
         match self {
             Refusal::BadUrl => 1,
             Refusal::NotRecorded => 2,
+            Refusal::NoVisit(_) => 3,
             Refusal::Full(_) => 12,
             Refusal::NoIds(_) => 13,
             Refusal::BadLine(_) => 14,

@@ -2,16 +2,18 @@ ghost use Rattle.std.specs.Prelude.{◌≡◌, ◌≢◌, ◌↔◌, ◌+◌, �
 ghost use Rattle.std.specs.Prelude.{Some, true, length, IfOk, IfSome, OnOk};
 ghost use Rattle.std.specs.List.{All};
 ghost use Rattle.std.specs.Option.{option_map};
+ghost use Rattle.pl_base.specs.declared.id.VisitId.{VisitId};
 ghost use Rattle.pl_base.specs.Address.{is_store_url};
 ghost use Rattle.pl_base.specs.Date.{IsDate, IsDay};
-ghost use Rattle.pl_base.specs.Good.{IsGood, end_of_ids};
+ghost use Rattle.pl_base.specs.Good.{IsGood, end_of_ids, longest_title};
 ghost use Rattle.pl_base.specs.Live.{live_slots, slot_limit};
 ghost use Rattle.pl_base.specs.Rows.{Kept, KeptPage, IsWellKept, IsOfVisits, IsRight, store_of};
 ghost use Rattle.pl_base.specs.Rows.{has_page, has_visit, mark_of, row_of, page_at, visit_at};
 ghost use Rattle.pl_base.specs.Rows.{page_behind, page_visits, first_id, older_visit, url_of};
 ghost use Rattle.pl_base.specs.Rows.{origin_of, IsOriginOf, WithPageIn, with_day, with_mark};
-ghost use Rattle.pl_base.specs.Rows.{with_visit, live_with_page, most_reads};
-ghost use Rattle.pl_base.specs.Store.{Store};
+ghost use Rattle.pl_base.specs.Rows.{with_visit, live_with_page, most_reads, title_of, with_title};
+ghost use Rattle.pl_base.specs.Rows.{live_with_title, AreTargets, target_behind};
+ghost use Rattle.pl_base.specs.Store.{Store, Visit};
 ghost use Rattle.pl_base.specs.Touched.{changed, bytes_before, IsWithin};
 
 use crate::{Day, Ids, Mark, NoMemory, PageId, Slot, Steps, Touched, Txt, VisitId, VisitRow};
@@ -35,6 +37,9 @@ pub trait Rows {
     /// What these bytes may have been at the last `touched`; before the first one, what the rows
     /// were made over.
     ghost base: { Self → List ℕ → Type 0 };
+
+    /// The visits that came from each visit, in the order in which they are gone through.
+    ghost targets: { Self → VisitId → List Visit };
 
     /// Which bytes from page 1 on stand for a store.
     ghost form: { List ℕ → Store → Type 0 };
@@ -72,6 +77,10 @@ pub trait Rows {
         requires { has_page (kept self.now) page ≡ true }
         ensures url { IfOk result (λ url. Some url ≡ url_of (kept self.now) page) };
 
+    fn title<L: Ledger>(&self, page: PageId, steps: &mut Steps<L>) -> Result<Txt, NoMemory>
+        requires { has_page (kept self.now) page ≡ true }
+        ensures title { IfOk result (λ title. Some title ≡ title_of (kept self.now) page) };
+
     fn origin_of<L: Ledger>(&self, page: PageId, steps: &mut Steps<L>) -> Slot
         requires { has_page (kept self.now) page ≡ true }
         ensures origin { Some result ≡ origin_of (kept self.now) page }
@@ -92,6 +101,18 @@ pub trait Rows {
         requires live { live_with_page url.now (kept self.old) ≤ slot_limit }
         ensures page { IfOk result (λ page. page.0 ≡ (kept self.old).ids.page) }
         ensures kept { OnOk result (WithPageIn url.now origin (kept self.old) (kept self.new)) }
+        ensures base { OnOk result ((bytes : List ℕ) → base self.old bytes → base self.new bytes) };
+
+    fn set_title<L: Ledger>(
+        &mut self,
+        page: PageId,
+        title: &str,
+        steps: &mut Steps<L>,
+    ) -> Result<(), NoMemory>
+        requires page { has_page (kept self.old) page ≡ true }
+        requires title { length title.now ≤ longest_title }
+        requires live { live_with_title page title.now (kept self.old) ≤ slot_limit }
+        ensures kept { OnOk result (kept self.new ≡ with_title page title.now (kept self.old)) }
         ensures base { OnOk result ((bytes : List ℕ) → base self.old bytes → base self.new bytes) };
 
     fn set_mark<L: Ledger>(&mut self, page: PageId, mark: Mark, steps: &mut Steps<L>)
@@ -115,6 +136,16 @@ pub trait Rows {
     fn older<L: Ledger>(&self, visit: VisitId, steps: &mut Steps<L>) -> Option<VisitId>
         requires { has_visit (kept self.now) visit ≡ true }
         ensures older { result ≡ older_visit (kept self.now) visit }
+        ensures cost { steps.new ≤ steps.old + most_reads };
+
+    /// The first of the visits that came from this one. A redirect stands before all others.
+    fn first_target<L: Ledger>(&self, visit: VisitId, steps: &mut Steps<L>) -> Option<VisitId>
+        ensures first { result ≡ first_id (targets self.now visit) }
+        ensures cost { steps.new ≤ steps.old + most_reads };
+
+    /// The next of the visits that came from the same one.
+    fn next_target<L: Ledger>(&self, visit: VisitId, steps: &mut Steps<L>) -> Option<VisitId>
+        ensures next { result ≡ target_behind (targets self.now) (kept self.now) visit }
         ensures cost { steps.new ≤ steps.old + most_reads };
 
     /// A new visit with the next id.
@@ -152,6 +183,10 @@ pub trait Rows {
 
     /// What holds of all rows.
     ghost well_kept: { (rows : Self) → IsWellKept (kept rows) };
+
+    /// The targets of each visit are those of the definition.
+    ghost targeted: { (rows : Self) (source : VisitId)
+        → AreTargets (store_of (kept rows)) source (targets rows source) };
 
     /// The bytes stand for a good store whose marks are right, as far as this form has it yet.
     ghost stands: { (rows : Self)

@@ -1,5 +1,6 @@
 ghost use Rattle.std.specs.Prelude.{◌≡◌};
 ghost use Rattle.pl_base.specs.Marks as marks;
+ghost use Rattle.pl_base.specs.Redirects as redirects;
 ghost use Rattle.pl_base.specs.Transition.{transition_number, transition_at};
 
 /// How a visit came about, by the numbers of `nsINavHistoryService`.
@@ -56,5 +57,15 @@ impl Transition {
         ensures { result ≡ marks.is_framed self }
     {
         matches!(self, Transition::Embed | Transition::FramedLink)
+    }
+
+    /// Whether a redirect made its visits.
+    pub fn is_redirect(self) -> bool
+        ensures { result ≡ redirects.is_redirect self }
+    {
+        matches!(
+            self,
+            Transition::RedirectPermanent | Transition::RedirectTemporary
+        )
     }
 }

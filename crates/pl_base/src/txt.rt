@@ -5,6 +5,9 @@ use crate::NoMemory;
 use std::alloc::Global;
 use std::marker::Model;
 
+/// A title has no more bytes.
+pub const LONGEST_TITLE: usize = 4_096;
+
 /// A text, which contracts see as its bytes.
 #[derive(Debug, Drop)]
 pub struct Txt {

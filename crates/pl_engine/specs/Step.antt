@@ -3,24 +3,27 @@ use Rattle.std.specs.Prelude.{◌≡◌, ℕ, ◌+◌, ◌==◌, ◌&&◌, ◌||
 use Rattle.std.specs.Prelude.{[], ◌∷◌, ◌++◌, map, nat_lt, bytes_eq, unwrap_or}
 use Rattle.std.specs.Prelude.{is_none, Option, Some, None, Ok, Err, if◌then◌else◌}
 use Rattle.std.specs.List.{find}
+use Rattle.std.specs.Option.{option_or}
 use Rattle.pl_base.specs.declared.date.Micros.{Micros}
 use Rattle.pl_base.specs.declared.id.IdKind.TheVariants.{Page as PageKind, Visit as VisitKind}
 use Rattle.pl_base.specs.declared.id.PageId.{PageId}
+use Rattle.pl_base.specs.declared.id.VisitId.{VisitId}
 use Rattle.pl_base.specs.declared.refusal.Refusal.{Refusal}
-use Rattle.pl_base.specs.declared.refusal.Refusal.TheVariants.{NotRecorded, Full, NoIds}
+use Rattle.pl_base.specs.declared.refusal.Refusal.TheVariants.{NotRecorded, NoVisit, Full, NoIds}
 use Rattle.pl_base.specs.declared.transition.Transition.{Transition}
 use Rattle.pl_base.specs.Address.{is_unrecorded_url}
 use Rattle.pl_base.specs.Date.{IsDate}
 use Rattle.pl_base.specs.Frecency.{frecency_of}
 use Rattle.pl_base.specs.Good.{end_of_ids}
 use Rattle.pl_base.specs.Live.{live_slots}
+use Rattle.pl_base.specs.Marks.{is_typed}
+use Rattle.pl_base.specs.Redirects.{visit_by_id}
 use Rattle.pl_base.specs.Store.{Store, Page, Visit}
 use Rattle.pl_engine.specs.declared.command.Command.{Command}
 use Rattle.pl_engine.specs.declared.command.Command.TheVariants.{Visit as VisitCommand}
 use Rattle.pl_engine.specs.declared.reply.Reply.{Reply}
 use Rattle.pl_engine.specs.declared.reply.Reply.TheVariants.{Visit as VisitReply, Refused}
 use Rattle.pl_engine.specs.Parsed.{Parsed}
-use Rattle.pl_base.specs.Marks.{is_typed}
 
 -- ---- a visit
 
@@ -55,61 +58,73 @@ visited_page transition p = record p { typed = p.typed || is_typed transition }
 abbrev pub visit_page : PageId → Transition → Page → Page
 visit_page id transition p = if p.id.0 == id.0 then visited_page transition p else p
 
--- a visit without a source, with the next id
-abbrev pub new_visit : Store → PageId → Transition → Micros → Visit
-new_visit store page transition date =
+-- a visit with the next id
+abbrev pub new_visit : Store → PageId → Transition → Micros → Option VisitId → Visit
+new_visit store page transition date source =
     record {
       id = record { 0 = store.ids.visit };
       page = page;
       date = date;
       transition = transition;
-      source = None;
+      source = source;
     }
 
 -- the store with that visit, at the end of the visits
-abbrev pub visited_store : PageId → Transition → Micros → Store → Store
-visited_store page transition date store =
+abbrev pub visited_store : PageId → Transition → Micros → Option VisitId → Store → Store
+visited_store page transition date source store =
     record store {
       ids = record store.ids { visit = store.ids.visit + 1 };
       pages = map (visit_page page transition) store.pages;
-      visits = store.visits ++ new_visit store page transition date ∷ [];
+      visits = store.visits ++ new_visit store page transition date source ∷ [];
     }
 
 -- the store after a visit to the URL
-abbrev pub after_visit : Store → List ℕ → Transition → Micros → Store
-after_visit store url transition date =
-    visited_store (page_for store url).id transition date (with_page_for store url)
+abbrev pub after_visit : Store → List ℕ → Transition → Micros → Option VisitId → Store
+after_visit store url transition date source =
+    visited_store (page_for store url).id transition date source (with_page_for store url)
 
 -- a store of so many slots after so many before takes more than it may
 abbrev pub is_full : ℕ → ℕ → ℕ → Bool
 is_full limit before after = nat_lt limit after && nat_lt before after
 
--- the first cause, in this order: the scheme, an id for a page, an id for the visit, the slots
-abbrev pub visit_refusal : ℕ → Store → List ℕ → Transition → Micros → Option Refusal
-visit_refusal limit store url transition date =
-    let slots = live_slots (after_visit store url transition date) in
-    if is_unrecorded_url url then Some NotRecorded else
+-- the source that a visit names is not there
+abbrev pub source_refusal : Store → Option VisitId → Option Refusal
+source_refusal store None = None
+source_refusal store (Some id) =
+    if is_none (visit_by_id store id) then Some (NoVisit id) else None
+
+-- an id for a page is wanting, one for the visit, or the slots for what the visit makes
+abbrev pub room_refusal : ℕ → Store → List ℕ → ℕ → Option Refusal
+room_refusal limit store url slots =
     if is_none (find_page url store.pages) && (store.ids.page == end_of_ids)
     then Some (NoIds PageKind) else
     if store.ids.visit == end_of_ids then Some (NoIds VisitKind) else
     if is_full limit (live_slots store) slots then Some (Full slots) else None
 
+-- the first cause, in this order: the scheme, the source, the ids, the slots
+abbrev pub visit_refusal : ℕ → Store → List ℕ → Transition → Micros → Option VisitId
+    → Option Refusal
+visit_refusal limit store url transition date source =
+    if is_unrecorded_url url then Some NotRecorded else
+    option_or (source_refusal store source)
+    (room_refusal limit store url (live_slots (after_visit store url transition date source)))
+
 -- the reply tells the visit, its page, and the page's frecency after it
-abbrev pub visit_reply : Store → List ℕ → Transition → Micros → Reply
-visit_reply store url transition date =
+abbrev pub visit_reply : Store → List ℕ → Transition → Micros → Option VisitId → Reply
+visit_reply store url transition date source =
     VisitReply (record { 0 = store.ids.visit }) (page_for store url).id
-    (frecency_of (after_visit store url transition date)
+    (frecency_of (after_visit store url transition date source)
     (visited_page transition (page_for store url)))
 
 -- ---- the step
 
 -- the dates of a command are in range
 abbrev pub HasDates : Command → Type 0
-HasDates (VisitCommand url transition date) = IsDate date
+HasDates (VisitCommand url transition date source) = IsDate date
 
 -- a visit to an address whose visits are recorded
 abbrev pub IsRecorded : Command → Type 0
-IsRecorded (VisitCommand url transition date) = is_unrecorded_url url ≡ false
+IsRecorded (VisitCommand url transition date source) = is_unrecorded_url url ≡ false
 
 -- a refused command changes nothing
 abbrev pub unless_refused : Option Refusal → Store → Reply × Store → Reply × Store
@@ -118,9 +133,9 @@ unless_refused None store done = done
 
 -- on a store that takes at most so many slots
 abbrev pub perform : ℕ → Store → Command → Reply × Store
-perform limit store (VisitCommand url transition date) =
-    unless_refused (visit_refusal limit store url transition date) store
-    (visit_reply store url transition date, after_visit store url transition date)
+perform limit store (VisitCommand url transition date source) =
+    unless_refused (visit_refusal limit store url transition date source) store
+    (visit_reply store url transition date source, after_visit store url transition date source)
 
 -- the reply to an entry of the script, and the store after it
 abbrev pub step : ℕ → Store → Parsed Command → Reply × Store

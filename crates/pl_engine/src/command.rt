@@ -1,4 +1,4 @@
-use pl_base::{Micros, Transition};
+use pl_base::{Micros, Transition, VisitId};
 use pl_link::Canon;
 
 /// What a line of the script asks for.
@@ -9,5 +9,7 @@ pub enum Command {
         url: Canon,
         transition: Transition,
         date: Micros,
+        /// The visit that it came from.
+        source: Option<VisitId>,
     },
 }

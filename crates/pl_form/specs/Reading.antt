@@ -1,10 +1,11 @@
 -- What it is to read a value at the beginning of bytes.
-use Rattle.std.specs.Prelude.{◌≡◌, ◌<◌, ◌^◌, ℕ, ℤ, List, ◌++◌, Some}
+use Rattle.std.specs.Prelude.{◌≡◌, ◌<◌, ◌^◌, ℕ, ℤ, List, ◌++◌, Option, Some, IfSome}
 use Rattle.std.specs.Prelude.{Ok, Err, Result, IfOk, MatchResult, Vec}
 use Rattle.std.specs.declared.alloc.Global.{Global}
 use Rattle.std.specs.Int.{w64}
 use Rattle.std.specs.Int.RustNames.{FitsSigned}
 use Rattle.std.specs.Str.{IsUtf8}
+use Rattle.pl_base.specs.declared.id.VisitId.{VisitId}
 use Rattle.pl_base.specs.Address.{canon}
 use Rattle.pl_form.specs.declared.check_error.CheckError.{CheckError}
 use Rattle.pl_form.specs.declared.check_error.CheckError.TheVariants.{NoMemory}
@@ -24,6 +25,10 @@ IsSignedEight z = FitsSigned w64 z
 -- a URL of the store
 abbrev pub IsUrl : List ℕ → Type 0
 IsUrl url = IsUtf8 url × (canon url ≡ Some url)
+
+-- no visit, or the id of one
+abbrev pub IsSource : Option VisitId → Type 0
+IsSource source = IfSome source (λ id. (0 < id.0) × IsFour id.0)
 
 -- any value
 abbrev pub IsAny : {A : Type 0} → A → Type 0

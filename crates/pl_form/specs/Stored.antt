@@ -1,9 +1,10 @@
 -- The rows of a store as a file has them, as far as its form has them yet.
 use Rattle.std.specs.Prelude.{◌≡◌, ◌+◌, ◌<◌, ◌^◌, ◌++◌, ℕ, ℤ, List}
-use Rattle.std.specs.Prelude.{[], length, map, None, Result, Ok, Err}
+use Rattle.std.specs.Prelude.{length, map, Result, Ok, Err}
 use Rattle.std.specs.List.{All}
 use Rattle.pl_base.specs.declared.date.Day.{Day}
 use Rattle.pl_base.specs.declared.id.Ids.{Ids}
+use Rattle.pl_base.specs.Good.{IsTitle}
 use Rattle.pl_base.specs.Store.{Page, Store, Visit, roots}
 use Rattle.pl_form.specs.declared.check_error.CheckError.{CheckError}
 use Rattle.pl_form.specs.declared.plain.Plain.{Plain}
@@ -11,11 +12,11 @@ use Rattle.pl_form.specs.declared.stored.StoredVisit.{StoredVisit}
 use Rattle.pl_form.specs.declared.stored.StoredPage.{StoredPage}
 use Rattle.pl_form.specs.Form.{FormRows, filled_pages, four, in_pages}
 use Rattle.pl_form.specs.Form.{page_bytes, plain_bytes, visit_bytes}
-use Rattle.pl_form.specs.Reading.{IsEight, IsFour, IsSignedEight, IsUrl}
+use Rattle.pl_form.specs.Reading.{IsEight, IsFour, IsSignedEight, IsSource, IsUrl}
 
--- a page without a title
+-- a page without its frecency
 abbrev pub stored_page : StoredPage → Page
-stored_page p = record { id = p.id; url = p.url; title = []; typed = p.typed }
+stored_page p = record { id = p.id; url = p.url; title = p.title; typed = p.typed }
 
 -- a visit with its source
 abbrev pub visit_of : StoredVisit → Visit
@@ -40,13 +41,13 @@ stored_page_bytes p = page_bytes (page_row p)
 abbrev pub stored_visit_bytes : StoredVisit → List ℕ
 stored_visit_bytes v = visit_bytes (visit_of v)
 
--- a page whose numbers fit and whose URL is one
+-- a page whose numbers fit, with a URL of the store and a title that is not too long
 abbrev pub IsStoredPage : StoredPage → Type 0
-IsStoredPage p = IsFour p.id.0 × IsSignedEight p.frecency × IsUrl p.url
+IsStoredPage p = IsFour p.id.0 × IsSignedEight p.frecency × IsUrl p.url × IsTitle p.title
 
--- a visit without a source, whose numbers fit
+-- a visit whose numbers fit
 abbrev pub IsStoredVisit : StoredVisit → Type 0
-IsStoredVisit v = IsFour v.id.0 × IsFour v.page.0 × (v.source ≡ None) × IsEight v.date.0
+IsStoredVisit v = IsFour v.id.0 × IsFour v.page.0 × IsSource v.source × IsEight v.date.0
 
 -- so many that their number fits
 abbrev pub AreListed : {A : Type 0} → (A → Type 0) → List A → Type 0
@@ -93,7 +94,7 @@ ids_bytes ids = four ids.page ++ four ids.visit ++ four ids.item
 abbrev pub AreIdsFour : Ids → Type 0
 AreIdsFour ids = IsFour ids.page × IsFour ids.visit × IsFour ids.item
 
--- rows whose numbers fit, with URLs of the store and no sources
+-- rows whose numbers fit, with URLs of the store and titles that are not too long
 pub record AreStored (rows : Stored) : Type 0 where
   pub day : IsFour rows.day.0
   pub ids : AreIdsFour rows.ids

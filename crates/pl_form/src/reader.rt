@@ -1,12 +1,14 @@
 ghost use Rattle.std.specs.Prelude.{◌≡◌, ◌==◌, ◌<◌, ◌++◌, [], ◌∷◌, length, replicate, IfOk, IfErr};
 ghost use Rattle.std.specs.Int.{w32, w64, from_le_bytes};
 ghost use Rattle.std.specs.List.{list_all};
+ghost use Rattle.pl_base.specs.Good.{IsTitle};
 ghost use Rattle.pl_base.specs.Transition.{transition_number};
 ghost use Rattle.pl_form.specs.Form as form;
-ghost use Rattle.pl_form.specs.Reading.{IsAny, IsEight, IsFour, IsSignedEight, IsUrl, Reads};
+ghost use Rattle.pl_form.specs.Reading.{IsAny, IsEight, IsFour, IsSignedEight, IsSource, IsUrl};
+ghost use Rattle.pl_form.specs.Reading.{Reads};
 
 use crate::CheckError;
-use pl_base::Transition;
+use pl_base::{LONGEST_TITLE, Transition, Txt, VisitId};
 use pl_link::Canon;
 use std::alloc::Global;
 use std::marker::Model;
@@ -136,6 +138,33 @@ impl<'a> Reader<'a> {
             return Err(CheckError::NotAStore);
         }
         Ok(url)
+    }
+
+    /// A title, which is a text that is not too long.
+    pub fn title(&mut self, alloc: Global) -> Result<Txt, CheckError>
+        ensures title { Reads form.text_bytes IsTitle self.old result self.new }
+    {
+        let len = self.four()? as usize;
+        if len > LONGEST_TITLE {
+            return Err(CheckError::NotAStore);
+        }
+        let Ok(text) = str::from_utf8(self.bytes(len)?) else {
+            return Err(CheckError::NotAStore);
+        };
+        Ok(Txt::copied(alloc, text)?)
+    }
+
+    /// The id of a visit's source, or 0 of none.
+    pub fn source(&mut self) -> Result<Option<VisitId>, CheckError>
+        ensures source { Reads (λ s. form.four (form.visit_or_zero s)) IsSource
+            self.old result self.new }
+        ensures sure { IfErr result (λ e. e ≡ CheckError.NotAStore) }
+    {
+        let id = self.four()?;
+        if id == 0 {
+            return Ok(None);
+        }
+        Ok(Some(VisitId(id)))
     }
 
     /// These bytes and no others.

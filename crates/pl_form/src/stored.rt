@@ -8,18 +8,19 @@ ghost use Rattle.pl_form.specs.Stored.{stored_page_bytes, stored_visit_bytes};
 use crate::CheckError;
 use crate::reader::Reader;
 use crate::roots::ROOTS;
-use pl_base::{Day, Ids, Micros, PageId, Transition, VisitId};
+use pl_base::{Day, Ids, Micros, PageId, Transition, Txt, VisitId};
 use pl_link::Canon;
 use std::alloc::Global;
 use std::marker::Model;
 
-/// A page as a file has it, without a title.
+/// A page as a file has it.
 #[derive(Debug, Drop)]
 pub struct StoredPage {
     pub id: PageId,
     pub typed: bool,
     pub frecency: i64,
     pub url: Canon,
+    pub title: Txt,
 }
 
 /// A visit as a file has it.
@@ -82,7 +83,7 @@ impl Reader<'_> {
         Ok(Ids { page, visit, item })
     }
 
-    /// A page without a title.
+    /// A page.
     pub fn page(&mut self, alloc: Global) -> Result<StoredPage, CheckError>
         ensures { Reads stored_page_bytes IsStoredPage self.old result self.new }
     {
@@ -90,22 +91,23 @@ impl Reader<'_> {
         let typed = self.flag()?;
         let frecency = self.signed_eight()?;
         let url = self.url(alloc)?;
-        self.constant(&EMPTY)?;
+        let title = self.title(alloc)?;
         Ok(StoredPage {
             id,
             typed,
             frecency,
             url,
+            title,
         })
     }
 
-    /// A visit without a source.
+    /// A visit.
     pub fn visit(&mut self) -> Result<StoredVisit, CheckError>
         ensures { Reads stored_visit_bytes IsStoredVisit self.old result self.new }
     {
         let id = VisitId(self.four()?);
         let page = PageId(self.four()?);
-        self.constant(&NONE)?;
+        let source = self.source()?;
         let date = Micros(self.eight()?);
         let transition = self.transition()?;
         Ok(StoredVisit {
@@ -113,11 +115,11 @@ impl Reader<'_> {
             page,
             date,
             transition,
-            source: None,
+            source,
         })
     }
 
-    /// Pages without titles.
+    /// The pages.
     pub fn pages(&mut self, alloc: Global) -> Result<Vec<StoredPage>, CheckError>
         ensures { Reads (listed stored_page_bytes) (AreListed IsStoredPage)
             self.old (items_of result) self.new }
@@ -130,7 +132,7 @@ impl Reader<'_> {
         Ok(pages)
     }
 
-    /// Visits without sources.
+    /// The visits.
     pub fn visits(&mut self, alloc: Global) -> Result<Vec<StoredVisit>, CheckError>
         ensures { Reads (listed stored_visit_bytes) (AreListed IsStoredVisit)
             self.old (items_of result) self.new }
@@ -143,9 +145,3 @@ impl Reader<'_> {
         Ok(visits)
     }
 }
-
-// An empty text.
-const EMPTY: [u8; 4] = [0; 4];
-
-// No source.
-const NONE: [u8; 4] = [0; 4];

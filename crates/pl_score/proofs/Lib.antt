@@ -1,3 +1,4 @@
 mod ConstantRows
 pub mod Points
 pub mod Rounding
+pub mod StoreSamples

@@ -2,10 +2,15 @@
 use Rattle.std.specs.Prelude.{ℕ, ◌*◌, List}
 use Rattle.std.specs.List.{sum_by}
 use Rattle.pl_base.specs.declared.date.Day.{Day}
-use Rattle.pl_base.specs.Frecency.{points}
+use Rattle.pl_base.specs.Frecency.{points, visit_bonus}
+use Rattle.pl_base.specs.Store.{Store, Visit}
 use Rattle.pl_base.specs.Tables.{greatest_bonus}
 use Rattle.pl_base.specs.Visits.{sample_size}
 use Rattle.pl_score.specs.declared.sample.Sampled.{Sampled}
+
+-- what a sample has of a visit of the store
+abbrev pub sampled_of : Store → Visit → Sampled
+sampled_of store v = record { date = v.date; bonus = visit_bonus store v }
 
 -- what the sampled visits add together on a day
 abbrev pub points_of : Day → List Sampled → ℕ
