@@ -57,10 +57,10 @@ dated_reached bytes b c d e id page date source first second third fourth =
     (further source_bytes IsSource (λ v. v.source) after_source d source (λ v one. one.2)
     (visited_reached bytes b c id page first second) third) fourth
 
-pub no_source_read : (bytes b c d : List ℕ) (id page : ℕ) (e : CheckError) → Reads four IsFour bytes (Ok id) b
+pub source_stopped : (bytes b c d : List ℕ) (id page : ℕ) (e : CheckError) → Reads four IsFour bytes (Ok id) b
     → Reads four IsFour b (Ok page) c → Reads source_bytes IsSource c (Err e) d
     → Reads stored_visit_bytes IsStoredVisit bytes (Err e) d
-no_source_read bytes b c d id page e first second third =
+source_stopped bytes b c d id page e first second third =
     stopped source_bytes IsSource (λ v. v.source) after_source d e (λ v one. one.2)
     (visited_reached bytes b c id page first second) third
 
@@ -126,11 +126,11 @@ url_reached bytes b c d e id typed frecency url first second third fourth =
     (started stored_page_bytes IsStoredPage bytes (λ p. four p.id.0 ++ after_page_id p) page_pieces)
     first) second) third) fourth
 
-pub no_title_read : (bytes b c d e f : List ℕ) (id : ℕ) (typed : Bool) (frecency : ℤ) (url : List ℕ)
+pub title_stopped : (bytes b c d e f : List ℕ) (id : ℕ) (typed : Bool) (frecency : ℤ) (url : List ℕ)
     (error : CheckError) → Reads four IsFour bytes (Ok id) b → Reads typed_bytes IsAny b (Ok typed) c
     → Reads signed_eight IsSignedEight c (Ok frecency) d → Reads text_bytes IsUrl d (Ok url) e
     → Reads text_bytes IsTitle e (Err error) f → Reads stored_page_bytes IsStoredPage bytes (Err error) f
-no_title_read bytes b c d e f id typed frecency url error first second third fourth fifth =
+title_stopped bytes b c d e f id typed frecency url error first second third fourth fifth =
     stopped text_bytes IsTitle (λ p. p.title) (λ p. []) f error (λ p one. one.3)
     (to_last (url_reached bytes b c d e id typed frecency url first second third fourth)) fifth
 
