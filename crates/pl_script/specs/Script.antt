@@ -149,7 +149,7 @@ word_of field = if bytes_eq field (codes "visit") then Some word.Visit else None
 -- a visit to the URL, where the address gives one
 abbrev pub visit_to : Transition → Micros → Option (List ℕ) → Parsed Command
 visit_to transition date None = Err BadUrl
-visit_to transition date (Some url) = Ok (Visit url transition date)
+visit_to transition date (Some url) = Ok (Visit url transition date None)
 
 -- `visit`, an address, a transition and a date
 abbrev pub visit_line : Fields → Parsed Command

@@ -86,5 +86,6 @@ fn visit_line(alloc: Global, mut fields: Fields<'_>) -> Result<Command, LineErro
         url,
         transition,
         date,
+        source: None,
     })
 }

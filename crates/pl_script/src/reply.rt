@@ -30,6 +30,7 @@ fn refusal_text(alloc: Global, refusal: &Refusal) -> Result<String, NoMemory>
 {
     let number = refusal.number();
     Ok(match refusal {
+        Refusal::NoVisit(id) => format!(in alloc; "refused\t{number}\t{}\n", id.0)?,
         Refusal::NoIds(kind) => format!(in alloc; "refused\t{number}\t{}\n", kind.number())?,
         Refusal::Full(slots) => format!(in alloc; "refused\t{number}\t{slots}\n")?,
         Refusal::BadLine(column) => format!(in alloc; "refused\t{number}\t{column}\n")?,

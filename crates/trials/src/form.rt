@@ -1,5 +1,6 @@
 // The rows of a file and its header page, by hand.
 
+use crate::roots::ROOTS;
 use pl_base::{Day, Micros, PAGE_SIZE, PageId, Transition, VisitId};
 use pl_form::{CheckError, FileRows, StoredPage, StoredVisit, named_pages, read_rows};
 use std::alloc::Global;
@@ -20,16 +21,6 @@ const PAGES: &[u8; 43] = b"\x01\0\0\0\
 const VISITS: &[u8; 25] = b"\x01\0\0\0\
     \x07\0\0\0\x04\0\0\0\0\0\0\0\x02\x01\0\0\0\0\0\0\x07";
 
-// Six folders, of which the first holds the others.
-const ITEMS: &[u8; 222] = b"\x06\0\0\0\
-    \x01\0\0\0\0\0\0\0\x02\0\0\0\0\0\0\0\0\0\0\0\0\0\0\0\0\0\0\0\0\
-    \x05\0\0\0\x02\0\0\0\x03\0\0\0\x04\0\0\0\x05\0\0\0\x06\0\0\0\
-    \x02\0\0\0\0\0\0\0\x02\0\0\0\0\0\0\0\0\0\0\0\0\0\0\0\0\0\0\0\0\0\0\0\0\
-    \x03\0\0\0\0\0\0\0\x02\0\0\0\0\0\0\0\0\0\0\0\0\0\0\0\0\0\0\0\0\0\0\0\0\
-    \x04\0\0\0\0\0\0\0\x02\0\0\0\0\0\0\0\0\0\0\0\0\0\0\0\0\0\0\0\0\0\0\0\0\
-    \x05\0\0\0\0\0\0\0\x02\0\0\0\0\0\0\0\0\0\0\0\0\0\0\0\0\0\0\0\0\0\0\0\0\
-    \x06\0\0\0\0\0\0\0\x02\0\0\0\0\0\0\0\0\0\0\0\0\0\0\0\0\0\0\0\0\0\0\0\0";
-
 fn file(alloc: Global) -> Result<Vec<u8>, Fail> {
     let mut bytes = Vec::new(alloc);
     bytes.resize(PAGE_SIZE, 0x5a)?;
@@ -38,7 +29,7 @@ fn file(alloc: Global) -> Result<Vec<u8>, Fail> {
     bytes.extend_from_slice(NEXT)?;
     bytes.extend_from_slice(PAGES)?;
     bytes.extend_from_slice(VISITS)?;
-    bytes.extend_from_slice(ITEMS)?;
+    bytes.extend_from_slice(ROOTS)?;
     bytes.resize(3 * PAGE_SIZE, 0)?;
     Ok(bytes)
 }

@@ -16,6 +16,12 @@ mod link;
 #[cfg(test)]
 mod plain;
 #[cfg(test)]
+mod redirected;
+#[cfg(test)]
+mod roots;
+#[cfg(test)]
+mod rows;
+#[cfg(test)]
 mod score;
 #[cfg(test)]
 mod source;

@@ -1,4 +1,6 @@
-use pl_base::{NoMemory, PAGE_SIZE};
+use crate::redirected;
+use crate::roots::ROOTS;
+use pl_base::{LONGEST_TITLE, NoMemory, PAGE_SIZE};
 use pl_plain::{CheckError, Flat};
 use std::alloc::Global;
 use std::process::Abort;
@@ -24,16 +26,6 @@ const VISITS: &[u8; 67] = b"\x03\0\0\0\
     \x02\0\0\0\x02\0\0\0\0\0\0\0\0\0\0\0\0\0\0\0\x01\
     \x03\0\0\0\x01\0\0\0\0\0\0\0\x01\0\0\0\0\0\0\0\x02";
 
-// Six folders, of which the first holds the others.
-const ITEMS: &[u8; 222] = b"\x06\0\0\0\
-    \x01\0\0\0\0\0\0\0\x02\0\0\0\0\0\0\0\0\0\0\0\0\0\0\0\0\0\0\0\0\
-    \x05\0\0\0\x02\0\0\0\x03\0\0\0\x04\0\0\0\x05\0\0\0\x06\0\0\0\
-    \x02\0\0\0\0\0\0\0\x02\0\0\0\0\0\0\0\0\0\0\0\0\0\0\0\0\0\0\0\0\0\0\0\0\
-    \x03\0\0\0\0\0\0\0\x02\0\0\0\0\0\0\0\0\0\0\0\0\0\0\0\0\0\0\0\0\0\0\0\0\
-    \x04\0\0\0\0\0\0\0\x02\0\0\0\0\0\0\0\0\0\0\0\0\0\0\0\0\0\0\0\0\0\0\0\0\
-    \x05\0\0\0\0\0\0\0\x02\0\0\0\0\0\0\0\0\0\0\0\0\0\0\0\0\0\0\0\0\0\0\0\0\
-    \x06\0\0\0\0\0\0\0\x02\0\0\0\0\0\0\0\0\0\0\0\0\0\0\0\0\0\0\0\0\0\0\0\0";
-
 const FILE_SIZE: usize = 3 * PAGE_SIZE;
 
 fn file(alloc: Global) -> Result<Vec<u8>, Fail> {
@@ -44,7 +36,7 @@ fn file(alloc: Global) -> Result<Vec<u8>, Fail> {
     bytes.extend_from_slice(NEXT)?;
     bytes.extend_from_slice(PAGES)?;
     bytes.extend_from_slice(VISITS)?;
-    bytes.extend_from_slice(ITEMS)?;
+    bytes.extend_from_slice(ROOTS)?;
     bytes.resize(FILE_SIZE, 0)?;
     Ok(bytes)
 }
@@ -77,13 +69,13 @@ const DAMAGES: &[(usize, u8, &str)] = &[
     (2093, b'b', "a URL twice"),
     (2093, b'A', "an address that is not its own URL"),
     (2093, 0xff, "an address that is no text"),
-    (2103, 1, "a title"),
+    (2103, 1, "a title beyond its page"),
     (2107, 3, "an id that is not below the next one"),
     (2112, 0x63, "a frecency one too low"),
     (2146, 2, "a visit too few"),
     (2150, 0, "a visit with id 0"),
     (2154, 3, "a visit without its page"),
-    (2158, 1, "a source"),
+    (2158, 1, "its own source"),
     (2169, 4, "a date after 9999"),
     (2170, 0, "no transition"),
     (2170, 10, "a transition beyond the last"),
@@ -108,17 +100,47 @@ fn damaged(
     Ok(bytes)
 }
 
+// The bytes stand for a store, and with any of the damages for none.
+fn check_damages(
+    rt: &impl Abort,
+    alloc: Global,
+    good: &[u8],
+    damages: &[(usize, u8, &str)],
+) -> Result<(), NoMemory> {
+    assert!(rt; Flat::check(alloc, good).is_ok());
+    for (place, byte, what) in damages {
+        let bytes = damaged(rt, alloc, good, *place, *byte)?;
+        let refused = Flat::check(alloc, &bytes).err();
+        assert_eq!(rt; refused, Some(CheckError::NotAStore), "{what}");
+    }
+    Ok(())
+}
+
 #[test]
 fn refuses_each_damage(rt: HostRuntime) -> Result<(), Fail> {
     let alloc = rt.alloc();
     let good = file(alloc)?;
     assert_eq!(rt; good.len(), FILE_SIZE);
-    assert!(rt; Flat::check(alloc, &good).is_ok());
-    for (place, byte, what) in DAMAGES {
-        let bytes = damaged(&rt, alloc, &good, *place, *byte)?;
-        let refused = Flat::check(alloc, &bytes).err();
-        assert_eq!(rt; refused, Some(CheckError::NotAStore), "{what}");
-    }
+    check_damages(&rt, alloc, &good, DAMAGES)?;
+    Ok(())
+}
+
+#[test]
+fn refuses_damages_of_titles_and_sources(rt: HostRuntime) -> Result<(), Fail> {
+    let alloc = rt.alloc();
+    let good = redirected::file(alloc, b"A")?;
+    check_damages(&rt, alloc, &good, redirected::DAMAGES)?;
+    Ok(())
+}
+
+#[test]
+fn refuses_a_title_that_is_too_long(rt: HostRuntime) -> Result<(), Fail> {
+    let alloc = rt.alloc();
+    let longest = redirected::file(alloc, &[b'x'; LONGEST_TITLE])?;
+    assert!(rt; Flat::check(alloc, &longest).is_ok());
+    let longer = redirected::file(alloc, &[b'x'; LONGEST_TITLE + 1])?;
+    let refused = Flat::check(alloc, &longer).err();
+    assert_eq!(rt; refused, Some(CheckError::NotAStore));
     Ok(())
 }
 

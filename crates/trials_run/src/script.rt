@@ -97,11 +97,13 @@ fn expect_visit(
                 url,
                 transition,
                 date,
+                source,
             },
         ) => {
             assert_eq!(rt; url.text().as_bytes(), text);
             assert_eq!(rt; transition, kind);
             assert_eq!(rt; date, when);
+            assert!(rt; source.is_none());
         }
         None => assert!(rt; false, "no command"),
     }
@@ -177,6 +179,8 @@ const REPLIES: &[(Reply, &str)] = &[
     ),
     (Reply::Refused(Refusal::BadUrl), "refused\t1\n"),
     (Reply::Refused(Refusal::NotRecorded), "refused\t2\n"),
+    (Reply::Refused(Refusal::NoVisit(VisitId(9))), "refused\t3\t9\n"),
+    (Reply::Refused(Refusal::Full(10)), "refused\t12\t10\n"),
     (
         Reply::Refused(Refusal::NoIds(IdKind::Visit)),
         "refused\t13\t2\n",

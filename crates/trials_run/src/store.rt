@@ -4,6 +4,7 @@ ghost use Rattle.pl_base.specs.Date.{IsDate};
 ghost use Rattle.pl_engine.specs.Step.{HasDates};
 
 mod openings;
+mod redirects;
 mod stops;
 
 use pl_base::{
@@ -20,7 +21,13 @@ use std::process::Abort;
 use std::sync::ledger::{Blank, Ledger};
 use std::test::Fail;
 
-fn visit(alloc: Global, url: &str, transition: Transition, date: Micros) -> Result<Command, Fail>
+fn visit(
+    alloc: Global,
+    url: &str,
+    transition: Transition,
+    date: Micros,
+    source: Option<VisitId>,
+) -> Result<Command, Fail>
     requires { IsDate date }
     ensures { IfOk result HasDates }
 {
@@ -29,19 +36,21 @@ fn visit(alloc: Global, url: &str, transition: Transition, date: Micros) -> Resu
         url,
         transition,
         date,
+        source,
     })
 }
 
 fn first(alloc: Global) -> Result<Command, Fail>
     ensures { IfOk result HasDates }
 {
-    visit(alloc, "https://a.example/", Transition::Typed, Micros(0))
+    let url = "https://a.example/";
+    visit(alloc, url, Transition::Typed, Micros(0), None)
 }
 
 fn second(alloc: Global) -> Result<Command, Fail>
     ensures { IfOk result HasDates }
 {
-    visit(alloc, "https://b.example/", Transition::Link, Micros(1))
+    visit(alloc, "https://b.example/", Transition::Link, Micros(1), None)
 }
 
 const FIRST_REPLY: Reply = Reply::Visit {
