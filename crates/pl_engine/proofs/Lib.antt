@@ -2,10 +2,12 @@ mod GoodRows
 mod KeptUrls
 mod KnownPage
 mod LiveAfter
+mod LookUps
 mod OriginParts
 mod PageScore
 mod PageWalk
 mod ReadyPage
+mod RedirectSources
 mod RightAfter
 mod Targets
 mod VisitAllowed
