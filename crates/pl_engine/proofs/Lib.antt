@@ -9,6 +9,7 @@ mod PageWalk
 mod ReadyPage
 mod RedirectSources
 mod RightAfter
+mod SourcePage
 mod Targets
 mod VisitAllowed
 mod VisitMade

@@ -229,7 +229,6 @@ right_marked ids page mark old right own =
     let id : PageId = (get_or old.pages k d).page.id in
     right k d within (or_from (id.0 == page.0) (list_any (λ (i : PageId). id.0 == i.0) ids) other apart))
 
-
 pub right_refreshed : (ids : List PageId) (page : PageId) (told : Mark) (is_place : Bool) (old new : Kept)
     (frecency : ℤ) → AreRightBut (page ∷ ids) old → Refreshes page told is_place old new frecency
     → told.count ≡ visit_count (store_of old) page

@@ -1,6 +1,6 @@
 -- What holds of the rows after a visit.
 use Rattle.std.proofs.Common.{◌≡◌, ◌∙◌, ◌+◌, ◌<◌, ◌≤◌, ◌++◌, ◌==◌, ◌&&◌, ◌||◌, ℕ, ℤ, All, Bool, true, false}
-use Rattle.std.proofs.Common.{List, [], ◌∷◌, Option, Some, None, ap, arith, eq-eqb, if◌then◌else◌, is_none}
+use Rattle.std.proofs.Common.{List, [], ◌∷◌, Option, Some, None, ap, arith, eq-eqb, if◌then◌else◌, is_none, option_to_list}
 use Rattle.std.proofs.Common.{IsTrue, get_or, length, map, refl, subst, sym, unwrap_or, Result, Ok, Err}
 use Rattle.std.specs.List.{AllByRecursion, list_any}
 use Rattle.std.specs.Option.{option_map}
@@ -30,12 +30,12 @@ use Rattle.pl_engine.specs.declared.engine.find.Target.TheVariants.{Known, New}
 use Rattle.pl_engine.specs.declared.reply.Reply.{Reply}
 use Rattle.pl_engine.specs.declared.reply.Reply.TheVariants.{Visit as VisitReply}
 use Rattle.pl_engine.specs.Engine.{IsSound, IsVisited}
-use Rattle.pl_engine.specs.Refreshed.{AreRightBut, HaveCounts, Refreshes, visited_mark}
+use Rattle.pl_engine.specs.Refreshed.{AreRightBut, HaveCounts, Refreshes, source_page, visited_mark}
 use Rattle.pl_engine.specs.Step.{after_visit, find_page, new_page, page_for, perform, unless_refused}
 use Rattle.pl_engine.specs.Step.{visit_refusal, visit_reply, visited_page, visited_store, with_page_for}
 use Rattle.pl_engine.specs.Target.{AddsVisit, IsReady, IsTargetOf, WithTarget}
 use Rattle.pl_engine.proofs.LookUps.{apart_ascending, found_holds, found_one, found_passes}
-use Rattle.pl_engine.proofs.RightAfter.{each_marked}
+use Rattle.pl_engine.proofs.RightAfter.{each_marked, right_refreshed, right_visited}
 use Rattle.pl_engine.proofs.Targets.{IsFound, found_page}
 use Rattle.pl_engine.proofs.VisitRows.{grown_store, store_visited, store_with_page}
 use Rattle.pl_base.proofs.IdsLaws.{few_ids, same_page}
@@ -90,6 +90,12 @@ count_at kept id mark counts m =
     (λ (p : KeptPage). p.page.id.0 == id.0) kept.pages m.page
     (recursion_from_All (λ (p : KeptPage). p.count ≡ visit_count (store_of kept) p.page.id) kept.pages counts) m.at
     ∙ ap (visit_count (store_of kept)) m.same
+
+-- in the rows with the visit
+pub mark_made : (old made : Kept) (row : VisitRow) (mark : Mark) → made ≡ with_visit row old
+    → Some mark ≡ option_map mark_of (page_at made row.page) → IsMarkAt (with_visit row old) row.page mark
+mark_made old made row mark is some =
+    mark_at (with_visit row old) row.page mark (some ∙ ap (λ (k : Kept). option_map mark_of (page_at k row.page)) is)
 
 -- ---- the count
 
@@ -236,7 +242,7 @@ pub record IsAfresh (row : VisitRow) (old now : Kept) (frecency : ℤ) : Type 0 
   pub visited : IsVisited now
   pub scored : (p : Page) → p.id ≡ row.page → frecency ≡ frecency_of (store_of now) p
 
-pub afresh_after : (old now : Kept) (row : VisitRow) (is_place : Bool) (mark told : Mark) (frecency : ℤ)
+afresh_after : (old now : Kept) (row : VisitRow) (is_place : Bool) (mark told : Mark) (frecency : ℤ)
     → IsReady row.page is_place old → IsWellKept (with_visit row old) → IsMarkAt (with_visit row old) row.page mark
     → told ≡ visited_mark row.transition mark
     → Refreshes row.page told is_place (with_visit row old) now frecency → IsAfresh row old now frecency
@@ -250,6 +256,31 @@ afresh_after old now row is_place mark told frecency r h m is f =
           subst IsVisited (sym made) (visited_afresh old row is_place mark frecency f.hidden r h m);
       scored = λ p same. f.scored p same ∙ ap (λ (k : Kept). frecency_of (store_of k) p) (sym f.rows);
     }
+
+pub afresh_made : (old made now : Kept) (row : VisitRow) (is_place : Bool) (mark told : Mark) (frecency : ℤ)
+    → IsReady row.page is_place old → IsWellKept made → made ≡ with_visit row old
+    → Some mark ≡ option_map mark_of (page_at made row.page) → told ≡ visited_mark row.transition mark
+    → Refreshes row.page told is_place made now frecency → IsAfresh row old now frecency
+afresh_made old made now row is_place mark told frecency r h made_is marks is f =
+    afresh_after old now row is_place mark told frecency r (subst IsWellKept made_is h)
+    (mark_made old made row mark made_is marks) is
+    (subst (λ (k : Kept). Refreshes row.page told is_place k now frecency) made_is f)
+
+-- all pages are right but that of the source
+pub right_still : (old made now : Kept) (row : VisitRow) (is_place : Bool) (mark told : Mark) (frecency : ℤ)
+    → IsReady row.page is_place old → IsWellKept old → IsWellKept made → made ≡ with_visit row old
+    → Some mark ≡ option_map mark_of (page_at made row.page) → told ≡ visited_mark row.transition mark
+    → Refreshes row.page told is_place made now frecency
+    → AreRightBut (option_to_list (source_page now row)) now
+right_still old made now row is_place mark told frecency r h well made_is marks is f =
+    let v : Kept = with_visit row old in
+    let refreshed : Refreshes row.page told is_place v now frecency =
+    subst (λ (k : Kept). Refreshes row.page told is_place k now frecency) made_is f in
+    subst (λ (ids : List PageId). AreRightBut ids now)
+    (ap (λ (k : Kept). option_to_list (source_page k row)) (sym refreshed.rows))
+    (right_refreshed (option_to_list (source_page v row)) row.page told is_place v now frecency
+    (right_visited old row h (subst IsWellKept made_is well) r.right) refreshed
+    (count_told old row mark told r.counts (mark_made old made row mark made_is marks) is) r.place)
 
 -- ---- the rows at the end
 

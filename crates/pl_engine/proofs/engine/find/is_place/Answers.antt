@@ -1,4 +1,4 @@
-use Rattle.std.proofs.Common.{Some, ap, ◌∙◌, ℕ, List}
+use Rattle.std.proofs.Common.{Some, ap, ◌∙◌, ℕ, Bool, List}
 use Rattle.pl_base.specs.Address.{is_place_url}
 use Rattle.std.specs.Option.{option_map}
 use Rattle.pl_engine.proofs.KeptUrls.{url-of_store}
@@ -12,4 +12,8 @@ parts_of-requires g c =
     (ap (λ (text : List ℕ). Some text) c.as_str.ensures ∙ c.in_ok-text.ensures.url)
 
 pub returns : goal.returns
-returns g c = ?
+returns g c =
+    ap (λ (b : Bool). Some b)
+    (is_place-by_parts c.as_str.result.now c.in_ok-parts.parts c.in_ok-parts.ensures)
+    ∙ ap (option_map is_place_url)
+    (ap (λ (text : List ℕ). Some text) c.as_str.ensures ∙ c.in_ok-text.ensures.url)
