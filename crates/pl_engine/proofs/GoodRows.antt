@@ -1,13 +1,13 @@
 -- Well kept rows of visits hold a good store, and each page of a good store of visits is visited.
 use Rattle.std.proofs.Common.{◌≡◌, ◌≢◌, ◌<◌, ◌==◌, ◌||◌, ◌∙◌, ℕ, All, Bool, true, false}
-use Rattle.std.proofs.Common.{IsTrue, List, Option, Some, None, ap, find, get_or, refl, subst, sym}
+use Rattle.std.proofs.Common.{IsTrue, List, Option, Some, None, get_or, refl, subst, sym}
 use Rattle.std.specs.Option.{IfSome, IsSome, option_map}
 use Rattle.std.proofs.lemmas.Bool.{or_left}
 use Rattle.std.proofs.lemmas.List.Elements.{All-map}
 use Rattle.pl_base.specs.declared.id.PageId.{PageId}
 use Rattle.pl_base.specs.declared.id.VisitId.{VisitId}
 use Rattle.pl_base.specs.Good.{HasRoots, HasTags, IsGood, IsGoodItem, IsGoodPage, IsTree, has_page_at, is_visited}
-use Rattle.pl_base.specs.Marks.{is_page, is_referenced}
+use Rattle.pl_base.specs.Marks.{is_referenced}
 use Rattle.pl_base.specs.Redirects.{visit_by_id}
 use Rattle.pl_base.specs.Rows.{IsOfVisits, IsWellKept, Kept, KeptPage, has_page as is_kept, has_visit, store_of}
 use Rattle.pl_base.specs.Store.{Item, Page, Store, Visit, roots}
@@ -64,7 +64,8 @@ good_of kept h few visited =
           λ k d within. record {
             date = (h.visits k d within).0;
             page = there (get_or kept.visits k d).page (h.visits k d within).1;
-            source = source_found kept (get_or kept.visits k d).id.0 (get_or kept.visits k d).source (h.sources k d within);
+            source =
+                source_found kept (get_or kept.visits k d).id.0 (get_or kept.visits k d).source (h.sources k d within);
           };
       items = subst (λ (items : List Item). All (IsGoodItem store) items) (sym few) (roots_are_good store);
       roots = of_roots HasRoots store few (has_roots store);

@@ -1,4 +1,5 @@
 mod GoodRows
+mod KeptMark
 mod KeptUrls
 mod KnownPage
 mod LiveAfter
@@ -15,3 +16,4 @@ mod VisitAllowed
 mod VisitMade
 mod VisitRows
 mod VisitWalk
+mod VisitedPages

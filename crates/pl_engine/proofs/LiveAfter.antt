@@ -96,10 +96,12 @@ live_new_page store url =
 
 -- ---- what a command and a call leave
 
-pub live_found : (store : Store) (url : List ℕ) (transition : Transition) (date : Micros) (source : Option VisitId) (p : Page)
-    → find_page url store.pages ≡ Some p → live_slots (after_visit store url transition date source) ≡ live_slots store + 1
+pub live_found : (store : Store) (url : List ℕ) (transition : Transition) (date : Micros) (source : Option VisitId)
+    (p : Page) → find_page url store.pages ≡ Some p
+    → live_slots (after_visit store url transition date source) ≡ live_slots store + 1
 live_found store url transition date source p found =
-    ap live_slots (ap (visited_at store url transition date source) found) ∙ live_visited p.id transition date source store
+    ap live_slots (ap (visited_at store url transition date source) found)
+    ∙ live_visited p.id transition date source store
 
 pub live_new : (store : Store) (url : List ℕ) (transition : Transition) (date : Micros) (source : Option VisitId)
     → find_page url store.pages ≡ None

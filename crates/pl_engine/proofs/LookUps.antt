@@ -1,6 +1,6 @@
 -- Look-ups by a number that stands once.
 use Rattle.std.proofs.Common.{◌≡◌, ◌≢◌, ◌<◌, ◌++◌, ◌||◌, ◌==◌, ◌∙◌, ℕ, Bool, true, false, List, [], ◌∷◌}
-use Rattle.std.proofs.Common.{Option, Some, None, arith, eq-eqb, filter, find, if◌then◌else◌, map, refl, subst, suc, sym}
+use Rattle.std.proofs.Common.{Some, arith, eq-eqb, filter, find, if◌then◌else◌, map, refl, subst, suc, sym}
 use Rattle.std.specs.List.{AllByRecursion, AllPairs, list_any}
 use Rattle.std.proofs.lemmas.Bool.{eqb-true, false≢true, ne_eqb}
 use Rattle.std.proofs.lemmas.List.Elements.{recursion_from_All}

@@ -1,6 +1,6 @@
 -- The frecency of a page where no item has a page.
 use Rattle.std.proofs.Common.{◌≡◌, ◌∙◌, ◌<◌, ◌≤◌, ◌==◌, ℕ, All, Bool, false, List, Option}
-use Rattle.std.proofs.Common.{ap, arith, length, map, refl, subst, sym, take}
+use Rattle.std.proofs.Common.{ap, arith, length, map, refl, sym, take}
 use Rattle.std.specs.List.{list_any}
 use Rattle.std.proofs.lemmas.List.{length-map, length-take}
 use Rattle.std.proofs.lemmas.List.Sums.{length-filter}

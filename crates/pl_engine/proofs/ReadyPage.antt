@@ -1,6 +1,6 @@
 -- What holds of the rows with the page of a visit, before the visit is added.
 use Rattle.std.proofs.Common.{◌≡◌, ◌∙◌, ◌<◌, ◌==◌, ◌&&◌, ◌||◌, ℕ, All, Bool, true, false, IsTrue, List, [], ◌∷◌, Option}
-use Rattle.std.proofs.Common.{Some, None, ap, arith, count_by, eq-eqb, filter, if◌then◌else◌, refl, subst, sym}
+use Rattle.std.proofs.Common.{Some, None, ap, arith, count_by, eq-eqb, if◌then◌else◌, refl, subst, sym}
 use Rattle.std.specs.List.{AllByRecursion, list_any}
 use Rattle.std.proofs.lemmas.Bool.{eqb-true, false≢true, or_parts}
 use Rattle.std.proofs.lemmas.List.Elements.{All-push, All-weaker, recursion_from_All}
@@ -113,7 +113,8 @@ ready_fresh kept url origin page is_place h sound is place =
     record {
       there = list_any_last (λ (p : KeptPage). p.page.id.0 == page.0) kept.pages new here;
       place =
-          All-push (λ (p : KeptPage). (p.page.id.0 == page.0) ≡ true → is_place ≡ is_place_url p.page.url) kept.pages new
+          All-push (λ (p : KeptPage). (p.page.id.0 == page.0) ≡ true → is_place ≡ is_place_url p.page.url) kept.pages
+          new
           (λ k d within same. absurd (false≢true (sym (others k d within) ∙ same))) (λ _. place);
       of_visits = sound.of_visits;
       counts =

@@ -1,18 +1,16 @@
 -- Whether a visit led to a redirect, by the first of the visits that came from it.
-use Rattle.std.proofs.Common.{◌≡◌, ◌≢◌, ◌++◌, ◌&&◌, ◌||◌, ◌==◌, ◌∙◌, ℕ, All, Bool, true, false, List, [], ◌∷◌, Option}
-use Rattle.std.proofs.Common.{Some, None, ap, arith, cond, filter, if◌then◌else◌, length, not, refl, subst, sym}
-use Rattle.std.specs.List.{AllByRecursion, list_any}
-use Rattle.std.specs.Option.{IsSome, option_and_then, option_map}
+use Rattle.std.proofs.Common.{◌≡◌, ◌≢◌, ◌++◌, ◌&&◌, ◌||◌, ◌∙◌, All, Bool, true, false, List, [], ◌∷◌, Option}
+use Rattle.std.proofs.Common.{Some, None, ap, arith, filter, if◌then◌else◌, length, not, refl, sym}
+use Rattle.std.specs.List.{list_any}
+use Rattle.std.specs.Option.{IsSome, option_map}
 use Rattle.std.proofs.lemmas.Bool.{and_parts}
 use Rattle.std.proofs.lemmas.List.Elements.{All-filter, All-from_recursion, All-head, filter_passes}
 use Rattle.std.proofs.lemmas.List.Sorted.{All-permutation, IsPermutation-sym, length_permutation}
 use Rattle.pl_base.specs.declared.id.VisitId.{VisitId}
 use Rattle.pl_base.specs.declared.row.VisitRow.{VisitRow}
-use Rattle.pl_base.specs.declared.transition.Transition.{Transition}
 use Rattle.pl_base.specs.Redirects.{is_redirect, is_redirect_source, is_source, others_from, redirects_from}
-use Rattle.pl_base.specs.Redirects.{source_transition, visit_transition}
 use Rattle.pl_base.specs.Rows.{AreTargets, IsWellKept, Kept, first_id, row_of, store_of, visit_at}
-use Rattle.pl_base.specs.Store.{Store, Visit}
+use Rattle.pl_base.specs.Store.{Visit}
 use Rattle.pl_engine.proofs.VisitWalk.{visits_found}
 
 -- ---- lists that are not empty

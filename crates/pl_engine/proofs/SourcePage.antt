@@ -1,6 +1,6 @@
 -- The page of the visit that a redirect came from, once it is refreshed.
 use Rattle.std.proofs.Common.{◌≡◌, ◌∙◌, ◌==◌, All, Bool, true, IsTrue, List, [], Option, Some, None, ℤ}
-use Rattle.std.proofs.Common.{ap, find, if◌then◌else◌, option_to_list, refl, subst, sym}
+use Rattle.std.proofs.Common.{ap, if◌then◌else◌, option_to_list, refl, subst, sym}
 use Rattle.std.specs.Option.{option_and_then, option_map}
 use Rattle.std.proofs.lemmas.List.Elements.{All-map, All-weaker, recursion_from_All}
 use Rattle.pl_base.specs.declared.id.PageId.{PageId}
@@ -11,12 +11,12 @@ use Rattle.pl_base.specs.Address.{is_place_url}
 use Rattle.pl_base.specs.Date.{IsDate}
 use Rattle.pl_base.specs.Redirects.{is_redirect}
 use Rattle.pl_base.specs.Rows.{IsWellKept, Kept, KeptPage, has_page, mark_of, page_at, row_of, store_of, url_of}
-use Rattle.pl_base.specs.Rows.{visit_at, with_mark}
+use Rattle.pl_base.specs.Rows.{visit_at}
 use Rattle.pl_base.specs.Store.{Page, Visit}
 use Rattle.pl_engine.specs.Refreshed.{AreRightBut, HaveCounts, Refreshes, source_page}
 use Rattle.pl_engine.proofs.LookUps.{found_holds}
 use Rattle.pl_engine.proofs.RightAfter.{right_refreshed}
-use Rattle.pl_engine.proofs.VisitMade.{IsMarkAt, count_at, mark_at, one_at, typed_at}
+use Rattle.pl_engine.proofs.KeptMark.{IsMarkAt, count_at, mark_at, one_at, typed_at}
 use Rattle.pl_engine.proofs.VisitRows.{store_same}
 
 -- ---- the page
@@ -31,8 +31,8 @@ page_of_row (Some v) row is =
 source_is : (now : Kept) (row from : VisitRow) (id : VisitId) → is_redirect row.transition ≡ true
     → row.source ≡ Some id → Some from ≡ option_map row_of (visit_at now id) → source_page now row ≡ Some from.page
 source_is now row from id redirect is some =
-    ap (λ (b : Bool). if b then option_map (λ (v : Visit). v.page) (option_and_then (visit_at now) row.source) else None)
-    redirect
+    ap (λ (b : Bool).
+    if b then option_map (λ (v : Visit). v.page) (option_and_then (visit_at now) row.source) else None) redirect
     ∙ ap (λ (o : Option VisitId). option_map (λ (v : Visit). v.page) (option_and_then (visit_at now) o)) is
     ∙ page_of_row (visit_at now id) from some
 

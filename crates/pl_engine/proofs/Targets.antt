@@ -73,7 +73,8 @@ found_page kept url id target = choose (find_page url (store_of kept).pages) ref
 
 -- ---- slots
 
-pub slots_known : (kept : Kept) (url : List ℕ) (id : PageId) (transition : Transition) (date : Micros) (source : Option VisitId)
+pub slots_known : (kept : Kept) (url : List ℕ) (id : PageId) (transition : Transition) (date : Micros)
+    (source : Option VisitId)
     → IsTargetOf kept url (Known id)
     → live_slots (after_visit (store_of kept) url transition date source) ≡ live_slots (store_of kept) + 1
 slots_known kept url id transition date source target =
@@ -103,7 +104,8 @@ has_origin kept url (Some origin) some =
         (list_any (λ (q : KeptPage). (q.origin.0 == origin.0) && same_origin q.page.url url) ps)
         (list_any (λ (q : KeptPage). same_origin q.page.url url) ps) here (either ps)
 
-pub slots_new : (kept : Kept) (url : List ℕ) (origin : Option Slot) (transition : Transition) (date : Micros) (source : Option VisitId)
+pub slots_new : (kept : Kept) (url : List ℕ) (origin : Option Slot) (transition : Transition) (date : Micros)
+    (source : Option VisitId)
     → IsTargetOf kept url (New origin)
     → live_slots (after_visit (store_of kept) url transition date source) ≡ live_slots (store_of kept)
     + (2 + chunks url + (if is_none origin then 1 else 0))

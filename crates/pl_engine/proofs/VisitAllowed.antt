@@ -28,15 +28,15 @@ use Rattle.pl_engine.proofs.VisitRows.{store-with_page, store_with_page}
 
 -- ---- no cause to refuse it
 
-none_of : (a c d : Bool) (b : Option Refusal) (r s t u : Refusal) (e : Bool)
-    → (if a then Some r else option_or b (if c then Some s else if d then Some t else if e then Some u else None))
-    ≡ None → (b ≡ None) × (c ≡ false) × (d ≡ false) × (e ≡ false)
-none_of true c d b r s t u e none = absurd (cc)
-none_of false c d (Some b) r s t u e none = absurd (cc)
-none_of false true d None r s t u e none = absurd (cc)
-none_of false false true None r s t u e none = absurd (cc)
-none_of false false false None r s t u true none = absurd (cc)
-none_of false false false None r s t u false none = (refl, refl, refl, refl)
+none_of : (a b c d : Bool) (source : Option Refusal) (r s t u : Refusal)
+    → (if a then Some r else option_or source (if b then Some s else if c then Some t else if d then Some u else None))
+    ≡ None → (source ≡ None) × (b ≡ false) × (c ≡ false) × (d ≡ false)
+none_of true b c d source r s t u none = absurd (cc)
+none_of false b c d (Some refusal) r s t u none = absurd (cc)
+none_of false true c d None r s t u none = absurd (cc)
+none_of false false true d None r s t u none = absurd (cc)
+none_of false false false true None r s t u none = absurd (cc)
+none_of false false false false None r s t u none = (refl, refl, refl, refl)
 
 -- the source stands, and there are ids and slots
 record IsAllowed (limit : ℕ) (store : Store) (url : List ℕ) (after : ℕ) (from : Option VisitId) : Type 0 where
@@ -52,8 +52,8 @@ allowed limit kept url transition date source none =
     let slots : ℕ = live_slots (after_visit (store_of kept) url transition date source) in
     let parts =
     none_of (is_unrecorded_url url) (is_none (find_page url (store_of kept).pages) && (kept.ids.page == end_of_ids))
-    (kept.ids.visit == end_of_ids) (source_refusal (store_of kept) source) NotRecorded (NoIds PageKind)
-    (NoIds VisitKind) (Full slots) (is_full limit (live_slots (store_of kept)) slots) none in
+    (kept.ids.visit == end_of_ids) (is_full limit (live_slots (store_of kept)) slots)
+    (source_refusal (store_of kept) source) NotRecorded (NoIds PageKind) (NoIds VisitKind) (Full slots) none in
     record { source = parts.0; page = parts.1; visit = parts.2; slots = parts.3 }
 
 same_visits : (kept mid : Kept) (url : List ℕ) (target : Target) (page : PageId) → WithTarget url target kept mid page
@@ -88,20 +88,26 @@ below_last n last le apart = grind (arith, nat_tests)
 within_limit : (limit before after : ℕ) → before < after → (ltb limit after && ltb before after) ≡ false → after ≤ limit
 within_limit limit before after grows full = grind (arith, nat_tests)
 
-grows : (kept : Kept) (url : List ℕ) (target : Target) (transition : Transition) (date : Micros) (source : Option VisitId)
+grows : (kept : Kept) (url : List ℕ) (target : Target) (transition : Transition) (date : Micros)
+    (source : Option VisitId)
     → IsTargetOf kept url target
     → live_slots (store_of kept) < live_slots (after_visit (store_of kept) url transition date source)
-grows kept url (Known id) transition date source target = omega (arith, slots_known kept url id transition date source target)
-grows kept url (New origin) transition date source target = omega (arith, slots_new kept url origin transition date source target)
+grows kept url (Known id) transition date source target =
+    omega (arith, slots_known kept url id transition date source target)
+grows kept url (New origin) transition date source target =
+    omega (arith, slots_new kept url origin transition date source target)
 
-few_slots : (limit : ℕ) (kept : Kept) (url : List ℕ) (target : Target) (transition : Transition) (date : Micros) (source : Option VisitId)
+few_slots : (limit : ℕ) (kept : Kept) (url : List ℕ) (target : Target) (transition : Transition) (date : Micros)
+    (source : Option VisitId)
     → IsTargetOf kept url target → visit_refusal limit (store_of kept) url transition date source ≡ None
     → live_slots (after_visit (store_of kept) url transition date source) ≤ limit
 few_slots limit kept url target transition date source of none =
-    within_limit limit (live_slots (store_of kept)) (live_slots (after_visit (store_of kept) url transition date source))
+    within_limit limit (live_slots (store_of kept))
+    (live_slots (after_visit (store_of kept) url transition date source))
     (grows kept url target transition date source of) (allowed limit kept url transition date source none).slots
 
-slots_page : (kept : Kept) (url : List ℕ) (origin : Option Slot) (transition : Transition) (date : Micros) (source : Option VisitId)
+slots_page : (kept : Kept) (url : List ℕ) (origin : Option Slot) (transition : Transition) (date : Micros)
+    (source : Option VisitId)
     → IsTargetOf kept url (New origin)
     → live_with_page url kept + 1 ≡ live_slots (after_visit (store_of kept) url transition date source)
 slots_page kept url origin transition date source target =
@@ -112,9 +118,9 @@ slots_page kept url origin transition date source target =
       slots_new kept url origin transition date source target,
     )
 
-pub has_room : (limit : ℕ) (kept : Kept) (url : List ℕ) (target : Target) (transition : Transition) (date : Micros) (source : Option VisitId)
-    → IsWellKept kept → IsTargetOf kept url target → visit_refusal limit (store_of kept) url transition date source ≡ None
-    → limit ≤ slot_limit → HasRoom url target kept
+pub has_room : (limit : ℕ) (kept : Kept) (url : List ℕ) (target : Target) (transition : Transition) (date : Micros)
+    (source : Option VisitId) → IsWellKept kept → IsTargetOf kept url target
+    → visit_refusal limit (store_of kept) url transition date source ≡ None → limit ≤ slot_limit → HasRoom url target kept
 has_room limit kept url (Known id) transition date source h of none most = tt
 has_room limit kept url (New origin) transition date source h of none most = (
   below_last kept.ids.page end_of_ids h.page_ids.next_last

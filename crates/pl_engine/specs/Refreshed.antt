@@ -1,8 +1,8 @@
 -- What is computed of pages, and which pages a visit bears on.
-use Rattle.std.specs.Prelude.{◌≡◌, ◌+◌, ◌||◌, ◌==◌, ℤ, Bool, false, List, [], ◌∷◌, Option, Some, None}
+use Rattle.std.specs.Prelude.{◌≡◌, ◌+◌, ◌||◌, ◌==◌, ℤ, Bool, false, List, Option, None}
 use Rattle.std.specs.Prelude.{if◌then◌else◌}
 use Rattle.std.specs.List.{All, list_any}
-use Rattle.std.specs.Option.{option_and_then, option_map, option_to_list}
+use Rattle.std.specs.Option.{option_and_then, option_map}
 use Rattle.pl_base.specs.declared.id.PageId.{PageId}
 use Rattle.pl_base.specs.declared.row.Mark.{Mark}
 use Rattle.pl_base.specs.declared.row.VisitRow.{VisitRow}
@@ -26,8 +26,8 @@ visited_mark transition mark =
 abbrev pub is_passing : Store → Visit → Bool
 is_passing store v = is_framed v.transition || is_redirect_source store v
 
--- the page has the count and the typed mark that are told, and the rest of its mark afresh, of which
--- the frecency is the answer
+-- the page has the count and the typed mark that are told, and its frecency and its hidden mark
+-- afresh
 pub record Refreshes (page : PageId) (told : Mark) (is_place : Bool) (old new : Kept) (frecency : ℤ)
     : Type 0 where
   pub hidden : Bool

@@ -7,7 +7,7 @@ ghost use Rattle.pl_base.specs.Address.{is_unrecorded_url};
 ghost use Rattle.pl_base.specs.Date.{IsDate};
 ghost use Rattle.pl_base.specs.Good.{end_of_ids};
 ghost use Rattle.pl_base.specs.Live.{chunks, live_slots, slot_limit};
-ghost use Rattle.pl_base.specs.Rows.{IsOfVisits, has_page, has_visit, store_of};
+ghost use Rattle.pl_base.specs.Rows.{IsOfVisits, has_visit, store_of};
 ghost use Rattle.pl_engine.specs.Engine.{IsSound};
 ghost use Rattle.pl_engine.specs.Refreshed.{AreRightBut, HaveCounts, source_page};
 ghost use Rattle.pl_engine.specs.Step as spec;

@@ -1,6 +1,6 @@
 use Rattle.std.proofs.Common.{Some, ap, ◌∙◌, ℕ, Bool, List}
-use Rattle.pl_base.specs.Address.{is_place_url}
 use Rattle.std.specs.Option.{option_map}
+use Rattle.pl_base.specs.Address.{is_place_url}
 use Rattle.pl_engine.proofs.KeptUrls.{url-of_store}
 use Rattle.pl_engine.proofs.OriginParts.{is_place-by_parts}
 use Rattle.pl_engine.proofs.engine.find.is_place.Goals as goal

@@ -1,8 +1,8 @@
-use Rattle.std.proofs.Common.{◌||◌, ◌∙◌, Bool, ap, refl, sym}
+use Rattle.std.proofs.Common.{◌||◌, ◌∙◌, Bool, ap, sym}
 use Rattle.pl_base.specs.Address.{is_place_url}
 use Rattle.pl_base.specs.Rows.{Kept, store_of}
 use Rattle.pl_engine.proofs.VisitWalk.{AllPassing, IsVisitHere, at_here, has_here, hidden_at_end, passing_more}
-use Rattle.pl_engine.proofs.VisitWalk.{shown_here, visit_here, walk_goes_on, walk_nears, walk_starts}
+use Rattle.pl_engine.proofs.VisitWalk.{shown_here, visit_here, walk_goes_on, walk_nears}
 use Rattle.pl_engine.proofs.engine.mark.is_hidden_by_visits.Goals as goal
 
 pub is_passing-requires : goal.is_passing-requires

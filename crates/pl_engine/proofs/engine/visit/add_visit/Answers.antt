@@ -8,8 +8,8 @@ use Rattle.pl_engine.specs.Refreshed.{Refreshes}
 use Rattle.pl_engine.specs.Target.{AddsVisit}
 use Rattle.pl_engine.proofs.RightAfter.{counts_refreshed, counts_visited}
 use Rattle.pl_engine.proofs.Targets.{found_where}
-use Rattle.pl_engine.proofs.VisitMade.{added_after, afresh_made, count_told, few_counted, mark_made, right_still}
-use Rattle.pl_engine.proofs.VisitMade.{sound_after}
+use Rattle.pl_engine.proofs.KeptMark.{count_told, few_counted, mark_made}
+use Rattle.pl_engine.proofs.VisitMade.{added_after, afresh_made, right_still, sound_after}
 use Rattle.pl_engine.proofs.engine.visit.add_visit.Goals as goal
 
 pub unwrap-mark-requires : goal.unwrap-mark-requires

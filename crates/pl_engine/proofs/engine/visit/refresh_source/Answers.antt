@@ -1,12 +1,9 @@
-use Rattle.std.proofs.Common.{◌==◌, ◌∙◌, sym}
-use Rattle.pl_base.specs.Rows.{KeptPage, mark_of, row_of}
+use Rattle.std.proofs.Common.{◌≡◌, ◌==◌, ◌∙◌, IfSome, subst, sym, true}
+use Rattle.pl_base.specs.Rows.{KeptPage, has_visit, mark_of, row_of}
 use Rattle.pl_base.specs.Store.{Visit}
-use Rattle.std.specs.Option.{IfSome}
-use Rattle.std.proofs.Common.{subst, ◌≡◌, true}
-use Rattle.pl_base.specs.Rows.{has_visit}
+use Rattle.pl_engine.proofs.KeptMark.{count_at, mark_at}
 use Rattle.pl_engine.proofs.SourcePage.{page_there, source_right, source_store}
 use Rattle.pl_engine.proofs.Targets.{found_where}
-use Rattle.pl_engine.proofs.VisitMade.{count_at, mark_at}
 use Rattle.pl_engine.proofs.engine.visit.refresh_source.Goals as goal
 
 pub unwrap-requires : goal.unwrap-requires

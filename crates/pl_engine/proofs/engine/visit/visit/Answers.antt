@@ -1,7 +1,8 @@
-use Rattle.std.proofs.Common.{◌∙◌, sym}
+use Rattle.std.proofs.Common.{◌≡◌, ◌∙◌, None, sym}
 use Rattle.std.proofs.lemmas.Result.{IfOk-weaker}
 use Rattle.pl_base.specs.declared.row.VisitRow.{VisitRow}
 use Rattle.pl_base.specs.Rows.{store_of}
+use Rattle.pl_engine.specs.Step.{visit_refusal}
 use Rattle.pl_engine.specs.Target.{AddsVisit}
 use Rattle.pl_engine.proofs.OriginParts.{is_place-by_parts}
 use Rattle.pl_engine.proofs.ReadyPage.{ready}
@@ -44,6 +45,9 @@ add_visit-requires-clause-live g c =
 
 pub returns-clause-step : goal.returns-clause-step
 returns-clause-step g c =
+    let allowed : visit_refusal c.args.limit (store_of (g.R.Rows.kept c.args.rows.now)) c.args.url.now
+    c.args.transition c.args.date c.args.source ≡ None =
+    sym (c.refusal.ensures c.args.transition c.args.date) ∙ c.in_default.is in
     let row : VisitRow =
     record {
       page = c.in_ok-page.page;
@@ -56,5 +60,5 @@ returns-clause-step g c =
     (λ reply added.
     step_after c.args.limit (g.R.Rows.kept c.args.rows.now) (g.R.Rows.kept c.page_for.new.rows)
     (g.R.Rows.kept c.add_visit.new.rows) c.args.url.now c.in_ok-target.target row reply c.in_ok-target.ensures
-    c.in_ok-page.ensures.page (sym (c.refusal.ensures c.args.transition c.args.date) ∙ c.in_default.is) added)
+    c.in_ok-page.ensures.page allowed added)
     c.add_visit.ensures.added
