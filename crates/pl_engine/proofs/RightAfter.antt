@@ -29,7 +29,7 @@ use Rattle.pl_base.proofs.IdsLaws.{same_page}
 use Rattle.pl_base.proofs.ListLaws.{sum_by-agree, weaker}
 use Rattle.pl_base.proofs.VisitsLaws.{all-latest_first}
 use Rattle.pl_engine.proofs.LookUps.{both, find_push, front, where_passes}
-use Rattle.pl_engine.proofs.VisitWalk.{visits_found}
+use Rattle.pl_engine.proofs.VisitWalk.{hidden_by, visits_found}
 
 -- ---- what a visit leaves of another
 
@@ -152,10 +152,6 @@ frecency_same old row p h made e =
     (λ w alike. points_alike store after w refl refl alike)
     (all-latest_first (IsAlike store after) (visits_of store p.id) (visits_alike old row p.id h made e))))))
 
-abbrev hidden_by : Store → List Visit → Bool
-hidden_by store [] = false
-hidden_by store (v ∷ vs) = list_all (λ w. is_passing store w) (v ∷ vs)
-
 all-alike : (p q : Visit → Bool) (vs : List Visit) → AllByRecursion (λ (v : Visit). p v ≡ q v) vs
     → list_all p vs ≡ list_all q vs
 all-alike p q [] alike = refl
@@ -179,7 +175,7 @@ hidden_same old row p h made e =
 
 -- ---- the rows with a visit more
 
-other_way : (a b : PageId) → (a.0 == b.0) ≡ false → (b.0 == a.0) ≡ false
+pub other_way : (a b : PageId) → (a.0 == b.0) ≡ false → (b.0 == a.0) ≡ false
 other_way a b other = ne_eqb b.0 a.0 (λ same. eqb-false a.0 b.0 other (sym same))
 
 -- all pages stay right but the visited one, and where a redirect made the visit that of its source

@@ -295,7 +295,8 @@ some_in_place v (w ∷ ws) = choose (is_later v w)
     choose true = refl
     choose false = refl
 
-abbrev hidden_by : Store → List Visit → Bool
+-- as `is_hidden` has it
+abbrev pub hidden_by : Store → List Visit → Bool
 hidden_by store [] = false
 hidden_by store (v ∷ vs) = list_all (λ w. is_passing store w) (v ∷ vs)
 

@@ -3,7 +3,7 @@ use Rattle.std.proofs.Common.{◌≡◌, ◌∙◌, ◌++◌, ◌==◌, ◌||◌
 use Rattle.std.proofs.Common.{List, [], ◌∷◌, ap, eq-eqb}
 use Rattle.std.proofs.Common.{IsTrue, get_or, refl, subst, sym}
 use Rattle.std.specs.List.{list_any}
-use Rattle.std.proofs.lemmas.Bool.{eqb-false, eqb-true, false≢true, ne_eqb}
+use Rattle.std.proofs.lemmas.Bool.{eqb-true, false≢true}
 use Rattle.std.proofs.lemmas.List.Elements.{All-map, All-push}
 use Rattle.pl_base.specs.declared.id.PageId.{PageId}
 use Rattle.pl_base.specs.declared.row.Mark.{Mark}
@@ -16,7 +16,7 @@ use Rattle.pl_base.specs.Rows.{Kept, KeptPage}
 use Rattle.pl_base.specs.Rows.{next_visit, store_of, with_mark, with_visit}
 use Rattle.pl_base.specs.Store.{Page, Store, Visit}
 use Rattle.pl_engine.specs.Engine.{IsVisited}
-use Rattle.pl_engine.proofs.RightAfter.{each_marked}
+use Rattle.pl_engine.proofs.RightAfter.{each_marked, other_way}
 use Rattle.pl_base.proofs.ListLaws.{All-from_map, list_any_last, list_any_push}
 
 pub typed_by : (t : Transition) (b : Bool) → t ≡ Typed → (b || is_typed t) ≡ true
@@ -25,9 +25,6 @@ typed_by t false is = ap is_typed is
 
 pub typed_still : (a b c : Bool) → a ≡ b → a ≡ true → (b || c) ≡ true
 typed_still a b c same is = ap (λ (x : Bool). x || c) (sym same ∙ is)
-
-other_page : (p page : PageId) → (p.0 == page.0) ≡ false → (page.0 == p.0) ≡ false
-other_page p page other = ne_eqb page.0 p.0 (λ same. eqb-false p.0 page.0 other (sym same))
 
 -- a page is typed where a visit to it was
 abbrev IsTypedBy : List Visit → KeptPage → Type 0
@@ -63,7 +60,7 @@ visited_after old row mark by_visit stays others typed =
           All-push (λ (w : Visit). w.page ≡ p.page.id → w.transition ≡ Typed → IsTrue p.page.typed) old.visits v
           (typed k d within)
           (λ of by. absurd (false≢true
-          (sym (other_page p.page.id row.page other)
+          (sym (other_way p.page.id row.page other)
           ∙ eq-eqb row.page.0 p.page.id.0 (ap (λ (i : PageId). i.0) of)))));
     }
 

@@ -26,8 +26,7 @@ visited_mark transition mark =
 abbrev pub is_passing : Store → Visit → Bool
 is_passing store v = is_framed v.transition || is_redirect_source store v
 
--- the page has the count and the typed mark that are told, and its frecency and its hidden mark
--- afresh
+-- the page with the count and typed mark that are told, and its frecency and hidden mark afresh
 pub record Refreshes (page : PageId) (told : Mark) (is_place : Bool) (old new : Kept) (frecency : ℤ)
     : Type 0 where
   pub hidden : Bool

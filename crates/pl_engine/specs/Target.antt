@@ -51,8 +51,7 @@ WithTarget url (Known known) old new page = (page ≡ known) × (new ≡ old)
 WithTarget url (New origin) old new page =
     (page.0 ≡ old.ids.page) × WithPageIn url origin old new
 
--- rows that a visit to this page may be added to: those with the page, all of which are right
--- but for what is computed afresh of this one
+-- rows with the page of a visit, all right but for what is computed afresh of that page
 pub record IsReady (page : PageId) (is_place : Bool) (kept : Kept) : Type 0 where
   pub there : has_page kept page ≡ true
   pub place : All (λ (p : KeptPage). (p.page.id.0 == page.0) ≡ true
