@@ -113,10 +113,7 @@ fn refusal<R: Rows, L: Ledger>(
     ensures { (transition : Transition) → (date : Micros) → result
         ≡ spec.visit_refusal limit (store_of (R.kept rows.now)) url.now transition date source }
 {
-    match source_refusal(rows, source, steps) {
-        Some(refusal) => Some(refusal),
-        None => room_refusal(rows, limit, url, target, steps),
-    }
+    source_refusal(rows, source, steps).or_else(|| room_refusal(rows, limit, url, target, steps))
 }
 
 // The known page, or a new one with the URL.
