@@ -2,19 +2,17 @@
 use Rattle.std.proofs.Common.{◌≡◌, ◌∙◌, ◌<◌, ◌++◌, ◌==◌, ℕ, All, Bool, true, false, List, [], ◌∷◌, Some}
 use Rattle.std.proofs.Common.{ap, arith, bytes_eq, eq-eqb, find, if◌then◌else◌, map, refl, subst, sym}
 use Rattle.std.specs.List.{AllByRecursion}
-use Rattle.std.specs.Option.{option_map}
 use Rattle.std.proofs.lemmas.Bool.{eqb-true}
-use Rattle.std.proofs.lemmas.List.Elements.{All-from_recursion, recursion_from_All}
+use Rattle.std.proofs.lemmas.List.Elements.{All-from_recursion}
 use Rattle.std.proofs.lemmas.Slice.Eq.{bytes_eq-Decides}
 use Rattle.pl_base.specs.declared.id.PageId.{PageId}
-use Rattle.pl_base.specs.declared.row.Mark.{Mark}
-use Rattle.pl_base.specs.Rows.{IsWellKept, Kept, KeptPage, has_page, mark_of, page_at, store_of}
+use Rattle.pl_base.specs.Rows.{IsWellKept, Kept, KeptPage, has_page, store_of}
 use Rattle.pl_base.specs.Store.{Page}
 use Rattle.pl_engine.specs.declared.engine.find.Target.TheVariants.{Known}
 use Rattle.pl_engine.specs.Step.{find_page}
-use Rattle.pl_engine.specs.Target.{IsMarkBefore, IsTargetOf}
+use Rattle.pl_engine.specs.Target.{IsTargetOf}
 use Rattle.pl_base.proofs.ListLaws.{weaker}
-use Rattle.pl_engine.proofs.PageWalk.{Ascend, ascend, at, below, part, there}
+use Rattle.pl_engine.proofs.PageWalk.{Ascend, ascend, part, there}
 use Rattle.pl_engine.proofs.Targets.{IsFound, found_page}
 
 record Split (test : Page → Bool) (ps : List KeptPage) (found : Page) : Type 0 where
@@ -77,12 +75,6 @@ has_known kept url id k =
     rw k.whole (there (λ (p : KeptPage). p.page.id.0 == id.0) k.front k.page k.rest
     (eq-eqb k.page.page.id.0 id.0 (ap (λ (i : PageId). i.0) k.is)))
 
-at_known : (kept : Kept) (url : List ℕ) (id : PageId) → IsWellKept kept → (k : IsKnown kept url id)
-    → page_at kept id ≡ Some k.page
-at_known kept url id h k =
-    let ordered : Ascend (k.front ++ k.page ∷ k.rest) = subst Ascend k.whole (ascend kept h) in
-    rw (k.whole, ← k.is) (at k.front k.page k.rest (below k.front k.page k.rest ordered))
-
 only : (front : List KeptPage) (p : KeptPage) (rest : List KeptPage) → Ascend (front ++ p ∷ rest)
     → AllByRecursion (λ (q : KeptPage). (q.page.id.0 == p.page.id.0) ≡ true → q ≡ p) (front ++ p ∷ rest)
 only [] p rest ordered = (
@@ -107,14 +99,3 @@ only_known kept url id h k =
     let ordered : Ascend (k.front ++ k.page ∷ k.rest) = subst Ascend k.whole (ascend kept h) in
     All-from_recursion (λ (q : KeptPage). (q.page.id.0 == id.0) ≡ true → q ≡ k.page) kept.pages
     (rw (k.whole, ← k.is) (only k.front k.page k.rest ordered))
-
-pub holds_known : (P : KeptPage → Type 0) (kept : Kept) (url : List ℕ) (id : PageId) → (k : IsKnown kept url id)
-    → All P kept.pages → P k.page
-holds_known P kept url id k all =
-    part P k.front k.page k.rest (subst (AllByRecursion P) k.whole (recursion_from_All P kept.pages all))
-
-pub mark_known : (kept : Kept) (url : List ℕ) (id : PageId) (mark : Mark) → IsWellKept kept → (k : IsKnown kept url id)
-    → IsMarkBefore kept (Known id) mark → mark ≡ mark_of k.page
-mark_known kept url id mark h k is =
-    let same : Some mark ≡ Some (mark_of k.page) = is ∙ ap (option_map mark_of) (at_known kept url id h k) in
-    cc

@@ -1,11 +1,12 @@
 -- How many slots a store takes once a page is visited.
 use Rattle.std.proofs.Common.{◌≡◌, ◌+◌, ◌==◌, ◌++◌, ◌∙◌, if◌then◌else◌, ℕ, Bool, true, false}
-use Rattle.std.proofs.Common.{List, [], ◌∷◌, Some, None, ap, arith, get_or, map, refl, sym}
+use Rattle.std.proofs.Common.{List, [], ◌∷◌, Option, Some, None, ap, arith, get_or, map, refl, sym}
 use Rattle.std.specs.List.{list_any, sum_by}
 use Rattle.std.proofs.lemmas.List.{length-map, length_push, map_push}
 use Rattle.std.proofs.lemmas.List.Sums.{sum_by_push}
 use Rattle.pl_base.specs.declared.date.Micros.{Micros}
 use Rattle.pl_base.specs.declared.id.PageId.{PageId}
+use Rattle.pl_base.specs.declared.id.VisitId.{VisitId}
 use Rattle.pl_base.specs.declared.transition.Transition.{Transition}
 use Rattle.pl_base.specs.Address.{same_origin}
 use Rattle.pl_base.specs.Live.{chunks, live_slots, new_origins, origin_count}
@@ -45,10 +46,10 @@ texts_visited id transition pages =
     let p : Page = get_or pages k d in
     rw (url_at (p.id.0 == id.0) transition p, title_at (p.id.0 == id.0) transition p) refl)
 
-live_visited : (id : PageId) (transition : Transition) (date : Micros) (store : Store)
-    → live_slots (visited_store id transition date store) ≡ live_slots store + 1
-live_visited id transition date store =
-    let new : Visit = new_visit store id transition date in
+live_visited : (id : PageId) (transition : Transition) (date : Micros) (source : Option VisitId) (store : Store)
+    → live_slots (visited_store id transition date source store) ≡ live_slots store + 1
+live_visited id transition date source store =
+    let new : Visit = new_visit store id transition date source in
     let origins : origin_count (map (λ (p : Page). p.url) (map (visit_page id transition) store.pages))
     ≡ origin_count (map (λ (p : Page). p.url) store.pages) =
     ap origin_count (urls_visited id transition store.pages) in
@@ -95,19 +96,21 @@ live_new_page store url =
 
 -- ---- what a command and a call leave
 
-pub live_found : (store : Store) (url : List ℕ) (transition : Transition) (date : Micros) (p : Page)
-    → find_page url store.pages ≡ Some p → live_slots (after_visit store url transition date) ≡ live_slots store + 1
-live_found store url transition date p found =
-    ap live_slots (ap (visited_at store url transition date) found) ∙ live_visited p.id transition date store
+pub live_found : (store : Store) (url : List ℕ) (transition : Transition) (date : Micros) (source : Option VisitId)
+    (p : Page) → find_page url store.pages ≡ Some p
+    → live_slots (after_visit store url transition date source) ≡ live_slots store + 1
+live_found store url transition date source p found =
+    ap live_slots (ap (visited_at store url transition date source) found)
+    ∙ live_visited p.id transition date source store
 
-pub live_new : (store : Store) (url : List ℕ) (transition : Transition) (date : Micros)
+pub live_new : (store : Store) (url : List ℕ) (transition : Transition) (date : Micros) (source : Option VisitId)
     → find_page url store.pages ≡ None
-    → live_slots (after_visit store url transition date) ≡ live_slots store
+    → live_slots (after_visit store url transition date source) ≡ live_slots store
     + (2 + chunks url + (if list_any (λ (p : Page). same_origin p.url url) store.pages then 0 else 1))
-live_new store url transition date none =
-    let visited : live_slots (after_visit store url transition date) ≡ live_slots (grown_store store url) + 1 =
-    ap live_slots (ap (visited_at store url transition date) none)
-    ∙ live_visited (record { 0 = store.ids.page }) transition date (grown_store store url) in
+live_new store url transition date source none =
+    let visited : live_slots (after_visit store url transition date source) ≡ live_slots (grown_store store url) + 1 =
+    ap live_slots (ap (visited_at store url transition date source) none)
+    ∙ live_visited (record { 0 = store.ids.page }) transition date source (grown_store store url) in
     omega (arith, visited, live_new_page store url)
 
 pub live_page : (kept : Kept) (url : List ℕ)

@@ -55,7 +55,7 @@ push : {X : Type 0} (P : X → Type 0) (front : List X) (x : X) → AllByRecursi
 push P [] x all here = (here, tt)
 push P (y ∷ front) x all here = (all.0, push P front x all.1 here)
 
-pub below : (front : List KeptPage) (p : KeptPage) (rest : List KeptPage) → Ascend (front ++ p ∷ rest)
+below : (front : List KeptPage) (p : KeptPage) (rest : List KeptPage) → Ascend (front ++ p ∷ rest)
     → AllByRecursion (λ (q : KeptPage). q.page.id.0 < p.page.id.0) front
 below [] p rest ordered = tt
 below (q ∷ front) p rest ordered =
@@ -86,7 +86,7 @@ behind n [] [] low high = refl
 behind n [] (p ∷ ps) low high = rw (lt-ltb n p.page.id.0 high.0) refl
 behind n (q ∷ front) rest low high = rw (not_less n q.page.id.0 low.0) (behind n front rest low.1 high)
 
-pub at : (front : List KeptPage) (p : KeptPage) (rest : List KeptPage)
+at : (front : List KeptPage) (p : KeptPage) (rest : List KeptPage)
     → AllByRecursion (λ (q : KeptPage). q.page.id.0 < p.page.id.0) front
     → find (λ (q : KeptPage). q.page.id.0 == p.page.id.0) (front ++ p ∷ rest) ≡ Some p
 at [] p rest low = rw (eq-eqb p.page.id.0 p.page.id.0 refl) refl

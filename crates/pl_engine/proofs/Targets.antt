@@ -10,6 +10,7 @@ use Rattle.std.proofs.lemmas.Slice.Eq.{bytes_eq-Decides}
 use Rattle.pl_base.specs.declared.date.Micros.{Micros}
 use Rattle.pl_base.specs.declared.id.PageId.{PageId}
 use Rattle.pl_base.specs.declared.id.Slot.{Slot}
+use Rattle.pl_base.specs.declared.id.VisitId.{VisitId}
 use Rattle.pl_base.specs.declared.transition.Transition.{Transition}
 use Rattle.pl_base.specs.Address.{same_origin}
 use Rattle.pl_base.specs.Live.{chunks, live_slots}
@@ -73,11 +74,12 @@ found_page kept url id target = choose (find_page url (store_of kept).pages) ref
 -- ---- slots
 
 pub slots_known : (kept : Kept) (url : List ℕ) (id : PageId) (transition : Transition) (date : Micros)
+    (source : Option VisitId)
     → IsTargetOf kept url (Known id)
-    → live_slots (after_visit (store_of kept) url transition date) ≡ live_slots (store_of kept) + 1
-slots_known kept url id transition date target =
+    → live_slots (after_visit (store_of kept) url transition date source) ≡ live_slots (store_of kept) + 1
+slots_known kept url id transition date source target =
     let f : IsFound kept url id = found_page kept url id target in
-    live_found (store_of kept) url transition date f.page f.there
+    live_found (store_of kept) url transition date source f.page f.there
 
 pub has_origin : (kept : Kept) (url : List ℕ) (origin : Option Slot) → IsOriginOf kept url origin
     → ◌≡◌ {A = ℕ} (if list_any (λ (p : KeptPage). same_origin p.page.url url) kept.pages then 0 else 1)
@@ -103,11 +105,12 @@ has_origin kept url (Some origin) some =
         (list_any (λ (q : KeptPage). same_origin q.page.url url) ps) here (either ps)
 
 pub slots_new : (kept : Kept) (url : List ℕ) (origin : Option Slot) (transition : Transition) (date : Micros)
+    (source : Option VisitId)
     → IsTargetOf kept url (New origin)
-    → live_slots (after_visit (store_of kept) url transition date) ≡ live_slots (store_of kept)
+    → live_slots (after_visit (store_of kept) url transition date source) ≡ live_slots (store_of kept)
     + (2 + chunks url + (if is_none origin then 1 else 0))
-slots_new kept url origin transition date target =
-    live_new (store_of kept) url transition date target.0
+slots_new kept url origin transition date source target =
+    live_new (store_of kept) url transition date source target.0
     ∙ ap (λ (n : ℕ). live_slots (store_of kept) + (2 + chunks url + n))
     (ap (λ (b : Bool). if b then 0 else 1)
     (list_any-map (λ (p : Page). same_origin p.url url) (λ (p : KeptPage). p.page) kept.pages)

@@ -1,253 +1,201 @@
 -- What holds of the rows after a visit.
-use Rattle.std.proofs.Common.{◌≡◌, ◌∙◌, ◌+◌, ◌++◌, ◌==◌, ◌&&◌, ◌||◌, ℕ, ℤ, Bool, true, false}
-use Rattle.std.proofs.Common.{List, [], ◌∷◌, Option, Some, None, ap, eq-eqb, if◌then◌else◌}
-use Rattle.std.proofs.Common.{get_or, refl, subst, sym, unwrap_or, Result, Ok, Err}
-use Rattle.std.specs.Result.{IfOk, OnOk}
-use Rattle.std.proofs.lemmas.List.Elements.{filter-append}
-use Rattle.std.proofs.lemmas.List.Folds.{list_all-append}
-use Rattle.std.proofs.lemmas.List.Sums.{sum_by_push}
-use Rattle.pl_base.specs.declared.date.Micros.{Micros}
+use Rattle.std.proofs.Common.{◌≡◌, ◌∙◌, ◌==◌, ◌||◌, ℕ, ℤ, Bool, true, false}
+use Rattle.std.proofs.Common.{List, [], Option, Some, None, ap, if◌then◌else◌, is_none}
+use Rattle.std.proofs.Common.{get_or, option_to_list, refl, subst, sym, unwrap_or}
+use Rattle.std.specs.Option.{option_map}
+use Rattle.std.proofs.lemmas.List.Elements.{All-map, All-weaker}
 use Rattle.pl_base.specs.declared.id.PageId.{PageId}
-use Rattle.pl_base.specs.declared.id.Slot.{Slot}
+use Rattle.pl_base.specs.declared.id.VisitId.{VisitId}
 use Rattle.pl_base.specs.declared.refusal.Refusal.{Refusal}
 use Rattle.pl_base.specs.declared.row.Mark.{Mark}
 use Rattle.pl_base.specs.declared.row.VisitRow.{VisitRow}
-use Rattle.pl_base.specs.declared.transition.Transition.{Transition}
-use Rattle.pl_base.specs.declared.transition.Transition.TheVariants.{Typed}
-use Rattle.pl_base.specs.Address.{is_place_url}
 use Rattle.pl_base.specs.Frecency.{frecency_of}
-use Rattle.pl_base.specs.Marks.{is_counted, is_framed, visit_count, is_typed}
-use Rattle.pl_base.specs.Rows.{IsOfVisits, IsWellKept, Kept, KeptPage, WithPageIn}
-use Rattle.pl_base.specs.Rows.{next_visit, mark_of, marked, store_of, with_mark, with_visit}
-use Rattle.pl_base.specs.Store.{Page, Store, Visit}
-use Rattle.pl_base.specs.Visits.{visits_of}
+use Rattle.pl_base.specs.Marks.{is_typed}
+use Rattle.pl_base.specs.Rows.{IsWellKept, Kept, KeptPage}
+use Rattle.pl_base.specs.Rows.{mark_of, page_at, store_of, with_mark, with_visit}
+use Rattle.pl_base.specs.Store.{Page, Store}
 use Rattle.pl_engine.specs.declared.command.Command.TheVariants.{Visit as VisitCommand}
 use Rattle.pl_engine.specs.declared.engine.find.Target.{Target}
 use Rattle.pl_engine.specs.declared.engine.find.Target.TheVariants.{Known, New}
 use Rattle.pl_engine.specs.declared.reply.Reply.{Reply}
 use Rattle.pl_engine.specs.declared.reply.Reply.TheVariants.{Visit as VisitReply}
-use Rattle.pl_engine.specs.Engine.{IsSound}
-use Rattle.pl_engine.specs.Step.{after_visit, new_page, page_for, perform, unless_refused}
-use Rattle.pl_engine.specs.Step.{visit_refusal, visit_reply, visited_page}
-use Rattle.pl_engine.specs.Target.{AddsVisit, IsMarkBefore, IsTargetOf, WithTarget, visited_mark}
-use Rattle.pl_engine.proofs.KnownPage.{IsKnown, known, mark_known}
-use Rattle.pl_engine.proofs.ReadyPage.{IsReady, hidden_by, hidden_by-framed, is_within_frames}
-use Rattle.pl_engine.proofs.RightAfter.{of_visits_after, right_after, visited_after}
-use Rattle.pl_engine.proofs.VisitRows.{after_found, after_new, store_with_page}
-use Rattle.pl_base.proofs.IdsLaws.{same_page}
+use Rattle.pl_engine.specs.Engine.{IsSound, IsVisited}
+use Rattle.pl_engine.specs.Refreshed.{AreRightBut, Refreshes, source_page, visited_mark}
+use Rattle.pl_engine.specs.Step.{after_visit, find_page, new_page, page_for, perform, unless_refused}
+use Rattle.pl_engine.specs.Step.{visit_refusal, visit_reply, visited_page, visited_store, with_page_for}
+use Rattle.pl_engine.specs.Target.{AddsVisit, IsReady, IsTargetOf, WithTarget}
+use Rattle.pl_engine.proofs.RightAfter.{right_refreshed, right_visited}
+use Rattle.pl_engine.proofs.Targets.{IsFound, found_page}
+use Rattle.pl_engine.proofs.VisitRows.{grown_store, store_visited, store_with_page}
+use Rattle.pl_engine.proofs.KeptMark.{IsMarkAt, count_told, mark_made, typed_at}
+use Rattle.pl_engine.proofs.VisitedPages.{typed_by, typed_still, visited_after, visited_alike}
 
--- ---- the count
+-- ---- the rows with the visit, and its page afresh
 
-pub count_after : (kept : Kept) (row : VisitRow)
-    → visit_count (store_of (with_visit row kept)) row.page ≡ visit_count (store_of kept) row.page
-    + (if is_counted row.transition then 1 else 0)
-count_after kept row =
-    sum_by_push (λ (v : Visit). if (v.page.0 == row.page.0) && is_counted v.transition then 1 else 0) kept.visits
-    (next_visit row kept)
-    ∙ ap (λ (b : Bool). visit_count (store_of kept) row.page + (if b && is_counted row.transition then 1 else 0))
-    (eq-eqb row.page.0 row.page.0 refl)
+-- the mark that is told, with what is computed afresh
+abbrev afresh : (row : VisitRow) (mark : Mark) (frecency : ℤ) (hidden : Bool) → Mark
+afresh row mark frecency hidden =
+    record (visited_mark row.transition mark) { frecency = frecency; hidden = hidden }
 
--- the count of the mark is that of the rows with the visit
-pub count_made : (kept : Kept) (url : List ℕ) (row : VisitRow) (is_place : Bool) (before : Mark)
-    → IsReady kept row.page url before
-    → (visited_mark row.transition is_place before).count ≡ visit_count (store_of (with_visit row kept)) row.page
-count_made kept url row is_place before r =
-    ap (λ (n : ℕ). n + (if is_counted row.transition then 1 else 0)) r.count ∙ sym (count_after kept row)
+store_afresh : (old : Kept) (row : VisitRow) (mark : Mark) (frecency : ℤ) (hidden : Bool)
+    → IsWellKept (with_visit row old) → IsMarkAt (with_visit row old) row.page mark
+    → store_of (with_mark row.page (afresh row mark frecency hidden) (with_visit row old))
+    ≡ visited_store row.page row.transition row.date row.source (store_of old)
+store_afresh old row mark frecency hidden h m =
+    store_visited old row (afresh row mark frecency hidden)
+    (All-map (λ (p : Page). (p.id.0 == row.page.0) ≡ true
+    → (mark.typed || is_typed row.transition) ≡ (p.typed || is_typed row.transition)) (λ (p : KeptPage). p.page)
+    old.pages
+    (All-weaker (λ (p : KeptPage). (p.page.id.0 == row.page.0) ≡ true → mark.typed ≡ p.page.typed)
+    (λ (p : KeptPage). (p.page.id.0 == row.page.0) ≡ true
+    → (mark.typed || is_typed row.transition) ≡ (p.page.typed || is_typed row.transition))
+    (λ p is same. ap (λ (b : Bool). b || is_typed row.transition) (is same)) old.pages
+    (typed_at (with_visit row old) row.page mark h m)))
 
--- ---- hidden pages
+visited_afresh : (old : Kept) (row : VisitRow) (is_place : Bool) (mark : Mark) (frecency : ℤ) (hidden : Bool)
+    → IsReady row.page is_place old → IsWellKept (with_visit row old) → IsMarkAt (with_visit row old) row.page mark
+    → IsVisited (with_mark row.page (afresh row mark frecency hidden) (with_visit row old))
+visited_afresh old row is_place mark frecency hidden r h m =
+    visited_after old row (afresh row mark frecency hidden) (typed_by row.transition mark.typed)
+    (λ k d within same typed.
+    typed_still (get_or old.pages k d).page.typed mark.typed (is_typed row.transition)
+    (sym (typed_at (with_visit row old) row.page mark h m k d within same)) typed)
+    r.visited r.typed
 
-visits_after : (kept : Kept) (row : VisitRow)
-    → visits_of (store_of (with_visit row kept)) row.page ≡ visits_of (store_of kept) row.page ++ next_visit row kept
-    ∷ []
-visits_after kept row =
-    filter-append (λ (v : Visit). v.page.0 == row.page.0) kept.visits (next_visit row kept ∷ [])
-    ∙ ap (λ (b : Bool). visits_of (store_of kept) row.page ++ (if b then next_visit row kept ∷ [] else []))
-    (eq-eqb row.page.0 row.page.0 refl)
+-- the rows once the page of the visit is refreshed
+pub record IsAfresh (row : VisitRow) (old now : Kept) (frecency : ℤ) : Type 0 where
+  pub store : store_of now ≡ visited_store row.page row.transition row.date row.source (store_of old)
+  pub visited : IsVisited now
+  pub scored : (p : Page) → p.id ≡ row.page → frecency ≡ frecency_of (store_of now) p
 
-hidden_last : (store : Store) (vs : List Visit) (v : Visit) → IsOfVisits store
-    → hidden_by store (vs ++ v ∷ []) ≡ is_within_frames (vs ++ v ∷ [])
-hidden_last store [] v few = hidden_by-framed store v [] few
-hidden_last store (w ∷ vs) v few = hidden_by-framed store w (vs ++ v ∷ []) few
-
-and_true : (b : Bool) → (b && true) ≡ b
-and_true true = refl
-and_true false = refl
-
-joined : (place framed before within : Bool) → (place || before) ≡ (place || within)
-    → (place || (framed && before)) ≡ (place || (within && (framed && true)))
-joined true framed before within same = refl
-joined false true before within same = same ∙ sym (and_true within)
-joined false false before within same = sym (and_false within)
-  where
-    and_false : (b : Bool) → (b && false) ≡ false
-    and_false true = refl
-    and_false false = refl
-
-hidden_made : (kept : Kept) (url : List ℕ) (row : VisitRow) (after : Store) (before : Mark)
-    → IsReady kept row.page url before → IsOfVisits after
-    → visits_of after row.page ≡ visits_of (store_of (with_visit row kept)) row.page
-    → (visited_mark row.transition (is_place_url url) before).hidden
-    ≡ (is_place_url url || hidden_by after (visits_of after row.page))
-hidden_made kept url row after before r few same =
-    let vs : List Visit = visits_of (store_of kept) row.page in
-    joined (is_place_url url) (is_framed row.transition) before.hidden (is_within_frames vs) r.hidden
-    ∙ ap (λ (b : Bool). is_place_url url || b)
-    (sym (ap (hidden_by after) (same ∙ visits_after kept row)
-    ∙ hidden_last after vs (next_visit row kept) few
-    ∙ list_all-append (λ (v : Visit). is_framed v.transition) vs (next_visit row kept ∷ [])))
-
--- ---- the rows are sound again
-
-typed_by : (t : Transition) (b : Bool) → t ≡ Typed → (b || is_typed t) ≡ true
-typed_by t true is = refl
-typed_by t false is = ap is_typed is
-
-typed_still : (a b c : Bool) → a ≡ b → a ≡ true → (b || c) ≡ true
-typed_still a b c same is = ap (λ (x : Bool). x || c) (sym same ∙ is)
-
-sound_marked : (kept : Kept) (url : List ℕ) (row : VisitRow) (before : Mark) (frecency : ℤ)
-    → IsReady kept row.page url before → IsWellKept (with_visit row kept) → row.source ≡ None
-    → ((p : Page) → p.id ≡ row.page → frecency ≡ frecency_of (store_of (with_visit row kept)) p)
-    → IsSound (with_mark row.page
-    (record (visited_mark row.transition (is_place_url url) before) { frecency = frecency }) (with_visit row kept))
-sound_marked kept url row before frecency r h none scored =
-    let mark : Mark = record (visited_mark row.transition (is_place_url url) before) { frecency = frecency } in
-    let new : Kept = with_mark row.page mark (with_visit row kept) in
-    let after : Store = store_of new in
-    let few : IsOfVisits after = of_visits_after kept row.page row mark r.of_visits none in
+afresh_after : (old now : Kept) (row : VisitRow) (is_place : Bool) (mark told : Mark) (frecency : ℤ)
+    → IsReady row.page is_place old → IsWellKept (with_visit row old) → IsMarkAt (with_visit row old) row.page mark
+    → told ≡ visited_mark row.transition mark
+    → Refreshes row.page told is_place (with_visit row old) now frecency → IsAfresh row old now frecency
+afresh_after old now row is_place mark told frecency r h m is f =
+    let made : now ≡ with_mark row.page (afresh row mark frecency f.hidden) (with_visit row old) =
+    f.rows ∙ ap (λ (n : Mark). with_mark row.page (record n { frecency = frecency; hidden = f.hidden })
+    (with_visit row old)) is in
     record {
-      of_visits = few;
+      store = ap store_of made ∙ store_afresh old row mark frecency f.hidden h m;
       visited =
-          visited_after kept row.page row mark refl (typed_by row.transition before.typed)
-          (λ k d within same typed. typed_still (get_or kept.pages k d).page.typed before.typed
-          (is_typed row.transition) (r.own k d within same).1 typed)
-          r.visited r.typed;
-      right =
-          right_after kept row.page row mark h r.of_visits refl none r.right
-          (λ k d within same.
-          let p : KeptPage = get_or kept.pages k d in
-          let id : p.page.id ≡ row.page = same_page p.page.id row.page same in (
-            scored (marked mark p).page id,
-            count_made kept url row (is_place_url url) before r ∙ ap (visit_count after) (sym id),
-            hidden_made kept url row after before r few refl
-                ∙ ap (λ (i : PageId). is_place_url url || hidden_by after (visits_of after i)) (sym id)
-                ∙ ap (λ (u : List ℕ). is_place_url u || hidden_by after (visits_of after p.page.id))
-                (sym (r.own k d within same).0),
-          ));
+          subst IsVisited (sym made) (visited_afresh old row is_place mark frecency f.hidden r h m);
+      scored = λ p same. f.scored p same ∙ ap (λ (k : Kept). frecency_of (store_of k) p) (sym f.rows);
     }
 
-sound_made : (kept new : Kept) (url : List ℕ) (row : VisitRow) (is_place : Bool) (before : Mark) (reply : Reply)
-    → IsReady kept row.page url before → row.source ≡ None → is_place ≡ is_place_url url
-    → AddsVisit row (visited_mark row.transition is_place before) kept new reply → IsSound new
-sound_made kept new url row is_place before reply r none place added =
-    let marked_right : IsSound
-    (with_mark row.page (record (visited_mark row.transition is_place before) { frecency = added.frecency })
-    (with_visit row kept)) =
-    rw place (sound_marked kept url row before added.frecency r added.well_kept none added.scored) in
-    subst IsSound (sym added.rows) marked_right
+pub afresh_made : (old made now : Kept) (row : VisitRow) (is_place : Bool) (mark told : Mark) (frecency : ℤ)
+    → IsReady row.page is_place old → IsWellKept made → made ≡ with_visit row old
+    → Some mark ≡ option_map mark_of (page_at made row.page) → told ≡ visited_mark row.transition mark
+    → Refreshes row.page told is_place made now frecency → IsAfresh row old now frecency
+afresh_made old made now row is_place mark told frecency r h made_is marks is f =
+    afresh_after old now row is_place mark told frecency r (subst IsWellKept made_is h)
+    (mark_made old made row mark made_is marks) is
+    (subst (λ (k : Kept). Refreshes row.page told is_place k now frecency) made_is f)
 
-pub sound_after : (kept new : Kept) (url : List ℕ) (row : VisitRow) (is_place : Bool) (before mark : Mark)
-    (reply : Reply) → IsReady kept row.page url before → row.source ≡ None → is_place ≡ is_place_url url
-    → mark ≡ visited_mark row.transition is_place before → AddsVisit row mark kept new reply → IsSound new
-sound_after kept new url row is_place before mark reply r none place is added =
-    sound_made kept new url row is_place before reply r none place
-    (subst (λ (m : Mark). AddsVisit row m kept new reply) is added)
+-- all pages are right but that of the source
+pub right_still : (old made now : Kept) (row : VisitRow) (is_place : Bool) (mark told : Mark) (frecency : ℤ)
+    → IsReady row.page is_place old → IsWellKept old → IsWellKept made → made ≡ with_visit row old
+    → Some mark ≡ option_map mark_of (page_at made row.page) → told ≡ visited_mark row.transition mark
+    → Refreshes row.page told is_place made now frecency
+    → AreRightBut (option_to_list (source_page now row)) now
+right_still old made now row is_place mark told frecency r h well made_is marks is f =
+    let v : Kept = with_visit row old in
+    let refreshed : Refreshes row.page told is_place v now frecency =
+    subst (λ (k : Kept). Refreshes row.page told is_place k now frecency) made_is f in
+    subst (λ (ids : List PageId). AreRightBut ids now)
+    (ap (λ (k : Kept). option_to_list (source_page k row)) (sym refreshed.rows))
+    (right_refreshed (option_to_list (source_page v row)) row.page told is_place v now frecency
+    (right_visited old row h (subst IsWellKept made_is well) r.right) refreshed
+    (count_told old row mark told r.counts (mark_made old made row mark made_is marks) is) r.place)
+
+-- ---- the rows at the end
+
+pub sound_after : (old now new : Kept) (row : VisitRow) (is_place : Bool) (frecency : ℤ) → IsReady row.page is_place old
+    → IsAfresh row old now frecency → store_of new ≡ store_of now → AreRightBut [] new → IsSound new
+sound_after old now new row is_place frecency r a same right =
+    record {
+      of_visits = ap (λ (s : Store). s.items) (same ∙ a.store) ∙ r.of_visits;
+      visited = visited_alike now new same a.visited;
+      right = record {
+        frecencies = λ k d within. (right k d within refl).0;
+        counts = λ k d within. (right k d within refl).1;
+        hidden = λ k d within. (right k d within refl).2;
+      };
+    }
+
+pub added_after : (old now new : Kept) (row : VisitRow) (visit : VisitId) (frecency : ℤ)
+    → IsAfresh row old now frecency → store_of new ≡ store_of now → visit.0 ≡ old.ids.visit
+    → AddsVisit row (store_of old) (store_of new) (VisitReply visit row.page frecency)
+added_after old now new row visit frecency a same given =
+    record {
+      store = same ∙ a.store;
+      frecency = frecency;
+      tells = ap (λ (n : ℕ). VisitReply (record { 0 = n }) row.page frecency) given;
+      scored = λ p id. a.scored p id ∙ ap (λ (s : Store). frecency_of s p) (sym same);
+    }
 
 -- ---- the step
 
--- the page is the one of the step, with its next ids
-record IsStepPage (kept mid : Kept) (url : List ℕ) (page : PageId) (transition : Transition) (date : Micros)
-    (before : Mark) : Type 0 where
-  pub is : (page_for (store_of kept) url).id ≡ page
-  pub visit : mid.ids.visit ≡ kept.ids.visit
-  pub store : (mark : Mark) → mark.typed ≡ (before.typed || is_typed transition)
-      → store_of (with_mark page mark
-      (with_visit (record { page = page; date = date; transition = transition; source = None }) mid))
-      ≡ after_visit (store_of kept) url transition date
+-- the rows with the page are those of the step
+pub target_page : (kept mid : Kept) (url : List ℕ) (target : Target) (page : PageId) → IsTargetOf kept url target
+    → WithTarget url target kept mid page → (page_for (store_of kept) url).id ≡ page
+target_page kept mid url (Known id) page of with =
+    let f : IsFound kept url id = found_page kept url id of in
+    ap (λ (o : Option Page). (unwrap_or o (new_page (store_of kept) url)).id) f.there ∙ f.is ∙ sym with.0
+target_page kept mid url (New origin) page of with =
+    ap (λ (o : Option Page). (unwrap_or o (new_page (store_of kept) url)).id) of.0
+    ∙ ap (λ (n : ℕ). record { 0 = n }) (sym with.0)
 
-step_known : (kept : Kept) (url : List ℕ) (page : PageId) (transition : Transition) (date : Micros) (before : Mark)
-    → IsWellKept kept → IsTargetOf kept url (Known page) → IsMarkBefore kept (Known page) before
-    → IsStepPage kept kept url page transition date before
-step_known kept url page transition date before h target mark =
-    let k : IsKnown kept url page = known kept url page target in
-    let is : before ≡ mark_of k.page = mark_known kept url page before h k mark in
-    record {
-      is = ap (λ (o : Option Page). (unwrap_or o (new_page (store_of kept) url)).id) k.found ∙ k.is;
-      visit = refl;
-      store =
-          λ made typed. after_found kept url transition date page made k.page.page h k.found k.is
-          (typed ∙ ap (λ (m : Mark). m.typed || is_typed transition) is);
-    }
+pub target_store : (kept mid : Kept) (url : List ℕ) (target : Target) (page : PageId) → IsTargetOf kept url target
+    → WithTarget url target kept mid page → store_of mid ≡ with_page_for (store_of kept) url
+target_store kept mid url (Known id) page of with =
+    let f : IsFound kept url id = found_page kept url id of in
+    ap store_of with.1
+    ∙ sym (ap (λ (o : Option Page). if is_none o then grown_store (store_of kept) url else store_of kept) f.there)
+target_store kept mid url (New origin) page of with =
+    store_with_page kept mid url origin with.1
+    ∙ sym (ap (λ (o : Option Page). if is_none o then grown_store (store_of kept) url else store_of kept) of.0)
 
-visit_id_page : (kept mid : Kept) (url : List ℕ) (origin : Option Slot) → WithPageIn url origin kept mid
-    → mid.ids.visit ≡ kept.ids.visit
-visit_id_page kept mid url (Some origin) made = ap (λ (k : Kept). k.ids.visit) made
-visit_id_page kept mid url None made = ap (λ (k : Kept). k.ids.visit) made.1
+next_visit_same : (store : Store) (url : List ℕ) → (with_page_for store url).ids.visit ≡ store.ids.visit
+next_visit_same store url = choose (is_none (find_page url store.pages))
+  where
+    choose : (b : Bool) → (if b then grown_store store url else store).ids.visit ≡ store.ids.visit
+    choose true = refl
+    choose false = refl
 
-step_new : (kept mid : Kept) (url : List ℕ) (origin : Option Slot) (page : PageId) (transition : Transition)
-    (date : Micros) (before : Mark) → IsWellKept kept → IsTargetOf kept url (New origin)
-    → WithTarget url (New origin) kept mid page → IsMarkBefore kept (New origin) before
-    → IsStepPage kept mid url page transition date before
-step_new kept mid url origin page transition date before h target with mark =
-    record {
-      is =
-          ap (λ (o : Option Page). (unwrap_or o (new_page (store_of kept) url)).id) target.0
-          ∙ ap (λ (n : ℕ). record { 0 = n }) (sym with.0);
-      visit = visit_id_page kept mid url origin with.1;
-      store = λ made typed.
-          after_new kept mid url transition date page made h target.0 with.0
-          (store_with_page kept mid url origin with.1)
-          (typed ∙ ap (λ (m : Mark). m.typed || is_typed transition) mark);
-    }
-
-step_page : (kept mid : Kept) (url : List ℕ) (target : Target) (page : PageId) (transition : Transition) (date : Micros)
-    (before : Mark) → IsWellKept kept → IsTargetOf kept url target → WithTarget url target kept mid page
-    → IsMarkBefore kept target before → IsStepPage kept mid url page transition date before
-step_page kept mid url (Known id) page transition date before h target with mark =
-    rw (with.0, with.1) (step_known kept url id transition date before h target mark)
-step_page kept mid url (New origin) page transition date before h target with mark =
-    step_new kept mid url origin page transition date before h target with mark
-
-step_made : (kept mid new : Kept) (url : List ℕ) (page : PageId) (transition : Transition) (date : Micros)
-    (is_place : Bool) (before : Mark) (reply : Reply) → IsStepPage kept mid url page transition date before
-    → AddsVisit (record { page = page; date = date; transition = transition; source = None })
-    (visited_mark transition is_place before) mid new reply
-    → ◌≡◌ {A = Reply × Store} (reply, store_of new)
-    (visit_reply (store_of kept) url transition date, after_visit (store_of kept) url transition date)
-step_made kept mid new url page transition date is_place before reply s added =
-    let row : VisitRow = record { page = page; date = date; transition = transition; source = None } in
-    let mark : Mark = record (visited_mark transition is_place before) { frecency = added.frecency } in
-    let made : Kept = with_mark page mark (with_visit row mid) in
-    let p : Page = visited_page transition (page_for (store_of kept) url) in
-    let store : store_of made ≡ after_visit (store_of kept) url transition date = s.store mark refl in
-    let scored : added.frecency ≡ frecency_of (store_of made) p = added.scored p s.is in
-    let told : reply ≡ visit_reply (store_of kept) url transition date =
+step_made : (store mid new : Store) (url : List ℕ) (row : VisitRow) (reply : Reply)
+    → (page_for store url).id ≡ row.page → mid ≡ with_page_for store url → AddsVisit row mid new reply
+    → ◌≡◌ {A = Reply × Store} (reply, new)
+    (visit_reply store url row.transition row.date row.source, after_visit store url row.transition row.date row.source)
+step_made store mid new url row reply is grown added =
+    let after : Store = after_visit store url row.transition row.date row.source in
+    let p : Page = visited_page row.transition (page_for store url) in
+    let made : new ≡ after =
+    added.store
+    ∙ ap (visited_store row.page row.transition row.date row.source) grown
+    ∙ ap (λ (id : PageId). visited_store id row.transition row.date row.source (with_page_for store url)) (sym is) in
+    let next : mid.ids.visit ≡ store.ids.visit = ap (λ (s : Store). s.ids.visit) grown ∙ next_visit_same store url in
+    let told : reply ≡ visit_reply store url row.transition row.date row.source =
     added.tells
-    ∙ ap (λ (n : ℕ). VisitReply (record { 0 = n }) page added.frecency) s.visit
-    ∙ ap (λ (id : PageId). VisitReply (record { 0 = kept.ids.visit }) id added.frecency) (sym s.is)
-    ∙ ap (λ (z : ℤ). VisitReply (record { 0 = kept.ids.visit }) (page_for (store_of kept) url).id z)
-    (scored ∙ ap (λ (st : Store). frecency_of st p) store) in
-    ap (λ (r : Reply). (r, store_of new)) told
-    ∙ ap (λ (st : Store). (visit_reply (store_of kept) url transition date, st)) (ap store_of added.rows ∙ store)
+    ∙ ap (λ (n : ℕ). VisitReply (record { 0 = n }) row.page added.frecency) next
+    ∙ ap (λ (id : PageId). VisitReply (record { 0 = store.ids.visit }) id added.frecency) (sym is)
+    ∙ ap (λ (z : ℤ). VisitReply (record { 0 = store.ids.visit }) (page_for store url).id z)
+    (added.scored p is ∙ ap (λ (s : Store). frecency_of s p) made) in
+    ap (λ (r : Reply). (r, new)) told
+    ∙ ap (λ (s : Store). (visit_reply store url row.transition row.date row.source, s)) made
 
-pub step_after : (limit : ℕ) (kept mid new : Kept) (url : List ℕ) (target : Target) (page : PageId)
-    (transition : Transition) (date : Micros) (is_place : Bool) (before mark : Mark) (reply : Reply) → IsWellKept kept
-    → IsTargetOf kept url target → WithTarget url target kept mid page → IsMarkBefore kept target before
-    → visit_refusal limit (store_of kept) url transition date ≡ None → mark ≡ visited_mark transition is_place before
-    → AddsVisit (record { page = page; date = date; transition = transition; source = None }) mark mid new reply
-    → ◌≡◌ {A = Reply × Store} (reply, store_of new) (perform limit (store_of kept) (VisitCommand url transition date))
-step_after limit kept mid new url target page transition date is_place before mark reply h of with was allowed is
-    added =
-    let row : VisitRow = record { page = page; date = date; transition = transition; source = None } in
-    step_made kept mid new url page transition date is_place before reply
-    (step_page kept mid url target page transition date before h of with was)
-    (subst (λ (m : Mark). AddsVisit row m mid new reply) is added)
-    ∙ ap (λ (o : Option Refusal). unless_refused o (store_of kept)
-    (visit_reply (store_of kept) url transition date, after_visit (store_of kept) url transition date))
+pub step_after : (limit : ℕ) (kept mid new : Kept) (url : List ℕ) (target : Target) (row : VisitRow) (reply : Reply)
+    → IsTargetOf kept url target → WithTarget url target kept mid row.page
+    → visit_refusal limit (store_of kept) url row.transition row.date row.source ≡ None
+    → AddsVisit row (store_of mid) (store_of new) reply
+    → ◌≡◌ {A = Reply × Store} (reply, store_of new)
+    (perform limit (store_of kept) (VisitCommand url row.transition row.date row.source))
+step_after limit kept mid new url target row reply of with allowed added =
+    let store : Store = store_of kept in
+    step_made store (store_of mid) (store_of new) url row reply (target_page kept mid url target row.page of with)
+    (target_store kept mid url target row.page of with) added
+    ∙ ap (λ (o : Option Refusal). unless_refused o store (
+      visit_reply store url row.transition row.date row.source,
+      after_visit store url row.transition row.date row.source,
+    ))
     (sym allowed)
-
--- a fact of each value holds on success
-pub on_ok_from : {X E : Type 0} (r : Result X E) (P : X → Type 0) (Q : Type 0) → ((x : X) → P x → Q) → IfOk r P
-    → OnOk r Q
-on_ok_from (Ok x) P Q weaker so = weaker x so
-on_ok_from (Err e) P Q weaker so = so

@@ -1,35 +1,32 @@
 -- A walk over the visits of a page, the latest first.
-use Rattle.std.proofs.Common.{◌≡◌, ◌⊎◌, inl, inr, ◌≢◌, ◌+◌, ◌≤◌, ◌++◌, ◌||◌, ◌==◌, ◌∙◌, ℕ, Bool, true}
-use Rattle.std.proofs.Common.{false, List, [], ◌∷◌, Option, Some, ap, append_assoc, arith, eq-eqb}
-use Rattle.std.proofs.Common.{eqb, filter, find, if◌then◌else◌, length, map, refl, subst, sym, take}
-use Rattle.std.specs.List.{AllByRecursion, list_any}
-use Rattle.std.specs.Option.{IsSome, option_and_then, option_map}
-use Rattle.std.proofs.lemmas.Bool.{eqb-true}
+use Rattle.std.proofs.Common.{◌≡◌, ◌≢◌, ◌+◌, ◌<◌, ◌≤◌, ◌++◌, ◌&&◌, ◌||◌, ◌==◌, ◌∙◌, ℕ, Bool, true}
+use Rattle.std.proofs.Common.{false, List, [], ◌∷◌, Option, Some, None, ap, append_assoc, arith, eq-eqb}
+use Rattle.std.proofs.Common.{eqb, filter, if◌then◌else◌, is_some, length, map, refl, subst, sym, take}
+use Rattle.std.specs.List.{AllByRecursion, list_all}
+use Rattle.std.specs.Option.{option_and_then, option_map}
+use Rattle.std.proofs.lemmas.Bool.{and_from, and_left, and_right, eqb-true}
 use Rattle.std.proofs.lemmas.Bool.Decides.{nat_tests}
+use Rattle.std.proofs.lemmas.List.Folds.{list_all-append}
 use Rattle.std.proofs.lemmas.List.Kept.{AllPairs-from_increasing}
 use Rattle.std.proofs.lemmas.List.{append-nil, length-append, map_push, take-append-le, take_all}
 use Rattle.pl_base.specs.declared.id.PageId.{PageId}
 use Rattle.pl_base.specs.declared.id.VisitId.{VisitId}
 use Rattle.pl_base.specs.declared.row.VisitRow.{VisitRow}
+use Rattle.pl_base.specs.Address.{is_place_url}
+use Rattle.pl_base.specs.Marks.{is_hidden}
 use Rattle.pl_base.specs.Rows.{IsWellKept, Kept, first_id, has_visit, id_behind}
 use Rattle.pl_base.specs.Rows.{older_visit, page_visits, row_of, store_of, visit_at}
-use Rattle.pl_base.specs.Store.{Visit}
+use Rattle.pl_base.specs.Store.{Page, Store, Visit}
 use Rattle.pl_base.specs.Visits.{in_place, is_later, latest_first, visits_of}
 use Rattle.pl_score.specs.declared.sample.Sampled.{Sampled}
-use Rattle.pl_engine.specs.Sampled.{sampled_row, sampled_visit}
+use Rattle.pl_score.specs.Sample.{sampled_of}
+use Rattle.pl_engine.specs.Refreshed.{is_passing}
+use Rattle.pl_engine.proofs.LookUps.{apart_ascending, found_passes, found_self, found_some, where_passes}
 use Rattle.pl_engine.proofs.PageWalk.{part}
+use Rattle.pl_base.proofs.ListLaws.{weaker}
 use Rattle.pl_base.proofs.VisitsLaws.{Differ, Differ-ascending, Differ-filter, all-in_place, all-latest_first}
 
 -- ---- no two visits have the same id
-
-passed : (q : Visit → Bool) (vs : List Visit) → AllByRecursion (λ (v : Visit). q v ≡ true) (filter q vs)
-passed q [] = tt
-passed q (v ∷ vs) = choose (q v) refl (passed q vs)
-  where
-    choose : (b : Bool) → q v ≡ b → AllByRecursion (λ (w : Visit). q w ≡ true) (filter q vs)
-        → AllByRecursion (λ (w : Visit). q w ≡ true) (if b then v ∷ filter q vs else filter q vs)
-    choose true is rest = (is, rest)
-    choose false is rest = rest
 
 Differ-in_place : (v : Visit) (ws : List Visit) → AllByRecursion (λ (w : Visit). w.id.0 ≢ v.id.0) ws → Differ ws
     → Differ (in_place v ws)
@@ -46,6 +43,13 @@ Differ-latest_first (v ∷ vs) differ =
     Differ-in_place v (latest_first vs) (all-latest_first (λ (w : Visit). w.id.0 ≢ v.id.0) vs differ.0)
     (Differ-latest_first vs differ.1)
 
+differ : (kept : Kept) (page : PageId) → IsWellKept kept → Differ (page_visits kept page)
+differ kept page h =
+    Differ-latest_first (visits_of (store_of kept) page)
+    (Differ-filter (λ (v : Visit). v.page.0 == page.0) kept.visits
+    (Differ-ascending kept.visits
+    (AllPairs-from_increasing (map (λ (v : Visit). v.id.0) kept.visits) h.visit_ids.ascending)))
+
 -- ---- look-ups
 
 not_same : (m n : ℕ) → m ≢ n → eqb m n ≡ false
@@ -58,189 +62,284 @@ behind (w ∷ front) v rest differ =
     let apart : w.id.0 ≢ v.id.0 = λ same. part (λ (x : Visit). x.id.0 ≢ w.id.0) front v rest differ.0 (sym same) in
     rw (not_same w.id.0 v.id.0 apart) (behind front v rest differ.1)
 
--- what holds of a list holds of what it was filtered and sorted from, at a visit
-abbrev Stands : Visit → List Visit → Type 0
-Stands v [] = ⊥
-Stands v (w ∷ ws) = (w ≡ v) ⊎ Stands v ws
+-- each visit is found by its id
+pub visits_found : (kept : Kept) → IsWellKept kept
+    → AllByRecursion (λ (v : Visit). visit_at kept v.id ≡ Some v) kept.visits
+visits_found kept h =
+    found_self (λ (v : Visit). v.id.0) kept.visits
+    (apart_ascending (λ (v : Visit). v.id.0) kept.visits
+    (AllPairs-from_increasing (map (λ (v : Visit). v.id.0) kept.visits) h.visit_ids.ascending))
 
-Stands-part : (front : List Visit) (v : Visit) (rest : List Visit) → Stands v (front ++ v ∷ rest)
-Stands-part [] v rest = inl refl
-Stands-part (w ∷ front) v rest = inr (Stands-part front v rest)
+pub visit_is : (kept : Kept) (id : VisitId) (v : Visit) → visit_at kept id ≡ Some v → v.id ≡ id
+visit_is kept id v at =
+    ap (λ (n : ℕ). record { 0 = n })
+    (eqb-true v.id.0 id.0 (found_passes (λ (w : Visit). w.id.0 == id.0) kept.visits v at))
 
-swap : (x v w : Visit) (ws : List Visit) → Stands x (v ∷ ws) → Stands x (v ∷ w ∷ ws)
-swap x v w ws (inl first) = inl first
-swap x v w ws (inr later) = inr (inr later)
+pub row_is : (kept : Kept) (id : VisitId) (row : VisitRow) (v : Visit) → Some row ≡ option_map row_of (visit_at kept id)
+    → visit_at kept id ≡ Some v → row ≡ row_of v
+row_is kept id row v is at =
+    let same : Some row ≡ Some (row_of v) = is ∙ ap (option_map row_of) at in
+    cc
 
-Stands-in_place : (x v : Visit) (ws : List Visit) → Stands x (in_place v ws) → Stands x (v ∷ ws)
-Stands-in_place x v [] at = at
-Stands-in_place x v (w ∷ ws) at = choose (is_later v w) at (Stands-in_place x v ws)
-  where
-    choose : (b : Bool) → Stands x (if b then v ∷ w ∷ ws else w ∷ in_place v ws)
-        → (Stands x (in_place v ws) → Stands x (v ∷ ws)) → Stands x (v ∷ w ∷ ws)
-    choose true here rest = here
-    choose false (inl first) rest = inr (inl first)
-    choose false (inr later) rest = swap x v w ws (rest later)
+-- a visit of the page, which is found by its id
+abbrev IsVisitOf : Kept → PageId → Visit → Type 0
+IsVisitOf kept page v = (visit_at kept v.id ≡ Some v) × ((v.page.0 == page.0) ≡ true)
 
-Stands-latest_first : (x : Visit) (vs : List Visit) → Stands x (latest_first vs) → Stands x vs
-Stands-latest_first x [] at = at
-Stands-latest_first x (v ∷ vs) at = choose (Stands-in_place x v (latest_first vs) at) (Stands-latest_first x vs)
-  where
-    choose : Stands x (v ∷ latest_first vs) → (Stands x (latest_first vs) → Stands x vs) → Stands x (v ∷ vs)
-    choose (inl first) rest = inl first
-    choose (inr later) rest = inr (rest later)
-
-Stands-filter : (q : Visit → Bool) (x : Visit) (vs : List Visit) → Stands x (filter q vs) → Stands x vs × (q x ≡ true)
-Stands-filter q x [] at = absurd at
-Stands-filter q x (v ∷ vs) at = choose (q v) refl at (Stands-filter q x vs)
-  where
-    choose : (b : Bool) → q v ≡ b → Stands x (if b then v ∷ filter q vs else filter q vs)
-        → (Stands x (filter q vs) → Stands x vs × (q x ≡ true)) → Stands x (v ∷ vs) × (q x ≡ true)
-    choose true is (inl first) rest = (inl first, subst (λ (w : Visit). q w ≡ true) first is)
-    choose true is (inr later) rest = (inr (rest later).0, (rest later).1)
-    choose false is later rest = (inr (rest later).0, (rest later).1)
-
-found : (x : Visit) (vs : List Visit) → Differ vs → Stands x vs → find (λ (w : Visit). w.id.0 == x.id.0) vs ≡ Some x
-found x [] differ at = absurd at
-found x (v ∷ vs) differ (inl first) = rw (first, eq-eqb x.id.0 x.id.0 refl) refl
-found x (v ∷ vs) differ (inr later) =
-    rw (not_same v.id.0 x.id.0 (apart vs differ.0 later)) (found x vs differ.1 later)
-  where
-    apart : (ws : List Visit) → AllByRecursion (λ (w : Visit). w.id.0 ≢ v.id.0) ws → Stands x ws → v.id.0 ≢ x.id.0
-    apart [] all at = absurd at
-    apart (w ∷ ws) all (inl first) = λ same. all.0 (ap (λ (y : Visit). y.id.0) first ∙ sym same)
-    apart (w ∷ ws) all (inr later) = apart ws all.1 later
-
-there : (x : Visit) (vs : List Visit) → Stands x vs → list_any (λ (w : Visit). w.id.0 == x.id.0) vs ≡ true
-there x [] at = absurd at
-there x (v ∷ vs) (inl first) = rw (first, eq-eqb x.id.0 x.id.0 refl) refl
-there x (v ∷ vs) (inr later) = rw (there x vs later) (or_true (v.id.0 == x.id.0))
-  where
-    or_true : (b : Bool) → (b || true) ≡ true
-    or_true true = refl
-    or_true false = refl
+visits_stand : (kept : Kept) (page : PageId) → IsWellKept kept
+    → AllByRecursion (IsVisitOf kept page) (page_visits kept page)
+visits_stand kept page h =
+    all-latest_first (IsVisitOf kept page) (visits_of (store_of kept) page)
+    (where_passes (IsVisitOf kept page) (λ (v : Visit). v.page.0 == page.0) kept.visits
+    (weaker (λ (v : Visit). visit_at kept v.id ≡ Some v)
+    (λ (v : Visit). (v.page.0 == page.0) ≡ true → IsVisitOf kept page v) kept.visits (λ v found of. (found, of))
+    (visits_found kept h)))
 
 -- ---- the walk
 
--- what was sampled of the visits in front of the next one
-pub record VisitWalk (kept : Kept) (page : PageId) (count : ℕ) (sample : List Sampled) (next : Option VisitId) : Type 0
-  where
-    pub front : List Visit
-    pub rest : List Visit
-    pub whole : page_visits kept page ≡ front ++ rest
-    pub here : next ≡ first_id rest
-    pub sampled : sample ≡ map sampled_visit front
-    pub counted : length front ≡ count
+-- what holds of the visits in front of the next one
+pub record VisitWalk (kept : Kept) (page : PageId) (P : List Visit → Type 0) (next : Option VisitId) : Type 0 where
+  pub front : List Visit
+  pub rest : List Visit
+  pub whole : page_visits kept page ≡ front ++ rest
+  pub here : next ≡ first_id rest
+  pub so_far : P front
 
 -- the visit that a walk stands at
-pub record IsVisitHere (kept : Kept) (page : PageId) (count : ℕ) (sample : List Sampled) (id : VisitId) : Type 0 where
+pub record IsVisitHere (kept : Kept) (page : PageId) (P : List Visit → Type 0) (id : VisitId) : Type 0 where
   pub front : List Visit
   pub visit : Visit
   pub rest : List Visit
   pub whole : page_visits kept page ≡ front ++ visit ∷ rest
   pub is : visit.id ≡ id
-  pub sampled : sample ≡ map sampled_visit front
-  pub counted : length front ≡ count
+  pub so_far : P front
 
-pub sample_starts : (kept : Kept) (page : PageId) (sample : List Sampled) (next : Option VisitId) → sample ≡ []
-    → next ≡ first_id (page_visits kept page) → VisitWalk kept page 0 sample next
-sample_starts kept page sample next empty is =
-    record { front = []; rest = page_visits kept page; whole = refl; here = is; sampled = empty; counted = refl }
+pub walk_starts : (kept : Kept) (page : PageId) (P : List Visit → Type 0) (next : Option VisitId)
+    → next ≡ first_id (page_visits kept page) → P [] → VisitWalk kept page P next
+walk_starts kept page P next is none =
+    record { front = []; rest = page_visits kept page; whole = refl; here = is; so_far = none }
 
-pub visit_here : (kept : Kept) (page : PageId) (count : ℕ) (sample : List Sampled) (next : Option VisitId)
-    (id : VisitId) → VisitWalk kept page count sample next → next ≡ Some id → IsVisitHere kept page count sample id
-visit_here kept page count sample next id w at = choose w.rest w.whole w.here
+pub visit_here : (kept : Kept) (page : PageId) (P : List Visit → Type 0) (next : Option VisitId) (id : VisitId)
+    → VisitWalk kept page P next → next ≡ Some id → IsVisitHere kept page P id
+visit_here kept page P next id w at = choose w.rest w.whole w.here
   where
     choose : (rest : List Visit) → page_visits kept page ≡ w.front ++ rest → next ≡ first_id rest
-        → IsVisitHere kept page count sample id
+        → IsVisitHere kept page P id
     choose [] whole none = absurd (cc)
     choose (v ∷ vs) whole some =
-        record {
-          front = w.front;
-          visit = v;
-          rest = vs;
-          whole = whole;
-          is = cc;
-          sampled = w.sampled;
-          counted = w.counted;
-        }
+        record { front = w.front; visit = v; rest = vs; whole = whole; is = cc; so_far = w.so_far }
 
-differ : (kept : Kept) → IsWellKept kept → Differ kept.visits
-differ kept h =
-    Differ-ascending kept.visits
-    (AllPairs-from_increasing (map (λ (v : Visit). v.id.0) kept.visits) h.visit_ids.ascending)
+stands : (kept : Kept) (page : PageId) (P : List Visit → Type 0) (id : VisitId) → IsWellKept kept
+    → (w : IsVisitHere kept page P id) → IsVisitOf kept page w.visit
+stands kept page P id h w =
+    part (IsVisitOf kept page) w.front w.visit w.rest
+    (subst (AllByRecursion (IsVisitOf kept page)) w.whole (visits_stand kept page h))
 
-stands : (kept : Kept) (page : PageId) (front : List Visit) (v : Visit) (rest : List Visit)
-    → page_visits kept page ≡ front ++ v ∷ rest → Stands v kept.visits × ((v.page.0 == page.0) ≡ true)
-stands kept page front v rest whole =
-    Stands-filter (λ (w : Visit). w.page.0 == page.0) v kept.visits
-    (Stands-latest_first v (visits_of (store_of kept) page) (subst (Stands v) (sym whole) (Stands-part front v rest)))
+pub at_here : (kept : Kept) (page : PageId) (P : List Visit → Type 0) (id : VisitId) → IsWellKept kept
+    → (w : IsVisitHere kept page P id) → visit_at kept id ≡ Some w.visit
+at_here kept page P id h w = rw (← w.is) (stands kept page P id h w).0
 
-pub has_visit-here : (kept : Kept) (page : PageId) (count : ℕ) (sample : List Sampled) (id : VisitId)
-    → IsVisitHere kept page count sample id → has_visit kept id ≡ true
-has_visit-here kept page count sample id w =
-    rw (← w.is) (there w.visit kept.visits (stands kept page w.front w.visit w.rest w.whole).0)
+pub has_here : (kept : Kept) (page : PageId) (P : List Visit → Type 0) (id : VisitId) → IsWellKept kept
+    → IsVisitHere kept page P id → has_visit kept id ≡ true
+has_here kept page P id h w =
+    found_some (λ (v : Visit). v.id.0 == id.0) kept.visits w.visit (at_here kept page P id h w)
 
-visit_at-here : (kept : Kept) (page : PageId) (count : ℕ) (sample : List Sampled) (id : VisitId) → IsWellKept kept
-    → (w : IsVisitHere kept page count sample id) → visit_at kept id ≡ Some w.visit
-visit_at-here kept page count sample id h w =
-    rw (← w.is) (found w.visit kept.visits (differ kept h) (stands kept page w.front w.visit w.rest w.whole).0)
-
-pub row_here : (kept : Kept) (page : PageId) (count : ℕ) (sample : List Sampled) (id : VisitId) (row : Option VisitRow)
-    → IsWellKept kept → IsVisitHere kept page count sample id → row ≡ option_map row_of (visit_at kept id) → IsSome row
-row_here kept page count sample id row h w is = rw (is, visit_at-here kept page count sample id h w) refl
-
-older_here : (kept : Kept) (page : PageId) (count : ℕ) (sample : List Sampled) (id : VisitId) → IsWellKept kept
-    → (w : IsVisitHere kept page count sample id) → older_visit kept id ≡ first_id w.rest
-older_here kept page count sample id h w =
-    let same : w.visit.page.0 ≡ page.0 =
-    eqb-true w.visit.page.0 page.0 (stands kept page w.front w.visit w.rest w.whole).1 in
-    let apart : Differ (w.front ++ w.visit ∷ w.rest) =
-    subst Differ w.whole (Differ-latest_first (visits_of (store_of kept) page)
-    (Differ-filter (λ (v : Visit). v.page.0 == page.0) kept.visits (differ kept h))) in
-    ap (option_and_then (λ (v : Visit). id_behind id (page_visits kept v.page)))
-    (visit_at-here kept page count sample id h w)
+older_here : (kept : Kept) (page : PageId) (P : List Visit → Type 0) (id : VisitId) → IsWellKept kept
+    → (w : IsVisitHere kept page P id) → older_visit kept id ≡ first_id w.rest
+older_here kept page P id h w =
+    let same : w.visit.page.0 ≡ page.0 = eqb-true w.visit.page.0 page.0 (stands kept page P id h w).1 in
+    ap (option_and_then (λ (v : Visit). id_behind id (page_visits kept v.page))) (at_here kept page P id h w)
     ∙ ap (λ (n : ℕ). id_behind id (latest_first (filter (λ (v : Visit). v.page.0 == n) kept.visits))) same
     ∙ ap (id_behind id) w.whole ∙ ap (λ (i : VisitId). id_behind i (w.front ++ w.visit ∷ w.rest)) (sym w.is)
-    ∙ behind w.front w.visit w.rest apart
+    ∙ behind w.front w.visit w.rest (subst Differ w.whole (differ kept page h))
 
-pub walk_samples : (kept : Kept) (page : PageId) (count : ℕ) (sample more : List Sampled) (id : VisitId)
-    (row : VisitRow) (seen : Sampled) (next : Option VisitId) → IsWellKept kept → IsVisitHere kept page count sample id
-    → Some row ≡ option_map row_of (visit_at kept id) → seen ≡ sampled_row row → more ≡ sample ++ seen ∷ []
-    → next ≡ older_visit kept id → VisitWalk kept page (count + 1) more next
-walk_samples kept page count sample more id row seen next h w at is pushed older =
-    let same_row : Some row ≡ Some (row_of w.visit) =
-    at ∙ ap (option_map row_of) (visit_at-here kept page count sample id h w) in
-    let rows : row ≡ row_of w.visit = cc in
+pub walk_goes_on : (kept : Kept) (page : PageId) (P Q : List Visit → Type 0) (id : VisitId) (next : Option VisitId)
+    → IsWellKept kept → (w : IsVisitHere kept page P id) → next ≡ older_visit kept id
+    → Q (w.front ++ w.visit ∷ []) → VisitWalk kept page Q next
+walk_goes_on kept page P Q id next h w older more =
     record {
       front = w.front ++ w.visit ∷ [];
       rest = w.rest;
       whole = w.whole ∙ sym (append_assoc w.front (w.visit ∷ []) w.rest);
-      here = older ∙ older_here kept page count sample id h w;
-      sampled =
-          pushed ∙ ap (λ (ss : List Sampled). ss ++ seen ∷ []) w.sampled
-          ∙ ap (λ (x : Sampled). map sampled_visit w.front ++ x ∷ []) (is ∙ ap sampled_row rows)
-          ∙ sym (map_push sampled_visit w.front w.visit);
-      counted = omega (arith, length-append w.front (w.visit ∷ []), w.counted);
+      here = older ∙ older_here kept page P id h w;
+      so_far = more;
     }
+
+-- at its end the walk has gone over all visits
+pub walk_ends : (kept : Kept) (page : PageId) (P : List Visit → Type 0) (next : Option VisitId)
+    → VisitWalk kept page P next → ((id : VisitId) → next ≢ Some id) → P (page_visits kept page)
+walk_ends kept page P next w none = choose w.rest w.whole w.here
+  where
+    choose : (rest : List Visit) → page_visits kept page ≡ w.front ++ rest → next ≡ first_id rest
+        → P (page_visits kept page)
+    choose [] whole end = subst P (sym (whole ∙ append-nil w.front)) w.so_far
+    choose (v ∷ vs) whole some = absurd (none v.id some)
+
+-- ---- how many are left
+
+from_id : VisitId → List Visit → List Visit
+from_id id [] = []
+from_id id (v ∷ vs) = if v.id.0 == id.0 then v ∷ vs else from_id id vs
+
+pub left : Kept → PageId → Option VisitId → ℕ
+left kept page None = 0
+left kept page (Some id) = length (from_id id (page_visits kept page))
+
+from_here : (front : List Visit) (v : Visit) (rest : List Visit) → Differ (front ++ v ∷ rest)
+    → from_id v.id (front ++ v ∷ rest) ≡ v ∷ rest
+unfolding from_id
+from_here [] v rest differ = rw (eq-eqb v.id.0 v.id.0 refl) refl
+from_here (w ∷ front) v rest differ =
+    let apart : w.id.0 ≢ v.id.0 = λ same. part (λ (x : Visit). x.id.0 ≢ w.id.0) front v rest differ.0 (sym same) in
+    rw (not_same w.id.0 v.id.0 apart) (from_here front v rest differ.1)
+
+left_at : (kept : Kept) (page : PageId) (front : List Visit) (v : Visit) (rest : List Visit) → IsWellKept kept
+    → page_visits kept page ≡ front ++ v ∷ rest → left kept page (Some v.id) ≡ length rest + 1
+unfolding left
+left_at kept page front v rest h whole =
+    ap (λ (vs : List Visit). length (from_id v.id vs)) whole
+    ∙ ap length (from_here front v rest (subst Differ whole (differ kept page h))) ∙ omega arith
+
+left_of : (kept : Kept) (page : PageId) (front rest : List Visit) → IsWellKept kept
+    → page_visits kept page ≡ front ++ rest → left kept page (first_id rest) ≡ length rest
+unfolding left
+left_of kept page front [] h whole = refl
+left_of kept page front (v ∷ rest) h whole = left_at kept page front v rest h whole ∙ omega arith
+
+pub walk_nears : (kept : Kept) (page : PageId) (P : List Visit → Type 0) (now : Option VisitId) (id : VisitId)
+    (next : Option VisitId) → IsWellKept kept → IsVisitHere kept page P id → now ≡ Some id
+    → next ≡ older_visit kept id → left kept page next < left kept page now
+walk_nears kept page P now id next h w at older =
+    omega (
+      arith,
+      ap (left kept page) (older ∙ older_here kept page P id h w),
+      left_of kept page (w.front ++ w.visit ∷ []) w.rest h (w.whole ∙ sym (append_assoc w.front (w.visit ∷ []) w.rest)),
+      ap (left kept page) (at ∙ ap (λ (i : VisitId). Some i) (sym w.is)),
+      left_at kept page w.front w.visit w.rest h w.whole,
+    )
+
+-- ---- the sample
+
+-- so many visits were sampled
+abbrev pub AreSampled : Store → List Sampled → ℕ → List Visit → Type 0
+AreSampled store sample count front = (sample ≡ map (sampled_of store) front) × (length front ≡ count)
+
+pub sampled_more : (store : Store) (sample more : List Sampled) (seen : Sampled) (count : ℕ) (front : List Visit)
+    (v : Visit) → AreSampled store sample count front → seen ≡ sampled_of store v → more ≡ sample ++ seen ∷ []
+    → AreSampled store more (count + 1) (front ++ v ∷ [])
+sampled_more store sample more seen count front v are is pushed = (
+  pushed ∙ ap (λ (ss : List Sampled). ss ++ seen ∷ []) are.0
+      ∙ ap (λ (s : Sampled). map (sampled_of store) front ++ s ∷ []) is
+      ∙ sym (map_push (sampled_of store) front v),
+  omega (arith, length-append front (v ∷ []), are.1),
+)
 
 -- ten were sampled
 pub sampled_ten : (kept : Kept) (page : PageId) (count : ℕ) (sample : List Sampled) (next : Option VisitId)
-    → VisitWalk kept page count sample next → count ≡ 10 → sample ≡ map sampled_visit (take 10 (page_visits kept page))
+    → VisitWalk kept page (AreSampled (store_of kept) sample count) next → count ≡ 10
+    → sample ≡ map (sampled_of (store_of kept)) (take 10 (page_visits kept page))
 sampled_ten kept page count sample next w ten =
-    let whole : length w.front ≡ 10 = omega (arith, w.counted) in
-    w.sampled ∙ ap (map sampled_visit)
+    let whole : length w.front ≡ 10 = omega (arith, w.so_far.1) in
+    w.so_far.0 ∙ ap (map (sampled_of (store_of kept)))
     (sym (ap (take 10) w.whole ∙ take-append-le 10 w.front w.rest (omega arith)
     ∙ take_all 10 w.front (omega arith)))
 
 -- or all, where these are fewer
 pub sampled_all : (kept : Kept) (page : PageId) (count : ℕ) (sample : List Sampled) (next : Option VisitId)
-    → VisitWalk kept page count sample next → count ≤ 10 → ((id : VisitId) → next ≢ Some id)
-    → sample ≡ map sampled_visit (take 10 (page_visits kept page))
-sampled_all kept page count sample next w few none = choose w.rest w.whole w.here
+    → VisitWalk kept page (AreSampled (store_of kept) sample count) next → count ≤ 10
+    → ((id : VisitId) → next ≢ Some id)
+    → sample ≡ map (sampled_of (store_of kept)) (take 10 (page_visits kept page))
+sampled_all kept page count sample next w few none =
+    let all : AreSampled (store_of kept) sample count (page_visits kept page) =
+    walk_ends kept page (AreSampled (store_of kept) sample count) next w none in
+    all.0 ∙ ap (map (sampled_of (store_of kept))) (sym (take_all 10 (page_visits kept page) (omega (arith, all.1))))
+
+-- ---- hidden pages
+
+-- none of the visits shows its page
+abbrev pub AllPassing : Store → List Visit → Type 0
+AllPassing store front = list_all (is_passing store) front ≡ true
+
+pub passing_more : (store : Store) (front : List Visit) (v : Visit) → AllPassing store front
+    → is_passing store v ≡ true → AllPassing store (front ++ v ∷ [])
+passing_more store front v all is =
+    list_all-append (is_passing store) front (v ∷ [])
+    ∙ and_from (list_all (is_passing store) front) (is_passing store v && true) all
+    (and_from (is_passing store v) true is refl)
+
+all_in_place : (p : Visit → Bool) (v : Visit) (ws : List Visit)
+    → list_all p (in_place v ws) ≡ (p v && list_all p ws)
+all_in_place p v [] = refl
+all_in_place p v (w ∷ ws) = choose (is_later v w) (all_in_place p v ws)
   where
-    choose : (rest : List Visit) → page_visits kept page ≡ w.front ++ rest → next ≡ first_id rest
-        → sample ≡ map sampled_visit (take 10 (page_visits kept page))
-    choose [] whole end =
-        w.sampled ∙ ap (map sampled_visit)
-        (sym (ap (take 10) (whole ∙ append-nil w.front) ∙ take_all 10 w.front (omega (arith, w.counted))))
-    choose (v ∷ vs) whole some = absurd (none v.id some)
+    swap : (a b c : Bool) → (a && (b && c)) ≡ (b && (a && c))
+    swap true true c = refl
+    swap true false c = refl
+    swap false true c = refl
+    swap false false c = refl
+
+    choose : (b : Bool) → list_all p (in_place v ws) ≡ (p v && list_all p ws)
+        → list_all p (if b then v ∷ w ∷ ws else w ∷ in_place v ws) ≡ (p v && (p w && list_all p ws))
+    choose true rest = refl
+    choose false rest = ap (λ (b : Bool). p w && b) rest ∙ swap (p w) (p v) (list_all p ws)
+
+all_latest_first : (p : Visit → Bool) (vs : List Visit) → list_all p (latest_first vs) ≡ list_all p vs
+all_latest_first p [] = refl
+all_latest_first p (v ∷ vs) =
+    all_in_place p v (latest_first vs) ∙ ap (λ (b : Bool). p v && b) (all_latest_first p vs)
+
+some_in_place : (v : Visit) (ws : List Visit) → is_some (first_id (in_place v ws)) ≡ true
+some_in_place v [] = refl
+some_in_place v (w ∷ ws) = choose (is_later v w)
+  where
+    choose : (b : Bool) → is_some (first_id (if b then v ∷ w ∷ ws else w ∷ in_place v ws)) ≡ true
+    choose true = refl
+    choose false = refl
+
+-- as `is_hidden` has it
+abbrev pub hidden_by : Store → List Visit → Bool
+hidden_by store [] = false
+hidden_by store (v ∷ vs) = list_all (λ w. is_passing store w) (v ∷ vs)
+
+hidden_latest : (store : Store) (vs : List Visit)
+    → hidden_by store vs ≡ (is_some (first_id (latest_first vs)) && list_all (is_passing store) (latest_first vs))
+hidden_latest store [] = refl
+hidden_latest store (v ∷ vs) =
+    sym (ap (λ (b : Bool). b && list_all (is_passing store) (latest_first (v ∷ vs)))
+    (some_in_place v (latest_first vs))
+    ∙ all_latest_first (is_passing store) (v ∷ vs))
+
+-- a page is hidden by its visits where there is a latest one, and none shows it
+hidden_if : (kept : Kept) (page : PageId) (hidden : Bool) (p : Page) → p.id ≡ page
+    → (is_some (first_id (page_visits kept page))
+    && list_all (is_passing (store_of kept)) (page_visits kept page)) ≡ hidden
+    → is_hidden (store_of kept) p ≡ (is_place_url p.url || hidden)
+hidden_if kept page hidden p same is =
+    ap (λ (i : PageId). is_place_url p.url || hidden_by (store_of kept) (visits_of (store_of kept) i)) same
+    ∙ ap (λ (b : Bool). is_place_url p.url || b)
+    (hidden_latest (store_of kept) (visits_of (store_of kept) page) ∙ is)
+
+and_end : (b : Bool) → (b && true) ≡ b
+and_end true = refl
+and_end false = refl
+
+pub hidden_at_end : (kept : Kept) (page : PageId) (latest next : Option VisitId) (p : Page) → p.id ≡ page
+    → latest ≡ first_id (page_visits kept page) → VisitWalk kept page (AllPassing (store_of kept)) next
+    → ((id : VisitId) → next ≢ Some id) → is_hidden (store_of kept) p ≡ (is_place_url p.url || is_some latest)
+hidden_at_end kept page latest next p same first w none =
+    hidden_if kept page (is_some latest) p same
+    (ap (λ (b : Bool). is_some (first_id (page_visits kept page)) && b)
+    (walk_ends kept page (AllPassing (store_of kept)) next w none)
+    ∙ and_end (is_some (first_id (page_visits kept page))) ∙ ap is_some (sym first))
+
+pub shown_here : (kept : Kept) (page : PageId) (id : VisitId) (p : Page) → p.id ≡ page
+    → (w : IsVisitHere kept page (AllPassing (store_of kept)) id) → is_passing (store_of kept) w.visit ≡ false
+    → is_hidden (store_of kept) p ≡ (is_place_url p.url || false)
+shown_here kept page id p same w shows =
+    hidden_if kept page false p same
+    (and_right (is_some (first_id (page_visits kept page)))
+    (list_all (is_passing (store_of kept)) (page_visits kept page))
+    (ap (list_all (is_passing (store_of kept))) w.whole
+    ∙ list_all-append (is_passing (store_of kept)) w.front (w.visit ∷ w.rest)
+    ∙ and_right (list_all (is_passing (store_of kept)) w.front)
+    (is_passing (store_of kept) w.visit && list_all (is_passing (store_of kept)) w.rest)
+    (and_left (is_passing (store_of kept) w.visit) (list_all (is_passing (store_of kept)) w.rest) shows)))

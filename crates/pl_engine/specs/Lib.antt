@@ -1,6 +1,6 @@
 pub mod Engine
 pub mod Parsed
+pub mod Refreshed
 pub mod Run
-pub mod Sampled
 pub mod Step
 pub mod Target

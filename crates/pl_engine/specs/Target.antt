@@ -1,27 +1,27 @@
 -- Where a visit goes, and what is known of the rows on the way.
-use Rattle.std.specs.Prelude.{◌≡◌, ◌≤◌, ◌<◌, ◌+◌, ◌&&◌, ◌||◌, ℕ, ℤ, pos, Bool}
-use Rattle.std.specs.Prelude.{true, false, List, Some, None, if◌then◌else◌}
+use Rattle.std.specs.Prelude.{◌≡◌, ◌≤◌, ◌<◌, ◌==◌, ℕ, ℤ, Bool, true, false, IsTrue}
+use Rattle.std.specs.Prelude.{List, [], ◌∷◌, Some, None}
+use Rattle.std.specs.List.{All}
 use Rattle.std.specs.Option.{option_map}
 use Rattle.std.specs.Result.{IsOkAnd}
 use Rattle.pl_base.specs.declared.id.PageId.{PageId}
-use Rattle.pl_base.specs.declared.row.Mark.{Mark}
 use Rattle.pl_base.specs.declared.row.VisitRow.{VisitRow}
-use Rattle.pl_base.specs.declared.transition.Transition.{Transition}
-use Rattle.pl_base.specs.Address.{record_of}
+use Rattle.pl_base.specs.Address.{is_place_url, record_of}
 use Rattle.pl_base.specs.Frecency.{frecency_of}
-use Rattle.pl_base.specs.Good.{end_of_ids}
+use Rattle.pl_base.specs.Good.{end_of_ids, is_visited}
 use Rattle.pl_base.specs.Live.{slot_limit}
-use Rattle.pl_base.specs.Marks.{is_counted, is_framed, is_typed}
-use Rattle.pl_base.specs.Rows.{Kept, IsOriginOf, IsWellKept, WithPageIn, has_page}
-use Rattle.pl_base.specs.Rows.{live_with_page, mark_of, page_at, store_of, with_mark, with_visit}
-use Rattle.pl_base.specs.Store.{Page}
+use Rattle.pl_base.specs.Rows.{IsOfVisits, IsOriginOf, Kept, KeptPage, WithPageIn, has_page}
+use Rattle.pl_base.specs.Rows.{live_with_page, store_of}
+use Rattle.pl_base.specs.Store.{Page, Store}
 use Rattle.pl_link.specs.declared.parts.Parts.{Parts}
 use Rattle.pl_link.specs.Parts.{ArePartsOf}
 use Rattle.pl_engine.specs.declared.engine.find.Target.{Target}
 use Rattle.pl_engine.specs.declared.engine.find.Target.TheVariants.{Known, New}
 use Rattle.pl_engine.specs.declared.reply.Reply.{Reply}
 use Rattle.pl_engine.specs.declared.reply.Reply.TheVariants.{Visit as VisitReply}
-use Rattle.pl_engine.specs.Step.{find_page}
+use Rattle.pl_engine.specs.Engine.{IsTypedRight}
+use Rattle.pl_engine.specs.Refreshed.{AreRightBut, HaveCounts}
+use Rattle.pl_engine.specs.Step.{find_page, visited_store}
 
 -- the parts are those of the URL
 abbrev pub HasParts : List ℕ → Parts → Type 0
@@ -33,11 +33,6 @@ IsTargetOf kept url (Known page) =
     option_map (λ (p : Page). p.id) (find_page url (store_of kept).pages) ≡ Some page
 IsTargetOf kept url (New origin) =
     (find_page url (store_of kept).pages ≡ None) × IsOriginOf kept url origin
-
--- the page stands there, if it is known
-abbrev pub IsKnownIn : Kept → Target → Type 0
-IsKnownIn kept (Known page) = has_page kept page ≡ true
-IsKnownIn kept (New origin) = Unit {0}
 
 -- no page has the URL yet
 abbrev pub is_new : Target → Bool
@@ -56,29 +51,21 @@ WithTarget url (Known known) old new page = (page ≡ known) × (new ≡ old)
 WithTarget url (New origin) old new page =
     (page.0 ≡ old.ids.page) × WithPageIn url origin old new
 
--- the mark of a page that no visit shows
-abbrev pub unvisited_mark : Mark
-unvisited_mark = record { frecency = pos 0; count = 0; typed = false; hidden = true }
+-- rows with the page of a visit, all right but for what is computed afresh of that page
+pub record IsReady (page : PageId) (is_place : Bool) (kept : Kept) : Type 0 where
+  pub there : has_page kept page ≡ true
+  pub place : All (λ (p : KeptPage). (p.page.id.0 == page.0) ≡ true
+      → is_place ≡ is_place_url p.page.url) kept.pages
+  pub of_visits : IsOfVisits (store_of kept)
+  pub counts : HaveCounts kept
+  pub right : AreRightBut (page ∷ []) kept
+  pub visited : All (λ (p : KeptPage). (p.page.id.0 == page.0) ≡ false
+      → IsTrue (is_visited (store_of kept) p.page.id)) kept.pages
+  pub typed : All (IsTypedRight kept) kept.pages
 
--- what is kept of the page before the visit. No visit shows a new one yet
-abbrev pub IsMarkBefore : Kept → Target → Mark → Type 0
-IsMarkBefore kept (Known page) mark = Some mark ≡ option_map mark_of (page_at kept page)
-IsMarkBefore kept (New origin) mark = mark ≡ unvisited_mark
-
--- a mark after a visit, but for the frecency
-abbrev pub visited_mark : Transition → Bool → Mark → Mark
-visited_mark transition is_place mark =
-    record mark {
-      count = mark.count + (if is_counted transition then 1 else 0);
-      typed = mark.typed || is_typed transition;
-      hidden = is_place || (is_framed transition && mark.hidden);
-    }
-
--- a visit more, and on its page this mark with the frecency from then on, which the reply tells
-pub record AddsVisit (row : VisitRow) (mark : Mark) (old new : Kept) (reply : Reply) : Type 0 where
+-- the store with the visit; the reply tells it, and the frecency of its page from then on
+pub record AddsVisit (row : VisitRow) (old new : Store) (reply : Reply) : Type 0 where
+  pub store : new ≡ visited_store row.page row.transition row.date row.source old
   pub frecency : ℤ
   pub tells : reply ≡ VisitReply (record { 0 = old.ids.visit }) row.page frecency
-  pub rows : new ≡ with_mark row.page (record mark { frecency = frecency }) (with_visit row old)
-  pub well_kept : IsWellKept (with_visit row old)
-  pub scored : (p : Page) → p.id ≡ row.page
-      → frecency ≡ frecency_of (store_of (with_visit row old)) p
+  pub scored : (p : Page) → p.id ≡ row.page → frecency ≡ frecency_of new p

@@ -78,7 +78,17 @@ impl<R: Rows + Drop> Engine<R> {
                 url,
                 transition,
                 date,
-            } => visit(alloc, &mut rows, limit, url, *transition, *date, steps)?,
+                source,
+            } => visit(
+                alloc,
+                &mut rows,
+                limit,
+                url,
+                *transition,
+                *date,
+                *source,
+                steps,
+            )?,
         };
         Ok((Engine { alloc, rows, limit }, reply))
     }

@@ -2,7 +2,7 @@
 ghost use Rattle.std.specs.Prelude.{◌≡◌, ◌&&◌, ℕ, List, Some, true, bytes_eq, IfOk};
 ghost use Rattle.std.specs.Option.{option_map};
 ghost use Rattle.pl_base.specs.Address as address;
-ghost use Rattle.pl_base.specs.Address.{is_store_url};
+ghost use Rattle.pl_base.specs.Address.{is_place_url, is_store_url};
 ghost use Rattle.pl_base.specs.Rows.{IsOriginOf, has_page, store_of, url_of};
 ghost use Rattle.pl_base.specs.Store.{Page};
 ghost use Rattle.pl_engine.specs.Step as spec;
@@ -70,6 +70,22 @@ fn parts_of(alloc: Global, url: &str) -> Result<Parts, NoMemory>
         Err(CanonError::NoMemory) => Err(NoMemory),
         Err(CanonError::BadUrl) => unreachable!(),
     }
+}
+
+/// Whether the page's URL is a query.
+pub fn is_place<R: Rows, L: Ledger>(
+    alloc: Global,
+    rows: &R,
+    page: PageId,
+    steps: &mut Steps<L>,
+) -> Result<bool, NoMemory>
+    requires { has_page (R.kept rows.now) page ≡ true }
+    ensures { IfOk result (λ place. Some place
+        ≡ option_map is_place_url (url_of (R.kept rows.now) page)) }
+{
+    let text = rows.url(page, steps)?;
+    let parts = parts_of(alloc, text.as_str())?;
+    Ok(parts.is_place)
 }
 
 fn have_same_origin(parts: &Parts, other: &Parts) -> bool

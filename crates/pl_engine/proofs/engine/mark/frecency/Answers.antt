@@ -1,12 +1,13 @@
 use Rattle.std.proofs.Common.{◌∙◌, rules, take, w64, false}
 use Rattle.std.proofs.lemmas.Int.{to_z-of_z}
-use Rattle.pl_base.specs.Rows.{page_visits}
+use Rattle.pl_base.specs.Rows.{page_visits, store_of}
 use Rattle.pl_engine.proofs.PageScore.{sample_filled, score_is, small_bonuses}
 use Rattle.pl_engine.proofs.engine.mark.frecency.Goals as goal
 
 pub score-requires-clause-bonuses : goal.score-requires-clause-bonuses
 score-requires-clause-bonuses g c =
-    small_bonuses (take 10 (page_visits (g.R.Rows.kept c.args.rows.now) c.args.page)) c.deref.result.now
+    small_bonuses (store_of (g.R.Rows.kept c.args.rows.now))
+    (take 10 (page_visits (g.R.Rows.kept c.args.rows.now) c.args.page)) c.deref.result.now
     (c.deref.ensures.value ∙ c.in_ok-sample.ensures)
 
 pub score-requires-clause-sampled : goal.score-requires-clause-sampled

@@ -1,35 +1,47 @@
-use Rattle.std.proofs.Common.{◌∙◌, sym, arith}
-use Rattle.pl_engine.proofs.VisitWalk.{has_visit-here, row_here, sample_starts}
-use Rattle.pl_engine.proofs.VisitWalk.{sampled_all, sampled_ten, visit_here, walk_samples}
+use Rattle.std.proofs.Common.{◌+◌, arith, refl}
+use Rattle.pl_base.specs.Rows.{Kept, store_of}
+use Rattle.pl_engine.proofs.VisitWalk.{AreSampled, IsVisitHere, at_here, has_here, sampled_all, sampled_more}
+use Rattle.pl_engine.proofs.VisitWalk.{sampled_ten, visit_here, walk_goes_on, walk_starts}
 use Rattle.pl_engine.proofs.engine.mark.sample.Goals as goal
 
 pub loop-init : goal.loop-init
 loop-init g c =
-    sample_starts (g.R.Rows.kept c.args.rows.now) c.args.page c.new-sample.result.items c.latest-next.result
-    c.new-sample.ensures.items c.latest-next.ensures.latest
+    walk_starts (g.R.Rows.kept c.args.rows.now) c.args.page
+    (AreSampled (store_of (g.R.Rows.kept c.args.rows.now)) c.new-sample.result.items 0) c.latest-next.result
+    c.latest-next.ensures.latest (c.new-sample.ensures.items, refl)
 
-pub unwrap-row-requires : goal.unwrap-row-requires
-unwrap-row-requires g c =
-    row_here (g.R.Rows.kept c.args.rows.now) c.args.page c.loop.counter c.loop.sample.items c.in-Some.visit
-    c.visit_at.result (g.met.R.Rows.well_kept c.args.rows.now)
-    (visit_here (g.R.Rows.kept c.args.rows.now) c.args.page c.loop.counter c.loop.sample.items c.loop.next
-    c.in-Some.visit c.loop.invariant c.in-Some.is) c.visit_at.ensures.row
+pub sampled-requires-clause-visit : goal.sampled-requires-clause-visit
+sampled-requires-clause-visit g c =
+    let kept : Kept = g.R.Rows.kept c.args.rows.now in
+    has_here kept c.args.page (AreSampled (store_of kept) c.loop.sample.items c.loop.counter) c.in-Some.visit
+    (g.met.R.Rows.well_kept c.args.rows.now)
+    (visit_here kept c.args.page (AreSampled (store_of kept) c.loop.sample.items c.loop.counter) c.loop.next
+    c.in-Some.visit c.loop.invariant c.in-Some.is)
 
 pub older-next-requires : goal.older-next-requires
 older-next-requires g c =
-    has_visit-here (g.R.Rows.kept c.args.rows.now) c.args.page c.loop.counter c.loop.sample.items c.in-Some.visit
-    (visit_here (g.R.Rows.kept c.args.rows.now) c.args.page c.loop.counter c.loop.sample.items c.loop.next
+    let kept : Kept = g.R.Rows.kept c.args.rows.now in
+    has_here kept c.args.page (AreSampled (store_of kept) c.loop.sample.items c.loop.counter) c.in-Some.visit
+    (g.met.R.Rows.well_kept c.args.rows.now)
+    (visit_here kept c.args.page (AreSampled (store_of kept) c.loop.sample.items c.loop.counter) c.loop.next
     c.in-Some.visit c.loop.invariant c.in-Some.is)
 
 pub loop-preserved : goal.loop-preserved
 loop-preserved g c =
-    walk_samples (g.R.Rows.kept c.args.rows.now) c.args.page c.loop.counter c.loop.sample.items c.push.new.self.items
-    c.in-Some.visit c.unwrap-row.result c.sampled.result c.older-next.result
-    (g.met.R.Rows.well_kept c.args.rows.now)
-    (visit_here (g.R.Rows.kept c.args.rows.now) c.args.page c.loop.counter c.loop.sample.items c.loop.next
-    c.in-Some.visit c.loop.invariant c.in-Some.is)
-    (sym c.unwrap-row.ensures ∙ c.visit_at.ensures.row) c.sampled.ensures c.in_ok-push.ensures.items
-    c.older-next.ensures.older
+    let kept : Kept = g.R.Rows.kept c.args.rows.now in
+    let w : IsVisitHere kept c.args.page (AreSampled (store_of kept) c.loop.sample.items c.loop.counter)
+    c.in-Some.visit =
+    visit_here kept c.args.page (AreSampled (store_of kept) c.loop.sample.items c.loop.counter) c.loop.next
+    c.in-Some.visit c.loop.invariant c.in-Some.is in
+    walk_goes_on kept c.args.page (AreSampled (store_of kept) c.loop.sample.items c.loop.counter)
+    (AreSampled (store_of kept) c.push.new.self.items (c.loop.counter + 1)) c.in-Some.visit c.older-next.result
+    (g.met.R.Rows.well_kept c.args.rows.now) w c.older-next.ensures.older
+    (sampled_more (store_of kept) c.loop.sample.items c.push.new.self.items c.sampled.result c.loop.counter w.front
+    w.visit w.so_far
+    (c.sampled.ensures w.visit
+    (at_here kept c.args.page (AreSampled (store_of kept) c.loop.sample.items c.loop.counter) c.in-Some.visit
+    (g.met.R.Rows.well_kept c.args.rows.now) w))
+    c.in_ok-push.ensures.items)
 
 pub returns-in_default : goal.returns-in_default
 returns-in_default g c =

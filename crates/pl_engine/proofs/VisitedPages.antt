@@ -1,0 +1,82 @@
+-- Pages that have a visit, and are typed where one was, once a page is visited.
+use Rattle.std.proofs.Common.{◌≡◌, ◌∙◌, ◌++◌, ◌==◌, ◌||◌, All, Bool, true, false}
+use Rattle.std.proofs.Common.{List, [], ◌∷◌, ap, eq-eqb}
+use Rattle.std.proofs.Common.{IsTrue, get_or, refl, subst, sym}
+use Rattle.std.specs.List.{list_any}
+use Rattle.std.proofs.lemmas.Bool.{eqb-true, false≢true}
+use Rattle.std.proofs.lemmas.List.Elements.{All-map, All-push}
+use Rattle.pl_base.specs.declared.id.PageId.{PageId}
+use Rattle.pl_base.specs.declared.row.Mark.{Mark}
+use Rattle.pl_base.specs.declared.row.VisitRow.{VisitRow}
+use Rattle.pl_base.specs.declared.transition.Transition.{Transition}
+use Rattle.pl_base.specs.declared.transition.Transition.TheVariants.{Typed}
+use Rattle.pl_base.specs.Good.{is_visited}
+use Rattle.pl_base.specs.Marks.{is_typed}
+use Rattle.pl_base.specs.Rows.{Kept, KeptPage}
+use Rattle.pl_base.specs.Rows.{next_visit, store_of, with_mark, with_visit}
+use Rattle.pl_base.specs.Store.{Page, Store, Visit}
+use Rattle.pl_engine.specs.Engine.{IsVisited}
+use Rattle.pl_engine.proofs.RightAfter.{each_marked, other_way}
+use Rattle.pl_base.proofs.ListLaws.{All-from_map, list_any_last, list_any_push}
+
+pub typed_by : (t : Transition) (b : Bool) → t ≡ Typed → (b || is_typed t) ≡ true
+typed_by t true is = refl
+typed_by t false is = ap is_typed is
+
+pub typed_still : (a b c : Bool) → a ≡ b → a ≡ true → (b || c) ≡ true
+typed_still a b c same is = ap (λ (x : Bool). x || c) (sym same ∙ is)
+
+-- a page is typed where a visit to it was
+abbrev IsTypedBy : List Visit → KeptPage → Type 0
+IsTypedBy visits p = All (λ (v : Visit). v.page ≡ p.page.id → v.transition ≡ Typed → IsTrue p.page.typed) visits
+
+pub visited_after : (old : Kept) (row : VisitRow) (mark : Mark) → (row.transition ≡ Typed → IsTrue mark.typed)
+    → All (λ (p : KeptPage). (p.page.id.0 == row.page.0) ≡ true → IsTrue p.page.typed → IsTrue mark.typed) old.pages
+    → All (λ (p : KeptPage). (p.page.id.0 == row.page.0) ≡ false → IsTrue (is_visited (store_of old) p.page.id))
+    old.pages → All (IsTypedBy old.visits) old.pages → IsVisited (with_mark row.page mark (with_visit row old))
+visited_after old row mark by_visit stays others typed =
+    let v : Visit = next_visit row old in
+    let visits : List Visit = old.visits ++ v ∷ [] in
+    record {
+      visited =
+          each_marked (λ (p : KeptPage). IsTrue (list_any (λ (w : Visit). w.page.0 == p.page.id.0) visits)) row.page
+          mark old.pages
+          (λ k d within same.
+          let id : PageId = (get_or old.pages k d).page.id in
+          list_any_last (λ (w : Visit). w.page.0 == id.0) old.visits v
+          (eq-eqb row.page.0 id.0 (sym (eqb-true id.0 row.page.0 same))))
+          (λ k d within other.
+          let id : PageId = (get_or old.pages k d).page.id in
+          list_any_push (λ (w : Visit). w.page.0 == id.0) old.visits v (others k d within other));
+      typed =
+          each_marked (IsTypedBy visits) row.page mark old.pages
+          (λ k d within same.
+          let p : KeptPage = get_or old.pages k d in
+          All-push (λ (w : Visit). w.page ≡ p.page.id → w.transition ≡ Typed → IsTrue mark.typed) old.visits v
+          (λ j e inside of by. stays k d within same (typed k d within j e inside of by))
+          (λ _ by. by_visit by))
+          (λ k d within other.
+          let p : KeptPage = get_or old.pages k d in
+          All-push (λ (w : Visit). w.page ≡ p.page.id → w.transition ≡ Typed → IsTrue p.page.typed) old.visits v
+          (typed k d within)
+          (λ of by. absurd (false≢true
+          (sym (other_way p.page.id row.page other)
+          ∙ eq-eqb row.page.0 p.page.id.0 (ap (λ (i : PageId). i.0) of)))));
+    }
+
+-- the same store has the same visits and typed pages
+pub visited_alike : (old new : Kept) → store_of new ≡ store_of old → IsVisited old → IsVisited new
+visited_alike old new same v =
+    let Visited : Store → Page → Type 0 = λ (s : Store) (p : Page). IsTrue (is_visited s p.id) in
+    let Typed_right : Store → Page → Type 0 =
+    λ (s : Store) (p : Page). All (λ (w : Visit). w.page ≡ p.id → w.transition ≡ Typed → IsTrue p.typed) s.visits in
+    record {
+      visited =
+          All-from_map (Visited (store_of new)) (λ (p : KeptPage). p.page) new.pages
+          (subst (λ (s : Store). All (Visited s) s.pages) (sym same)
+          (All-map (Visited (store_of old)) (λ (p : KeptPage). p.page) old.pages v.visited));
+      typed =
+          All-from_map (Typed_right (store_of new)) (λ (p : KeptPage). p.page) new.pages
+          (subst (λ (s : Store). All (Typed_right s) s.pages) (sym same)
+          (All-map (Typed_right (store_of old)) (λ (p : KeptPage). p.page) old.pages v.typed));
+    }
