@@ -17,12 +17,12 @@ abbrev pub after_write : CallCounts → ℕ → CallCounts
 after_write counts len = record counts { written = counts.written + len }
 
 -- after a call of the file that failed
-abbrev pub after_failed_call : CallCounts → CallCounts
-after_failed_call counts = record counts { device_faults = next_count counts.device_faults }
+abbrev pub after_device_fault : CallCounts → CallCounts
+after_device_fault counts = record counts { device_faults = next_count counts.device_faults }
 
 -- after a call of `say` that failed
-abbrev pub after_failed_say : CallCounts → CallCounts
-after_failed_say counts = record counts { line_faults = next_count counts.line_faults }
+abbrev pub after_line_fault : CallCounts → CallCounts
+after_line_fault counts = record counts { line_faults = next_count counts.line_faults }
 
 -- the counts of a desk over a file, and whether a sync of the file failed
 pub record FileState : Type 0 where
@@ -35,7 +35,7 @@ new_file = record { counts = no_calls; is_in_doubt = false }
 
 -- after a call of the file that failed, other than a sync
 abbrev pub after_failed_access : FileState → FileState
-after_failed_access desk = record desk { counts = after_failed_call desk.counts }
+after_failed_access desk = record desk { counts = after_device_fault desk.counts }
 
 -- ---- what the desk does not tell
 

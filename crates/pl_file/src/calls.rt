@@ -1,7 +1,7 @@
 ghost use Rattle.std.specs.Prelude.{◌≡◌, ◌↔◌, ℕ, ◌≤◌, ◌+◌, Ok, OnOk, OnErr, IfOk, IsErr, IsTrue};
 ghost use Rattle.std.specs.Prelude.{◌<◌};
 ghost use Rattle.pl_desk.specs.Counts.{Rose, last_count};
-ghost use Rattle.pl_file.specs.Calls.{no_calls, after_write, after_failed_call, after_failed_say};
+ghost use Rattle.pl_file.specs.Calls.{no_calls, after_write, after_device_fault, after_line_fault};
 
 use pl_desk::Failed;
 use std::io;
@@ -50,7 +50,7 @@ impl Calls {
         ensures fails { IsErr result ↔ IsErr answer }
         ensures same { (value : T) → result ≡ Ok value → answer ≡ Ok value }
         ensures after { OnOk result (self.new ≡ self.old) }
-        ensures after_failed { OnErr result (self.new ≡ after_failed_call self.old) }
+        ensures after_failed { OnErr result (self.new ≡ after_device_fault self.old) }
         ensures cause { OnErr result (Rose self.old.device_faults self.new.device_faults) }
         ensures counted { self.old.device_faults ≤ self.new.device_faults }
     {
@@ -68,7 +68,7 @@ impl Calls {
         requires { self.old.written + len ≤ last_count }
         ensures fails { IsErr result ↔ IsErr answer }
         ensures after { OnOk result (self.new ≡ after_write self.old len) }
-        ensures after_failed { OnErr result (self.new ≡ after_failed_call self.old) }
+        ensures after_failed { OnErr result (self.new ≡ after_device_fault self.old) }
         ensures cause { OnErr result (Rose self.old.device_faults self.new.device_faults) }
         ensures counted { self.old.device_faults ≤ self.new.device_faults }
     {
@@ -82,7 +82,7 @@ impl Calls {
         ensures same { IfOk result (λ n. (0 < n) × (answer ≡ Ok n)) }
         ensures taken { (n : ℕ) → 0 < n → answer ≡ Ok n → result ≡ Ok n }
         ensures after { OnOk result (self.new ≡ self.old) }
-        ensures after_failed { OnErr result (self.new ≡ after_failed_say self.old) }
+        ensures after_failed { OnErr result (self.new ≡ after_line_fault self.old) }
         ensures cause { OnErr result (Rose self.old.line_faults self.new.line_faults) }
         ensures counted { self.old.line_faults ≤ self.new.line_faults }
     {

@@ -6,7 +6,7 @@ ghost use Rattle.std.proofs.lemmas.Option.{none-some};
 ghost use Rattle.pl_desk.specs.Desk.{last_offset, overwritten, Torn, Follows, Only, Shows};
 ghost use Rattle.pl_desk.specs.Desk.{ShowsSaying, said_by, Elapses};
 ghost use Rattle.pl_desk.specs.Counts.{Counts, Writes};
-ghost use Rattle.pl_file.specs.Calls.{new_file, after_write, after_failed_call, after_failed_say};
+ghost use Rattle.pl_file.specs.Calls.{new_file, after_write, after_device_fault, after_line_fault};
 ghost use Rattle.pl_file.specs.Calls.{after_failed_access, untold, AnyFile, AnyShown};
 
 use crate::calls::Calls;
@@ -152,7 +152,7 @@ impl<R: Files<File = File> + Print + AllocGlobal> Desk for FileDesk<'_, R> {
         ensures refused { IsTrue self.old.is_in_doubt → IsErr result }
         ensures doubt { IsTrue self.new.is_in_doubt ↔ IsErr result }
         ensures after { OnOk result (self.new.counts ≡ self.old.counts) }
-        ensures after_failed { OnErr result (self.new.counts ≡ after_failed_call self.old.counts) }
+        ensures after_failed { OnErr result (self.new.counts ≡ after_device_fault self.old.counts) }
 
         // What each desk promises.
         ensures durable { OnOk result
@@ -170,7 +170,7 @@ impl<R: Files<File = File> + Print + AllocGlobal> Desk for FileDesk<'_, R> {
 
     fn say(&mut self, bytes: &[u8]) -> Result<usize, Failed>
         ensures after { OnOk result (self.new ≡ self.old) }
-        ensures after_failed { OnErr result (self.new.counts ≡ after_failed_say self.old.counts) }
+        ensures after_failed { OnErr result (self.new.counts ≡ after_line_fault self.old.counts) }
         ensures doubt { self.new.is_in_doubt ≡ self.old.is_in_doubt }
 
         // What each desk promises.

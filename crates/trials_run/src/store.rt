@@ -78,8 +78,8 @@ fn perform(
     Ok((session, reply))
 }
 
-// What an engine answers to the first visit over rows that have given all ids of pages.
-fn without_page_ids<L: Ledger>(alloc: Global, blank: Blank) -> Result<Reply, Fail>
+// An engine over rows that have given all ids of pages refuses the first visit.
+fn expect_no_page_ids<L: Ledger>(rt: &impl Abort, alloc: Global, blank: Blank) -> Result<(), Fail>
     requires name { blank.name ≡ L.name }
     requires parts { blank.parts ≡ L.parts }
     requires some { 0 < blank.parts }
@@ -90,7 +90,8 @@ fn without_page_ids<L: Ledger>(alloc: Global, blank: Blank) -> Result<Reply, Fai
     };
     let engine = Engine::over(alloc, Flat::with_ids(alloc, ids)?, SLOT_LIMIT)?;
     let (_, reply) = engine.apply(&first(alloc)?, &mut Steps::<L>::none(blank))?;
-    Ok(reply)
+    assert_eq!(rt; reply, Reply::Refused(Refusal::NoIds(IdKind::Page)));
+    Ok(())
 }
 
 // A new store takes 6 slots. The visit adds an origin, a page, a slot for its URL and itself.
@@ -102,8 +103,7 @@ fn a_store_in_memory_answers(rt: HostRuntime) -> Result<(), Fail> {
     assert_eq!(rt; reply, Reply::Refused(Refusal::Full(10)));
     let (_, reply) = Memory::opening(alloc, 10)?.step(&first(alloc)?)?;
     assert_eq!(rt; reply, FIRST_REPLY);
-    let reply = without_page_ids::<Brand>(alloc, Blank::new(1))?;
-    assert_eq!(rt; reply, Reply::Refused(Refusal::NoIds(IdKind::Page)));
+    expect_no_page_ids::<Brand>(&rt, alloc, Blank::new(1))?;
     let memory = Memory::opening(alloc, SLOT_LIMIT)?;
     let (memory, reply) = memory.step(&first(alloc)?)?;
     assert_eq!(rt; reply, FIRST_REPLY);

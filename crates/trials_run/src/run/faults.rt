@@ -1,6 +1,7 @@
 // A call of the outside that fails, for each number of a call until a run meets none.
+use super::in_memory;
 use pl_desk::{MemDesk, MemSource};
-use places::{Status, run};
+use places::Status;
 use std::test::Fail;
 
 // 40 bytes, whose lines end at 29, 30, 35 and 39.
@@ -28,7 +29,7 @@ fn stops_at_a_read_that_fails(rt: HostRuntime) -> Result<(), Fail> {
     for (call, ends, said) in READS {
         let mut input = MemSource::over(alloc, SCRIPT, 10, &[*call])?;
         let mut desk = MemDesk::holding(alloc, &[], &[])?;
-        let status = run(alloc, &["try"], &mut input, &mut desk);
+        let status = in_memory(alloc, &["try"], &mut input, &mut desk);
         assert_eq!(rt; status, *ends, "call {call}");
         assert_eq!(rt; desk.said(), *said, "call {call}");
     }
@@ -48,7 +49,7 @@ fn stops_at_a_say_that_fails(rt: HostRuntime) -> Result<(), Fail> {
     for (call, ends, said) in SAYS {
         let mut input = MemSource::over(alloc, SCRIPT, 64, &[])?;
         let mut desk = MemDesk::holding(alloc, &[], &[*call])?;
-        let status = run(alloc, &["try"], &mut input, &mut desk);
+        let status = in_memory(alloc, &["try"], &mut input, &mut desk);
         assert_eq!(rt; status, *ends, "call {call}");
         assert_eq!(rt; desk.said(), *said, "call {call}");
     }

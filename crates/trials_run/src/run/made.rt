@@ -12,6 +12,7 @@ ghost use Rattle.places.specs.Ending.{made_text};
 ghost use Rattle.places.specs.Said.{texts};
 ghost use Rattle.trials_run.specs.Again.{GoesOn};
 
+use super::in_memory;
 use pl_desk::{Desk, MemDesk, MemSource, Source};
 use places::{Status, run};
 use std::alloc::Global;
@@ -99,16 +100,12 @@ fn goes_on_behind_a_fault(rt: HostRuntime) -> Result<(), Fail> {
     let alloc = rt.alloc();
     let mut nothing = MemSource::over(alloc, b"", 7, &[])?;
     let mut made = MemDesk::holding(alloc, &[], &[])?;
-    assert_eq!(rt;
-        run(alloc, &["new", "s"], &mut nothing, &mut made),
-        Status::Done
-    );
+    let status = in_memory(alloc, &["new", "s"], &mut nothing, &mut made);
+    assert_eq!(rt; status, Status::Done);
     let mut visit = MemSource::over(alloc, b"visit\thttps://a.example/\t2\t0\n", 7, &[])?;
     let mut desk = MemDesk::holding(alloc, made.bytes(), &[])?;
-    assert_eq!(rt;
-        run(alloc, &["run", "s"], &mut visit, &mut desk),
-        Status::Done
-    );
+    let status = in_memory(alloc, &["run", "s"], &mut visit, &mut desk);
+    assert_eq!(rt; status, Status::Done);
     let calls = desk.calls();
     assert!(rt; calls > BEHIND_THE_SET_GATE);
     // The first sync of the opening, and the one that sets the gate, which leaves the first visit

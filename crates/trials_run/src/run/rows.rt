@@ -1,7 +1,7 @@
 // Worked rows of whole scripts.
-use super::{expect_said, tried};
+use super::{expect_said, in_memory, tried};
 use pl_desk::{MemDesk, MemSource};
-use places::{Status, run};
+use places::Status;
 use std::test::Fail;
 
 const ROWS: &[(&[u8], &[u8])] = &[
@@ -95,7 +95,8 @@ fn refuses_other_words(rt: HostRuntime) -> Result<(), Fail> {
     for words in OTHER_WORDS {
         let mut input = MemSource::over(alloc, b"visit", 1, &[])?;
         let mut desk = MemDesk::holding(alloc, &[], &[])?;
-        assert_eq!(rt; run(alloc, words, &mut input, &mut desk), Status::Usage);
+        let status = in_memory(alloc, words, &mut input, &mut desk);
+        assert_eq!(rt; status, Status::Usage);
         assert_eq!(rt; desk.calls(), 0);
     }
     Ok(())

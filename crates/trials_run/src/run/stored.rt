@@ -1,9 +1,10 @@
 // A store in a file: its words, faults of the device, and a stop of the machine in each call.
 ghost use Rattle.std.specs.Prelude.{◌<◌};
 
+use super::in_memory;
 use pl_base::NoMemory;
 use pl_desk::{MemDesk, MemSource};
-use places::{Status, run};
+use places::Status;
 use std::alloc::Global;
 use std::process::Abort;
 use std::test::Fail;
@@ -29,14 +30,12 @@ const BEGUN: [usize; 3] = [0, 1, 43];
 // What a stop leaves in the bytes that may hold anything.
 const FILLERS: [u8; 3] = [0, 1, 255];
 
-fn run_on(
-    alloc: Global,
-    words: &[&str],
-    script: &[u8],
-    desk: &mut MemDesk,
-) -> Result<Status, NoMemory> {
-    let mut input = MemSource::over(alloc, script, 64, &[])?;
-    Ok(run(alloc, words, &mut input, desk))
+// How a run on the desk ends.
+fn run_on(alloc: Global, words: &[&str], script: &[u8], desk: &mut MemDesk) -> Status {
+    match MemSource::over(alloc, script, 64, &[]) {
+        Ok(mut input) => in_memory(alloc, words, &mut input, desk),
+        Err(NoMemory) => Status::NoMemory,
+    }
 }
 
 // A desk with these bytes, on which nothing was said yet.
@@ -46,7 +45,7 @@ fn copied(alloc: Global, desk: &MemDesk, fails: &[u32]) -> Result<MemDesk, NoMem
 
 fn new_store(rt: &impl Abort, alloc: Global, fails: &[u32]) -> Result<MemDesk, NoMemory> {
     let mut desk = MemDesk::holding(alloc, &[], &[])?;
-    let status = run_on(alloc, &["new", "s"], b"", &mut desk)?;
+    let status = run_on(alloc, &["new", "s"], b"", &mut desk);
     assert_eq!(rt; status, Status::Done);
     assert_eq!(rt; desk.said(), b"new\n".as_slice());
     copied(alloc, &desk, fails)
@@ -63,7 +62,7 @@ fn answers_by_its_words(rt: HostRuntime) -> Result<(), Fail> {
     let alloc = rt.alloc();
     for (words, bytes, ends) in WORDS {
         let mut desk = MemDesk::holding(alloc, bytes, &[])?;
-        let status = run_on(alloc, words, SCRIPT, &mut desk)?;
+        let status = run_on(alloc, words, SCRIPT, &mut desk);
         assert_eq!(rt; status, *ends);
         assert_eq!(rt; desk.said(), b"".as_slice());
         assert_eq!(rt; desk.bytes(), *bytes);
@@ -75,11 +74,11 @@ fn answers_by_its_words(rt: HostRuntime) -> Result<(), Fail> {
 fn keeps_what_it_acknowledged(rt: HostRuntime) -> Result<(), Fail> {
     let alloc = rt.alloc();
     let mut desk = new_store(&rt, alloc, &[])?;
-    let status = run_on(alloc, &["run", "s"], SCRIPT, &mut desk)?;
+    let status = run_on(alloc, &["run", "s"], SCRIPT, &mut desk);
     assert_eq!(rt; status, Status::Done);
     assert_eq!(rt; desk.said(), SAID);
     let mut again = copied(alloc, &desk, &[])?;
-    let status = run_on(alloc, &["run", "s"], ONE_MORE, &mut again)?;
+    let status = run_on(alloc, &["run", "s"], ONE_MORE, &mut again);
     assert_eq!(rt; status, Status::Done);
     assert_eq!(rt; again.said(), HELD[2]);
     Ok(())
@@ -92,7 +91,7 @@ fn expect_held(
     desk: &mut MemDesk,
     begun: usize,
 ) -> Result<(), NoMemory> {
-    let status = run_on(alloc, &["run", "s"], ONE_MORE, desk)?;
+    let status = run_on(alloc, &["run", "s"], ONE_MORE, desk);
     assert_eq!(rt; status, Status::Done);
     let fewest = BEGUN.iter().filter(|least| **least <= begun).count();
     let held = HELD.iter().position(|text| *text == desk.said());
@@ -108,7 +107,7 @@ fn expect_held(
 fn a_stop_leaves_what_was_answered(rt: HostRuntime) -> Result<(), Fail> {
     let alloc = rt.alloc();
     let mut desk = new_store(&rt, alloc, &[])?;
-    run_on(alloc, &["run", "s"], SCRIPT, &mut desk)?;
+    run_on(alloc, &["run", "s"], SCRIPT, &mut desk);
     for call in 0..desk.calls() {
         for filler in FILLERS {
             let begun = desk.said_at(call);
@@ -128,11 +127,11 @@ fn a_read_that_fails_leaves_the_lines_before_it(rt: HostRuntime) -> Result<(), F
     for (call, said, held) in cases {
         let mut desk = new_store(&rt, alloc, &[])?;
         let mut input = MemSource::over(alloc, SCRIPT, 40, &[call])?;
-        let status = run(alloc, &["run", "s"], &mut input, &mut desk);
+        let status = in_memory(alloc, &["run", "s"], &mut input, &mut desk);
         assert_eq!(rt; status, Status::ReadFault, "read {call}");
         assert_eq!(rt; Some(desk.said()), SAID.get(..said));
         let mut again = copied(alloc, &desk, &[])?;
-        let status = run_on(alloc, &["run", "s"], ONE_MORE, &mut again)?;
+        let status = run_on(alloc, &["run", "s"], ONE_MORE, &mut again);
         assert_eq!(rt; status, Status::Done);
         assert_eq!(rt; again.said(), held);
     }
@@ -142,7 +141,7 @@ fn a_read_that_fails_leaves_the_lines_before_it(rt: HostRuntime) -> Result<(), F
 // How a run ends whose call of the desk with this number fails.
 fn failed(rt: &impl Abort, alloc: Global, call: u32) -> Result<Status, NoMemory> {
     let mut desk = new_store(rt, alloc, &[call])?;
-    let status = run_on(alloc, &["run", "s"], SCRIPT, &mut desk)?;
+    let status = run_on(alloc, &["run", "s"], SCRIPT, &mut desk);
     let begun = desk.said().len();
     let mut again = copied(alloc, &desk, &[])?;
     expect_held(rt, alloc, &mut again, begun)?;
@@ -173,10 +172,10 @@ fn stops_at_a_call_of_the_desk_that_fails(rt: HostRuntime) -> Result<(), Fail> {
 fn makes_no_store_where_the_device_fails(rt: HostRuntime) -> Result<(), Fail> {
     let alloc = rt.alloc();
     let mut whole = MemDesk::holding(alloc, &[], &[])?;
-    run_on(alloc, &["new", "s"], b"", &mut whole)?;
+    run_on(alloc, &["new", "s"], b"", &mut whole);
     for call in 0..whole.calls() {
         let mut desk = MemDesk::holding(alloc, &[], &[call])?;
-        let status = run_on(alloc, &["new", "s"], b"", &mut desk)?;
+        let status = run_on(alloc, &["new", "s"], b"", &mut desk);
         let is_last = call + 1 == whole.calls();
         let ends = if is_last {
             Status::SayFault
