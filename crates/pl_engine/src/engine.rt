@@ -59,6 +59,7 @@ impl<R: Rows + Drop> Engine<R> {
             ≡ spec.perform self.limit (store_of (R.kept self.rows)) command.now) }
         ensures refused { IfOk result (λ done. (refusal : Refusal)
             → done.1 ≡ Reply.Refused refusal → done.0.rows ≡ self.rows) }
+        ensures right { IfOk result (λ done. IsRight (R.kept done.0.rows)) }
         ensures base { IfOk result (λ done. (bytes : List ℕ)
             → R.base self.rows bytes → R.base done.0.rows bytes) }
         ensures stands { IfOk result (λ done.
