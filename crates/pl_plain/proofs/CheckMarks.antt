@@ -1,14 +1,16 @@
 -- The marks of a page of a file's rows.
 use Rattle.std.proofs.Common.{◌≡◌, ◌∙◌, ℕ, ◌<◌, ◌≤◌, ◌==◌, ◌&&◌, ◌||◌, List, [], ◌∷◌, length, map, filter, All}
-use Rattle.std.proofs.Common.{arith, ap, Bool, true, false, sym, if◌then◌else◌}
+use Rattle.std.proofs.Common.{arith, ap, Bool, true, false, find, refl, sym, if◌then◌else◌, Option, Some, None}
 use Rattle.std.specs.List.{list_all, list_any}
+use Rattle.std.specs.Option.{option_map}
 use Rattle.std.proofs.lemmas.List.{length-map, length-take}
 use Rattle.std.proofs.lemmas.List.Folds.{list_all-map}
 use Rattle.std.proofs.lemmas.List.Sums.{length-filter}
 use Rattle.pl_base.specs.declared.id.PageId.{PageId}
+use Rattle.pl_base.specs.declared.id.VisitId.{VisitId}
 use Rattle.pl_base.specs.Address.{is_place_url}
 use Rattle.pl_base.specs.Marks.{visit_count, is_counted, is_framed, is_hidden}
-use Rattle.pl_base.specs.Redirects.{is_redirect_source}
+use Rattle.pl_base.specs.Redirects.{is_redirect, is_redirect_source, source_transition}
 use Rattle.pl_base.specs.Store.{Store, Visit}
 use Rattle.pl_base.specs.Tables.{greatest_bonus}
 use Rattle.pl_base.specs.Visits.{sample_of, latest_first, visits_of, sample_size}
@@ -21,6 +23,7 @@ use Rattle.pl_form.specs.declared.stored.StoredPage.{StoredPage}
 use Rattle.pl_form.specs.declared.stored.StoredVisit.{StoredVisit}
 use Rattle.pl_form.specs.Stored.{Stored, stored_page, stored_store, visit_of}
 use Rattle.pl_plain.proofs.CheckSamples.{of_page, visits_of-rows}
+use Rattle.pl_plain.proofs.Lookups.{find-map}
 
 -- ---- the sample
 
@@ -99,3 +102,19 @@ pub hidden-unseen : (rows : Stored) (p : StoredPage)
 hidden-unseen rows p some place =
     ap (λ b. b || are_unseen (stored_store rows) (filter (of_page p.id) rows.visits)) place
     ∙ sym (hidden-is rows p some)
+
+-- ---- what a redirect came from
+
+pub redirect_source : (rows : Stored) (v : StoredVisit) (id : VisitId) → is_redirect v.transition ≡ true
+    → v.source ≡ Some id
+    → option_map (λ (w : StoredVisit). w.transition) (find (λ (w : StoredVisit). w.id.0 == id.0) rows.visits)
+    ≡ source_transition (stored_store rows) (visit_of v)
+redirect_source rows v id redirect from =
+    rw (redirect, from, find-map (λ (w : Visit). w.id.0 == id.0) visit_of rows.visits)
+    (either (find (λ (w : StoredVisit). w.id.0 == id.0) rows.visits))
+  where
+    either : (found : Option StoredVisit)
+        → option_map (λ (w : StoredVisit). w.transition) found
+        ≡ option_map (λ (w : Visit). w.transition) (option_map visit_of found)
+    either None = refl
+    either (Some w) = refl
