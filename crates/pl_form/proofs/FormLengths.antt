@@ -112,4 +112,4 @@ length-in_pages plain =
 -- no store's file is longer than the longest
 pub stands_within : (bytes : List ℕ) (store : Store) → StandsFor bytes store
     → 2 + filled_pages (length (plain_bytes (store_rows store))) ≤ most_pages
-stands_within bytes store stands = omega (arith, store_within store stands.of_visits.no_item, stands.live)
+stands_within bytes store stands = omega (arith, store_within store stands.of_visits, stands.live)

@@ -1,5 +1,5 @@
 -- Readers one after another.
-use Rattle.std.proofs.Common.{◌≡◌, ◌∙◌, ℕ, List, [], ◌++◌, Ok, Err, sym, ap, refl, append_assoc}
+use Rattle.std.proofs.Common.{◌≡◌, ◌∙◌, ℕ, List, [], ◌++◌, Ok, Err, sym, ap, refl, append-nil, append_assoc}
 use Rattle.pl_form.specs.declared.check_error.CheckError.{CheckError}
 use Rattle.pl_form.specs.Reading.{Reads}
 
@@ -33,6 +33,18 @@ further {front = front} piece IsPiece field rest after a fits here read =
           read.whole (field x) (rest x ++ others) (fits x one)
           (before.1 ∙ append_assoc (piece (field x)) (rest x) others) in
           ((before.0, next.0), next.1);
+    }
+
+-- the last piece, with nothing behind it
+pub to_last : {X : Type 0} {form : X → List ℕ} {IsOne : X → Type 0} {bytes front left : List ℕ} {Same : X → Type 0}
+    {rest : X → List ℕ} → Reached form IsOne bytes front left Same rest
+    → Reached form IsOne bytes front left Same (λ x. rest x ++ [])
+to_last {rest = rest} here =
+    record {
+      begins = here.begins;
+      at = λ x others one begins.
+          let before = here.at x others one begins in
+          (before.0, before.1 ∙ ap (λ l. l ++ others) (sym (append-nil (rest x))));
     }
 
 -- where a piece was not read, no value is

@@ -1,5 +1,5 @@
 -- Bytes hold the rows of at most one store.
-use Rattle.std.proofs.Common.{◌≡◌, ◌∙◌, ◌+◌, ℕ, ℤ, List, [], ◌∷◌, ◌++◌, All, Bool, true, false, Option}
+use Rattle.std.proofs.Common.{◌≡◌, ◌∙◌, ◌+◌, ℕ, ℤ, List, [], ◌∷◌, ◌++◌, All, true, false, Option}
 use Rattle.std.proofs.Common.{Some, None, length, sym, ap, refl, arith, append_assoc, w32, w64}
 use Rattle.std.specs.Int.{cast_signed, cast_unsigned, from_le_bytes}
 use Rattle.std.specs.List.{flat_map}
@@ -13,19 +13,22 @@ use Rattle.pl_base.specs.declared.id.VisitId.{VisitId}
 use Rattle.pl_base.specs.declared.transition.Transition.{Transition}
 use Rattle.pl_base.specs.declared.transition.Transition.TheVariants.{Link, Typed, Bookmark, Embed, RedirectPermanent}
 use Rattle.pl_base.specs.declared.transition.Transition.TheVariants.{RedirectTemporary, Download, FramedLink, Reload}
+use Rattle.pl_base.specs.Good.{IsTitle}
 use Rattle.pl_base.specs.Transition.{transition_at, transition_number}
-use Rattle.pl_form.specs.declared.stored.StoredVisit.{StoredVisit}
-use Rattle.pl_form.specs.Form.{eight, filled_pages, four, in_pages, listed, flag, signed_eight, text_bytes}
-use Rattle.pl_form.specs.Reading.{IsAny, IsEight, IsFour, IsSignedEight, IsUrl}
+use Rattle.pl_form.specs.Form.{eight, filled_pages, four, in_pages, listed, signed_eight, text_bytes}
+use Rattle.pl_form.specs.Form.{visit_or_zero}
+use Rattle.pl_form.specs.Reading.{IsAny, IsEight, IsFour, IsSignedEight, IsSource, IsUrl}
 use Rattle.pl_form.specs.Stored.{AreIdsFour, AreListed, AreStored, IsShort, HoldsRows, IsStoredPage, IsStoredVisit}
 use Rattle.pl_form.specs.Stored.{Stored, ids_bytes, stored_bytes, stored_page_bytes, stored_visit_bytes}
 use Rattle.pl_form.proofs.ReadingNumbers.{front_is, rest_is}
 use Rattle.pl_form.proofs.ReadingPlain.{behind_header, behind_len, behind_name, behind_pages}
 use Rattle.pl_form.proofs.ReadingPlain.{blank, name, padding, plain_pieces, short-len}
-use Rattle.pl_form.proofs.ReadingRows.{nothing, page_pieces, same_parts, visit_pieces}
+use Rattle.pl_form.proofs.ReadingRows.{after_frecency, after_page_id, after_source, after_typed, after_visit_id}
+use Rattle.pl_form.proofs.ReadingRows.{after_visited, page_pieces, same_pages, same_visits, source_bytes}
+use Rattle.pl_form.proofs.ReadingRows.{transition_bytes, typed_bytes, visit_pieces}
 use Rattle.pl_form.proofs.ReadingStored.{after_day, after_ids, after_pages, after_visits}
 use Rattle.pl_form.proofs.ReadingStored.{ids_pieces, roots_bytes, rows_pieces, same_rows}
-use Rattle.pl_form.proofs.ReadingTexts.{url-short}
+use Rattle.pl_form.proofs.ReadingTexts.{title-short, url-short}
 
 -- no bytes begin with the forms of two values, nor with that of one value in two ways
 abbrev pub IsOnly : {A : Type 0} → (A → List ℕ) → (A → Type 0) → Type 0
@@ -57,16 +60,33 @@ eight_only x y r s one other same =
       parts.1,
     )
 
-flag_only : IsOnly (λ (m : Bool). flag m ∷ []) IsAny
+flag_only : IsOnly typed_bytes IsAny
 flag_only true true r s one other same = (refl, cc)
 flag_only true false r s one other same = absurd (cc)
 flag_only false true r s one other same = absurd (cc)
 flag_only false false r s one other same = (refl, cc)
 
-url_only : IsOnly text_bytes IsUrl
-url_only x y r s one other same =
-    let len = first four IsFour (length x) (length y) x y r s four_only (url-short x one) (url-short y other) same in
+-- a text whose length fits
+text_only : (IsText : List ℕ → Type 0) → ((x : List ℕ) → IsText x → IsFour (length x)) → IsOnly text_bytes IsText
+text_only IsText short x y r s one other same =
+    let len = first four IsFour (length x) (length y) x y r s four_only (short x one) (short y other) same in
     same_front x y r s len.0 len.1
+
+source_fits : (source : Option VisitId) → IsSource source → IsFour (visit_or_zero source)
+source_fits None one = omega arith
+source_fits (Some id) one = one.1
+
+-- 0 is the id of no visit
+same_source : (a b : Option VisitId) → IsSource a → IsSource b → visit_or_zero a ≡ visit_or_zero b → a ≡ b
+same_source None None one other same = refl
+same_source None (Some id) one other same = absurd (omega (arith, other.0, same))
+same_source (Some id) None one other same = absurd (omega (arith, one.0, same))
+same_source (Some a) (Some b) one other same = ap (λ n. Some (record { 0 = n })) same
+
+source_only : IsOnly source_bytes IsSource
+source_only x y r s one other same =
+    let id = four_only (visit_or_zero x) (visit_or_zero y) r s (source_fits x one) (source_fits y other) same in
+    (same_source x y one other id.0, id.1)
 
 eight_bytes : (z : ℤ) → IsSignedEight z → IsEight (cast_unsigned w64 z)
 eight_bytes z fits = Fits-lt-pow {w = w64} {n = cast_unsigned w64 z} (Fits-of_z {w = w64} {z = z} fits)
@@ -116,7 +136,7 @@ numbered Download = refl
 numbered FramedLink = refl
 numbered Reload = refl
 
-transition_only : IsOnly (λ t. transition_number t ∷ []) IsAny
+transition_only : IsOnly transition_bytes IsAny
 transition_only x y r s one other same =
     let number : transition_number x ≡ transition_number y = cc in
     let some : Some x ≡ Some y = sym (numbered x) ∙ ap transition_at number ∙ numbered y in
@@ -132,66 +152,41 @@ by_pieces form pieces IsOne are only x y r s one other same =
 
 page_only : IsOnly stored_page_bytes IsStoredPage
 page_only =
-    by_pieces stored_page_bytes
-    (λ p. four p.id.0 ++ ((flag p.typed ∷ []) ++ (signed_eight p.frecency ++ (text_bytes p.url ++ nothing tt))))
-    IsStoredPage page_pieces
+    by_pieces stored_page_bytes (λ p. four p.id.0 ++ after_page_id p) IsStoredPage page_pieces
     (λ x y r s one other same.
     let id =
-    first four IsFour x.id.0 y.id.0
-    ((flag x.typed ∷ []) ++ (signed_eight x.frecency ++ (text_bytes x.url ++ nothing tt)))
-    ((flag y.typed ∷ []) ++ (signed_eight y.frecency ++ (text_bytes y.url ++ nothing tt))) r s four_only one.0
-    other.0 same in
+    first four IsFour x.id.0 y.id.0 (after_page_id x) (after_page_id y) r s four_only one.0 other.0 same in
     let typed =
-    first (λ (m : Bool). flag m ∷ []) IsAny x.typed y.typed
-    (signed_eight x.frecency ++ (text_bytes x.url ++ nothing tt))
-    (signed_eight y.frecency ++ (text_bytes y.url ++ nothing tt)) r s flag_only tt tt id.1 in
+    first typed_bytes IsAny x.typed y.typed (after_typed x) (after_typed y) r s flag_only tt tt id.1 in
     let frecency =
-    first signed_eight IsSignedEight x.frecency y.frecency (text_bytes x.url ++ nothing tt)
-    (text_bytes y.url ++ nothing tt) r s signed_only one.1 other.1 typed.1 in
-    let url = first text_bytes IsUrl x.url y.url (nothing tt) (nothing tt) r s url_only one.2 other.2 frecency.1 in (
-      same_parts x.id.0 y.id.0 x.typed y.typed x.frecency y.frecency x.url y.url id.0 typed.0 frecency.0 url.0,
-      (constant_only (nothing tt) tt tt r s tt tt url.1).1,
+    first signed_eight IsSignedEight x.frecency y.frecency (after_frecency x) (after_frecency y) r s signed_only
+    one.1 other.1 typed.1 in
+    let url =
+    first text_bytes IsUrl x.url y.url (text_bytes x.title) (text_bytes y.title) r s
+    (text_only IsUrl url-short) one.2 other.2 frecency.1 in
+    let title = text_only IsTitle title-short x.title y.title r s one.3 other.3 url.1 in (
+      same_pages x.id.0 y.id.0 x.typed y.typed x.frecency y.frecency x.url y.url x.title y.title id.0 typed.0
+          frecency.0 url.0 title.0,
+      title.1,
     ))
-
-abbrev visit_with : ℕ → ℕ → ℕ → Transition → Option VisitId → StoredVisit
-visit_with id page date transition source =
-    record {
-      id = record { 0 = id };
-      page = record { 0 = page };
-      date = record { 0 = date };
-      transition = transition;
-      source = source;
-    }
-
-same_visits : (i j p q d e : ℕ) (t u : Transition) (a b : Option VisitId) → i ≡ j → p ≡ q → d ≡ e → t ≡ u → a ≡ None
-    → b ≡ None → visit_with i p d t a ≡ visit_with j q e u b
-same_visits i j p q d e t u a b id page date transition none other = cc
 
 visit_only : IsOnly stored_visit_bytes IsStoredVisit
 visit_only =
-    by_pieces stored_visit_bytes
-    (λ v. four v.id.0 ++ (four v.page.0
-    ++ (nothing tt ++ (eight v.date.0 ++ (transition_number v.transition ∷ []))))) IsStoredVisit visit_pieces
+    by_pieces stored_visit_bytes (λ v. four v.id.0 ++ after_visit_id v) IsStoredVisit visit_pieces
     (λ x y r s one other same.
     let id =
-    first four IsFour x.id.0 y.id.0
-    (four x.page.0 ++ (nothing tt ++ (eight x.date.0 ++ (transition_number x.transition ∷ []))))
-    (four y.page.0 ++ (nothing tt ++ (eight y.date.0 ++ (transition_number y.transition ∷ [])))) r s four_only
-    one.0 other.0 same in
+    first four IsFour x.id.0 y.id.0 (after_visit_id x) (after_visit_id y) r s four_only one.0 other.0 same in
     let page =
-    first four IsFour x.page.0 y.page.0
-    (nothing tt ++ (eight x.date.0 ++ (transition_number x.transition ∷ [])))
-    (nothing tt ++ (eight y.date.0 ++ (transition_number y.transition ∷ []))) r s four_only one.1 other.1
-    id.1 in
+    first four IsFour x.page.0 y.page.0 (after_visited x) (after_visited y) r s four_only one.1 other.1 id.1 in
     let source =
-    first {A = Unit {0}} nothing IsAny tt tt (eight x.date.0 ++ (transition_number x.transition ∷ []))
-    (eight y.date.0 ++ (transition_number y.transition ∷ [])) r s (constant_only (nothing tt)) tt tt page.1 in
+    first source_bytes IsSource x.source y.source (after_source x) (after_source y) r s source_only one.2 other.2
+    page.1 in
     let date =
-    first eight IsEight x.date.0 y.date.0 (transition_number x.transition ∷ [])
-    (transition_number y.transition ∷ []) r s eight_only one.3 other.3 source.1 in
+    first eight IsEight x.date.0 y.date.0 (transition_bytes x.transition) (transition_bytes y.transition) r s
+    eight_only one.3 other.3 source.1 in
     let transition = transition_only x.transition y.transition r s tt tt date.1 in (
       same_visits x.id.0 y.id.0 x.page.0 y.page.0 x.date.0 y.date.0 x.transition y.transition x.source y.source id.0
-          page.0 date.0 transition.0 one.2 other.2,
+          page.0 date.0 transition.0 source.0,
       transition.1,
     ))
 

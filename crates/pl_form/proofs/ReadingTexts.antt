@@ -1,9 +1,10 @@
--- Texts and URLs at the beginning of bytes.
-use Rattle.std.proofs.Common.{◌≡◌, ◌≢◌, ◌∙◌, ℕ, ◌<◌, ◌^◌, List, ◌++◌, Bool, true, false, Option, Some, None, Ok}
-use Rattle.std.proofs.Common.{Err, length, nat_lt, if◌then◌else◌, sym, ap, refl, arith, subst, append_assoc}
+-- Texts, URLs and titles at the beginning of bytes.
+use Rattle.std.proofs.Common.{◌≡◌, ◌≢◌, ◌∙◌, ℕ, ◌<◌, ◌≤◌, ◌^◌, List, ◌++◌, Bool, true, false, Option, Some, None}
+use Rattle.std.proofs.Common.{Ok, Err, length, nat_lt, if◌then◌else◌, sym, ap, refl, arith, subst, append_assoc}
 use Rattle.std.specs.Str.{IsUtf8}
 use Rattle.std.proofs.lemmas.Bool.{ltb-true}
 use Rattle.pl_base.specs.Address.{canon, if_store_url, serialized, record_of, text_limit}
+use Rattle.pl_base.specs.Good.{IsTitle, longest_title}
 use Rattle.pl_link.specs.declared.canon.CanonError.{CanonError}
 use Rattle.pl_link.specs.declared.canon.CanonError.TheVariants as canon_error
 use Rattle.pl_form.specs.declared.check_error.CheckError.{CheckError}
@@ -84,3 +85,18 @@ not_own part x url read differs same one =
     let some : canon part ≡ Some x = ap canon same ∙ one.1 in
     let equal : url ≡ x = cc in
     absurd (differs (equal ∙ sym same))
+
+-- ---- titles
+
+pub title-short : (x : List ℕ) → IsTitle x → length x < 2 ^ 32
+title-short x one = omega (arith, one.1)
+
+pub title_read : (bytes part rest title : List ℕ) → TextIs bytes part rest → title ≡ part → IsUtf8 part
+    → length part ≤ longest_title → Reads text_bytes IsTitle bytes (Ok title) rest
+title_read bytes part rest title is same utf8 short =
+    record {
+      ok = (subst IsTitle (sym same) (utf8, short), is.begins ∙ ap (λ t. text_bytes t ++ rest) (sym same));
+      whole = λ x others one begins.
+          let at = is.only x others (title-short x one) begins in
+          (same ∙ at.0, at.1);
+    }
