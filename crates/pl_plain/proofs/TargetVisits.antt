@@ -1,6 +1,6 @@
 -- The visits that came from one, among rows of visits.
-use Rattle.std.proofs.Common.{◌≡◌, ◌≢◌, ◌∙◌, ◌+◌, ◌<◌, ◌≤◌, ◌==◌, ◌++◌, ◌&&◌, ℕ, Bool, true, false, List, [], ◌∷◌}
-use Rattle.std.proofs.Common.{Option, Some, None, ap, append_assoc, arith, drop, eq-eqb, filter, find, get_or, inl, inr}
+use Rattle.std.proofs.Common.{◌≡◌, ◌∙◌, ◌+◌, ◌<◌, ◌==◌, ◌++◌, ℕ, Bool, true, false, List, [], ◌∷◌}
+use Rattle.std.proofs.Common.{Some, None, ap, append_assoc, arith, drop, eq-eqb, filter, find, get_or}
 use Rattle.std.proofs.Common.{drop-cons, if◌then◌else◌, length, map, refl, suc, sym, take}
 use Rattle.std.specs.List.{All, AllByRecursion, position}
 use Rattle.std.specs.List.Sorted.{IsStrictlyIncreasing}

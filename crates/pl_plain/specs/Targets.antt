@@ -23,5 +23,6 @@ targets_of visits source =
 -- the visit that stands behind the one with this id among the targets of its source
 abbrev pub target_behind : List Visit → VisitId → Option VisitId
 target_behind visits id =
-    option_and_then (λ (v : Visit). option_and_then (λ source. id_behind id (targets_of visits source)) v.source)
+    option_and_then
+    (λ (v : Visit). option_and_then (λ source. id_behind id (targets_of visits source)) v.source)
     (find (λ (v : Visit). v.id.0 == id.0) visits)

@@ -53,10 +53,8 @@ fn sampled(alloc: Global, rows: &StoredRows, page: PageId) -> Result<Vec<Sampled
         ≡ map (sampled_of (stored_store rows.now)) (sample_of (stored_store rows.now) page)) }
 {
     let sample = sample(alloc, rows, page)?;
-    Ok(sample
-        .iter()
-        .map(|visit| sampled_of(rows, visit))
-        .collect(alloc)?)
+    let counted = sample.iter().map(|visit| sampled_of(rows, visit));
+    Ok(counted.collect(alloc)?)
 }
 
 // The ten latest visits of a page, the latest first.
@@ -89,7 +87,15 @@ fn is_unseen(rows: &StoredRows, page: PageId) -> bool
     rows.visits
         .iter()
         .filter(|visit| visit.page == page)
-        .all(|visit| visit.transition.is_framed() || is_redirect_source(rows, visit))
+        .all(|visit| is_passed_by(rows, visit))
+}
+
+// Whether the visit was within a frame or led to a redirect.
+fn is_passed_by(rows: &StoredRows, visit: &StoredVisit) -> bool
+    ensures { result ≡ (marks.is_framed visit.now.transition
+        || redirects.is_redirect_source (stored_store rows.now) (visit_of visit.now)) }
+{
+    visit.transition.is_framed() || is_redirect_source(rows, visit)
 }
 
 fn put_in_place(sample: &mut Vec<StoredVisit>, visit: StoredVisit) -> Result<(), NoMemory>

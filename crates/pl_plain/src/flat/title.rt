@@ -1,4 +1,4 @@
-ghost use Rattle.std.specs.Prelude.{◌≡◌, ◌≤◌, ◌==◌, find, length, map, true, OnOk};
+ghost use Rattle.std.specs.Prelude.{◌≡◌, ◌≤◌, length, map, true, OnOk};
 ghost use Rattle.std.specs.List.Sorted.{IsStrictlyIncreasing};
 ghost use Rattle.pl_base.specs.Good.{longest_title};
 ghost use Rattle.pl_base.specs.Live.{slot_limit};
@@ -26,7 +26,7 @@ impl Flat {
     ghost use Rattle.pl_plain.specs.Flat.{kept_of, IsBase};
 
     /// Gives the page with this id a title.
-    pub fn give_title(&mut self, id: PageId, title: &str) -> Result<(), NoMemory>
+    pub(crate) fn give_title(&mut self, id: PageId, title: &str) -> Result<(), NoMemory>
         requires page { has_page (kept_of self.old) id ≡ true }
         requires title { length title.now ≤ longest_title }
         requires live { live_with_title id title.now (kept_of self.old) ≤ slot_limit }

@@ -1,6 +1,5 @@
 use Rattle.std.proofs.Common.{◌≡◌, ◌∙◌, map, rules, tests}
 use Rattle.std.proofs.lemmas.Iterator.{YieldsList-from_map, YieldsList-from_slice, items_from_collect}
-use Rattle.pl_score.specs.declared.sample.Sampled.{Sampled}
 use Rattle.pl_score.specs.Sample.{sampled_of}
 use Rattle.pl_form.specs.declared.stored.StoredVisit.{StoredVisit}
 use Rattle.pl_form.specs.Stored.{stored_store, visit_of}
@@ -14,5 +13,5 @@ returns c =
     let all : c.in_ok-collect.field-0.items ≡ map counts c.in_ok-sample.sample.items =
     rw c.in_ok-collect.was at (items_from_collect c.collect.result c.collect.ensures.ran
     (YieldsList-from_map _ counts (YieldsList-from_slice c.in_ok-sample.sample.items cc)
-    c.map.ensures.closure (λ x r q k. search (rules, tests)))) in
+    c.map-counted.ensures.closure (λ x r q k. search (rules, tests)))) in
     all ∙ sampled-is store c.args.page c.in_ok-sample.sample.items c.in_ok-sample.ensures

@@ -1,9 +1,9 @@
-use Rattle.std.proofs.Common.{◌≡◌, ◌∙◌, ◌++◌, ◌==◌, ◌+◌, ◌-◌, ◌≤◌, [], List, Some, ℕ, ap, arith, drop, length, map, refl}
+use Rattle.std.proofs.Common.{◌≡◌, ◌∙◌, ◌++◌, ◌==◌, ◌+◌, ◌-◌, [], List, ℕ, ap, arith, drop, length, map, refl}
 use Rattle.std.proofs.Common.{subst, sym, take}
 use Rattle.std.proofs.lemmas.Bool.{true≢false}
 use Rattle.std.proofs.lemmas.List.{length-map}
 use Rattle.pl_base.specs.Live.{chunks, live_slots}
-use Rattle.pl_base.specs.Rows.{KeptPage, page_at, store_of, titled, with_title}
+use Rattle.pl_base.specs.Rows.{KeptPage, store_of, titled, with_title}
 use Rattle.pl_plain.specs.declared.flat.row.FlatPage.{FlatPage}
 use Rattle.pl_plain.specs.Flat.{kept_of}
 use Rattle.pl_plain.specs.FlatRows.{IsFlat, kept_from, page_of, titled_row, with_title_of}
@@ -49,7 +49,8 @@ invariant_of-self c =
     let same : take f.pages.len (c.title_page.new.pages ++ drop (length c.title_page.new.pages) f.pages.items)
     ≡ titles =
     all_written f.pages.len f.pages.items titles c.title_page.new.pages
-    (c.title_page.ensures ∙ ap (λ (t : List ℕ). map (titled_row c.args.id t) c.deref_mut.result.now) c.in_ok-text.ensures
+    (c.title_page.ensures
+    ∙ ap (λ (t : List ℕ). map (titled_row c.args.id t) c.deref_mut.result.now) c.in_ok-text.ensures
     ∙ ap (map (titled_row c.args.id title)) c.deref_mut.ensures.value)
     (length-map f.pages.items (titled_row c.args.id title)) (omega arith) in
     let found =
@@ -89,7 +90,8 @@ returns-clause-kept c =
     let same : take f.pages.len (c.title_page.new.pages ++ drop (length c.title_page.new.pages) f.pages.items)
     ≡ titles =
     all_written f.pages.len f.pages.items titles c.title_page.new.pages
-    (c.title_page.ensures ∙ ap (λ (t : List ℕ). map (titled_row c.args.id t) c.deref_mut.result.now) c.in_ok-text.ensures
+    (c.title_page.ensures
+    ∙ ap (λ (t : List ℕ). map (titled_row c.args.id t) c.deref_mut.result.now) c.in_ok-text.ensures
     ∙ ap (map (titled_row c.args.id title)) c.deref_mut.ensures.value)
     (length-map f.pages.items (titled_row c.args.id title)) (omega arith) in
     ap (λ (pages : List KeptPage). record (kept_of f) { pages = pages })
