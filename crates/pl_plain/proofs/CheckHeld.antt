@@ -5,13 +5,13 @@ use Rattle.std.proofs.Common.{map, pos, negsuc, w64, sym, ap, refl, subst, arith
 use Rattle.std.specs.Int.RustNames.{FitsSigned}
 use Rattle.std.specs.List.{sum_by}
 use Rattle.std.specs.Option.{IsSome}
-use Rattle.std.proofs.lemmas.Option.{IfSome_then}
 use Rattle.std.specs.Str.{IsUtf8}
 use Rattle.std.proofs.lemmas.Bool.{eqb-true}
 use Rattle.std.proofs.lemmas.List.{length-map, length-take, take-append-drop}
 use Rattle.std.proofs.lemmas.List.Elements.{All-map}
 use Rattle.std.proofs.lemmas.List.Folds.{Any-from_list_any}
 use Rattle.std.proofs.lemmas.List.Sums.{count_by-le-length}
+use Rattle.std.proofs.lemmas.Option.{IfSome_then}
 use Rattle.std.proofs.Math.Nat.{div-le_self, mul-le-mul}
 use Rattle.pl_base.specs.declared.id.PageId.{PageId}
 use Rattle.pl_base.specs.Address.{is_place_url}
@@ -25,19 +25,19 @@ use Rattle.pl_base.specs.Rows.{IsOfVisits}
 use Rattle.pl_base.specs.Store.{Item, Page, Store, Visit, roots}
 use Rattle.pl_base.specs.Visits.{latest_first, sample_of, visits_of}
 use Rattle.pl_score.specs.declared.sample.Sampled.{Sampled}
+use Rattle.pl_score.specs.Sample.{sampled_of}
 use Rattle.pl_score.proofs.Points.{points_of-le}
+use Rattle.pl_score.proofs.StoreSamples.{sampled-small}
 use Rattle.pl_form.specs.declared.check_error.CheckError.{CheckError}
 use Rattle.pl_form.specs.declared.check_error.CheckError.TheVariants.{NoMemory, NotAStore}
 use Rattle.pl_form.specs.declared.stored.StoredVisit.{StoredVisit}
 use Rattle.pl_form.specs.declared.stored.StoredPage.{StoredPage}
 use Rattle.pl_plain.specs.CheckPages.{IsFrecencyRight}
+use Rattle.pl_form.specs.Reading.{IsSource}
 use Rattle.pl_form.specs.Form.{FormRows, StandsFor, filled_pages, form_bytes, in_pages, plain_bytes, store_rows}
 use Rattle.pl_form.specs.Stored.{AreStored, HoldsRows, IsShort, IsStoredPage, IsStoredVisit, Stored}
 use Rattle.pl_form.specs.Stored.{form_rows, stored_bytes, stored_page, stored_store, visit_of}
 use Rattle.pl_plain.proofs.CheckFlat.{store_rows-is}
-use Rattle.pl_form.specs.Reading.{IsSource}
-use Rattle.pl_score.specs.Sample.{sampled_of}
-use Rattle.pl_score.proofs.StoreSamples.{sampled-small}
 use Rattle.pl_plain.proofs.Lookups.{some_in}
 use Rattle.pl_form.proofs.FormLengths.{store_within}
 use Rattle.pl_base.proofs.ListLaws.{All-from_map, sum_by-map}

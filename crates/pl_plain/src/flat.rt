@@ -25,8 +25,8 @@ use std::alloc::Global;
 
 /// A store over vectors of its rows.
 ///
-/// A page or a visit is found by its id by halves. A page's latest visits are found by a scan of
-/// all visits, and `touched` gives the whole store.
+/// A page or a visit is found by its id by halves. A page's latest visits, and the visits that
+/// came from one, are found by a scan of all visits, and `touched` gives the whole store.
 #[derive(Debug, Drop)]
 pub struct Flat {
     alloc: Global,

@@ -35,7 +35,7 @@ pub fn is_within(visit: &StoredVisit, page: PageId, limit: Option<StoredVisit>) 
     visit.page == page && limit.is_none_or(|limit| is_later(&limit, visit))
 }
 
-/// Whether the visit came from the one with this id.
+// Whether the visit came from the one with this id.
 fn came_from(visit: &StoredVisit, source: VisitId) -> bool
     ensures { result ≡ redirects.is_source source visit.now.source }
 {
