@@ -1,23 +1,25 @@
 -- The flat store of a file's rows.
 use Rattle.std.proofs.Common.{◌≡◌, ◌≢◌, ◌↔◌, ◌∙◌, ◌==◌, ℕ, ℤ, ◌+◌, ◌-◌, ◌<◌, ◌≤◌, ◌++◌, All, Bool, IsTrue, suc, List}
-use Rattle.std.proofs.Common.{[], ◌∷◌, Some, None, get_or, length, map, take, sym, ap, refl, subst, inl, inr, arith}
+use Rattle.std.proofs.Common.{[], ◌∷◌, Some, get_or, length, map, take, sym, ap, refl, subst, inl, inr, arith}
 use Rattle.std.specs.List.{AllPairs, AllZip, list_any, sum_by}
+use Rattle.std.specs.Option.{IsSome}
 use Rattle.std.proofs.Math.Seq.{take-append_seam}
 use Rattle.std.proofs.lemmas.Bool.{cases_lt}
 use Rattle.std.proofs.lemmas.Str.{is_utf8-from_IsUtf8}
 use Rattle.std.specs.Str.{IsUtf8, is_utf8}
 use Rattle.std.proofs.lemmas.List.{length-map}
-use Rattle.std.proofs.lemmas.List.Sums.{sum_by-cons}
 use Rattle.std.proofs.lemmas.List.Elements.{All-cons, All-head, All-map, All-nil, All-tail, All-weaker}
+use Rattle.std.proofs.lemmas.Option.{IfSome_then}
 use Rattle.pl_base.specs.declared.id.PageId.{PageId}
 use Rattle.pl_base.specs.declared.id.Slot.{Slot}
 use Rattle.pl_base.specs.Address.{is_store_url, same_origin}
 use Rattle.pl_base.specs.Date.{IsDate}
 use Rattle.pl_base.specs.Frecency.{frecency_of}
-use Rattle.pl_base.specs.Good.{AreIds, IsGoodVisit}
+use Rattle.pl_base.specs.Good.{AreIds, IsGoodVisit, IsTitle}
 use Rattle.pl_base.specs.Live.{chunks, live_slots, origin_count}
 use Rattle.pl_base.specs.Marks.{is_hidden, visit_count}
-use Rattle.pl_base.specs.Rows.{IsOfVisits, IsRight, Kept, KeptPage, has_page, store_of, AreAlike}
+use Rattle.pl_base.specs.Redirects.{visit_by_id}
+use Rattle.pl_base.specs.Rows.{HasSource, IsRight, Kept, KeptPage, has_page, store_of, AreAlike}
 use Rattle.pl_base.specs.Store.{Page, Store, Visit, roots}
 use Rattle.pl_base.proofs.OriginLaws.{origins_equal}
 use Rattle.pl_plain.specs.declared.flat.row.FlatPage.{FlatPage}
@@ -27,19 +29,21 @@ use Rattle.pl_plain.specs.CheckPages.{IsAssessed, IsFrecencyRight, IsGiven, kept
 use Rattle.pl_plain.specs.FlatLaws.{rows_are_right}
 use Rattle.pl_plain.specs.FlatRows.{IsFlat, bytes_from, page_of}
 use Rattle.pl_form.specs.Form.{FormRows, StandsFor, filled_pages, form_bytes, in_pages, kept_rows, store_rows}
-use Rattle.pl_form.specs.Stored.{AreStored, HoldsRows, IsStoredPage, Stored, form_rows}
+use Rattle.pl_form.specs.Stored.{HoldsRows, IsStoredPage, Stored, form_rows}
 use Rattle.pl_form.specs.Stored.{page_row, stored_bytes, stored_page, stored_store, visit_of}
 use Rattle.pl_base.specs.Touched.{bytes_before}
 use Rattle.pl_plain.proofs.CheckOrigins.{same_of_key}
 use Rattle.pl_form.proofs.FormLengths.{length-in_pages}
-use Rattle.pl_base.proofs.ListLaws.{list_any-map, map-map, AllPairs-from_map}
-use Rattle.pl_plain.proofs.StoredUrls.{store_url-is}
+use Rattle.pl_base.proofs.ListLaws.{list_any-map, map-map, sum_by-map, AllPairs-from_map}
+use Rattle.pl_plain.proofs.Lookups.{some_in}
+use Rattle.pl_plain.proofs.StoredTexts.{store_url-is}
 
 same_page : (rows : Stored) (p : StoredPage) (q : FlatPage) → IsAssessed rows p q → (page_of q).page ≡ stored_page p
 same_page rows p q h =
-    ap (λ (i : PageId). record { id = i; url = q.url; title = []; typed = q.typed }) h.id
-    ∙ ap (λ (u : List ℕ). record { id = p.id; url = u; title = []; typed = q.typed }) h.url
-    ∙ ap (λ (t : Bool). record { id = p.id; url = p.url; title = []; typed = t }) h.typed
+    ap (λ (i : PageId). record { id = i; url = q.url; title = q.title; typed = q.typed }) h.id
+    ∙ ap (λ (u : List ℕ). record { id = p.id; url = u; title = q.title; typed = q.typed }) h.url
+    ∙ ap (λ (t : List ℕ). record { id = p.id; url = p.url; title = t; typed = q.typed }) h.title
+    ∙ ap (λ (t : Bool). record { id = p.id; url = p.url; title = p.title; typed = t }) h.typed
 
 pages_same : (rows : Stored) (ps : List StoredPage) (qs : List FlatPage) → AllZip (IsAssessed rows) ps qs
     → map (λ (p : KeptPage). p.page) (map page_of qs) ≡ map stored_page ps
@@ -141,28 +145,22 @@ page_urls rows qs origins zip =
     sym (urls_same rows qs) ∙ sym (map-map (λ (p : Page). p.url) (λ (k : KeptPage). k.page) (map page_of qs))
     ∙ ap (map (λ (p : Page). p.url)) (pages_same rows rows.pages qs zip)
 
-sum_pages : (pages : List StoredPage)
-    → sum_by (λ (p : Page). chunks p.url + chunks p.title) (map stored_page pages)
-    ≡ sum_by (λ (p : StoredPage). chunks p.url) pages
-sum_pages [] = refl
-sum_pages (p ∷ pages) =
-    omega (
-      arith,
-      sum_pages pages,
-      sum_by-cons (λ (p : Page). chunks p.url + chunks p.title) (stored_page p) (map stored_page pages),
-      sum_by-cons (λ (p : StoredPage). chunks p.url) p pages,
-    )
-
 pub slots-by : (rows : Stored) (qs : List FlatPage) (keys : List Key) (origins live : ℕ)
     → AllZip (IsAssessed rows) rows.pages qs → AreNamed qs keys → origins ≡ length keys
-    → live ≡ origins + length rows.pages + length rows.visits + 6 + sum_by (λ (p : StoredPage). chunks p.url) rows.pages
+    → live ≡ origins + length rows.pages + length rows.visits + 6
+    + sum_by (λ (p : StoredPage). chunks p.url + chunks p.title) rows.pages
     → live ≡ live_slots (stored_store rows)
 slots-by rows qs keys origins live zip named count slots =
     let counted : origins ≡ origin_count (map (λ (p : Page). p.url) (map stored_page rows.pages)) =
     count ∙ named.counted ∙ ap origin_count (page_urls rows qs origins zip) in
-    let texts : sum_by (λ (p : Page). chunks p.url + chunks p.title) (map stored_page rows.pages)
-    ≡ sum_by (λ (p : StoredPage). chunks p.url) rows.pages = sum_pages rows.pages in
-    omega (arith, slots, counted, texts, length-map rows.pages stored_page, length-map rows.visits visit_of)
+    omega (
+      arith,
+      slots,
+      counted,
+      sum_by-map (λ (p : Page). chunks p.url + chunks p.title) stored_page rows.pages,
+      length-map rows.pages stored_page,
+      length-map rows.visits visit_of,
+    )
 
 ids_same : (rows : Stored) (qs : List FlatPage) → AllZip (IsAssessed rows) rows.pages qs
     → map (λ (k : KeptPage). k.page.id.0) (map page_of qs) ≡ map (λ (p : Page). p.id.0) (map stored_page rows.pages)
@@ -235,6 +233,17 @@ is-flat rows qs keys origins live h =
           All-weaker (IsGoodVisit (stored_store rows)) (λ (v : Visit). IsDate v.date × IsTrue (has_page kept v.page))
           (λ v good. (good.date, has_page_same rows qs origins v.page h.pages ∙ good.page)) (map visit_of rows.visits)
           h.good.visits;
+      titles =
+          All-map (λ (k : KeptPage). IsTitle k.page.title) page_of qs
+          (each_stored rows IsStoredPage (λ (q : FlatPage). IsTitle q.title) rows.pages qs
+          (λ p q one fits. subst IsTitle (sym one.title) fits.3) h.stored.pages.0 h.pages);
+      sources =
+          All-weaker (IsGoodVisit (stored_store rows)) (HasSource kept)
+          (λ v good. IfSome_then v.source {P = λ id. (id.0 < v.id.0) × IsSome (visit_by_id (stored_store rows) id)}
+          good.source (λ id there. (
+            there.0,
+            some_in (λ (w : Visit). w.id.0 == id.0) (map visit_of rows.visits) there.1,
+          ))) (map visit_of rows.visits) h.good.visits;
       named =
           All-map (λ (k : KeptPage). (0 < k.origin.0) × (k.origin.0 ≤ origins)) page_of qs
           (λ k d within. (
@@ -284,15 +293,6 @@ all_right rows (p ∷ ps) (q ∷ qs) zip = All-cons (IsFrecencyRight rows) p ps 
 begins_with : (bytes form rest : List ℕ) → bytes ≡ form ++ rest → take (length form) bytes ≡ form
 begins_with bytes form rest begins = ap (take (length form)) begins ∙ take-append_seam form rest
 
-of_visits : (rows : Stored) → AreStored rows → IsOfVisits (stored_store rows)
-of_visits rows one =
-    record {
-      no_source =
-          All-map (λ (v : Visit). v.source ≡ None) visit_of rows.visits (λ k d within. (one.visits.0 k d within).2);
-      no_title = All-map (λ (p : Page). p.title ≡ []) stored_page rows.pages (λ k d within. refl);
-      no_item = refl;
-    }
-
 pub stands-for : (bytes : List ℕ) (rows : Stored) (qs : List FlatPage) (keys : List Key) (origins live : ℕ)
     → HoldsRows bytes rows → IsGiven rows qs keys origins live
     → StandsFor bytes (store_of (kept_of_rows rows qs origins))
@@ -302,7 +302,7 @@ stands-for bytes rows qs keys origins live holds h =
     subst (StandsFor bytes) (sym (store-same rows qs origins h.pages))
     (record {
       good = h.good;
-      of_visits = of_visits rows h.stored;
+      of_visits = refl;
       texts =
           All-map (λ (p : Page). IsUtf8 p.url) stored_page rows.pages (λ k d within. (h.stored.pages.0 k d within).2.0);
       live = omega (arith, slots-by rows qs keys origins live h.pages h.named h.count h.slots, h.few);

@@ -1,7 +1,7 @@
 -- The tests of the rows pass exactly where their store is good.
 use Rattle.std.proofs.Common.{◌≡◌, ◌≢◌, ◌∙◌, ◌&&◌, ◌||◌, ◌==◌, ℕ, ◌+◌, ◌<◌, ◌≤◌, All, Bool, true}
-use Rattle.std.proofs.Common.{false, not, IsTrue, zero, suc, List, [], ◌∷◌, Option, bytes_eq}
-use Rattle.std.proofs.Common.{get_or, length, nat_le, nat_lt, sym, ap, refl, subst, arith, eq-eqb}
+use Rattle.std.proofs.Common.{false, not, IsTrue, zero, suc, List, [], ◌∷◌, Option, Some, None, bytes_eq}
+use Rattle.std.proofs.Common.{get_or, length, map, nat_le, nat_lt, sym, ap, refl, subst, arith, eq-eqb}
 use Rattle.std.specs.List.{AllPairs, list_all, list_any}
 use Rattle.std.specs.List.Sorted.{IsStrictlyIncreasing}
 use Rattle.std.specs.Option.{IfSome, IsSome}
@@ -10,7 +10,6 @@ use Rattle.std.proofs.lemmas.Bool.{lt-ltb, ltb-true, not-true, not_from_false, t
 use Rattle.std.proofs.lemmas.List.Elements.{All-cons, All-head, All-map, All-nil, All-tail, All-weaker}
 use Rattle.std.proofs.lemmas.List.Folds.{Any-from_list_any}
 use Rattle.std.proofs.lemmas.Slice.Eq.{bytes_eq-Decides}
-use Rattle.std.proofs.lemmas.Str.{IsUtf8-nil}
 use Rattle.pl_base.specs.declared.id.PageId.{PageId}
 use Rattle.pl_base.specs.declared.id.VisitId.{VisitId}
 use Rattle.pl_base.specs.declared.transition.Transition.{Transition}
@@ -25,13 +24,13 @@ use Rattle.pl_form.specs.declared.stored.StoredPage.{StoredPage}
 use Rattle.pl_plain.specs.FlatLaws.{root_ids}
 use Rattle.pl_base.specs.Marks.{is_typed}
 use Rattle.pl_plain.specs.Check.{are_good, are_good_numbers, are_ids, have_own_urls, is_good_page}
-use Rattle.pl_plain.specs.Check.{is_good_visit, stored_page_ids, stored_visit_ids, is_typed_visit}
-use Rattle.pl_form.specs.Stored.{AreStored, IsStoredPage, IsStoredVisit, Stored, stored_page, stored_store, visit_of}
+use Rattle.pl_plain.specs.Check.{is_good_source, is_good_visit, stored_page_ids, stored_visit_ids, is_typed_visit}
+use Rattle.pl_form.specs.Stored.{AreStored, IsStoredPage, Stored, stored_page, stored_store, visit_of}
 use Rattle.pl_base.proofs.ListLaws.{All-from_map, list_any-map, map-map, AllPairs-from_map, AllPairs-map}
 use Rattle.pl_base.proofs.RootsLaws.{has_roots, no_tags, roots_are_good, roots_are_tree}
 use Rattle.pl_base.specs.Date.{last_date, last_day}
 use Rattle.pl_base.proofs.IdsLaws.{same_page}
-use Rattle.pl_plain.proofs.CheckMarks.{or_false}
+use Rattle.pl_plain.proofs.Lookups.{found_in, some_in}
 
 -- ---- tests of lists
 
@@ -46,6 +45,10 @@ pass_all p [] all = refl
 pass_all p (x ∷ xs) all =
     and_from (p x) (list_all p xs) (All-head (λ y. p y ≡ true) x xs all)
     (pass_all p xs (All-tail (λ y. p y ≡ true) x xs all))
+
+or_false : (a : Bool) → (a || false) ≡ a
+or_false true = refl
+or_false false = refl
 
 none_of_two : (a b : Bool) → (a || b) ≡ false → (a ≡ false) × (b ≡ false)
 none_of_two true b h = absurd (cc)
@@ -199,7 +202,7 @@ page-to rows p one h =
     (p.typed || not (list_any (is_typed_visit p.id) rows.visits)) h in
     record {
       url = one.2.1;
-      title = (IsUtf8-nil, omega arith);
+      title = one.3;
       typed = All-map (IsTypedBy p.id p.typed) visit_of rows.visits (typed-to p.id p.typed rows.visits parts.1);
       kept = or_false _ ∙ list_any-map (λ (v : Visit). v.page.0 == p.id.0) visit_of rows.visits ∙ parts.0;
     }
@@ -212,25 +215,50 @@ page-from rows p h =
     (sym (or_false _ ∙ list_any-map (λ (v : Visit). v.page.0 == p.id.0) visit_of rows.visits) ∙ h.kept)
     (typed-from p.id p.typed rows.visits (All-from_map (IsTypedBy p.id p.typed) visit_of rows.visits h.typed))
 
-visit-to : (rows : Stored) (v : StoredVisit) → IsStoredVisit v → is_good_visit rows.pages v ≡ true
-    → IsGoodVisit (stored_store rows) (visit_of v)
-visit-to rows v one h =
+-- a source with a smaller id that is there
+abbrev IsEarlier : Stored → VisitId → VisitId → Type 0
+IsEarlier rows id source = (source.0 < id.0) × IsSome (visit_by_id (stored_store rows) source)
+
+source-to : (rows : Stored) (id : VisitId) (source : Option VisitId) → is_good_source rows.visits id source ≡ true
+    → IfSome source (IsEarlier rows id)
+source-to rows id None h = tt
+source-to rows id (Some source) h =
     let parts =
-    and_parts (nat_le v.date.0 last_date) (list_any (λ (p : StoredPage). p.id.0 == v.page.0) rows.pages) h in
+    and_parts (nat_lt source.0 id.0) (list_any (λ (v : StoredVisit). v.id.0 == source.0) rows.visits) h in (
+      ltb-true source.0 id.0 parts.0,
+      found_in (λ (v : Visit). v.id.0 == source.0) (map visit_of rows.visits)
+          (list_any-map (λ (v : Visit). v.id.0 == source.0) visit_of rows.visits ∙ parts.1),
+    )
+
+source-from : (rows : Stored) (id : VisitId) (source : Option VisitId) → IfSome source (IsEarlier rows id)
+    → is_good_source rows.visits id source ≡ true
+source-from rows id None h = refl
+source-from rows id (Some source) h =
+    and_from (nat_lt source.0 id.0) (list_any (λ (v : StoredVisit). v.id.0 == source.0) rows.visits)
+    (lt-ltb source.0 id.0 h.0)
+    (sym (list_any-map (λ (v : Visit). v.id.0 == source.0) visit_of rows.visits)
+    ∙ some_in (λ (v : Visit). v.id.0 == source.0) (map visit_of rows.visits) h.1)
+
+visit-to : (rows : Stored) (v : StoredVisit) → is_good_visit rows v ≡ true
+    → IsGoodVisit (stored_store rows) (visit_of v)
+visit-to rows v h =
+    let parts = and_parts _ (is_good_source rows.visits v.id v.source) h in
+    let first =
+    and_parts (nat_le v.date.0 last_date) (list_any (λ (p : StoredPage). p.id.0 == v.page.0) rows.pages) parts.0 in
     record {
-      date = leb-true v.date.0 last_date parts.0;
-      page = list_any-map (λ (p : Page). p.id.0 == v.page.0) stored_page rows.pages ∙ parts.1;
-      source =
-          subst (λ (o : Option VisitId). IfSome o (λ id. (id.0 < v.id.0) × IsSome (visit_by_id (stored_store rows) id)))
-          (sym one.2) tt;
+      date = leb-true v.date.0 last_date first.0;
+      page = list_any-map (λ (p : Page). p.id.0 == v.page.0) stored_page rows.pages ∙ first.1;
+      source = source-to rows v.id v.source parts.1;
     }
 
 visit-from : (rows : Stored) (v : StoredVisit) → IsGoodVisit (stored_store rows) (visit_of v)
-    → is_good_visit rows.pages v ≡ true
+    → is_good_visit rows v ≡ true
 visit-from rows v h =
-    and_from (nat_le v.date.0 last_date) (list_any (λ (p : StoredPage). p.id.0 == v.page.0) rows.pages)
+    and_from _ (is_good_source rows.visits v.id v.source)
+    (and_from (nat_le v.date.0 last_date) (list_any (λ (p : StoredPage). p.id.0 == v.page.0) rows.pages)
     (le-leb v.date.0 last_date h.date)
-    (sym (list_any-map (λ (p : Page). p.id.0 == v.page.0) stored_page rows.pages) ∙ h.page)
+    (sym (list_any-map (λ (p : Page). p.id.0 == v.page.0) stored_page rows.pages) ∙ h.page))
+    (source-from rows v.id v.source h.source)
 
 six_parts : (a b c d e f : Bool) → (a && b && c && d && e && f) ≡ true
     → (a ≡ true) × (b ≡ true) × (c ≡ true) × (d ≡ true) × (e ≡ true) × (f ≡ true)
@@ -252,7 +280,7 @@ good-to rows one h =
     let six =
     six_parts (are_good_numbers rows) (are_ids rows.ids.page (stored_page_ids rows.pages))
     (are_ids rows.ids.visit (stored_visit_ids rows.visits)) (have_own_urls rows.pages)
-    (list_all (is_good_page rows.visits) rows.pages) (list_all (is_good_visit rows.pages) rows.visits) h in
+    (list_all (is_good_page rows.visits) rows.pages) (list_all (is_good_visit rows) rows.visits) h in
     let numbers =
     four_parts (nat_le rows.day.0 last_day) (nat_le 1 rows.ids.page) (nat_le 1 rows.ids.visit)
     (nat_le 7 rows.ids.item) six.0 in
@@ -274,8 +302,8 @@ good-to rows one h =
       urls = AllPairs-map (λ (p q : Page). p.url ≢ q.url) stored_page rows.pages (own_urls-to rows.pages six.3);
       visits =
           All-map (IsGoodVisit (stored_store rows)) visit_of rows.visits
-          (λ k d within. visit-to rows (get_or rows.visits k d) (one.visits.0 k d within)
-          (all_pass (is_good_visit rows.pages) rows.visits six.5 k d within));
+          (λ k d within. visit-to rows (get_or rows.visits k d)
+          (all_pass (is_good_visit rows) rows.visits six.5 k d within));
       items = roots_are_good (stored_store rows);
       roots = has_roots (stored_store rows);
       tree = roots_are_tree;
@@ -284,7 +312,7 @@ good-to rows one h =
 
 pub good-from : (rows : Stored) → IsGood (stored_store rows) → are_good rows ≡ true
 good-from rows h =
-    and_from _ (list_all (is_good_visit rows.pages) rows.visits)
+    and_from _ (list_all (is_good_visit rows) rows.visits)
     (and_from _ (list_all (is_good_page rows.visits) rows.pages)
     (and_from _ (have_own_urls rows.pages)
     (and_from _ (are_ids rows.ids.visit (stored_visit_ids rows.visits))
@@ -303,6 +331,6 @@ good-from rows h =
     (pass_all (is_good_page rows.visits) rows.pages
     (λ k d within. page-from rows (get_or rows.pages k d)
     (All-from_map (IsGoodPage (stored_store rows)) stored_page rows.pages h.pages k d within))))
-    (pass_all (is_good_visit rows.pages) rows.visits
+    (pass_all (is_good_visit rows) rows.visits
     (λ k d within. visit-from rows (get_or rows.visits k d)
     (All-from_map (IsGoodVisit (stored_store rows)) visit_of rows.visits h.visits k d within)))

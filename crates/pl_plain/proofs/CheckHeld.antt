@@ -4,42 +4,48 @@ use Rattle.std.proofs.Common.{true, false, List, [], ◌∷◌, Result, Err, dro
 use Rattle.std.proofs.Common.{map, pos, negsuc, w64, sym, ap, refl, subst, arith, if◌then◌else◌}
 use Rattle.std.specs.Int.RustNames.{FitsSigned}
 use Rattle.std.specs.List.{sum_by}
+use Rattle.std.specs.Option.{IsSome}
 use Rattle.std.specs.Str.{IsUtf8}
 use Rattle.std.proofs.lemmas.Bool.{eqb-true}
 use Rattle.std.proofs.lemmas.List.{length-map, length-take, take-append-drop}
-use Rattle.std.proofs.lemmas.List.Elements.{All-head, All-map, All-tail}
+use Rattle.std.proofs.lemmas.List.Elements.{All-map}
 use Rattle.std.proofs.lemmas.List.Folds.{Any-from_list_any}
 use Rattle.std.proofs.lemmas.List.Sums.{count_by-le-length}
+use Rattle.std.proofs.lemmas.Option.{IfSome_then}
 use Rattle.std.proofs.Math.Nat.{div-le_self, mul-le-mul}
 use Rattle.pl_base.specs.declared.id.PageId.{PageId}
 use Rattle.pl_base.specs.Address.{is_place_url}
 use Rattle.pl_base.specs.Frecency.{frecency_from, frecency_of, points, rounded_up}
 use Rattle.pl_base.specs.Frecency.{unvisited_frecency, visit_bonus, visited_frecency}
-use Rattle.pl_base.specs.Good.{AreIds, IsGood}
+use Rattle.pl_base.specs.Good.{AreIds, IsGood, IsGoodVisit}
 use Rattle.pl_base.specs.Live.{live_slots, slot_limit}
 use Rattle.pl_base.specs.Marks.{is_counted, is_referenced, visit_count}
+use Rattle.pl_base.specs.Redirects.{visit_by_id}
 use Rattle.pl_base.specs.Rows.{IsOfVisits}
 use Rattle.pl_base.specs.Store.{Item, Page, Store, Visit, roots}
 use Rattle.pl_base.specs.Visits.{latest_first, sample_of, visits_of}
 use Rattle.pl_score.specs.declared.sample.Sampled.{Sampled}
+use Rattle.pl_score.specs.Sample.{sampled_of}
 use Rattle.pl_score.proofs.Points.{points_of-le}
+use Rattle.pl_score.proofs.StoreSamples.{sampled-small}
 use Rattle.pl_form.specs.declared.check_error.CheckError.{CheckError}
 use Rattle.pl_form.specs.declared.check_error.CheckError.TheVariants.{NoMemory, NotAStore}
 use Rattle.pl_form.specs.declared.stored.StoredVisit.{StoredVisit}
 use Rattle.pl_form.specs.declared.stored.StoredPage.{StoredPage}
 use Rattle.pl_plain.specs.CheckPages.{IsFrecencyRight}
+use Rattle.pl_form.specs.Reading.{IsSource}
 use Rattle.pl_form.specs.Form.{FormRows, StandsFor, filled_pages, form_bytes, in_pages, plain_bytes, store_rows}
 use Rattle.pl_form.specs.Stored.{AreStored, HoldsRows, IsShort, IsStoredPage, IsStoredVisit, Stored}
 use Rattle.pl_form.specs.Stored.{form_rows, stored_bytes, stored_page, stored_store, visit_of}
 use Rattle.pl_plain.proofs.CheckFlat.{store_rows-is}
-use Rattle.pl_plain.specs.CheckSample.{sampled_of}
-use Rattle.pl_plain.proofs.CheckMarks.{sampled-small}
+use Rattle.pl_plain.proofs.Lookups.{some_in}
 use Rattle.pl_form.proofs.FormLengths.{store_within}
 use Rattle.pl_base.proofs.ListLaws.{All-from_map, sum_by-map}
 use Rattle.pl_base.proofs.IdsLaws.{few_ids}
 
 abbrev page_from : Store → Page → StoredPage
-page_from store p = record { id = p.id; typed = p.typed; frecency = frecency_of store p; url = p.url }
+page_from store p =
+    record { id = p.id; typed = p.typed; frecency = frecency_of store p; url = p.url; title = p.title }
 
 abbrev visit_from : Visit → StoredVisit
 visit_from v = record { id = v.id; page = v.page; date = v.date; transition = v.transition; source = v.source }
@@ -53,16 +59,9 @@ rows_of store =
       visits = map visit_from store.visits;
     }
 
-untitled : (p : Page) → p.title ≡ [] → record { id = p.id; url = p.url; title = []; typed = p.typed } ≡ p
-untitled p none = ap (λ (t : List ℕ). record { id = p.id; url = p.url; title = t; typed = p.typed }) (sym none)
-
-pages_back : (store : Store) (ps : List Page) → All (λ (p : Page). p.title ≡ []) ps
-    → map stored_page (map (page_from store) ps) ≡ ps
-pages_back store [] none = refl
-pages_back store (p ∷ ps) none =
-    ap (λ (q : Page). q ∷ map stored_page (map (page_from store) ps))
-    (untitled p (All-head (λ (q : Page). q.title ≡ []) p ps none))
-    ∙ ap (λ (qs : List Page). p ∷ qs) (pages_back store ps (All-tail (λ (q : Page). q.title ≡ []) p ps none))
+pages_back : (store : Store) (ps : List Page) → map stored_page (map (page_from store) ps) ≡ ps
+pages_back store [] = refl
+pages_back store (p ∷ ps) = ap (λ (qs : List Page). p ∷ qs) (pages_back store ps)
 
 visits_back : (vs : List Visit) → map visit_of (map visit_from vs) ≡ vs
 visits_back [] = refl
@@ -76,20 +75,18 @@ store-back store h =
       pages = ps;
       visits = map visit_of (map visit_from store.visits);
       items = roots;
-    }) (pages_back store store.pages h.no_title)
+    }) (pages_back store store.pages)
     ∙ ap (λ (vs : List Visit).
     record { day = store.day; ids = store.ids; pages = store.pages; visits = vs; items = roots })
     (visits_back store.visits)
     ∙ ap (λ (is : List Item).
     record { day = store.day; ids = store.ids; pages = store.pages; visits = store.visits; items = is })
-    (sym h.no_item)
+    (sym h)
 
 pub right-back : (store : Store) → IsOfVisits store → All (IsFrecencyRight (rows_of store)) (rows_of store).pages
 right-back store h =
     All-map (IsFrecencyRight (rows_of store)) (page_from store) store.pages
-    (λ k d within.
-    ap (λ (s : Store). frecency_of s (get_or store.pages k d)) (sym (store-back store h))
-    ∙ ap (frecency_of (stored_store (rows_of store))) (sym (untitled (get_or store.pages k d) (h.no_title k d within))))
+    (λ k d within. ap (λ (s : Store). frecency_of s (get_or store.pages k d)) (sym (store-back store h)))
 
 id_fits : (ids : List ℕ) (next k d : ℕ) → AreIds 1 next ids → k < length ids → get_or ids k d < 2 ^ 32
 id_fits ids next k d h within = omega (arith, (h.given k d within).1, h.next_last)
@@ -156,9 +153,24 @@ frecency-fits store p few =
           store.visits,
     ))
 
-pub stored-back : (store : Store) → IsGood store → IsOfVisits store → All (λ (p : Page). IsUtf8 p.url) store.pages
+-- a source that is there has an id that fits
+source-fits : (store : Store) (v : Visit) → IsGood store → IsGoodVisit store v → IsSource v.source
+source-fits store v good one =
+    IfSome_then v.source {P = λ id. (id.0 < v.id.0) × IsSome (visit_by_id store id)} one.source
+    (λ id there.
+    let at =
+    Any-from_list_any (λ (w : Visit). w.id.0 == id.0) store.visits
+    (some_in (λ (w : Visit). w.id.0 == id.0) store.visits there.1) in
+    let given : (0 < at.1.id.0) × (at.1.id.0 < store.ids.visit) =
+    subst (λ (w : Visit). (0 < w.id.0) × (w.id.0 < store.ids.visit)) at.3
+    (All-from_map (λ n. (0 < n) × (n < store.ids.visit)) (λ (w : Visit). w.id.0) store.visits good.visit_ids.given
+    at.0 at.1 at.2) in
+    let number : at.1.id.0 ≡ id.0 = eqb-true at.1.id.0 id.0 at.4 in
+    (omega (arith, given.0, number), omega (arith, given.1, number, good.visit_ids.next_last)))
+
+pub stored-back : (store : Store) → IsGood store → All (λ (p : Page). IsUtf8 p.url) store.pages
     → AreStored (rows_of store)
-stored-back store good h texts =
+stored-back store good texts =
     let few_visits : length store.visits < 2 ^ 32 =
     omega (
       arith,
@@ -189,6 +201,7 @@ stored-back store good h texts =
               ),
               frecency-fits store (get_or store.pages k d) few_visits,
               (texts k d within, (good.pages k d within).url),
+              (good.pages k d within).title,
             )),
         omega (arith, few_pages, length-map store.pages (page_from store)),
       );
@@ -208,7 +221,7 @@ stored-back store good h texts =
                 good.visit_ids.next_last,
               ),
               omega (arith, eqb-true at.1.id.0 v.page.0 at.4, page_below, good.page_ids.next_last),
-              h.no_source k d within,
+              source-fits store v good (good.visits k d within),
               omega (arith, (good.visits k d within).date),
             )),
         omega (arith, few_visits, length-map store.visits visit_from),
@@ -229,7 +242,7 @@ short-back : (store : Store) → IsOfVisits store → live_slots store ≤ slot_
 short-back store h few =
     few_filled (length (stored_bytes (rows_of store)))
     (subst (λ (rows : FormRows). length (plain_bytes rows) < 2 ^ 40) (sym (form-back store h))
-    (plain_short store h.no_item few))
+    (plain_short store h few))
 
 pub holds-back : (bytes : List ℕ) (store : Store) → StandsFor bytes store → HoldsRows bytes (rows_of store)
 holds-back bytes store h =
@@ -254,12 +267,12 @@ apart r x e refused failed same none = absurd (cc)
 rows_read : (bytes : List ℕ) (store : Store) (got : Stored) → StandsFor bytes store
     → ((rows : Stored) → AreStored rows → HoldsRows bytes rows → got ≡ rows) → got ≡ rows_of store
 rows_read bytes store got h whole =
-    whole (rows_of store) (stored-back store h.good h.of_visits h.texts) (holds-back bytes store h)
+    whole (rows_of store) (stored-back store h.good h.texts) (holds-back bytes store h)
 
 pub not_read : (bytes : List ℕ) (store : Store) (e : CheckError) → StandsFor bytes store
     → ((rows : Stored) → AreStored rows → HoldsRows bytes rows → e ≡ NoMemory) → e ≡ NoMemory
 not_read bytes store e h whole =
-    whole (rows_of store) (stored-back store h.good h.of_visits h.texts) (holds-back bytes store h)
+    whole (rows_of store) (stored-back store h.good h.texts) (holds-back bytes store h)
 
 pub good_read : (bytes : List ℕ) (store : Store) (got : Stored) → StandsFor bytes store
     → ((rows : Stored) → AreStored rows → HoldsRows bytes rows → got ≡ rows) → IsGood (stored_store got)

@@ -13,7 +13,7 @@ rest_from xs i x within read =
     let next : suc i ≡ i + 1 = omega arith in
     drop-cons xs i x within ∙ ap (λ n. get_or xs i x ∷ drop n xs) next ∙ ap (λ y. y ∷ drop (i + 1) xs) (sym read)
 
-whole_rest : {X : Type 0} (xs : List X) (n : ℕ) → take (length xs - n) (drop n xs) ≡ drop n xs
+pub whole_rest : {X : Type 0} (xs : List X) (n : ℕ) → take (length xs - n) (drop n xs) ≡ drop n xs
 whole_rest xs n = take_all (length xs - n) (drop n xs) (omega (arith, length-drop n xs))
 
 pub own_urls_more : (whole : Bool) (pages : List StoredPage) (i : ℕ) (p : StoredPage) → i < length pages

@@ -1,34 +1,40 @@
 -- The rows stay well kept under changes.
 use Rattle.std.proofs.Common.{◌≡◌, ◌≢◌, ◌+◌, ◌-◌, ◌<◌, ◌≤◌, ◌==◌, ◌&&◌, ◌++◌, ◌∙◌, ℕ, All}
-use Rattle.std.proofs.Common.{Bool, true, false, IsTrue, List, [], ◌∷◌, ap, arith, eq-eqb}
-use Rattle.std.proofs.Common.{get_or, if◌then◌else◌, inl, inr, length, map, refl, subst, sym}
-use Rattle.std.specs.List.{list_any, sum_by}
-use Rattle.std.proofs.lemmas.Bool.{and_parts, cases_lt, eqb-true, false≢true}
+use Rattle.std.proofs.Common.{Bool, true, false, IsTrue, List, [], ◌∷◌, Some, ap, arith, eq-eqb, find}
+use Rattle.std.proofs.Common.{get_or, if◌then◌else◌, inl, inr, length, map, refl, subst, suc, sym}
+use Rattle.std.specs.List.{AllPairs, list_any, sum_by}
+use Rattle.std.specs.List.Sorted.{IsStrictlyIncreasing}
+use Rattle.std.specs.Option.{IfSome}
+use Rattle.std.specs.Str.{is_utf8}
+use Rattle.std.proofs.lemmas.Bool.{and_parts, cases_lt, eqb-true, false≢true, ne_eqb}
 use Rattle.std.proofs.lemmas.List.{length-map, length_push, map_push}
-use Rattle.std.proofs.lemmas.List.Elements.{All-map, All-push, All-weaker}
+use Rattle.std.proofs.lemmas.List.Elements.{All-head, All-map, All-push, All-tail, All-weaker}
 use Rattle.std.proofs.lemmas.List.Folds.{Any-from_list_any, list_any-from_Any, list_any_none}
 use Rattle.std.proofs.lemmas.List.Quantifiers.{all_pairs_push}
-use Rattle.std.proofs.lemmas.List.Sums.{sum_by_push}
+use Rattle.std.proofs.lemmas.List.Sums.{sum_by-cons, sum_by_push}
+use Rattle.std.proofs.lemmas.Option.{IfSome_then}
+use Rattle.std.proofs.lemmas.Str.{IsUtf8-nil}
 use Rattle.pl_base.specs.declared.date.Day.{Day}
 use Rattle.pl_base.specs.declared.id.PageId.{PageId}
 use Rattle.pl_base.specs.declared.id.Slot.{Slot}
+use Rattle.pl_base.specs.declared.id.VisitId.{VisitId}
 use Rattle.pl_base.specs.declared.row.Mark.{Mark}
 use Rattle.pl_base.specs.declared.row.VisitRow.{VisitRow}
 use Rattle.pl_base.specs.Address.{is_store_url, same_origin}
 use Rattle.pl_base.specs.Date.{IsDate, IsDay}
+use Rattle.pl_base.specs.Good.{IsTitle, end_of_ids}
 use Rattle.pl_base.specs.Live.{chunks, live_slots, new_origins, origin_count, slot_limit}
-use Rattle.pl_base.specs.Rows.{Kept, KeptOrigin, KeptPage, has_page, live_with_page, marked, store_of}
-use Rattle.pl_base.specs.Rows.{next_visit, with_day, with_mark, with_new_page, with_visit, AreAlike, next_page}
+use Rattle.pl_base.specs.Rows.{HasSource, Kept, KeptOrigin, KeptPage, has_page, has_visit, live_with_page, mark_of}
+use Rattle.pl_base.specs.Rows.{marked, page_at, store_of, titled, with_title, AreAlike, next_page}
+use Rattle.pl_base.specs.Rows.{next_visit, with_day, with_mark, with_new_page, with_visit}
 use Rattle.pl_base.specs.Store.{Item, Page, Visit}
+use Rattle.pl_base.proofs.ListLaws.{All-from_map, AllPairs-map, list_any-map, list_any_last, list_any_push, map-map}
+use Rattle.pl_base.proofs.ListLaws.{sum_by-map}
 use Rattle.pl_base.proofs.OriginLaws.{new_origins-append, same_origin-self, same_origin-sym, same_origin-trans}
-use Rattle.std.specs.Str.{is_utf8}
 use Rattle.pl_plain.specs.FlatRows.{IsFlat}
 use Rattle.pl_plain.specs.Place.{IsSlotOf, urls_of}
-use Rattle.pl_base.proofs.ListLaws.{AllPairs-map, list_any-map, list_any_last, list_any_push, map-map, sum_by-map}
 use Rattle.pl_plain.proofs.Lists.{AreIds_push, map-alike}
-use Rattle.pl_base.specs.Good.{end_of_ids}
-
--- two pages have the same name of an origin exactly where they have the same origin
+use Rattle.pl_plain.proofs.Searches.{rises}
 
 pub IsFlat-with_day : (day : Day) (kept : Kept) (origins live : ℕ) → IsDay day → IsFlat kept origins live
     → IsFlat (with_day day kept) origins live
@@ -42,7 +48,9 @@ IsFlat-with_day day kept origins live in_range h =
       urls = h.urls;
       texts = h.texts;
       distinct_urls = h.distinct_urls;
+      titles = h.titles;
       visits = h.visits;
+      sources = h.sources;
       named = h.named;
       used = h.used;
       same = h.same;
@@ -51,7 +59,7 @@ IsFlat-with_day day kept origins live in_range h =
       few = h.few;
     }
 
--- ---- a mark
+-- ---- other marks and titles
 
 -- the slots, counted over the kept pages
 pub slots_of : (kept : Kept)
@@ -65,37 +73,29 @@ slots_of kept =
       sum_by-map (λ (p : Page). chunks p.url + chunks p.title) (λ (p : KeptPage). p.page) kept.pages,
     )
 
--- a page after a mark of some page
-abbrev remarked : PageId → Mark → KeptPage → KeptPage
-remarked id mark p =
+-- a page with this title and mark
+abbrev with_both : List ℕ → Mark → KeptPage → KeptPage
+with_both title mark p =
     record {
-      page = record p.page { typed = if p.page.id.0 == id.0 then mark.typed else p.page.typed };
+      page = record { id = p.page.id; url = p.page.url; title = title; typed = mark.typed };
       origin = p.origin;
-      frecency = if p.page.id.0 == id.0 then mark.frecency else p.frecency;
-      count = if p.page.id.0 == id.0 then mark.count else p.count;
-      hidden = if p.page.id.0 == id.0 then mark.hidden else p.hidden;
+      frecency = mark.frecency;
+      count = mark.count;
+      hidden = mark.hidden;
     }
 
-remarked_at : (b : Bool) (mark : Mark) (p : KeptPage)
-    → (if b then marked mark p else p)
-    ≡ record {
-      page = record p.page { typed = if b then mark.typed else p.page.typed };
-      origin = p.origin;
-      frecency = if b then mark.frecency else p.frecency;
-      count = if b then mark.count else p.count;
-      hidden = if b then mark.hidden else p.hidden;
-    }
-remarked_at true mark p = refl
-remarked_at false mark p = refl
+-- the pages with these titles and marks
+abbrev altered : (KeptPage → List ℕ) → (KeptPage → Mark) → Kept → Kept
+altered title mark kept = record kept { pages = map (λ (p : KeptPage). with_both (title p) (mark p) p) kept.pages }
 
-pub IsFlat-with_mark : (id : PageId) (mark : Mark) (kept : Kept) (origins live : ℕ) → IsFlat kept origins live
-    → IsFlat (with_mark id mark kept) origins live
-IsFlat-with_mark id mark kept origins live h =
-    let f : KeptPage → KeptPage = remarked id mark in
-    let after : Kept = record kept { pages = map f kept.pages } in
-    let has : (v : Visit) → IsTrue (has_page kept v.page) → IsTrue (has_page after v.page) =
+IsFlat-altered : (title : KeptPage → List ℕ) (mark : KeptPage → Mark) (kept : Kept) (origins live after : ℕ)
+    → All (λ (p : KeptPage). IsTitle (title p)) kept.pages → after ≡ live_slots (store_of (altered title mark kept))
+    → after ≤ slot_limit → IsFlat kept origins live → IsFlat (altered title mark kept) origins after
+IsFlat-altered title mark kept origins live after titles filled few h =
+    let f : KeptPage → KeptPage = λ (p : KeptPage). with_both (title p) (mark p) p in
+    let whole : Kept = altered title mark kept in
+    let has : (v : Visit) → IsTrue (has_page kept v.page) → IsTrue (has_page whole v.page) =
     λ v some. list_any-map (λ (p : KeptPage). p.page.id.0 == v.page.0) f kept.pages ∙ some in
-    let done : IsFlat after origins live =
     record {
       day = h.day;
       page_ids = rw (map-map (λ (p : KeptPage). p.page.id.0) f kept.pages) h.page_ids;
@@ -105,10 +105,12 @@ IsFlat-with_mark id mark kept origins live h =
       urls = All-map (λ (p : KeptPage). IsTrue (is_store_url p.page.url)) f kept.pages h.urls;
       texts = All-map (λ (p : KeptPage). IsTrue (is_utf8 p.page.url)) f kept.pages h.texts;
       distinct_urls = AllPairs-map (λ (p q : KeptPage). p.page.url ≢ q.page.url) f kept.pages h.distinct_urls;
+      titles = All-map (λ (p : KeptPage). IsTitle p.page.title) f kept.pages titles;
       visits =
           All-weaker (λ (v : Visit). IsDate v.date × IsTrue (has_page kept v.page))
-          (λ (v : Visit). IsDate v.date × IsTrue (has_page after v.page))
+          (λ (v : Visit). IsDate v.date × IsTrue (has_page whole v.page))
           (λ v good. (good.0, has v good.1)) kept.visits h.visits;
+      sources = h.sources;
       named = All-map (λ (p : KeptPage). (0 < p.origin.0) × (p.origin.0 ≤ origins)) f kept.pages h.named;
       used = λ n some few. list_any-map (λ (p : KeptPage). p.origin.0 == n) f kept.pages ∙ h.used n some few;
       same =
@@ -117,19 +119,143 @@ IsFlat-with_mark id mark kept origins live h =
           (λ (p : KeptPage). All (AreAlike (f p)) (map f kept.pages))
           (λ p all. All-map (AreAlike (f p)) f kept.pages all) kept.pages h.same);
       counted = rw (map-map (λ (p : KeptPage). p.page.url) f kept.pages) h.counted;
-      filled =
-          h.filled ∙ slots_of kept
-          ∙ sym (slots_of after ∙ rw (
-            map-map (λ (p : KeptPage). p.page.url) f kept.pages,
-            length-map kept.pages f,
-            sum_by-map (λ (p : KeptPage). chunks p.page.url + chunks p.page.title) f kept.pages,
-          ) refl);
-      few = h.few;
-    } in
+      filled = filled;
+      few = few;
+    }
+
+-- the slots where titles change
+altered_slots : (title : KeptPage → List ℕ) (mark : KeptPage → Mark) (kept : Kept)
+    → live_slots (store_of (altered title mark kept)) ≡ origin_count (urls_of kept) + length kept.pages
+    + length kept.visits + length kept.items
+    + sum_by (λ (p : KeptPage). chunks p.page.url + chunks (title p)) kept.pages
+    + sum_by (λ (i : Item). chunks i.title) kept.items
+altered_slots title mark kept =
+    let f : KeptPage → KeptPage = λ (p : KeptPage). with_both (title p) (mark p) p in
+    slots_of (altered title mark kept) ∙ rw (
+      map-map (λ (p : KeptPage). p.page.url) f kept.pages,
+      length-map kept.pages f,
+      sum_by-map (λ (p : KeptPage). chunks p.page.url + chunks p.page.title) f kept.pages,
+    ) refl
+
+-- ---- a mark
+
+marked_at : (b : Bool) (mark : Mark) (p : KeptPage)
+    → (if b then marked mark p else p) ≡ with_both p.page.title (if b then mark else mark_of p) p
+marked_at true mark p = refl
+marked_at false mark p = refl
+
+pub IsFlat-with_mark : (id : PageId) (mark : Mark) (kept : Kept) (origins live : ℕ) → IsFlat kept origins live
+    → IsFlat (with_mark id mark kept) origins live
+IsFlat-with_mark id mark kept origins live h =
+    let title : KeptPage → List ℕ = λ (p : KeptPage). p.page.title in
+    let new : KeptPage → Mark = λ (p : KeptPage). if p.page.id.0 == id.0 then mark else mark_of p in
     subst (λ (pages : List KeptPage). IsFlat (record kept { pages = pages }) origins live)
-    (sym (map-alike (λ (p : KeptPage). if p.page.id.0 == id.0 then marked mark p else p) f kept.pages
-    (λ p. remarked_at (p.page.id.0 == id.0) mark p)))
-    done
+    (sym (map-alike (λ (p : KeptPage). if p.page.id.0 == id.0 then marked mark p else p)
+    (λ (p : KeptPage). with_both (title p) (new p) p) kept.pages (λ p. marked_at (p.page.id.0 == id.0) mark p)))
+    (IsFlat-altered title new kept origins live live h.titles
+    (h.filled ∙ slots_of kept ∙ sym (altered_slots title new kept)) h.few h)
+
+-- ---- a title
+
+titled_at : (b : Bool) (title : List ℕ) (p : KeptPage)
+    → (if b then titled title p else p) ≡ with_both (if b then title else p.page.title) (mark_of p) p
+titled_at true title p = refl
+titled_at false title p = refl
+
+is_title_at : (b : Bool) (title old : List ℕ) → IsTitle title → IsTitle old → IsTitle (if b then title else old)
+is_title_at true title old new before = new
+is_title_at false title old new before = before
+
+pub IsFlat-with_title : (id : PageId) (title : List ℕ) (kept : Kept) (origins live after : ℕ) → IsTitle title
+    → after ≡ live_slots (store_of (with_title id title kept)) → after ≤ slot_limit → IsFlat kept origins live
+    → IsFlat (with_title id title kept) origins after
+IsFlat-with_title id title kept origins live after own filled few h =
+    let new : KeptPage → List ℕ = λ (p : KeptPage). if p.page.id.0 == id.0 then title else p.page.title in
+    let same : map (λ (p : KeptPage). if p.page.id.0 == id.0 then titled title p else p) kept.pages
+    ≡ map (λ (p : KeptPage). with_both (new p) (mark_of p) p) kept.pages =
+    map-alike (λ (p : KeptPage). if p.page.id.0 == id.0 then titled title p else p)
+    (λ (p : KeptPage). with_both (new p) (mark_of p) p) kept.pages (λ p. titled_at (p.page.id.0 == id.0) title p) in
+    subst (λ (pages : List KeptPage). IsFlat (record kept { pages = pages }) origins after) (sym same)
+    (IsFlat-altered new mark_of kept origins live after
+    (All-weaker (λ (p : KeptPage). IsTitle p.page.title) (λ (p : KeptPage). IsTitle (new p))
+    (λ p before. is_title_at (p.page.id.0 == id.0) title p.page.title own before) kept.pages h.titles)
+    (filled ∙ ap (λ (pages : List KeptPage). live_slots (store_of (record kept { pages = pages }))) same) few h)
+
+map-none : {X : Type 0} (q : X → Bool) (f : X → X) (xs : List X) → All (λ x. q x ≡ false) xs
+    → map (λ x. if q x then f x else x) xs ≡ xs
+map-none q f [] none = refl
+map-none q f (x ∷ xs) none =
+    rw (All-head (λ y. q y ≡ false) x xs none, map-none q f xs (All-tail (λ y. q y ≡ false) x xs none)) refl
+
+-- a sum in which the only element that passes a test is changed
+sum_changed : {X : Type 0} (q : X → Bool) (f : X → X) (n : X → ℕ) (xs : List X) (x : X)
+    → AllPairs (λ a b. q a ≡ true → q b ≡ false) xs → find q xs ≡ Some x
+    → sum_by n (map (λ y. if q y then f y else y) xs) + n x ≡ sum_by n xs + n (f x)
+sum_changed q f n [] x once found = absurd (cc)
+sum_changed {X} q f n (y ∷ ys) x once found =
+    choose (q y) refl found
+    (sum_changed q f n ys x (λ i j d before within. once (suc i) (suc j) d (omega arith) (omega arith)))
+  where
+    choose : (b : Bool) → q y ≡ b → (if b then Some y else find q ys) ≡ Some x
+        → (find q ys ≡ Some x → sum_by n (map (λ z. if q z then f z else z) ys) + n x ≡ sum_by n ys + n (f x))
+        → sum_by n ((if b then f y else y) ∷ map (λ z. if q z then f z else z) ys) + n x
+        ≡ sum_by n (y ∷ ys) + n (f x)
+    choose true passes here rest =
+        let same : y ≡ x = cc in
+        let others : map (λ z. if q z then f z else z) ys ≡ ys =
+        map-none q f ys (λ k d within. once 0 (suc k) d (omega arith) (omega arith) passes) in
+        omega (
+          arith,
+          sum_by-cons n (f y) (map (λ z. if q z then f z else z) ys),
+          sum_by-cons n y ys,
+          ap (sum_by n) others,
+          ap n same,
+          ap (λ z. n (f z)) same,
+        )
+    choose false fails here rest =
+        omega (
+          arith,
+          sum_by-cons n y (map (λ z. if q z then f z else z) ys),
+          sum_by-cons n y ys,
+          rest here,
+        )
+
+one_page : (id : PageId) (ps : List KeptPage) → IsStrictlyIncreasing (map (λ (p : KeptPage). p.page.id.0) ps)
+    → AllPairs (λ (p q : KeptPage). (p.page.id.0 == id.0) ≡ true → (q.page.id.0 == id.0) ≡ false) ps
+one_page id ps ascending i j d before within passes =
+    ne_eqb (get_or ps j d).page.id.0 id.0
+    (λ same. omega (
+      arith,
+      eqb-true (get_or ps i d).page.id.0 id.0 passes,
+      rises (λ (p : KeptPage). p.page.id.0) ps ascending i j d before within,
+    ))
+
+-- the slots of the old title go, and those of the new one come
+pub slots_with_title : (id : PageId) (title : List ℕ) (kept : Kept) (p : KeptPage)
+    → IsStrictlyIncreasing (map (λ (q : KeptPage). q.page.id.0) kept.pages) → page_at kept id ≡ Some p
+    → live_slots (store_of (with_title id title kept)) + chunks p.page.title
+    ≡ live_slots (store_of kept) + chunks title
+slots_with_title id title kept p ascending found =
+    let new : Kept = with_title id title kept in
+    let f : KeptPage → KeptPage = λ (q : KeptPage). if q.page.id.0 == id.0 then titled title q else q in
+    let urls : urls_of new ≡ urls_of kept =
+    map-map (λ (q : KeptPage). q.page.url) f kept.pages
+    ∙ map-alike (λ (q : KeptPage). (f q).page.url) (λ (q : KeptPage). q.page.url) kept.pages
+    (λ q. url_at (q.page.id.0 == id.0) q) in
+    omega (
+      arith,
+      slots_of new,
+      slots_of kept,
+      ap origin_count urls,
+      length-map kept.pages f,
+      sum_changed (λ (q : KeptPage). q.page.id.0 == id.0) (titled title)
+          (λ (q : KeptPage). chunks q.page.url + chunks q.page.title) kept.pages p (one_page id kept.pages ascending)
+          found,
+    )
+  where
+    url_at : (b : Bool) (q : KeptPage) → (if b then titled title q else q).page.url ≡ q.page.url
+    url_at true q = refl
+    url_at false q = refl
 
 -- ---- a page
 
@@ -178,11 +304,14 @@ IsFlat-with_page url slot kept named origins after live own text absent place ro
       texts = All-push (λ (p : KeptPage). IsTrue (is_utf8 p.page.url)) kept.pages new h.texts text;
       distinct_urls =
           all_pairs_push (λ (p q : KeptPage). p.page.url ≢ q.page.url) kept.pages new h.distinct_urls absent;
+      titles =
+          All-push (λ (p : KeptPage). IsTitle p.page.title) kept.pages new h.titles (IsUtf8-nil, omega arith);
       visits =
           All-weaker (λ (v : Visit). IsDate v.date × IsTrue (has_page kept v.page))
           (λ (v : Visit). IsDate v.date × IsTrue (has_page whole v.page))
           (λ v good. (good.0, list_any_push (λ (p : KeptPage). p.page.id.0 == v.page.0) kept.pages new good.1))
           kept.visits h.visits;
+      sources = h.sources;
       named =
           All-push (λ (p : KeptPage). (0 < p.origin.0) × (p.origin.0 ≤ after)) kept.pages new
           (All-weaker (λ (p : KeptPage). (0 < p.origin.0) × (p.origin.0 ≤ origins))
@@ -212,11 +341,26 @@ IsFlat-with_page url slot kept named origins after live own text absent place ro
 
 -- ---- a visit
 
+-- a visit that is there has a smaller id than the next one
+below_next : (kept : Kept) (origins live : ℕ) (id : VisitId) → IsFlat kept origins live → has_visit kept id ≡ true
+    → id.0 < kept.ids.visit
+below_next kept origins live id h there =
+    let at = Any-from_list_any (λ (v : Visit). v.id.0 == id.0) kept.visits there in
+    let below : at.1.id.0 < kept.ids.visit =
+    subst (λ (v : Visit). v.id.0 < kept.ids.visit) at.3
+    (All-from_map (λ n. (0 < n) × (n < kept.ids.visit)) (λ (v : Visit). v.id.0) kept.visits h.visit_ids.given at.0 at.1
+    at.2).1 in
+    omega (arith, eqb-true at.1.id.0 id.0 at.4)
+
 pub IsFlat-with_visit : (row : VisitRow) (kept : Kept) (origins live : ℕ) → has_page kept row.page ≡ true
-    → IsDate row.date → kept.ids.visit < end_of_ids → live_slots (store_of kept) < slot_limit
-    → IsFlat kept origins live → IsFlat (with_visit row kept) origins (live + 1)
-IsFlat-with_visit row kept origins live there in_range room fits h =
+    → IsDate row.date → IfSome row.source (λ id. has_visit kept id ≡ true) → kept.ids.visit < end_of_ids
+    → live_slots (store_of kept) < slot_limit → IsFlat kept origins live
+    → IsFlat (with_visit row kept) origins (live + 1)
+IsFlat-with_visit row kept origins live there in_range source room fits h =
     let new : Visit = next_visit row kept in
+    let whole : Kept = with_visit row kept in
+    let still : (id : VisitId) → has_visit kept id ≡ true → IsTrue (has_visit whole id) =
+    λ id here. list_any_push (λ (v : Visit). v.id.0 == id.0) kept.visits new here in
     record {
       day = h.day;
       page_ids = h.page_ids;
@@ -229,9 +373,17 @@ IsFlat-with_visit row kept origins live there in_range room fits h =
       urls = h.urls;
       texts = h.texts;
       distinct_urls = h.distinct_urls;
+      titles = h.titles;
       visits =
           All-push (λ (v : Visit). IsDate v.date × IsTrue (has_page kept v.page)) kept.visits new h.visits
           (in_range, there);
+      sources =
+          All-push (HasSource whole) kept.visits new
+          (All-weaker (HasSource kept) (HasSource whole)
+          (λ v has. IfSome_then v.source {P = λ id. (id.0 < v.id.0) × IsTrue (has_visit kept id)} has
+          (λ id old. (old.0, still id old.1))) kept.visits h.sources)
+          (IfSome_then row.source {P = λ id. has_visit kept id ≡ true} source
+          (λ id here. (below_next kept origins live id h here, still id here)));
       named = h.named;
       used = h.used;
       same = h.same;

@@ -2,6 +2,7 @@
 use Rattle.std.proofs.Common.{◌≡◌, ◌<◌, ◌≤◌, ◌^◌, ℕ, All, IsTrue, List, ap, arith, length, map, refl}
 use Rattle.std.proofs.lemmas.List.Elements.{All-weaker}
 use Rattle.pl_base.specs.Address.{is_store_url, longest_url}
+use Rattle.pl_base.specs.Good.{IsTitle, longest_title}
 use Rattle.pl_base.specs.Rows.{Kept, KeptPage}
 use Rattle.pl_base.specs.Store.{roots}
 use Rattle.pl_base.proofs.OriginLaws.{store_url-fits}
@@ -29,3 +30,9 @@ urls_fit pages own =
     All-weaker (λ (p : FlatPage). IsTrue (is_store_url p.url)) (λ (p : FlatPage). length p.url ≤ longest_url)
     (λ p. store_url-fits p.url) pages
     (All-from_map (λ (p : KeptPage). IsTrue (is_store_url p.page.url)) page_of pages own)
+
+pub titles_fit : (pages : List FlatPage) → All (λ (p : KeptPage). IsTitle p.page.title) (map page_of pages)
+    → All (λ (p : FlatPage). length p.title ≤ longest_title) pages
+titles_fit pages own =
+    All-weaker (λ (p : FlatPage). IsTitle p.title) (λ (p : FlatPage). length p.title ≤ longest_title) (λ p one. one.1)
+    pages (All-from_map (λ (p : KeptPage). IsTitle p.page.title) page_of pages own)

@@ -12,11 +12,12 @@ pub mod LatestVisits
 pub mod Lengths
 pub mod Lists
 pub mod Lookups
-pub mod Marks
 pub mod OlderVisits
 pub mod OneStore
 pub mod OpeningGood
 pub mod Pages
+pub mod RowChanges
 pub mod Searches
-pub mod StoredUrls
+pub mod StoredTexts
+pub mod TargetVisits
 pub mod TestOrigins

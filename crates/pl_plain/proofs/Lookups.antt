@@ -13,7 +13,7 @@ use Rattle.pl_plain.specs.Latest.{first_of}
 use Rattle.pl_base.proofs.ListLaws.{list_any-map}
 use Rattle.pl_plain.proofs.OlderVisits.{id_of-first}
 
-find-map : {A B : Type 0} (p : B → Bool) (f : A → B) (xs : List A)
+pub find-map : {A B : Type 0} (p : B → Bool) (f : A → B) (xs : List A)
     → find p (map f xs) ≡ option_map f (find (λ x. p (f x)) xs)
 find-map p f [] = refl
 find-map p f (x ∷ xs) =
@@ -43,12 +43,21 @@ pub found-some : {A B C : Type 0} (p : B → Bool) (f : A → B) (g : B → C) (
     → Some (g (f x.now)) ≡ option_map g (find p (map f xs))
 found-some p f g xs ys found x some is same = ap (option_map g) (one-found p f xs ys found x some is same)
 
-found_in : {A : Type 0} (p : A → Bool) (xs : List A) → list_any p xs ≡ true → IsSome (find p xs)
+pub found_in : {A : Type 0} (p : A → Bool) (xs : List A) → list_any p xs ≡ true → IsSome (find p xs)
 found_in p [] some = absurd (cc)
 found_in p (x ∷ xs) some = choose (p x) some (found_in p xs)
   where
     choose : (b : Bool) → (b || list_any p xs) ≡ true → (list_any p xs ≡ true → IsSome (find p xs))
         → IsSome (if b then Some x else find p xs)
+    choose true here rest = refl
+    choose false here rest = rest here
+
+pub some_in : {A : Type 0} (p : A → Bool) (xs : List A) → IsSome (find p xs) → list_any p xs ≡ true
+some_in p [] found = absurd (cc)
+some_in p (x ∷ xs) found = choose (p x) found (some_in p xs)
+  where
+    choose : (b : Bool) → IsSome (if b then Some x else find p xs) → (IsSome (find p xs) → list_any p xs ≡ true)
+        → (b || list_any p xs) ≡ true
     choose true here rest = refl
     choose false here rest = rest here
 

@@ -1,8 +1,9 @@
 -- When the rows of a file are those of a good store, as tests.
 use Rattle.std.specs.Prelude.{◌&&◌, ◌||◌, ◌==◌, not, ℕ, Bool, true, List}
-use Rattle.std.specs.Prelude.{[], ◌∷◌, bytes_eq, map, nat_le, nat_lt}
+use Rattle.std.specs.Prelude.{[], ◌∷◌, bytes_eq, map, nat_le, nat_lt, Option, Some, None}
 use Rattle.std.specs.List.{list_all, list_any}
 use Rattle.pl_base.specs.declared.id.PageId.{PageId}
+use Rattle.pl_base.specs.declared.id.VisitId.{VisitId}
 use Rattle.pl_base.specs.Date.{last_date, last_day}
 use Rattle.pl_base.specs.Marks.{is_typed}
 use Rattle.pl_base.specs.Touched.{ascends_above}
@@ -38,10 +39,17 @@ is_good_page visits p =
     list_any (λ (v : StoredVisit). v.page.0 == p.id.0) visits
     && (p.typed || not (list_any (is_typed_visit p.id) visits))
 
--- a visit has a page and a date
-abbrev pub is_good_visit : List StoredPage → StoredVisit → Bool
-is_good_visit pages v =
-    nat_le v.date.0 last_date && list_any (λ (p : StoredPage). p.id.0 == v.page.0) pages
+-- the source of the visit with this id, if there is one, is a visit with a smaller id
+abbrev pub is_good_source : List StoredVisit → VisitId → Option VisitId → Bool
+is_good_source visits id None = true
+is_good_source visits id (Some source) =
+    nat_lt source.0 id.0 && list_any (λ (v : StoredVisit). v.id.0 == source.0) visits
+
+-- a visit has a date, a page, and as its source, if any, an earlier visit
+abbrev pub is_good_visit : Stored → StoredVisit → Bool
+is_good_visit rows v =
+    nat_le v.date.0 last_date && list_any (λ (p : StoredPage). p.id.0 == v.page.0) rows.pages
+    && is_good_source rows.visits v.id v.source
 
 -- the day is in range, and each next id may be one
 abbrev pub are_good_numbers : Stored → Bool
@@ -57,4 +65,4 @@ are_good rows =
     && are_ids rows.ids.visit (stored_visit_ids rows.visits)
     && have_own_urls rows.pages
     && list_all (is_good_page rows.visits) rows.pages
-    && list_all (is_good_visit rows.pages) rows.visits
+    && list_all (is_good_visit rows) rows.visits

@@ -20,6 +20,7 @@ IsFrecencyRight rows p = p.frecency ≡ frecency_of (stored_store rows) (stored_
 pub record IsAssessed (rows : Stored) (p : StoredPage) (q : FlatPage) : Type 0 where
   pub id : q.id ≡ p.id
   pub url : q.url ≡ p.url
+  pub title : q.title ≡ p.title
   pub typed : q.typed ≡ p.typed
   pub right : IsFrecencyRight rows p
   pub frecency : q.frecency ≡ frecency_of (stored_store rows) (stored_page p)
@@ -36,7 +37,7 @@ pub record IsGiven (rows : Stored) (qs : List FlatPage) (keys : List Key)
   pub count : origins ≡ length keys
   pub slots :
       live ≡ origins + length rows.pages + length rows.visits + 6
-      + sum_by (λ (p : StoredPage). chunks p.url) rows.pages
+      + sum_by (λ (p : StoredPage). chunks p.url + chunks p.title) rows.pages
   pub few : live ≤ slot_limit
 
 -- the rows with these pages and so many origins

@@ -10,18 +10,22 @@ use Rattle.std.proofs.lemmas.List.{get_or-map, length-map, take_all}
 use Rattle.std.proofs.lemmas.List.Elements.{All-from_recursion, All-head, All-map, All-tail}
 use Rattle.std.proofs.lemmas.List.Folds.{Any-from_list_any}
 use Rattle.std.proofs.lemmas.List.FromFn.{get_or-range_with_len, length-range_with_len}
-use Rattle.std.proofs.lemmas.Str.{IsUtf8-from_is_utf8, IsUtf8-nil}
+use Rattle.std.proofs.lemmas.List.Sorted.{IsPermutation-refl}
+use Rattle.std.proofs.lemmas.Str.{IsUtf8-from_is_utf8}
 use Rattle.std.specs.Str.{IsUtf8}
 use Rattle.pl_base.specs.declared.date.Day.{Day}
 use Rattle.pl_base.specs.declared.id.Ids.{Ids}
 use Rattle.pl_base.specs.Frecency.{frecency_of}
-use Rattle.pl_base.specs.Good.{AreIds, IsGood, IsTitle, end_of_ids}
-use Rattle.pl_base.specs.Rows.{IsOfVisits, IsRight, IsWellKept, Kept, KeptOrigin}
+use Rattle.pl_base.specs.declared.id.VisitId.{VisitId}
+use Rattle.pl_base.specs.Good.{AreIds, IsGood, end_of_ids}
+use Rattle.pl_base.specs.Redirects.{others_from, redirects_from}
+use Rattle.pl_base.specs.Rows.{AreTargets, IsOfVisits, IsRight, IsWellKept, Kept, KeptOrigin}
 use Rattle.pl_base.specs.Rows.{KeptPage, NamesOrigins, page_origins, store_of}
 use Rattle.pl_base.specs.Store.{Page, Store}
 use Rattle.pl_plain.specs.declared.flat.row.FlatPage.{FlatPage}
 use Rattle.pl_form.specs.declared.stored.StoredVisit.{StoredVisit}
-use Rattle.pl_plain.specs.FlatRows.{IsFlat, kept_from, origin_named, page_of}
+use Rattle.pl_plain.specs.FlatRows.{IsFlat, kept_from, origin_named}
+use Rattle.pl_plain.specs.Targets.{targets_of}
 use Rattle.pl_form.specs.Form.{FormRows, StandsFor, form_bytes, kept_rows, store_rows}
 
 -- ---- the rows are well kept
@@ -147,12 +151,24 @@ well_kept day ids pages origins visits live h =
       item_ids = root_ids ids.item h.item_first h.item_last;
       urls = h.urls;
       distinct_urls = h.distinct_urls;
-      titles =
-          All-map (λ (p : KeptPage). IsTitle p.page.title) page_of pages
-          (λ k d within. (IsUtf8-nil, omega arith));
+      titles = h.titles;
       visits = h.visits;
+      sources = h.sources;
       origins = origins_named kept origins live h refl;
       live = omega (arith, h.filled, h.few);
+    }
+
+-- ---- the targets of a visit are those of the definition
+
+pub targeted : (kept : Kept) (source : VisitId)
+    → AreTargets (store_of kept) source (targets_of kept.visits source)
+targeted kept source =
+    record {
+      redirects = redirects_from (store_of kept) source;
+      others = others_from (store_of kept) source;
+      is = refl;
+      all_redirects = IsPermutation-refl (redirects_from (store_of kept) source);
+      all_others = IsPermutation-refl (others_from (store_of kept) source);
     }
 
 -- ---- the bytes stand for the store

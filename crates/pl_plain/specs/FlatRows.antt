@@ -1,6 +1,6 @@
 -- The parts of a flat store seen as what is kept of a store, and what holds of them.
 use Rattle.std.specs.Prelude.{◌≡◌, ◌≢◌, ◌≤◌, ◌<◌, ◌==◌, ℕ, ℤ, IsTrue}
-use Rattle.std.specs.Prelude.{List, [], map, true, if◌then◌else◌}
+use Rattle.std.specs.Prelude.{List, map, true, if◌then◌else◌}
 use Rattle.std.specs.List.{All, AllPairs, list_any, range_with_len}
 use Rattle.std.specs.Str.{is_utf8}
 use Rattle.pl_base.specs.declared.date.Day.{Day}
@@ -9,20 +9,21 @@ use Rattle.pl_base.specs.declared.id.PageId.{PageId}
 use Rattle.pl_base.specs.declared.row.Mark.{Mark}
 use Rattle.pl_base.specs.Address.{is_store_url}
 use Rattle.pl_base.specs.Date.{IsDate, IsDay}
-use Rattle.pl_base.specs.Good.{AreIds, end_of_ids}
+use Rattle.pl_base.specs.Good.{AreIds, IsTitle, end_of_ids}
 use Rattle.pl_base.specs.Live.{live_slots, origin_count, slot_limit}
-use Rattle.pl_base.specs.Rows.{AreAlike, Kept, KeptOrigin, KeptPage, has_page, store_of}
+use Rattle.pl_base.specs.Rows.{AreAlike, HasSource, Kept, KeptOrigin, KeptPage}
+use Rattle.pl_base.specs.Rows.{has_page, store_of}
 use Rattle.pl_base.specs.Store.{Page, Visit, roots}
 use Rattle.pl_plain.specs.declared.flat.row.FlatPage.{FlatPage}
 use Rattle.pl_form.specs.declared.stored.StoredVisit.{StoredVisit}
 use Rattle.pl_form.specs.Form.{form_bytes, kept_rows}
 use Rattle.pl_form.specs.Stored.{visit_of}
 
--- a page without a title
+-- a page seen as what is kept of it
 abbrev pub page_of : FlatPage → KeptPage
 page_of p =
     record {
-      page = record { id = p.id; url = p.url; title = []; typed = p.typed };
+      page = record { id = p.id; url = p.url; title = p.title; typed = p.typed };
       origin = p.origin;
       frecency = p.frecency;
       count = p.count;
@@ -43,10 +44,21 @@ with_mark_of mark p =
       hidden = mark.hidden;
     }
 
+-- the page with this id is changed so
+abbrev pub row_with : PageId → (FlatPage → FlatPage) → FlatPage → FlatPage
+row_with id change p = if p.id.0 == id.0 then change p else p
+
 -- the page with this id has the mark
 abbrev pub marked_row : PageId → Mark → FlatPage → FlatPage
-marked_row id mark p =
-    if p.id.0 == id.0 then with_mark_of mark p else p
+marked_row id mark p = row_with id (with_mark_of mark) p
+
+-- a page with this title
+abbrev pub with_title_of : List ℕ → FlatPage → FlatPage
+with_title_of title p = record p { title = title }
+
+-- the page with this id has the title
+abbrev pub titled_row : PageId → List ℕ → FlatPage → FlatPage
+titled_row id title p = row_with id (with_title_of title) p
 
 -- the ids of the pages
 abbrev pub flat_page_ids : List FlatPage → List ℕ
@@ -84,7 +96,9 @@ pub record IsFlat (kept : Kept) (origins live : ℕ) : Type 0 where
   pub urls : All (λ (p : KeptPage). IsTrue (is_store_url p.page.url)) kept.pages
   pub texts : All (λ (p : KeptPage). IsTrue (is_utf8 p.page.url)) kept.pages
   pub distinct_urls : AllPairs (λ (p q : KeptPage). p.page.url ≢ q.page.url) kept.pages
+  pub titles : All (λ (p : KeptPage). IsTitle p.page.title) kept.pages
   pub visits : All (λ (v : Visit). IsDate v.date × IsTrue (has_page kept v.page)) kept.visits
+  pub sources : All (HasSource kept) kept.visits
   pub named : All (λ (p : KeptPage). (0 < p.origin.0) × (p.origin.0 ≤ origins)) kept.pages
   pub used : (n : ℕ) → 0 < n → n ≤ origins
       → list_any (λ (p : KeptPage). p.origin.0 == n) kept.pages ≡ true

@@ -1,7 +1,6 @@
 pub mod Check
 pub mod CheckOrigins
 pub mod CheckPages
-pub mod CheckSample
 pub mod Flat
 pub mod FlatBase
 pub mod FlatLaws
@@ -9,3 +8,4 @@ pub mod FlatRows
 pub mod Images
 pub mod Latest
 pub mod Place
+pub mod Targets

@@ -4,10 +4,12 @@ mod mark;
 pub(crate) mod row;
 mod rows;
 mod search;
+mod targets;
 // That no page has a URL yet, which an insertion asks for, only a look at
 // the rows themselves shows.
 #[cfg(test)]
 mod tests;
+mod title;
 mod touched;
 mod write;
 
@@ -23,8 +25,8 @@ use std::alloc::Global;
 
 /// A store over vectors of its rows.
 ///
-/// A page or a visit is found by its id by halves. A page's latest visits are found by a scan of
-/// all visits, and `touched` gives the whole store.
+/// A page or a visit is found by its id by halves. A page's latest visits, and the visits that
+/// came from one, are found by a scan of all visits, and `touched` gives the whole store.
 #[derive(Debug, Drop)]
 pub struct Flat {
     alloc: Global,

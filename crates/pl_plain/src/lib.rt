@@ -3,6 +3,7 @@
 
 mod check;
 mod flat;
+mod slots;
 mod visit;
 
 pub use flat::Flat;

@@ -1,12 +1,14 @@
-// The order of visits.
+// The order of visits, and their sources.
 ghost use Rattle.std.specs.Prelude.{◌≡◌};
 ghost use Rattle.std.specs.Option.{option_map};
+ghost use Rattle.pl_base.specs.Redirects as redirects;
 ghost use Rattle.pl_base.specs.Rows.{row_of};
 ghost use Rattle.pl_base.specs.Visits as visits;
 ghost use Rattle.pl_form.specs.Stored.{visit_of};
 ghost use Rattle.pl_plain.specs.Latest as latest;
+ghost use Rattle.pl_plain.specs.Targets as targets;
 
-use pl_base::{PageId, VisitRow};
+use pl_base::{PageId, VisitId, VisitRow};
 use pl_form::StoredVisit;
 
 /// Whether the date is later, or the same and the id greater.
@@ -31,6 +33,27 @@ pub fn is_within(visit: &StoredVisit, page: PageId, limit: Option<StoredVisit>) 
     ensures { result ≡ latest.is_within page (option_map visit_of limit) (visit_of visit.now) }
 {
     visit.page == page && limit.is_none_or(|limit| is_later(&limit, visit))
+}
+
+// Whether the visit came from the one with this id.
+fn came_from(visit: &StoredVisit, source: VisitId) -> bool
+    ensures { result ≡ redirects.is_source source visit.now.source }
+{
+    visit.source == Some(source)
+}
+
+/// Whether it is a redirect that came from the visit with this id.
+pub fn is_redirect_from(visit: &StoredVisit, source: VisitId) -> bool
+    ensures { result ≡ targets.is_redirect_from source (visit_of visit.now) }
+{
+    visit.transition.is_redirect() && came_from(visit, source)
+}
+
+/// Whether it is another visit that came from there.
+pub fn is_other_from(visit: &StoredVisit, source: VisitId) -> bool
+    ensures { result ≡ targets.is_other_from source (visit_of visit.now) }
+{
+    !visit.transition.is_redirect() && came_from(visit, source)
 }
 
 pub fn row(visit: &StoredVisit) -> VisitRow

@@ -7,7 +7,7 @@ ghost use Rattle.pl_base.specs.Touched.{ascends_above};
 ghost use Rattle.pl_plain.specs.Check as good;
 ghost use Rattle.pl_form.specs.Stored.{AreStored, stored_store};
 
-use pl_base::{Day, Micros, PageId, Transition};
+use pl_base::{Day, Micros, PageId, Transition, VisitId};
 use pl_form::{StoredPage, StoredRows, StoredVisit};
 
 /// Whether they are the rows of a good store.
@@ -47,11 +47,9 @@ fn have_good_pages(rows: &StoredRows) -> bool
 }
 
 fn have_good_visits(rows: &StoredRows) -> bool
-    ensures { result ≡ list_all (good.is_good_visit rows.now.pages) rows.now.visits }
+    ensures { result ≡ list_all (good.is_good_visit rows.now) rows.now.visits }
 {
-    rows.visits
-        .iter()
-        .all(|visit| is_good_visit(&rows.pages, visit))
+    rows.visits.iter().all(|visit| is_good_visit(rows, visit))
 }
 
 fn are_page_ids(pages: &[StoredPage], next: u32) -> bool
@@ -145,10 +143,25 @@ fn is_typed(transition: Transition) -> bool
     matches!(transition, Transition::Typed)
 }
 
-fn is_good_visit(pages: &[StoredPage], visit: &StoredVisit) -> bool
-    ensures { result ≡ good.is_good_visit pages.now visit.now }
+fn is_good_visit(rows: &StoredRows, visit: &StoredVisit) -> bool
+    ensures { result ≡ good.is_good_visit rows.now visit.now }
 {
-    visit.date.0 <= Micros::LAST.0 && has_page(pages, visit.page)
+    visit.date.0 <= Micros::LAST.0
+        && has_page(&rows.pages, visit.page)
+        && is_good_source(&rows.visits, visit.id, visit.source)
+}
+
+// Whether the source of a visit, if there is one, is a visit with a smaller id.
+fn is_good_source(visits: &[StoredVisit], id: VisitId, source: Option<VisitId>) -> bool
+    ensures { result ≡ good.is_good_source visits.now id source }
+{
+    source.is_none_or(|source| source.0 < id.0 && has_visit(visits, source))
+}
+
+fn has_visit(visits: &[StoredVisit], id: VisitId) -> bool
+    ensures { result ≡ list_any (λ v. v.id.0 == id.0) visits.now }
+{
+    visits.iter().any(|visit| visit.id.0 == id.0)
 }
 
 fn has_page(pages: &[StoredPage], id: PageId) -> bool

@@ -5,29 +5,30 @@ ghost use Rattle.pl_base.specs.Live as live;
 ghost use Rattle.pl_form.specs.Stored.{AreStored};
 
 use crate::flat::ROOT_SLOTS;
+use crate::slots::chunks;
 use pl_form::{StoredPage, StoredRows};
 
 /// The slots of 128 bytes that the store takes with so many origins.
 pub fn live(rows: &StoredRows, origins: u32) -> u64
     requires { AreStored rows.now }
     ensures { result ≡ origins + length rows.now.pages + length rows.now.visits + 6
-        + sum_by (λ p. live.chunks p.url) rows.now.pages }
+        + sum_by (λ p. live.chunks p.url + live.chunks p.title) rows.now.pages }
 {
     let slots = u64::from(origins) + rows.pages.len() as u64 + rows.visits.len() as u64;
-    slots + ROOT_SLOTS + url_slots(rows)
+    slots + ROOT_SLOTS + text_slots(rows)
 }
 
-fn url_slots(rows: &StoredRows) -> u64
+fn text_slots(rows: &StoredRows) -> u64
     requires { AreStored rows.now }
-    ensures exact { result ≡ sum_by (λ p. live.chunks p.url) rows.now.pages }
-    ensures greatest { result ≤ 547 * 4_294_967_296 }
+    ensures exact { result ≡ sum_by (λ p. live.chunks p.url + live.chunks p.title) rows.now.pages }
+    ensures greatest { result ≤ 582 * 4_294_967_296 }
 {
-    rows.pages.iter().map(url_chunks).sum()
+    rows.pages.iter().map(page_slots).sum()
 }
 
-// The slots of the URL, one for each 120 bytes.
-fn url_chunks(page: &StoredPage) -> u64
-    ensures { result ≡ live.chunks page.now.url }
+// The slots of a page's URL and of its title.
+fn page_slots(page: &StoredPage) -> u64
+    ensures { result ≡ live.chunks page.now.url + live.chunks page.now.title }
 {
-    (page.url.text().len() as u64 + 119) / 120
+    chunks(page.url.text()) + chunks(page.title.as_str())
 }

@@ -1,15 +1,18 @@
 // What the definitions give of a page.
-ghost use Rattle.std.specs.Prelude.{◌≡◌, ◌==◌, ◌&&◌, filter, map, take, count_by, true, IfOk, OnOk};
+ghost use Rattle.std.specs.Prelude.{◌≡◌, ◌==◌, ◌&&◌, ◌||◌, filter, map, take, count_by, true};
+ghost use Rattle.std.specs.Prelude.{IfOk, OnOk};
 ghost use Rattle.std.specs.List.{list_all, list_any};
 ghost use Rattle.pl_base.specs.Address.{is_place_url};
 ghost use Rattle.pl_base.specs.Frecency.{frecency_of};
 ghost use Rattle.pl_base.specs.Marks as marks;
+ghost use Rattle.pl_base.specs.Redirects as redirects;
 ghost use Rattle.pl_base.specs.Visits.{in_place, sample_of, sample_size};
-ghost use Rattle.pl_plain.specs.CheckSample.{sampled_of, sampled_stored};
+ghost use Rattle.pl_score.specs.Sample.{sampled_of};
 ghost use Rattle.pl_form.specs.Stored.{AreStored, stored_page, stored_store, visit_of};
 
+use crate::check::redirects::{is_redirect_source, source_transition};
 use crate::visit::is_later;
-use pl_base::{Mark, NoMemory, PageId, Transition};
+use pl_base::{Mark, NoMemory, PageId};
 use pl_form::{StoredPage, StoredRows, StoredVisit};
 use pl_score::{SAMPLE_SIZE, Sampled, bonus, score};
 use std::alloc::Global;
@@ -39,7 +42,7 @@ pub fn mark(
         frecency,
         count,
         typed: page.typed,
-        hidden: is_place || is_within_frames(rows, page.id),
+        hidden: is_place || is_unseen(rows, page.id),
     })
 }
 
@@ -50,7 +53,8 @@ fn sampled(alloc: Global, rows: &StoredRows, page: PageId) -> Result<Vec<Sampled
         ≡ map (sampled_of (stored_store rows.now)) (sample_of (stored_store rows.now) page)) }
 {
     let sample = sample(alloc, rows, page)?;
-    Ok(sample.iter().map(sampled_stored).collect(alloc)?)
+    let counted = sample.iter().map(|visit| sampled_of(rows, visit));
+    Ok(counted.collect(alloc)?)
 }
 
 // The ten latest visits of a page, the latest first.
@@ -74,15 +78,24 @@ fn visit_count(rows: &StoredRows, page: PageId) -> u32
     counted.count() as u32
 }
 
-// Whether each visit of the page was within a frame.
-fn is_within_frames(rows: &StoredRows, page: PageId) -> bool
-    ensures { result ≡ list_all (λ v. marks.is_framed v.transition)
+// Whether each visit of the page was within a frame or led to a redirect.
+fn is_unseen(rows: &StoredRows, page: PageId) -> bool
+    ensures { result ≡ list_all (λ v. marks.is_framed v.transition
+        || redirects.is_redirect_source (stored_store rows.now) (visit_of v))
         (filter (λ v. v.page.0 == page.0) rows.now.visits) }
 {
     rows.visits
         .iter()
         .filter(|visit| visit.page == page)
-        .all(|visit| visit.transition.is_framed())
+        .all(|visit| is_passed_by(rows, visit))
+}
+
+// Whether the visit was within a frame or led to a redirect.
+fn is_passed_by(rows: &StoredRows, visit: &StoredVisit) -> bool
+    ensures { result ≡ (marks.is_framed visit.now.transition
+        || redirects.is_redirect_source (stored_store rows.now) (visit_of visit.now)) }
+{
+    visit.transition.is_framed() || is_redirect_source(rows, visit)
 }
 
 fn put_in_place(sample: &mut Vec<StoredVisit>, visit: StoredVisit) -> Result<(), NoMemory>
@@ -96,11 +109,16 @@ fn put_in_place(sample: &mut Vec<StoredVisit>, visit: StoredVisit) -> Result<(),
 }
 
 // What a visit counts in the sample of its page.
-fn sampled_stored(visit: &StoredVisit) -> Sampled
-    ensures { result ≡ sampled_stored visit.now }
+fn sampled_of(rows: &StoredRows, visit: &StoredVisit) -> Sampled
+    ensures { result ≡ sampled_of (stored_store rows.now) (visit_of visit.now) }
 {
     Sampled {
         date: visit.date,
-        bonus: bonus(visit.transition, None, false, false),
+        bonus: bonus(
+            visit.transition,
+            source_transition(rows, visit),
+            is_redirect_source(rows, visit),
+            false,
+        ),
     }
 }

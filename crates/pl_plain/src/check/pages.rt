@@ -74,6 +74,7 @@ fn flat_page(
     Ok(FlatPage {
         id: page.id,
         url: Txt::copied(alloc, page.url.text())?,
+        title: Txt::copied(alloc, page.title.as_str())?,
         typed: page.typed,
         origin,
         frecency: mark.frecency,

@@ -2,21 +2,14 @@ ghost use Rattle.std.specs.Prelude.{◌≡◌, ◌≢◌, ◌≤◌, ◌<◌, �
 ghost use Rattle.std.specs.List.{All, range_with_len};
 ghost use Rattle.pl_base.specs.Address.{is_store_url};
 ghost use Rattle.pl_base.specs.Good.{end_of_ids};
-ghost use Rattle.pl_base.specs.Live as live;
 ghost use Rattle.pl_base.specs.Live.{slot_limit};
 ghost use Rattle.pl_base.specs.Rows.{KeptPage, live_with_page, with_new_page};
 ghost use Rattle.pl_plain.specs.Place.{IsSlotOf};
 
 use crate::Flat;
 use crate::flat::row::FlatPage;
+use crate::slots::chunks;
 use pl_base::{NoMemory, PageId, Slot, Txt};
-
-// A text takes a slot for each 120 bytes.
-fn chunks(text: &str) -> u64
-    ensures { result ≡ live.chunks text.now }
-{
-    text.len().div_ceil(120) as u64
-}
 
 impl Flat {
     ghost use Rattle.pl_plain.specs.Flat.{kept_of, IsBase};
@@ -40,6 +33,7 @@ impl Flat {
         self.pages.push(FlatPage {
             id,
             url: Txt::copied(self.alloc, url)?,
+            title: Txt::copied(self.alloc, "")?,
             typed: false,
             origin,
             frecency: 0,

@@ -4,11 +4,12 @@ ghost use Rattle.pl_plain.specs.FlatRows.{page_of, with_mark_of};
 
 use pl_base::{Mark, PageId, Slot, Txt};
 
-/// A page, which has no title, and what was computed of it last.
+/// A page, and what was computed of it last.
 #[derive(Debug, Drop)]
 pub struct FlatPage {
     pub id: PageId,
     pub url: Txt,
+    pub title: Txt,
     pub typed: bool,
     /// The name of its origin.
     pub origin: Slot,

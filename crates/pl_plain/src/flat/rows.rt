@@ -1,5 +1,6 @@
 use crate::flat::mark::mark_page;
 use crate::flat::search::{behind, find_page, find_visit, latest_visit};
+use crate::flat::targets::{first_target, next_target};
 use crate::flat::touched::whole_change;
 use crate::{Flat, visit};
 use pl_base::{
@@ -13,6 +14,7 @@ impl Rows for Flat {
     ghost use Rattle.pl_plain.specs.Flat.{kept_of, bytes_of, IsBase};
     ghost use Rattle.pl_plain.specs.FlatBase.{based};
     ghost use Rattle.pl_plain.specs.FlatLaws as laws;
+    ghost use Rattle.pl_plain.specs.Targets.{targets_of};
     ghost use Rattle.pl_form.specs.Form.{StandsFor};
 
     ghost kept = { kept_of };
@@ -20,6 +22,8 @@ impl Rows for Flat {
     ghost bytes = { bytes_of };
 
     ghost base = { IsBase };
+
+    ghost targets = { λ flat. targets_of (kept_of flat).visits };
 
     ghost form = { StandsFor };
 
@@ -57,6 +61,11 @@ impl Rows for Flat {
         Txt::copied(self.alloc, page.url.as_str())
     }
 
+    fn title<L: Ledger>(&self, page: PageId, steps: &mut Steps<L>) -> Result<Txt, NoMemory> {
+        let page = find_page(&self.pages, page).unwrap();
+        Txt::copied(self.alloc, page.title.as_str())
+    }
+
     fn origin_of<L: Ledger>(&self, page: PageId, steps: &mut Steps<L>) -> Slot {
         find_page(&self.pages, page).unwrap().origin
     }
@@ -72,6 +81,15 @@ impl Rows for Flat {
             Some(origin) => self.add_page(url, origin, origins),
             None => self.add_page(url, Slot(origins + 1), origins + 1),
         }
+    }
+
+    fn set_title<L: Ledger>(
+        &mut self,
+        page: PageId,
+        title: &str,
+        steps: &mut Steps<L>,
+    ) -> Result<(), NoMemory> {
+        self.give_title(page, title)
     }
 
     fn set_mark<L: Ledger>(&mut self, page: PageId, mark: Mark, steps: &mut Steps<L>) {
@@ -93,6 +111,14 @@ impl Rows for Flat {
         let visit = find_visit(&self.visits, visit)?;
         let older = latest_visit(&self.visits, visit.page, Some(*visit))?;
         Some(older.id)
+    }
+
+    fn first_target<L: Ledger>(&self, visit: VisitId, steps: &mut Steps<L>) -> Option<VisitId> {
+        first_target(&self.visits, visit)
+    }
+
+    fn next_target<L: Ledger>(&self, visit: VisitId, steps: &mut Steps<L>) -> Option<VisitId> {
+        next_target(&self.visits, visit)
     }
 
     fn insert_visit<L: Ledger>(
@@ -129,6 +155,8 @@ impl Rows for Flat {
 
     ghost well_kept = { λ flat. laws.well_kept flat.day flat.ids flat.pages.items flat.origins
         flat.visits.items flat.live flat.rows };
+
+    ghost targeted = { λ flat source. laws.targeted (kept_of flat) source };
 
     ghost stands = { λ flat. laws.stands (kept_of flat) flat.origins flat.live flat.rows };
 }

@@ -39,7 +39,8 @@ pub fn behind(pages: &[FlatPage], id: u32) -> Option<PageId>
     Some(page.id)
 }
 
-fn visit_index(visits: &[StoredVisit], id: VisitId) -> Option<usize>
+/// Where the visit with this id stands.
+pub fn visit_index(visits: &[StoredVisit], id: VisitId) -> Option<usize>
     requires { IsStrictlyIncreasing (stored_visit_ids visits.now) }
     ensures { result ≡ position (λ v. v.id.0 == id.0) visits.now }
 {

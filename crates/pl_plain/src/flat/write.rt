@@ -1,6 +1,7 @@
 ghost use Rattle.std.specs.Prelude.{◌≡◌, ◌+◌, ◌≤◌, ◌<◌, ◌^◌, ◌∷◌, ◌++◌, []};
 ghost use Rattle.std.specs.Prelude.{codes, length, map, replicate, All, OnOk};
 ghost use Rattle.pl_base.specs.Address.{longest_url};
+ghost use Rattle.pl_base.specs.Good.{longest_title};
 ghost use Rattle.pl_base.specs.Store.{item_id, root_folder, roots};
 ghost use Rattle.pl_form.specs.Stored.{visit_of};
 ghost use Rattle.pl_plain.specs.FlatRows.{form_row};
@@ -37,14 +38,15 @@ fn put_text(out: &mut Vec<u8>, bytes: &str) -> Result<(), NoMemory>
 }
 
 fn put_page(out: &mut Vec<u8>, page: &FlatPage) -> Result<(), NoMemory>
-    requires { length page.now.url ≤ longest_url }
+    requires url { length page.now.url ≤ longest_url }
+    requires title { length page.now.title ≤ longest_title }
     ensures { OnOk result (out.new.items ≡ out.old.items ++ page_bytes (form_row page.now)) }
 {
     put_four(out, page.id.0)?;
     out.push(flag(page.typed))?;
     put_eight(out, page.frecency.cast_unsigned())?;
     put_text(out, page.url.as_str())?;
-    put_text(out, "")?;
+    put_text(out, page.title.as_str())?;
     Ok(())
 }
 
@@ -57,6 +59,7 @@ fn flag(is_so: bool) -> u8
 pub fn put_pages(out: &mut Vec<u8>, pages: &[FlatPage]) -> Result<(), NoMemory>
     requires few { length pages.now < 2 ^ 32 }
     requires urls { All (λ p. length p.url ≤ longest_url) pages.now }
+    requires titles { All (λ p. length p.title ≤ longest_title) pages.now }
     ensures { OnOk result (out.new.items
         ≡ out.old.items ++ listed page_bytes (map form_row pages.now)) }
 {

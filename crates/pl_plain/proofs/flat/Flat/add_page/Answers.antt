@@ -17,7 +17,7 @@ invariant_of-self-2 c =
     omega (arith, c.from.ensures, c.chunks.ensures) in
     record {
       rows =
-          rw (c.in_ok-push.ensures.items, c.in_ok-copied.ensures, map_push page_of, slots)
+          rw (c.in_ok-push.ensures.items, c.in_ok-copied.ensures, c.in_ok-copied-2.ensures, map_push page_of, slots)
           (IsFlat-with_page c.args.url.now c.args.origin (kept_of f)
           (map origin_named (range_with_len 1 c.args.origins)) f.origins c.args.origins f.live
           c.requires.url (is_utf8-from_IsUtf8 c.args.url.now c.utf8.url) c.requires.absent c.requires.place

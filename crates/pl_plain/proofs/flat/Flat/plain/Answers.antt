@@ -6,13 +6,17 @@ use Rattle.pl_plain.specs.Flat.{kept_of}
 use Rattle.pl_plain.specs.FlatRows.{form_row, page_of}
 use Rattle.pl_form.specs.Form.{four, item_bytes, kept_rows, listed, page_bytes, plain_bytes, visit_bytes}
 use Rattle.pl_plain.proofs.Appends.{seven_writes}
-use Rattle.pl_plain.proofs.Lengths.{plain_is_short, urls_fit}
+use Rattle.pl_plain.proofs.Lengths.{plain_is_short, titles_fit, urls_fit}
 use Rattle.pl_base.proofs.ListLaws.{map-map}
 use Rattle.pl_plain.proofs.flat.Flat.plain.Goals as goal
 
 pub put_pages-requires-clause-urls : goal.put_pages-requires-clause-urls
 put_pages-requires-clause-urls c =
     rw c.deref.ensures.value (urls_fit c.args.self.now.pages.items c.args.self.now.rows.urls)
+
+pub put_pages-requires-clause-titles : goal.put_pages-requires-clause-titles
+put_pages-requires-clause-titles c =
+    rw c.deref.ensures.value (titles_fit c.args.self.now.pages.items c.args.self.now.rows.titles)
 
 pub returns-clause-plain : goal.returns-clause-plain
 returns-clause-plain c =

@@ -8,10 +8,10 @@ pub returns : goal.returns
 returns c =
     let p = c.args.page.now in
     five_writes c.args.out.now.items (four p.id.0) (flag p.typed ∷ []) (signed_eight p.frecency) (text_bytes p.url)
-    (text_bytes [])
+    (text_bytes p.title)
     c.in_ok-put_four.ensures
     (c.in_ok-push.ensures.items ∙ ap (λ n. c.put_four.new.out.items ++ n ∷ []) c.flag.ensures)
     (c.in_ok-put_eight.ensures ∙ ap (λ n. c.push.new.self.items ++ eight n) c.cast_unsigned.ensures
     ∙ ap (λ z. c.push.new.self.items ++ signed_eight z) (to_z-of_z w64 p.frecency (search rules)))
     (c.in_ok-put_text.ensures ∙ ap (λ t. c.put_eight.new.out.items ++ text_bytes t) c.as_str.ensures)
-    c.in_ok-put_text-2.ensures
+    (c.in_ok-put_text-2.ensures ∙ ap (λ t. c.put_text.new.out.items ++ text_bytes t) c.as_str-2.ensures)

@@ -1,12 +1,12 @@
-use Rattle.std.proofs.Common.{◌≡◌, ◌∙◌, ◌++◌, List, ap, arith, drop, length, map, subst, sym, take}
+use Rattle.std.proofs.Common.{◌≡◌, ◌∙◌, ◌++◌, List, ap, arith, drop, length, map, refl, subst, sym, take}
 use Rattle.std.proofs.lemmas.Bool.{true≢false}
 use Rattle.std.proofs.lemmas.List.{length-map}
-use Rattle.pl_base.specs.Rows.{KeptPage}
+use Rattle.pl_base.specs.Rows.{KeptPage, marked}
 use Rattle.pl_plain.specs.declared.flat.row.FlatPage.{FlatPage}
 use Rattle.pl_plain.specs.Flat.{kept_of}
-use Rattle.pl_plain.specs.FlatRows.{IsFlat, kept_from, marked_row, page_of}
+use Rattle.pl_plain.specs.FlatRows.{IsFlat, kept_from, marked_row, page_of, with_mark_of}
 use Rattle.pl_plain.proofs.FlatChanges.{IsFlat-with_mark}
-use Rattle.pl_plain.proofs.Marks.{all_written, kept_marked}
+use Rattle.pl_plain.proofs.RowChanges.{all_written, kept_changed}
 use Rattle.pl_plain.proofs.Searches.{pages_ascend}
 use Rattle.pl_plain.proofs.flat.rows.FlatRows.set_mark.Goals as goal
 
@@ -28,7 +28,7 @@ invariant_of-self g c =
           subst (λ (pages : List FlatPage). IsFlat (kept_from f.day f.ids pages f.origins f.visits.items) f.origins
           f.live) (sym same)
           (subst (λ (pages : List KeptPage). IsFlat (record (kept_of f) { pages = pages }) f.origins f.live)
-          (sym (kept_marked c.args.page c.args.mark f.pages.items))
+          (sym (kept_changed c.args.page (with_mark_of c.args.mark) (marked c.args.mark) (λ x. refl) f.pages.items))
           (IsFlat-with_mark c.args.page c.args.mark (kept_of f) f.origins f.live f.rows));
       some_page = f.some_page;
       settled = λ settled. absurd (true≢false settled);
@@ -43,4 +43,5 @@ returns-clause-kept g c =
     (c.mark_page.ensures ∙ ap (map (marked_row c.args.page c.args.mark)) c.deref_mut.ensures.value)
     (length-map f.pages.items (marked_row c.args.page c.args.mark)) (omega arith) in
     ap (λ (pages : List KeptPage). record (kept_of f) { pages = pages })
-    (ap (map page_of) same ∙ kept_marked c.args.page c.args.mark f.pages.items)
+    (ap (map page_of) same
+    ∙ kept_changed c.args.page (with_mark_of c.args.mark) (marked c.args.mark) (λ x. refl) f.pages.items)

@@ -1,5 +1,5 @@
--- URLs of the store that a file's rows hold.
-use Rattle.std.proofs.Common.{◌≡◌, ℕ, ◌*◌, ◌≤◌, All, Bool, true, false, List, Option, Some}
+-- URLs and titles that a file's rows hold.
+use Rattle.std.proofs.Common.{◌≡◌, ℕ, ◌+◌, ◌*◌, ◌≤◌, All, Bool, true, false, List, Option, Some}
 use Rattle.std.proofs.Common.{None, arith, get_or, if◌then◌else◌, length, nat_lt, refl, subst}
 use Rattle.std.specs.List.{sum_by}
 use Rattle.std.proofs.lemmas.List.Sums.{sum_by-le}
@@ -8,7 +8,7 @@ use Rattle.pl_base.specs.Live.{chunks}
 use Rattle.pl_base.proofs.OriginLaws.{store_url-fits}
 use Rattle.pl_form.specs.declared.stored.StoredPage.{StoredPage}
 use Rattle.pl_form.specs.Reading.{IsUrl}
-use Rattle.pl_form.specs.Stored.{AreStored, Stored}
+use Rattle.pl_form.specs.Stored.{AreStored, IsStoredPage, Stored}
 
 kept : (b : Bool) (v u : List ℕ) → is_store_url v ≡ b → (if b then Some v else None) ≡ Some u → is_store_url u ≡ true
 kept true v u is h =
@@ -29,12 +29,12 @@ store_url-is url one =
     store_url_if (serialized (record_of url)) url
     (some_if (nat_lt (length url) text_limit) (if_store_url (serialized (record_of url))) url one.1)
 
-chunks-le : (p : StoredPage) → IsUrl p.url → chunks p.url ≤ 547
-chunks-le p one = omega (arith, store_url-fits p.url (store_url-is p.url one))
+chunks-le : (p : StoredPage) → IsStoredPage p → chunks p.url + chunks p.title ≤ 582
+chunks-le p one = omega (arith, store_url-fits p.url (store_url-is p.url one.2), one.3.1)
 
 pub few_chunks : (rows : Stored) → AreStored rows
-    → sum_by (λ (p : StoredPage). chunks p.url) rows.pages ≤ 547 * 4_294_967_296
+    → sum_by (λ (p : StoredPage). chunks p.url + chunks p.title) rows.pages ≤ 582 * 4_294_967_296
 few_chunks rows one =
-    let each : All (λ (p : StoredPage). chunks p.url ≤ 547) rows.pages =
-    λ k d within. chunks-le (get_or rows.pages k d) (one.pages.0 k d within).2 in
-    omega (arith, sum_by-le (λ (p : StoredPage). chunks p.url) 547 rows.pages each, one.pages.1)
+    let each : All (λ (p : StoredPage). chunks p.url + chunks p.title ≤ 582) rows.pages =
+    λ k d within. chunks-le (get_or rows.pages k d) (one.pages.0 k d within) in
+    omega (arith, sum_by-le (λ (p : StoredPage). chunks p.url + chunks p.title) 582 rows.pages each, one.pages.1)

@@ -1,0 +1,18 @@
+use Rattle.std.proofs.lemmas.Bool.{true≢false}
+use Rattle.std.proofs.lemmas.List.{map_push}
+use Rattle.pl_form.specs.Stored.{visit_of}
+use Rattle.pl_plain.specs.Flat.{kept_of}
+use Rattle.pl_plain.proofs.FlatChanges.{IsFlat-with_visit}
+use Rattle.pl_plain.proofs.flat.rows.FlatRows.insert_visit.Goals as goal
+
+pub invariant_of-self-2 : goal.invariant_of-self-2
+invariant_of-self-2 g c =
+    let f = c.args.self.now in
+    record {
+      rows =
+          rw (c.in_ok-push.ensures.items, map_push visit_of)
+          (IsFlat-with_visit c.args.row.now (kept_of f) f.origins f.live c.requires.page c.requires.date
+          c.requires.source c.requires.id c.requires.live f.rows);
+      some_page = f.some_page;
+      settled = λ settled. absurd (true≢false settled);
+    }
