@@ -20,4 +20,3 @@ pub mod RowChanges
 pub mod Searches
 pub mod StoredTexts
 pub mod TargetVisits
-pub mod TestOrigins

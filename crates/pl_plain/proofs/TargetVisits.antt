@@ -19,7 +19,7 @@ use Rattle.pl_base.proofs.ListLaws.{all-filter}
 use Rattle.pl_form.specs.declared.stored.StoredVisit.{StoredVisit}
 use Rattle.pl_form.specs.Stored.{visit_of}
 use Rattle.pl_plain.specs.Check.{stored_visit_ids}
-use Rattle.pl_plain.specs.Targets.{is_other_from, is_redirect_from, target_behind, targets_of}
+use Rattle.pl_plain.specs.Targets.{is_other_from, is_redirect_from, target_among, targets_of}
 use Rattle.pl_plain.proofs.Lookups.{find-map}
 use Rattle.pl_plain.proofs.Searches.{found_at, none_at, rises}
 
@@ -109,12 +109,12 @@ found_row rows id i d at =
     ∙ ap (option_map visit_of) (sym (found_at (has id) rows i at) ∙ slice_get-get_or rows i d place.0)
 
 pub behind_none : (rows : List StoredVisit) (id : VisitId) → position (has id) rows ≡ None
-    → None ≡ target_behind (map visit_of rows) id
+    → None ≡ target_among (map visit_of rows) id
 behind_none rows id none =
     rw (find-map (λ (w : Visit). w.id.0 == id.0) visit_of rows, ← none_at (has id) rows none) refl
 
 pub behind_no_source : (rows : List StoredVisit) (id : VisitId) (i : ℕ) (d : StoredVisit)
-    → position (has id) rows ≡ Some i → (get_or rows i d).source ≡ None → None ≡ target_behind (map visit_of rows) id
+    → position (has id) rows ≡ Some i → (get_or rows i d).source ≡ None → None ≡ target_among (map visit_of rows) id
 behind_no_source rows id i d at none = rw (found_row rows id i d at, none) refl
 
 -- the rows in front of a place, the one at it, and those behind
@@ -164,7 +164,7 @@ without_back rows id i d ascending at =
 pub behind_is : (rows : List StoredVisit) (id source : VisitId) (i : ℕ) (d : StoredVisit)
     → IsStrictlyIncreasing (stored_visit_ids rows) → position (has id) rows ≡ Some i
     → (get_or rows i d).source ≡ Some source → (b : Bool) → is_redirect (get_or rows i d).transition ≡ b
-    → target_behind (map visit_of rows) id
+    → target_among (map visit_of rows) id
     ≡ first_id (if b then filter (is_redirect_from source) (map visit_of (drop (i + 1) rows))
     ++ filter (is_other_from source) (map visit_of rows)
     else filter (is_other_from source) (map visit_of (drop (i + 1) rows)))

@@ -21,8 +21,8 @@ targets_of visits source =
     filter (is_redirect_from source) visits ++ filter (is_other_from source) visits
 
 -- the visit that stands behind the one with this id among the targets of its source
-abbrev pub target_behind : List Visit → VisitId → Option VisitId
-target_behind visits id =
+abbrev pub target_among : List Visit → VisitId → Option VisitId
+target_among visits id =
     option_and_then
     (λ (v : Visit). option_and_then (λ source. id_behind id (targets_of visits source)) v.source)
     (find (λ (v : Visit). v.id.0 == id.0) visits)

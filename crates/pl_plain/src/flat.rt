@@ -5,10 +5,6 @@ pub(crate) mod row;
 mod rows;
 mod search;
 mod targets;
-// That no page has a URL yet, which an insertion asks for, only a look at
-// the rows themselves shows.
-#[cfg(test)]
-mod tests;
 mod title;
 mod touched;
 mod write;

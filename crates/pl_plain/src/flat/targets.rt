@@ -5,7 +5,7 @@ ghost use Rattle.pl_base.specs.Rows.{first_id};
 ghost use Rattle.pl_form.specs.Stored.{visit_of};
 ghost use Rattle.pl_plain.specs.Check.{stored_visit_ids};
 ghost use Rattle.pl_plain.specs.Targets.{is_other_from, is_redirect_from};
-ghost use Rattle.pl_plain.specs.Targets.{target_behind, targets_of};
+ghost use Rattle.pl_plain.specs.Targets.{target_among, targets_of};
 
 use crate::flat::search::visit_index;
 use crate::visit::{is_other_from, is_redirect_from};
@@ -22,7 +22,7 @@ pub fn first_target(visits: &[StoredVisit], source: VisitId) -> Option<VisitId>
 /// The next of the visits that came from the same one.
 pub fn next_target(visits: &[StoredVisit], id: VisitId) -> Option<VisitId>
     requires { IsStrictlyIncreasing (stored_visit_ids visits.now) }
-    ensures { result ≡ target_behind (map visit_of visits.now) id }
+    ensures { result ≡ target_among (map visit_of visits.now) id }
 {
     let index = visit_index(visits, id)?;
     let visit = visits[index];
