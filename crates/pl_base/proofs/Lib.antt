@@ -4,7 +4,6 @@ pub mod IdsLaws
 pub mod ListLaws
 pub mod OriginLaws
 pub mod RootsLaws
-pub mod SourceLaws
 pub mod TablesLaws
 pub mod VisitsLaws
 mod WorkedRows

@@ -1,7 +1,7 @@
 -- Facts of lists.
 use Rattle.std.proofs.Common.{◌≡◌, ◌+◌, ◌<◌, ◌≤◌, ◌++◌, ◌&&◌, ◌||◌, ◌∙◌, ℕ, All, Bool, true, false, List}
 use Rattle.std.proofs.Common.{[], ◌∷◌, ap, arith, count_by, filter, if◌then◌else◌, length, map, refl, subst}
-use Rattle.std.specs.List.{AllByRecursion, AllPairs, list_all, list_any, sum_by}
+use Rattle.std.specs.List.{AllByRecursion, AllPairs, list_any, sum_by}
 use Rattle.std.proofs.lemmas.Bool.{or_left, or_right}
 use Rattle.std.proofs.lemmas.List.{get_or-map, length-map}
 use Rattle.std.proofs.lemmas.List.Elements.{All-head, All-tail}
@@ -61,10 +61,6 @@ list_any_push p xs x some = list_any-append p xs (x ∷ []) ∙ or_left (list_an
 pub list_any_last : {X : Type 0} (p : X → Bool) (xs : List X) (x : X) → p x ≡ true → list_any p (xs ++ x ∷ []) ≡ true
 list_any_last p xs x passes =
     list_any-append p xs (x ∷ []) ∙ or_right (list_any p xs) (p x || false) (or_left (p x) false passes)
-
-pub list_all-alike : {X : Type 0} (p q : X → Bool) (xs : List X) → ((x : X) → p x ≡ q x) → list_all p xs ≡ list_all q xs
-list_all-alike p q [] alike = refl
-list_all-alike p q (x ∷ xs) alike = rw (alike x, list_all-alike p q xs alike)
 
 both-le : (a b : Bool) → (if a && b then 1 else 0) ≤ (if a then 1 else 0)
 both-le true true = omega arith
