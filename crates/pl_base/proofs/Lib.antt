@@ -5,5 +5,6 @@ pub mod ListLaws
 pub mod OriginLaws
 pub mod RootsLaws
 pub mod TablesLaws
+mod TitleCuts
 pub mod VisitsLaws
 mod WorkedRows

@@ -1,6 +1,7 @@
 -- Worked rows of frecencies, marks and slots: the definitions compute to values that were worked out by hand.
 use Rattle.std.proofs.Common.{◌≡◌, ℕ, ◌+◌, List, [], ◌∷◌, ◌++◌, map, Option, Some, None, true, false, refl}
-use Rattle.std.specs.Prelude.{ℤ, pos, negsuc, codes, replicate}
+use Rattle.std.specs.Prelude.{ℤ, pos, negsuc, codes, length, replicate}
+use Rattle.std.specs.Fmt.Cut.{floor_char_boundary}
 use Rattle.std.specs.List.{range_with_len}
 use Rattle.pl_base.specs.declared.transition.Transition.{Transition}
 use Rattle.pl_base.specs.declared.transition.Transition.TheVariants.{Link, Typed, Bookmark, Embed, RedirectPermanent}
@@ -13,6 +14,7 @@ use Rattle.pl_base.specs.Live.{chunks, live_slots}
 use Rattle.pl_base.specs.Marks.{is_hidden, visit_count}
 use Rattle.pl_base.specs.Redirects.{others_from, redirects_from}
 use Rattle.pl_base.specs.Store.{Store, Page, Visit, Item, item_id, bookmark, opening}
+use Rattle.pl_base.specs.Title.{cut_title}
 
 abbrev page : ℕ → Page
 page n = record { id = record { 0 = n }; url = []; title = []; typed = false }
@@ -270,3 +272,18 @@ two_origins = record (on_day 0 (link ∷ visit 2 2 0 Link None ∷ visit 3 3 0 L
 slots_of_two_origins : live_slots two_origins ≡ 2 + 3 + 3 + 6 + 3
 unfolding url_on_literals
 slots_of_two_origins = refl
+
+-- ---- titles
+
+-- a title of 4,096 bytes stands whole; a longer one is cut, and a character that would not end within is left out
+whole_title : length (cut_title (replicate 4_096 97)) ≡ 4_096
+unfolding floor_char_boundary
+whole_title = refl
+
+cut_title_at_its_end : length (cut_title (replicate 4_097 97)) ≡ 4_096
+unfolding floor_char_boundary
+cut_title_at_its_end = refl
+
+cut_before_a_character : length (cut_title (replicate 4_095 97 ++ 195 ∷ 169 ∷ [])) ≡ 4_095
+unfolding floor_char_boundary
+cut_before_a_character = refl

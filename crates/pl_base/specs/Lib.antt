@@ -9,6 +9,7 @@ pub mod Refusal
 pub mod Rows
 pub mod Store
 pub mod Tables
+pub mod Title
 pub mod Touched
 pub mod Transition
 pub mod Visits

@@ -2,6 +2,7 @@
 use Rattle.std.specs.Prelude.{ℕ, ◌&&◌, ◌||◌, ◌==◌, Bool, true, false}
 use Rattle.std.specs.Prelude.{List, [], ◌∷◌, Option, Some, None}
 use Rattle.std.specs.List.{count_by, list_all, list_any}
+use Rattle.pl_base.specs.declared.date.Micros.{Micros}
 use Rattle.pl_base.specs.declared.id.PageId.{PageId}
 use Rattle.pl_base.specs.declared.transition.Transition.{Transition}
 use Rattle.pl_base.specs.declared.transition.Transition.TheVariants.{Link, Typed, Bookmark}
@@ -11,7 +12,7 @@ use Rattle.pl_base.specs.declared.transition.Transition.TheVariants.{FramedLink,
 use Rattle.pl_base.specs.Address.{is_place_url}
 use Rattle.pl_base.specs.Redirects.{is_redirect_source}
 use Rattle.pl_base.specs.Store.{Store, Page, Visit, Item}
-use Rattle.pl_base.specs.Visits.{visits_of}
+use Rattle.pl_base.specs.Visits.{latest_first, visits_of}
 
 -- visits that `visit_count` counts: all but embedded and framed ones, downloads and reloads
 abbrev pub is_counted : Transition → Bool
@@ -29,6 +30,15 @@ is_counted Reload = false
 abbrev pub visit_count : Store → PageId → ℕ
 visit_count store page =
     count_by (λ v. (v.page.0 == page.0) && is_counted v.transition) store.visits
+
+-- the date of the first visit
+abbrev first_date : List Visit → Option Micros
+first_date [] = None
+first_date (v ∷ vs) = Some v.date
+
+-- the date of the latest visit of a page
+abbrev pub last_date_of : Store → PageId → Option Micros
+last_date_of store page = first_date (latest_first (visits_of store page))
 
 -- the page is there, and is this one
 abbrev pub is_page : PageId → Option PageId → Bool

@@ -3,17 +3,19 @@ use Rattle.std.specs.Prelude.{ℕ, List, [], ◌∷◌}
 use Rattle.pl_base.specs.declared.id.IdKind.{IdKind}
 use Rattle.pl_base.specs.declared.id.IdKind.TheVariants.{Page, Visit, Item}
 use Rattle.pl_base.specs.declared.refusal.Refusal.{Refusal}
-use Rattle.pl_base.specs.declared.refusal.Refusal.TheVariants.{BadUrl, NotRecorded, NoVisit}
-use Rattle.pl_base.specs.declared.refusal.Refusal.TheVariants.{Full, NoIds, BadLine}
+use Rattle.pl_base.specs.declared.refusal.Refusal.TheVariants.{BadUrl, NotRecorded, NoVisit, NoPage}
+use Rattle.pl_base.specs.declared.refusal.Refusal.TheVariants.{Full, NoIds, BadLine, BadDate}
 
 -- the number of a refusal
 abbrev pub refusal_number : Refusal → ℕ
 refusal_number BadUrl = 1
 refusal_number NotRecorded = 2
 refusal_number (NoVisit id) = 3
+refusal_number NoPage = 4
 refusal_number (Full slots) = 12
 refusal_number (NoIds kind) = 13
 refusal_number (BadLine column) = 14
+refusal_number BadDate = 16
 
 -- the number of what an id names
 abbrev pub id_kind_number : IdKind → ℕ
@@ -26,6 +28,8 @@ abbrev pub refusal_values : Refusal → List ℕ
 refusal_values BadUrl = []
 refusal_values NotRecorded = []
 refusal_values (NoVisit id) = id.0 ∷ []
+refusal_values NoPage = []
 refusal_values (Full slots) = slots ∷ []
 refusal_values (NoIds kind) = id_kind_number kind ∷ []
 refusal_values (BadLine column) = column ∷ []
+refusal_values BadDate = []

@@ -25,4 +25,4 @@ pub use rows::{Rows, SLOT_LIMIT};
 pub use steps::Steps;
 pub use touched::{PAGE_SIZE, Touched};
 pub use transition::Transition;
-pub use txt::{LONGEST_TITLE, Txt};
+pub use txt::{LONGEST_TITLE, Txt, cut_title};

@@ -16,6 +16,9 @@ pub enum Refusal {
     /// No visit has this id.
     #[error("no visit has this id")]
     NoVisit(VisitId),
+    /// No page has the URL.
+    #[error("no page has the URL")]
+    NoPage,
     /// The store would take so many slots of 128 bytes, which is more than it may.
     #[error("the store would take {0} slots")]
     Full(u64),
@@ -25,6 +28,9 @@ pub enum Refusal {
     /// The line is no command. Columns count its bytes from 1.
     #[error("no command, at column {0}")]
     BadLine(u32),
+    /// A date or a day is out of its range.
+    #[error("a date out of range")]
+    BadDate,
 }
 
 impl Refusal {
@@ -36,9 +42,11 @@ impl Refusal {
             Refusal::BadUrl => 1,
             Refusal::NotRecorded => 2,
             Refusal::NoVisit(_) => 3,
+            Refusal::NoPage => 4,
             Refusal::Full(_) => 12,
             Refusal::NoIds(_) => 13,
             Refusal::BadLine(_) => 14,
+            Refusal::BadDate => 16,
         }
     }
 }

@@ -1,5 +1,6 @@
 ghost use Rattle.std.specs.Prelude.{◌≡◌, IfOk};
 ghost use Rattle.std.specs.String.{string_bytes};
+ghost use Rattle.pl_base.specs.Title.{cut_title};
 
 use crate::NoMemory;
 use std::alloc::Global;
@@ -38,6 +39,36 @@ impl Txt {
     {
         self.text.as_str()
     }
+}
+
+/// The text, cut at the end of the last whole character that a title has room for.
+pub fn cut_title(text: &str) -> &str
+    ensures { result.now ≡ cut_title text.now }
+{
+    if text.len() <= LONGEST_TITLE {
+        return text;
+    }
+    &text[..text.floor_char_boundary(LONGEST_TITLE)]
+}
+
+impl PartialEq for Txt {
+    ghost use Rattle.std.specs.Prelude.{bytes_eq};
+    ghost use Rattle.std.specs.Cmp.{partial_equiv_from_equiv};
+    ghost use Rattle.std.specs.Cmp.Lexicographic.{nat_list_eq_equiv};
+
+    ghost eq = { λ a b. bytes_eq a b };
+
+    ghost laws = { partial_equiv_from_equiv nat_list_eq_equiv };
+
+    fn eq(&self, other: &Txt) -> bool {
+        self.as_str() == other.as_str()
+    }
+}
+
+impl Eq for Txt {
+    ghost use Rattle.std.specs.Cmp.Lexicographic.{nat_list_eq_equiv};
+
+    ghost laws = { nat_list_eq_equiv };
 }
 
 impl From<String> for Txt {

@@ -1,5 +1,5 @@
 -- One step of the machine: what a command answers and what it leaves of the store.
-use Rattle.std.specs.Prelude.{◌≡◌, ℕ, ◌+◌, ◌==◌, ◌&&◌, ◌||◌, Bool, false, List}
+use Rattle.std.specs.Prelude.{◌≡◌, ℕ, ◌+◌, ◌==◌, ◌&&◌, ◌||◌, Bool, true, false, List}
 use Rattle.std.specs.Prelude.{[], ◌∷◌, ◌++◌, map, nat_lt, bytes_eq, unwrap_or}
 use Rattle.std.specs.Prelude.{is_none, Option, Some, None, Ok, Err, if◌then◌else◌}
 use Rattle.std.specs.List.{find}
@@ -9,20 +9,25 @@ use Rattle.pl_base.specs.declared.id.IdKind.TheVariants.{Page as PageKind, Visit
 use Rattle.pl_base.specs.declared.id.PageId.{PageId}
 use Rattle.pl_base.specs.declared.id.VisitId.{VisitId}
 use Rattle.pl_base.specs.declared.refusal.Refusal.{Refusal}
-use Rattle.pl_base.specs.declared.refusal.Refusal.TheVariants.{NotRecorded, NoVisit, Full, NoIds}
+use Rattle.pl_base.specs.declared.refusal.Refusal.TheVariants.{NotRecorded, NoVisit, NoPage}
+use Rattle.pl_base.specs.declared.refusal.Refusal.TheVariants.{Full, NoIds}
 use Rattle.pl_base.specs.declared.transition.Transition.{Transition}
 use Rattle.pl_base.specs.Address.{is_unrecorded_url}
 use Rattle.pl_base.specs.Date.{IsDate}
 use Rattle.pl_base.specs.Frecency.{frecency_of}
 use Rattle.pl_base.specs.Good.{end_of_ids}
 use Rattle.pl_base.specs.Live.{live_slots}
-use Rattle.pl_base.specs.Marks.{is_typed}
+use Rattle.pl_base.specs.Marks.{is_hidden, is_typed, last_date_of, visit_count}
 use Rattle.pl_base.specs.Redirects.{visit_by_id}
 use Rattle.pl_base.specs.Store.{Store, Page, Visit}
+use Rattle.pl_base.specs.Title.{cut_title}
 use Rattle.pl_engine.specs.declared.command.Command.{Command}
 use Rattle.pl_engine.specs.declared.command.Command.TheVariants.{Visit as VisitCommand}
+use Rattle.pl_engine.specs.declared.command.Command.TheVariants.{Title as TitleCommand}
+use Rattle.pl_engine.specs.declared.command.Command.TheVariants.{Page as PageCommand}
 use Rattle.pl_engine.specs.declared.reply.Reply.{Reply}
-use Rattle.pl_engine.specs.declared.reply.Reply.TheVariants.{Visit as VisitReply, Refused}
+use Rattle.pl_engine.specs.declared.reply.Reply.TheVariants.{Visit as VisitReply}
+use Rattle.pl_engine.specs.declared.reply.Reply.TheVariants.{Page as PageReply, Done, Refused}
 use Rattle.pl_engine.specs.Parsed.{Parsed}
 
 -- ---- a visit
@@ -116,15 +121,56 @@ visit_reply store url transition date source =
     (frecency_of (after_visit store url transition date source)
     (visited_page transition (page_for store url)))
 
+-- ---- a title
+
+-- a page with this title, where it has the URL
+abbrev pub title_page : List ℕ → List ℕ → Page → Page
+title_page url title p = if bytes_eq p.url url then record p { title = title } else p
+
+-- the store where the page with the URL has the text as its title
+abbrev pub after_title : Store → List ℕ → List ℕ → Store
+after_title store url text =
+    record store { pages = map (title_page url (cut_title text)) store.pages }
+
+-- the first cause, in this order: the page, the slots
+abbrev pub title_refusal : ℕ → Store → List ℕ → List ℕ → Option Refusal
+title_refusal limit store url text =
+    let slots = live_slots (after_title store url text) in
+    if is_none (find_page url store.pages) then Some NoPage else
+    if is_full limit (live_slots store) slots then Some (Full slots) else None
+
+-- ---- what is known of a page
+
+-- no page is in the bookmark tree yet, and so none is bookmarked or has a tag
+abbrev pub page_reply : Store → Page → Reply
+page_reply store p =
+    PageReply p.id (frecency_of store p) (visit_count store p.id) (last_date_of store p.id)
+    p.typed (is_hidden store p) false p.url p.title []
+
+-- what is told of the page, where there is one
+abbrev pub told_page : Store → Option Page → Reply
+told_page store None = Refused NoPage
+told_page store (Some p) = page_reply store p
+
 -- ---- the step
 
 -- the dates of a command are in range
 abbrev pub HasDates : Command → Type 0
 HasDates (VisitCommand url transition date source) = IsDate date
+HasDates (TitleCommand url text) = Unit {0}
+HasDates (PageCommand url) = Unit {0}
 
--- a visit to an address whose visits are recorded
-abbrev pub IsRecorded : Command → Type 0
-IsRecorded (VisitCommand url transition date source) = is_unrecorded_url url ≡ false
+-- any command may want memory but a visit that is not recorded
+abbrev pub MayWantMemory : Command → Type 0
+MayWantMemory (VisitCommand url transition date source) = is_unrecorded_url url ≡ false
+MayWantMemory (TitleCommand url text) = Unit {0}
+MayWantMemory (PageCommand url) = Unit {0}
+
+-- a command of a kind that may change the store
+abbrev pub is_change : Command → Bool
+is_change (VisitCommand url transition date source) = true
+is_change (TitleCommand url text) = true
+is_change (PageCommand url) = false
 
 -- a refused command changes nothing
 abbrev pub unless_refused : Option Refusal → Store → Reply × Store → Reply × Store
@@ -136,6 +182,9 @@ abbrev pub perform : ℕ → Store → Command → Reply × Store
 perform limit store (VisitCommand url transition date source) =
     unless_refused (visit_refusal limit store url transition date source) store
     (visit_reply store url transition date source, after_visit store url transition date source)
+perform limit store (TitleCommand url text) =
+    unless_refused (title_refusal limit store url text) store (Done, after_title store url text)
+perform limit store (PageCommand url) = (told_page store (find_page url store.pages), store)
 
 -- the reply to an entry of the script, and the store after it
 abbrev pub step : ℕ → Store → Parsed Command → Reply × Store

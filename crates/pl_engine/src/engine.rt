@@ -59,6 +59,9 @@ impl<R: Rows + Drop> Engine<R> {
             ≡ spec.perform self.limit (store_of (R.kept self.rows)) command.now) }
         ensures refused { IfOk result (λ done. (refusal : Refusal)
             → done.1 ≡ Reply.Refused refusal → done.0.rows ≡ self.rows) }
+        // A command of a kind that changes nothing leaves the very same rows.
+        ensures unchanged { IfOk result (λ done. spec.is_change command.now ≡ false
+            → done.0.rows ≡ self.rows) }
         ensures right { IfOk result (λ done. IsRight (R.kept done.0.rows)) }
         ensures base { IfOk result (λ done. (bytes : List ℕ)
             → R.base self.rows bytes → R.base done.0.rows bytes) }
@@ -67,7 +70,7 @@ impl<R: Rows + Drop> Engine<R> {
         ensures limit { IfOk result (λ done. done.0.limit ≡ self.limit) }
 
         // A visit that is not recorded wants no memory.
-        ensures no_memory { IsErr result → spec.IsRecorded command.now }
+        ensures no_memory { IsErr result → spec.MayWantMemory command.now }
     {
         let Engine {
             alloc,
