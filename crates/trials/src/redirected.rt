@@ -1,5 +1,7 @@
 //! The file of a store, by hand: a redirect with its source, a link with the same source, and a
 //! title.
+ghost use Rattle.std.specs.Prelude.{◌<◌, length};
+
 use crate::roots::ROOTS;
 use pl_base::PAGE_SIZE;
 use std::alloc::Global;
@@ -30,7 +32,9 @@ const VISITS: &[u8; 88] = b"\x04\0\0\0\
 const UNTITLED: usize = 486;
 
 /// The file whose first page has this title.
-pub fn file(alloc: Global, title: &[u8]) -> Result<Vec<u8>, Fail> {
+pub fn file(alloc: Global, title: &[u8]) -> Result<Vec<u8>, Fail>
+    requires { length title.now < 10_000 }
+{
     let plain = UNTITLED + title.len();
     let filled = plain.div_ceil(PAGE_SIZE);
     let mut bytes = Vec::new(alloc);
@@ -52,7 +56,11 @@ pub fn file(alloc: Global, title: &[u8]) -> Result<Vec<u8>, Fail> {
 
 /// One byte of the file with a title of one byte, and what it is instead.
 pub const DAMAGES: &[(usize, u8, &str)] = &[
-    (2073, 0x64, "a page that forgets the redirect that came from it"),
+    (
+        2073,
+        0x64,
+        "a page that forgets the redirect that came from it",
+    ),
     (2103, 2, "a title that takes a byte of the next page"),
     (2107, 0xff, "a title that is no text"),
     (2113, 0x32, "a page that forgets the source of its redirect"),

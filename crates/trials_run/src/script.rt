@@ -179,7 +179,10 @@ const REPLIES: &[(Reply, &str)] = &[
     ),
     (Reply::Refused(Refusal::BadUrl), "refused\t1\n"),
     (Reply::Refused(Refusal::NotRecorded), "refused\t2\n"),
-    (Reply::Refused(Refusal::NoVisit(VisitId(9))), "refused\t3\t9\n"),
+    (
+        Reply::Refused(Refusal::NoVisit(VisitId(9))),
+        "refused\t3\t9\n",
+    ),
     (Reply::Refused(Refusal::Full(10)), "refused\t12\t10\n"),
     (
         Reply::Refused(Refusal::NoIds(IdKind::Visit)),

@@ -50,7 +50,13 @@ fn first(alloc: Global) -> Result<Command, Fail>
 fn second(alloc: Global) -> Result<Command, Fail>
     ensures { IfOk result HasDates }
 {
-    visit(alloc, "https://b.example/", Transition::Link, Micros(1), None)
+    visit(
+        alloc,
+        "https://b.example/",
+        Transition::Link,
+        Micros(1),
+        None,
+    )
 }
 
 const FIRST_REPLY: Reply = Reply::Visit {

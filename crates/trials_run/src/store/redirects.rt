@@ -12,13 +12,21 @@ type Kept = (i64, u32, bool);
 type Step = (&'static str, Transition, u32, &'static [Kept]);
 
 const A: &str = "https://a.example/";
+
 const B: &str = "https://b.example/";
+
 const C: &str = "https://c.example/";
+
 const D: &str = "https://d.example/";
 
 const THREE_REDIRECTS: &[Step] = &[
     (A, Transition::Typed, 0, &[(2000, 1, false)]),
-    (B, Transition::RedirectPermanent, 1, &[(25, 1, true), (2000, 1, false)]),
+    (
+        B,
+        Transition::RedirectPermanent,
+        1,
+        &[(25, 1, true), (2000, 1, false)],
+    ),
     (
         C,
         Transition::RedirectTemporary,
@@ -35,14 +43,24 @@ const THREE_REDIRECTS: &[Step] = &[
 
 const NO_SOURCE: &[Step] = &[
     (A, Transition::RedirectPermanent, 0, &[(50, 1, false)]),
-    (B, Transition::RedirectTemporary, 0, &[(50, 1, false), (40, 1, false)]),
+    (
+        B,
+        Transition::RedirectTemporary,
+        0,
+        &[(50, 1, false), (40, 1, false)],
+    ),
 ];
 
 // The page is hidden, shown by a link, hidden by the redirect that came from it, and shown again.
 const HIDDEN_AND_SHOWN: &[Step] = &[
     (A, Transition::Embed, 0, &[(0, 0, true)]),
     (A, Transition::Link, 0, &[(50, 1, false)]),
-    (B, Transition::RedirectPermanent, 2, &[(13, 1, true), (100, 1, false)]),
+    (
+        B,
+        Transition::RedirectPermanent,
+        2,
+        &[(13, 1, true), (100, 1, false)],
+    ),
     (A, Transition::Link, 0, &[(84, 2, false), (100, 1, false)]),
 ];
 
@@ -54,7 +72,12 @@ const OWN_SOURCE: &[Step] = &[
 
 const TWO_FROM_ONE: &[Step] = &[
     (A, Transition::Typed, 0, &[(2000, 1, false)]),
-    (B, Transition::RedirectPermanent, 1, &[(25, 1, true), (2000, 1, false)]),
+    (
+        B,
+        Transition::RedirectPermanent,
+        1,
+        &[(25, 1, true), (2000, 1, false)],
+    ),
     (
         C,
         Transition::RedirectTemporary,

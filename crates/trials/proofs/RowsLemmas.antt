@@ -1,0 +1,75 @@
+-- What the calls of rows tell of a page or a visit that was asked for, and that a new row has its slots.
+use Rattle.std.proofs.Common.{◌≡◌, ◌≢◌, ◌<◌, ◌≤◌, ◌==◌, ℕ, All, Bool, true, false, List, Option, Some, None}
+use Rattle.std.proofs.Common.{arith, if◌then◌else◌, length, map, refl, subst, sym}
+use Rattle.std.specs.List.{list_any}
+use Rattle.std.specs.List.Sorted.{IsStrictlyIncreasing}
+use Rattle.std.specs.Option.{option_map}
+use Rattle.std.proofs.lemmas.List.Elements.{All-nil}
+use Rattle.pl_base.specs.declared.id.PageId.{PageId}
+use Rattle.pl_base.specs.declared.id.VisitId.{VisitId}
+use Rattle.pl_base.specs.declared.id.TheConstants.Ids.{OPENING}
+use Rattle.pl_base.specs.declared.row.Mark.{Mark}
+use Rattle.pl_base.specs.declared.row.VisitRow.{VisitRow}
+use Rattle.pl_base.specs.Address.{longest_url, same_origin}
+use Rattle.pl_base.specs.Live.{live_slots, slot_limit}
+use Rattle.pl_base.specs.Rows.{IsOriginOf, Kept, KeptPage, has_page, has_visit, live_with_page, live_with_title}
+use Rattle.pl_base.specs.Rows.{mark_of}
+use Rattle.pl_base.specs.Rows.{opening_with, page_at, row_of, store_of, visit_at}
+use Rattle.pl_base.specs.Store.{Visit}
+use Rattle.pl_plain.specs.Place.{urls_of}
+use Rattle.pl_plain.proofs.FlatChanges.{slots_with_page, slots_with_title}
+use Rattle.pl_plain.proofs.Lookups.{there-found}
+
+pub page_there : (kept : Kept) (page : PageId) (mark : Mark) → Some mark ≡ option_map mark_of (page_at kept page)
+    → has_page kept page ≡ true
+page_there kept page mark told = there-found (λ (p : KeptPage). p.page.id.0 == page.0) mark_of kept.pages mark told
+
+pub visit_there : (kept : Kept) (visit : VisitId) (row : VisitRow)
+    → Some row ≡ option_map row_of (visit_at kept visit) → has_visit kept visit ≡ true
+visit_there kept visit row told = there-found (λ (v : Visit). v.id.0 == visit.0) row_of kept.visits row told
+
+-- ---- a first page
+
+pub none_has : (kept : Kept) (url : List ℕ) → kept ≡ opening_with OPENING
+    → All (λ (p : KeptPage). p.page.url ≢ url) kept.pages
+none_has kept url opened =
+    subst (λ (k : Kept). All (λ (p : KeptPage). p.page.url ≢ url) k.pages) (sym opened)
+    (All-nil (λ (p : KeptPage). p.page.url ≢ url))
+
+pub no_origin : (kept : Kept) (url : List ℕ) → kept ≡ opening_with OPENING → IsOriginOf kept url None
+no_origin kept url opened =
+    subst (λ (k : Kept). IsOriginOf k url None) (sym opened)
+    (All-nil (λ (p : KeptPage). same_origin p.page.url url ≡ false))
+
+at_most_one : (b : Bool) → (if b then 0 else 1) ≤ 1
+at_most_one true = omega arith
+at_most_one false = omega arith
+
+pub has_slots : (kept : Kept) (url : List ℕ) → kept ≡ opening_with OPENING → length url ≤ longest_url
+    → live_with_page url kept ≤ slot_limit
+has_slots kept url opened short =
+    omega (
+      arith,
+      slots_with_page url (record { 0 = 0 }) kept,
+      subst (λ (k : Kept). live_slots (store_of k) ≤ 6) (sym opened) (omega arith),
+      at_most_one (list_any (same_origin url) (urls_of kept)),
+    )
+
+-- ---- a title
+
+found_where : (kept : Kept) (page : PageId) (mark : Mark) → Some mark ≡ option_map mark_of (page_at kept page)
+    → (p : KeptPage) × (page_at kept page ≡ Some p)
+found_where kept page mark told = choose (page_at kept page) refl told
+  where
+    choose : (found : Option KeptPage) → page_at kept page ≡ found → Some mark ≡ option_map mark_of found
+        → (p : KeptPage) × (page_at kept page ≡ Some p)
+    choose None is none = absurd (cc)
+    choose (Some p) is some = (p, is)
+
+pub room_for_title : (kept : Kept) (page : PageId) (title : List ℕ) (mark : Mark)
+    → IsStrictlyIncreasing (map (λ (p : KeptPage). p.page.id.0) kept.pages)
+    → Some mark ≡ option_map mark_of (page_at kept page) → length title < 100 → live_slots (store_of kept) < 4_000_000
+    → live_with_title page title kept ≤ slot_limit
+room_for_title kept page title mark ascending told short few =
+    let p = found_where kept page mark told in
+    omega (arith, slots_with_title page title kept p.0 ascending p.1)

@@ -1,0 +1,15 @@
+use Rattle.std.proofs.Common.{◌∙◌, ap, sym}
+use Rattle.std.specs.Result.{result_ok}
+use Rattle.pl_plain.specs.Flat.{kept_of}
+use Rattle.trials.proofs.RowsLemmas.{page_there}
+use Rattle.trials.proofs.rows.check_texts.Goals as goal
+
+pub url-requires : goal.url-requires
+url-requires g c =
+    page_there (kept_of c.args.flat.now) c.args.page c.in_ok-ok_or.field-0
+    (ap result_ok (sym c.in_ok-ok_or.was) ∙ sym c.ok_or.ensures.ok_part ∙ c.page_at.ensures.mark)
+
+pub title-requires : goal.title-requires
+title-requires g c =
+    page_there (kept_of c.args.flat.now) c.args.page c.in_ok-ok_or.field-0
+    (ap result_ok (sym c.in_ok-ok_or.was) ∙ sym c.ok_or.ensures.ok_part ∙ c.page_at.ensures.mark)
