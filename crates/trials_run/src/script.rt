@@ -1,9 +1,11 @@
 // Lines and the columns at which they are refused, counted by hand, and what texts and replies are
-// written as. In the tables `https://a.example/` has 18 bytes, so behind `visit` and a TAB its
-// transition stands at column 26 and its date at 28.
-use pl_base::{IdKind, Micros, PageId, Refusal, Transition, VisitId};
+// written as. In the tables `https://a.example/` has 18 bytes, so behind `visit` and a TAB the
+// transition stands at column 26, the date at 28, and behind a date of one digit the source at 30;
+// behind `title` the text at 26.
+use pl_base::{IdKind, Micros, NoMemory, PageId, Refusal, Transition, Txt, VisitId};
 use pl_engine::{Command, Reply};
 use pl_script::{LineError, escaped, line, reply_text};
+use std::alloc::Global;
 use std::process::Abort;
 use std::test::Fail;
 
@@ -44,11 +46,27 @@ const REFUSED: &[(&[u8], u32)] = &[
     (b"visit\thttps://a.example/\t1\t00", 28),
     (b"visit\thttps://a.example/\t1\t-1", 28),
     (b"visit\thttps://a.example/\t1\t 0", 28),
-    (b"visit\thttps://a.example/\t1\t253402300800000000", 28),
     (b"visit\thttps://a.example/\t1\t18446744073709551616", 28),
-    // A field too many.
+    // The source.
     (b"visit\thttps://a.example/\t1\t0\t", 30),
-    (b"visit\thttps://a.example/\t1\t0\t1\t2", 30),
+    (b"visit\thttps://a.example/\t1\t0\t00", 30),
+    (b"visit\thttps://a.example/\t1\t0\t-1", 30),
+    (b"visit\thttps://a.example/\t1\t0\t4294967296", 30),
+    (b"visit\thttps://a.example/\t1\t00\tx", 28),
+    // A title, and a page.
+    (b"title", 6),
+    (b"title\thttps://a.example/", 25),
+    (b"title\t\xff\tA", 7),
+    (b"title\thttps://a.example/\t\\x", 26),
+    (b"title\thttps://a.example/\t\xc3", 26),
+    (b"page", 5),
+    (b"page\t\\", 6),
+    // A field too many.
+    (b"visit\thttps://a.example/\t1\t0\t1\t2", 32),
+    (b"visit\thttps://a.example/\t1\t0\t4294967295\t", 41),
+    (b"title\thttps://a.example/\tA\tB", 28),
+    (b"title\thttps://a.example/\t\t", 27),
+    (b"page\thttps://a.example/\t", 25),
 ];
 
 #[test]
@@ -59,17 +77,24 @@ fn refuses_lines_at_their_columns(rt: HostRuntime) {
     }
 }
 
-const ADDRESSES: &[(&[u8], Refusal)] = &[
+const CAUSES: &[(&[u8], Refusal)] = &[
     (b"visit\t\t1\t0", Refusal::BadUrl),
     (b"visit\tno url\t1\t0", Refusal::BadUrl),
-    // A field that is not of its form comes first.
+    (b"visit\tno url\t1\t0\t1", Refusal::BadUrl),
+    (b"title\tno url\tA", Refusal::BadUrl),
+    (b"page\tno url", Refusal::BadUrl),
+    (b"page\t", Refusal::BadUrl),
+    (b"visit\thttps://a.example/\t1\t253402300800000000", Refusal::BadDate),
+    (b"visit\thttps://a.example/\t1\t18446744073709551615", Refusal::BadDate),
+    // A date is asked before an address, and a field that is not of its form before both.
+    (b"visit\tno url\t1\t253402300800000000", Refusal::BadDate),
     (b"visit\tno url\t1\t00", Refusal::BadLine(16)),
-    (b"visit\tno url\t1\t0\t", Refusal::BadLine(18)),
+    (b"visit\tno url\t1\t253402300800000000\t", Refusal::BadLine(35)),
 ];
 
 #[test]
-fn refuses_addresses(rt: HostRuntime) {
-    for (bytes, refusal) in ADDRESSES {
+fn refuses_by_the_first_cause(rt: HostRuntime) {
+    for (bytes, refusal) in CAUSES {
         let refused = Some(LineError::Refused(*refusal));
         assert_eq!(rt; line(rt.alloc(), bytes).err(), refused);
     }
@@ -90,6 +115,7 @@ fn expect_visit(
     text: &[u8],
     kind: Transition,
     when: Micros,
+    from: Option<VisitId>,
 ) {
     match command {
         Some(
@@ -103,51 +129,86 @@ fn expect_visit(
             assert_eq!(rt; url.text().as_bytes(), text);
             assert_eq!(rt; transition, kind);
             assert_eq!(rt; date, when);
-            assert!(rt; source.is_none());
+            assert!(rt; source == from);
         }
-        None => assert!(rt; false, "no command"),
+        _ => assert!(rt; false, "no visit"),
     }
 }
 
 // Escapes come before the URL Standard, which strips or reads what they stand for.
-const VISITS: &[(&[u8], &[u8], Transition, u64)] = &[
+const VISITS: &[(&[u8], &[u8], Transition, u64, Option<VisitId>)] = &[
     (
         b"visit\thttps://a.example/\t1\t0",
         b"https://a.example/",
         Transition::Link,
         0,
+        None,
     ),
     (
-        b"visit\thttps://a.\\texample\\r\\n/\t2\t1",
+        b"visit\thttps://a.\\texample\\r\\n/\t2\t1\t0",
         b"https://a.example/",
         Transition::Typed,
         1,
+        Some(VisitId(0)),
     ),
     (
-        b"visit\thttps:\\\\\\\\a.example\\\\\t9\t10",
+        b"visit\thttps:\\\\\\\\a.example\\\\\t5\t10\t9",
         b"https://a.example/",
-        Transition::Reload,
+        Transition::RedirectPermanent,
         10,
+        Some(VisitId(9)),
     ),
     (
-        b"visit\thttps://caf\xc3\xa9.example/\t1\t253402300799999999",
+        b"visit\thttps://caf\xc3\xa9.example/\t1\t253402300799999999\t4294967295",
         b"https://xn--caf-dma.example/",
         Transition::Link,
         253_402_300_799_999_999,
+        Some(VisitId(4_294_967_295)),
     ),
     (
         b"visit\tabout:blank\t1\t0",
         b"about:blank",
         Transition::Link,
         0,
+        None,
     ),
 ];
 
 #[test]
 fn reads_visits(rt: HostRuntime) -> Result<(), Fail> {
-    for (bytes, text, kind, micros) in VISITS {
+    for (bytes, text, kind, micros, from) in VISITS {
         let command = line(rt.alloc(), bytes)?;
-        expect_visit(&rt, command, text, *kind, Micros(*micros));
+        expect_visit(&rt, command, text, *kind, Micros(*micros), *from);
+    }
+    Ok(())
+}
+
+const TITLES: &[(&[u8], &str)] = &[
+    (b"title\thttps://a.example/\t", ""),
+    (b"title\thttps://a.example/\tA b", "A b"),
+    (b"title\thttps://a.example/\t\\\\\\t\\n\\r", "\\\t\n\r"),
+    (b"title\thttps://a.example/\t#\xc3\xa9", "#\u{e9}"),
+];
+
+#[test]
+fn reads_titles(rt: HostRuntime) -> Result<(), Fail> {
+    for (bytes, title) in TITLES {
+        match line(rt.alloc(), bytes)? {
+            Some(Command::Title { url, text }) => {
+                assert_eq!(rt; url.text(), "https://a.example/");
+                assert_eq!(rt; text.as_str(), *title);
+            }
+            _ => assert!(rt; false, "no title"),
+        }
+    }
+    Ok(())
+}
+
+#[test]
+fn reads_pages(rt: HostRuntime) -> Result<(), Fail> {
+    match line(rt.alloc(), b"page\tHTTPS://A.example")? {
+        Some(Command::Page { url }) => assert_eq!(rt; url.text(), "https://a.example/"),
+        _ => assert!(rt; false, "no page"),
     }
     Ok(())
 }
@@ -177,13 +238,16 @@ const REPLIES: &[(Reply, &str)] = &[
         },
         "visit\t12\tpage\t3\tfrecency\t-1\n",
     ),
+    (Reply::Done, "ok\n"),
     (Reply::Refused(Refusal::BadUrl), "refused\t1\n"),
     (Reply::Refused(Refusal::NotRecorded), "refused\t2\n"),
     (
         Reply::Refused(Refusal::NoVisit(VisitId(9))),
         "refused\t3\t9\n",
     ),
+    (Reply::Refused(Refusal::NoPage), "refused\t4\n"),
     (Reply::Refused(Refusal::Full(10)), "refused\t12\t10\n"),
+    (Reply::Refused(Refusal::BadDate), "refused\t16\n"),
     (
         Reply::Refused(Refusal::NoIds(IdKind::Visit)),
         "refused\t13\t2\n",
@@ -200,5 +264,39 @@ fn writes_replies(rt: HostRuntime) -> Result<(), Fail> {
         let text = reply_text(rt.alloc(), reply)?;
         assert_eq!(rt; text.as_str(), *written);
     }
+    Ok(())
+}
+
+fn page(
+    alloc: Global,
+    last: Option<Micros>,
+    marks: (bool, bool, bool),
+    texts: (&str, &str, &str),
+) -> Result<Reply, NoMemory> {
+    Ok(Reply::Page {
+        id: PageId(7),
+        frecency: -1,
+        count: 11,
+        last,
+        typed: marks.0,
+        hidden: marks.1,
+        bookmarked: marks.2,
+        url: Txt::copied(alloc, texts.0)?,
+        title: Txt::copied(alloc, texts.1)?,
+        tags: Txt::copied(alloc, texts.2)?,
+    })
+}
+
+#[test]
+fn writes_pages(rt: HostRuntime) -> Result<(), Fail> {
+    let alloc = rt.alloc();
+    let bare = page(alloc, None, (true, false, false), ("u:", "", ""))?;
+    let text = reply_text(alloc, &bare)?;
+    assert_eq!(rt; text.as_str(), "page\t7\t-1\t11\t-\t1\t0\t0\tu:\t\t\n");
+    let texts = ("https://a.example/\\", "a\tb\nc\rd\\", "red,Blue");
+    let full = page(alloc, Some(Micros(10)), (false, true, true), texts)?;
+    let text = reply_text(alloc, &full)?;
+    let want = "page\t7\t-1\t11\t10\t0\t1\t1\thttps://a.example/\\\\\ta\\tb\\nc\\rd\\\\\tred,Blue\n";
+    assert_eq!(rt; text.as_str(), want);
     Ok(())
 }

@@ -66,3 +66,29 @@ fn refuses_long_lines_and_goes_on(rt: HostRuntime) -> Result<(), Fail> {
     }
     Ok(())
 }
+
+const TITLED: &[u8] = b"visit\thttps://a.example/\t1\t0\ntitle\thttps://a.example/\t";
+
+const SAID: &[u8] =
+    b"visit\t1\tpage\t1\tfrecency\t100\nok\npage\t1\t100\t1\t0\t0\t0\t0\thttps://a.example/\t";
+
+// How many bytes a title begins with, what stands behind them and the line, and how many bytes are
+// kept, with what is said behind them.
+const TITLES: &[(usize, &[u8], usize, &[u8])] = &[
+    (4_096, b"\npage\thttps://a.example/\n", 4_096, b"\t\n"),
+    (262_000, b"\npage\thttps://a.example/\n", 4_096, b"\t\n"),
+    // A character of two bytes within the limit, and one across it.
+    (4_094, b"\xc3\xa9\npage\thttps://a.example/\n", 4_094, b"\xc3\xa9\t\n"),
+    (4_095, b"\xc3\xa9y\npage\thttps://a.example/\n", 4_095, b"\t\n"),
+];
+
+#[test]
+fn cuts_titles_between_characters(rt: HostRuntime) -> Result<(), Fail> {
+    let alloc = rt.alloc();
+    for (len, behind, kept, end) in TITLES {
+        let script = line(alloc, TITLED, *len, behind)?;
+        let said = line(alloc, SAID, *kept, end)?;
+        expect_said(&rt, tried(alloc, &script, 65_536), &said);
+    }
+    Ok(())
+}

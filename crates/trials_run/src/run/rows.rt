@@ -41,12 +41,12 @@ const ROWS: &[(&[u8], &[u8])] = &[
         b"refused\t2\nrefused\t1\nrefused\t14\t1\nvisit\t1\tpage\t1\tfrecency\t100\n",
     ),
     (
-        b"visit\thttps://a.example/\t10\t0\nvisit\thttps://a.example/\t1\t0\t9\n# x\n\n",
-        b"refused\t14\t26\nrefused\t14\t30\n",
+        b"visit\thttps://a.example/\t10\t0\ntitle\thttps://a.example/\nvisit\tno url\t1\t0\nvisit\thttps://a.example/\t1\t0\t9\n# x\n\n",
+        b"refused\t14\t26\nrefused\t14\t25\nrefused\t1\nrefused\t3\t9\n",
     ),
     (
         b"day\t1\nvisit\thttps://a.example/\t1\t253402300800000000\n",
-        b"refused\t14\t1\nrefused\t14\t28\n",
+        b"refused\t14\t1\nrefused\t16\n",
     ),
     // The last moment of 9999, far ahead of the store's day.
     (
@@ -62,6 +62,27 @@ const ROWS: &[(&[u8], &[u8])] = &[
     (
         b"visit\thttps://a.example/\t1\t0\nvisit\thttps://a.example/\t9\t1\nvisit\thttps://a.example/\t9\t2\nvisit\thttps://a.example/\t9\t3\nvisit\thttps://a.example/\t9\t4\nvisit\thttps://a.example/\t9\t5\nvisit\thttps://a.example/\t9\t6\nvisit\thttps://a.example/\t9\t7\nvisit\thttps://a.example/\t9\t8\nvisit\thttps://a.example/\t9\t9\nvisit\thttps://a.example/\t9\t10\n",
         b"visit\t1\tpage\t1\tfrecency\t100\nvisit\t2\tpage\t1\tfrecency\t50\nvisit\t3\tpage\t1\tfrecency\t34\nvisit\t4\tpage\t1\tfrecency\t25\nvisit\t5\tpage\t1\tfrecency\t20\nvisit\t6\tpage\t1\tfrecency\t17\nvisit\t7\tpage\t1\tfrecency\t15\nvisit\t8\tpage\t1\tfrecency\t13\nvisit\t9\tpage\t1\tfrecency\t12\nvisit\t10\tpage\t1\tfrecency\t10\nvisit\t11\tpage\t1\tfrecency\t-1\n",
+    ),
+    // A typed page leads to a redirect, and counts 25 from then on.
+    (
+        b"visit\thttps://a.example/\t2\t0\nvisit\thttps://b.example/\t5\t1\t1\npage\thttps://a.example/\npage\thttps://b.example/\n",
+        b"visit\t1\tpage\t1\tfrecency\t2000\nvisit\t2\tpage\t2\tfrecency\t2000\npage\t1\t25\t1\t0\t1\t1\t0\thttps://a.example/\t\t\npage\t2\t2000\t1\t1\t0\t0\t0\thttps://b.example/\t\t\n",
+    ),
+    // Without a visit to it an address has no page, whatever is asked.
+    (
+        b"page\thttps://a.example/\ntitle\thttps://a.example/\tA\npage\tabout:blank\n",
+        b"refused\t4\nrefused\t4\nrefused\t4\n",
+    ),
+    // The date of the latest visit, and not that of the last one. A title is kept, may be the same
+    // again, and may be none.
+    (
+        b"visit\thttps://a.example/\t1\t9\nvisit\thttps://a.example/\t1\t3\ntitle\thttps://A.example\ta\\tb\\n\\r\\\\\ntitle\thttps://a.example/\ta\\tb\\n\\r\\\\\npage\thttps://a.example/\ntitle\thttps://a.example/\t\npage\thttps://a.example/\n",
+        b"visit\t1\tpage\t1\tfrecency\t100\nvisit\t2\tpage\t1\tfrecency\t200\nok\nok\npage\t1\t200\t2\t9\t0\t0\t0\thttps://a.example/\ta\\tb\\n\\r\\\\\t\nok\npage\t1\t200\t2\t9\t0\t0\t0\thttps://a.example/\t\t\n",
+    ),
+    // A query is hidden, a download shows its page without counting, and one embedded visit hides.
+    (
+        b"visit\tplace:sort=8\t1\t0\nvisit\thttps://a.example/\t7\t5\nvisit\thttps://b.example/\t4\t6\npage\tplace:sort=8\npage\thttps://a.example/\npage\thttps://b.example/\n",
+        b"visit\t1\tpage\t1\tfrecency\t100\nvisit\t2\tpage\t2\tfrecency\t0\nvisit\t3\tpage\t3\tfrecency\t0\npage\t1\t100\t1\t0\t0\t1\t0\tplace:sort=8\t\t\npage\t2\t0\t0\t5\t0\t0\t0\thttps://a.example/\t\t\npage\t3\t0\t0\t6\t0\t1\t0\thttps://b.example/\t\t\n",
     ),
     // Embedded visits alone add nothing.
     (

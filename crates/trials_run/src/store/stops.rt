@@ -12,7 +12,7 @@ fn commands_in(alloc: Global, desk: &mut MemDesk) -> Result<u32, Fail> {
     let (_, reply) = session.prepare(&first(alloc)?)?;
     let next = match reply {
         Reply::Visit { visit, .. } => Ok(visit),
-        Reply::Refused(_) => Err("a refusal"),
+        _ => Err("no visit"),
     };
     Ok(next?.0.saturating_sub(1))
 }
