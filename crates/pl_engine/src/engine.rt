@@ -1,8 +1,11 @@
 mod find;
 mod mark;
+mod page;
+mod slots;
+mod title;
 mod visit;
 
-ghost use Rattle.std.specs.Prelude.{◌≡◌, ◌≤◌, ℕ, List, length, IfOk, IsErr, OnOk};
+ghost use Rattle.std.specs.Prelude.{◌≡◌, ◌≤◌, ℕ, List, false, length, IfOk, IsErr, OnOk};
 ghost use Rattle.std.proofs.Props.{props};
 ghost use Rattle.pl_base.specs.Good.{IsGood};
 ghost use Rattle.pl_base.specs.Live.{slot_limit};
@@ -12,6 +15,8 @@ ghost use Rattle.pl_engine.specs.Engine.{IsVisited};
 ghost use Rattle.pl_engine.specs.Step as spec;
 
 use crate::command::Command;
+use crate::engine::page::page;
+use crate::engine::title::title;
 use crate::engine::visit::visit;
 use crate::reply::Reply;
 use pl_base::{NoMemory, Refusal, Rows, Steps, Touched};
@@ -93,6 +98,8 @@ impl<R: Rows + Drop> Engine<R> {
                 *source,
                 steps,
             )?,
+            Command::Title { url, text } => title(&mut rows, limit, url, text, steps)?,
+            Command::Page { url } => page(alloc, &rows, url, steps)?,
         };
         Ok((Engine { alloc, rows, limit }, reply))
     }
