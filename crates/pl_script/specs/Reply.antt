@@ -1,16 +1,33 @@
 -- The text of a reply: its fields apart by TAB, and LF.
-use Rattle.std.specs.Prelude.{ℕ, List, [], ◌∷◌, ◌++◌, map, codes, decimal}
+use Rattle.std.specs.Prelude.{ℕ, Bool, List, [], ◌∷◌, ◌++◌, Option, None, Some, map, codes, decimal}
+use Rattle.std.specs.Prelude.{if◌then◌else◌}
 use Rattle.std.specs.Fmt.{signed_decimal}
 use Rattle.std.specs.List.{join_with_byte}
+use Rattle.pl_base.specs.declared.date.Micros.{Micros}
 use Rattle.pl_base.specs.Refusal.{refusal_number, refusal_values}
 use Rattle.pl_engine.specs.declared.reply.Reply.{Reply}
-use Rattle.pl_engine.specs.declared.reply.Reply.TheVariants.{Visit, Refused}
+use Rattle.pl_engine.specs.declared.reply.Reply.TheVariants.{Visit, Done, Page, Refused}
+use Rattle.pl_script.specs.Script.{escaped}
+
+-- a date, or `-` where there is none
+abbrev pub date_text : Option Micros → List ℕ
+date_text None = codes "-"
+date_text (Some date) = decimal date.0
+
+-- a truth value
+abbrev pub truth_text : Bool → List ℕ
+truth_text yes = if yes then codes "1" else codes "0"
 
 -- the fields of a reply
 abbrev pub reply_fields : Reply → List (List ℕ)
 reply_fields (Visit id page frecency) =
     codes "visit" ∷ decimal id.0 ∷ codes "page" ∷ decimal page.0
     ∷ codes "frecency" ∷ signed_decimal frecency ∷ []
+reply_fields Done = codes "ok" ∷ []
+reply_fields (Page id frecency count last typed hidden bookmarked url title tags) =
+    codes "page" ∷ decimal id.0 ∷ signed_decimal frecency ∷ decimal count ∷ date_text last
+    ∷ truth_text typed ∷ truth_text hidden ∷ truth_text bookmarked
+    ∷ escaped url ∷ escaped title ∷ escaped tags ∷ []
 reply_fields (Refused refusal) =
     codes "refused" ∷ decimal (refusal_number refusal) ∷ map decimal (refusal_values refusal)
 
