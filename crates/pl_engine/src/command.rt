@@ -16,9 +16,14 @@ pub enum Command {
         source: Option<VisitId>,
     },
     /// A title for the page of an address, which is cut where it is too long.
-    Title { url: Canon, text: Txt },
+    Title {
+        url: Canon,
+        text: Txt,
+    },
     /// What is known of the page of an address.
-    Page { url: Canon },
+    Page {
+        url: Canon,
+    },
 }
 
 impl Command {

@@ -2,7 +2,7 @@ mod find;
 mod mark;
 mod visit;
 
-ghost use Rattle.std.specs.Prelude.{◌≡◌, ◌≤◌, ℕ, List, length, IfOk, IsErr, OnOk};
+ghost use Rattle.std.specs.Prelude.{◌≡◌, ◌≤◌, ℕ, List, false, length, IfOk, IsErr, OnOk};
 ghost use Rattle.std.proofs.Props.{props};
 ghost use Rattle.pl_base.specs.Good.{IsGood};
 ghost use Rattle.pl_base.specs.Live.{slot_limit};
@@ -93,6 +93,7 @@ impl<R: Rows + Drop> Engine<R> {
                 *source,
                 steps,
             )?,
+            Command::Title { .. } | Command::Page { .. } => Reply::Refused(Refusal::NoPage),
         };
         Ok((Engine { alloc, rows, limit }, reply))
     }
