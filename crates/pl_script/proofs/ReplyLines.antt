@@ -1,11 +1,12 @@
 -- The text of a reply is one line, and its fields are read from it again.
 use Rattle.std.proofs.Common.{◌≡◌, ◌∙◌, ◌<◌, ◌≤◌, ◌+◌, ◌-◌, ◌%◌, ◌/◌, ℕ, Bool, true, false, List, [], ◌∷◌, ◌++◌, ap}
-use Rattle.std.proofs.Common.{arith, eqb, get_or, length, length-append, map, refl, subst, sym, zero, suc, Option, None, Some, ⊎_elim}
+use Rattle.std.proofs.Common.{arith, eqb, get_or, length, length-append, map, refl, subst, sym, zero, suc}
+use Rattle.std.proofs.Common.{Option, None, Some, ⊎_elim}
 use Rattle.std.specs.Prelude.{ℤ, pos, negsuc, codes, decimal, if◌then◌else◌, nat_le, nat_lt}
 use Rattle.std.specs.Fmt.{digits, digits_onto, digit_glyph, signed_decimal}
 use Rattle.std.specs.List.{All, join_with_byte, list_all, slice_split}
-use Rattle.std.specs.Str.Lines.{lines, lines_of_parts, strip_carriage_return}
-use Rattle.std.proofs.lemmas.Bool.{cases_Bool, cases_eq, cases_lt, cond-false, ne_eqb}
+use Rattle.std.specs.Str.Lines.{lines, lines_of_parts}
+use Rattle.std.proofs.lemmas.Bool.{cases_eq, cases_lt, cond-false, ne_eqb}
 use Rattle.std.proofs.lemmas.Bool.Decides.{nat_tests}
 use Rattle.std.proofs.lemmas.List.{get_or_past}
 use Rattle.std.proofs.lemmas.List.Elements.{All-append, All-cons, All-get_or, All-nil, All-weaker}
@@ -80,7 +81,7 @@ of_word bytes is = All-weaker (λ b. nat_le 14 b ≡ true) Stays (λ b above. hi
 one_escaped : (b : ℕ) → All Stays (escaped_as b (escape_of b))
 one_escaped b =
     let at = λ (c : ℕ) (is : b ≡ c) (stay : All Stays (escaped_as c (escape_of c))).
-        subst (λ x. All Stays (escaped_as x (escape_of x))) (sym is) stay in
+    subst (λ x. All Stays (escaped_as x (escape_of x))) (sym is) stay in
     ⊎_elim (λ is. at 92 is (of_word (92 ∷ 92 ∷ []) refl)) (λ backslash.
     ⊎_elim (λ is. at 9 is (of_word (92 ∷ 116 ∷ []) refl)) (λ tab.
     ⊎_elim (λ is. at 10 is (of_word (92 ∷ 110 ∷ []) refl)) (λ lf.
@@ -140,12 +141,19 @@ line_of field fields are =
 
 reads_back : (reply : Reply) → IsLineOf (reply_fields reply) (reply_text reply)
 reads_back (Visit id page frecency) =
-    line_of _ _ (of_word (codes "visit") refl, (of_number id.0, (of_word (codes "page") refl, (of_number page.0,
-    (of_word (codes "frecency") refl, (of_signed frecency, tt))))))
+    let scored : Are (codes "frecency" ∷ signed_decimal frecency ∷ []) =
+    (of_word (codes "frecency") refl, (of_signed frecency, tt)) in
+    line_of _ _
+    (of_word (codes "visit") refl, (of_number id.0, (of_word (codes "page") refl, (of_number page.0, scored))))
 reads_back Done = line_of (codes "ok") [] (of_word (codes "ok") refl, tt)
 reads_back (Page id frecency count last typed hidden bookmarked url title tags) =
-    line_of _ _ (of_word (codes "page") refl, (of_number id.0, (of_signed frecency, (of_number count, (of_date last,
-    (of_truth typed, (of_truth hidden, (of_truth bookmarked, (of_text url, (of_text title, (of_text tags, tt)))))))))))
+    let texts : Are (escaped url ∷ escaped title ∷ escaped tags ∷ []) =
+    (of_text url, (of_text title, (of_text tags, tt))) in
+    let marks : Are (truth_text typed ∷ truth_text hidden ∷ truth_text bookmarked
+    ∷ escaped url ∷ escaped title ∷ escaped tags ∷ []) =
+    (of_truth typed, (of_truth hidden, (of_truth bookmarked, texts))) in
+    line_of (codes "page") _
+    (of_word (codes "page") refl, (of_number id.0, (of_signed frecency, (of_number count, (of_date last, marks)))))
 reads_back (Refused refusal) =
     line_of (codes "refused") (decimal (refusal_number refusal) ∷ map decimal (refusal_values refusal))
     (of_word (codes "refused") refl, (of_number (refusal_number refusal), of_numbers (refusal_values refusal)))

@@ -165,18 +165,20 @@ escaped_texts = refl
 
 -- ---- titles, pages and sources on the store before its first command
 
+-- a source that is not there; a title and a page of no page
+nothing_there : said (codes "visit\thttps://a.example/\t1\t0\t9\ntitle\thttps://a.example/\tA\n"
+    ++ codes "page\thttps://a.example/\n")
+    ≡ codes "refused\t3\t9\nrefused\t4\nrefused\t4\n"
+unfolding url_on_literals
+nothing_there = refl
+
 -- a redirect by a typed visit counts as one, and hides the page that it left
-redirected : said (codes "visit\thttps://a.example/\t2\t0\nvisit\thttps://b.example/\t5\t1\t1\npage\thttps://a.example/\n")
+redirected : said (codes "visit\thttps://a.example/\t2\t0\nvisit\thttps://b.example/\t5\t1\t1\n"
+    ++ codes "page\thttps://a.example/\n")
     ≡ codes "visit\t1\tpage\t1\tfrecency\t2000\nvisit\t2\tpage\t2\tfrecency\t2000\n"
     ++ codes "page\t1\t25\t1\t0\t1\t1\t0\thttps://a.example/\t\t\n"
 unfolding url_on_literals
 redirected = refl
-
--- a source that is not there; a title and a page of no page
-nothing_there : said (codes "visit\thttps://a.example/\t1\t0\t9\ntitle\thttps://a.example/\tA\npage\thttps://a.example/\n")
-    ≡ codes "refused\t3\t9\nrefused\t4\nrefused\t4\n"
-unfolding url_on_literals
-nothing_there = refl
 
 -- a title is told as it was written; the last date is the latest, and a reload is not counted
 titled : said (codes "visit\thttps://a.example/\t1\t7\ntitle\thttps://a.example\tb\\\\c\\t\n"

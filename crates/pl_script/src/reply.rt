@@ -64,12 +64,7 @@ fn numbers(
 }
 
 // Those that are truth values.
-fn marks(
-    alloc: Global,
-    typed: bool,
-    hidden: bool,
-    bookmarked: bool,
-) -> Result<String, NoMemory>
+fn marks(alloc: Global, typed: bool, hidden: bool, bookmarked: bool) -> Result<String, NoMemory>
     ensures { IfOk result (λ text. string_bytes text ≡ join_with_byte 9
         (spec.truth_text typed ∷ spec.truth_text hidden ∷ spec.truth_text bookmarked ∷ [])) }
 {
