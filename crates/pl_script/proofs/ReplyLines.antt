@@ -1,7 +1,7 @@
 -- The text of a reply is one line, and its fields are read from it again.
 use Rattle.std.proofs.Common.{◌≡◌, ◌∙◌, ◌<◌, ◌≤◌, ◌+◌, ◌-◌, ◌%◌, ◌/◌, ℕ, Bool, true, false, List, [], ◌∷◌, ◌++◌, ap}
 use Rattle.std.proofs.Common.{arith, eqb, get_or, length, length-append, map, refl, subst, sym, zero, suc}
-use Rattle.std.proofs.Common.{Option, None, Some, ⊎_elim}
+use Rattle.std.proofs.Common.{drop, Option, None, Some, ⊎_elim}
 use Rattle.std.specs.Prelude.{ℤ, pos, negsuc, codes, decimal, if◌then◌else◌, nat_le, nat_lt}
 use Rattle.std.specs.Fmt.{digits, digits_onto, digit_glyph, signed_decimal}
 use Rattle.std.specs.List.{All, join_with_byte, list_all, slice_split}
@@ -13,11 +13,13 @@ use Rattle.std.proofs.lemmas.List.Elements.{All-append, All-cons, All-get_or, Al
 use Rattle.std.proofs.lemmas.List.Sums.{AllPass-from_list_all}
 use Rattle.std.proofs.lemmas.List.Splits.{slice_split_at, slice_split_none}
 use Rattle.pl_base.specs.declared.date.Micros.{Micros}
+use Rattle.pl_base.specs.declared.id.PageId.{PageId}
 use Rattle.pl_base.specs.Refusal.{refusal_number, refusal_values}
 use Rattle.pl_engine.specs.declared.reply.Reply.{Reply}
 use Rattle.pl_engine.specs.declared.reply.Reply.TheVariants.{Visit, Done, Page, Refused}
-use Rattle.pl_script.specs.Reply.{IsLineOf, date_text, reply_fields, reply_text, truth_text}
-use Rattle.pl_script.specs.Script.{escape_of, escaped, escaped_as, fields_of}
+use Rattle.pl_script.specs.Reply.{IsLineOf, IsReadAgain, TellsTexts}
+use Rattle.pl_script.specs.Reply.{date_text, reply_fields, reply_text, truth_text}
+use Rattle.pl_script.specs.Script.{escape_of, escaped, escaped_as, fields_of, text_of}
 
 -- the byte ends no line
 record Goes (b : ℕ) : Type 0 where
@@ -164,3 +166,14 @@ read_again reply text is = subst (IsLineOf (reply_fields reply)) (sym is) (reads
 pub never_empty : (reply : Reply) (text : List ℕ) → text ≡ reply_text reply → 0 < length text
 never_empty reply text is =
     rw is (omega (arith, length-append (join_with_byte 9 (reply_fields reply)) (10 ∷ [])))
+
+-- the texts of a page's line
+pub tells_texts : (id : PageId) (frecency : ℤ) (count : ℕ) (last : Option Micros) (typed hidden bookmarked : Bool)
+    (url title tags text : List ℕ)
+    → text ≡ reply_text (Page id frecency count last typed hidden bookmarked url title tags)
+    → IsReadAgain url → IsReadAgain title → IsReadAgain tags
+    → TellsTexts (Page id frecency count last typed hidden bookmarked url title tags) text
+tells_texts id frecency count last typed hidden bookmarked url title tags text is u ti ta =
+    let one = read_again (Page id frecency count last typed hidden bookmarked url title tags) text is in
+    ap (map (λ fields. map text_of (drop 8 fields))) one
+    ∙ rw (u, ti, ta) refl

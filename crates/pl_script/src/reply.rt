@@ -15,6 +15,7 @@ use std::alloc::Global;
 pub fn reply_text(alloc: Global, reply: &Reply) -> Result<Txt, NoMemory>
     ensures exact { IfOk result (λ text. text ≡ spec.reply_text reply.now) }
     ensures reads_back { IfOk result (λ text. spec.IsLineOf (spec.reply_fields reply.now) text) }
+    ensures texts { IfOk result (λ text. spec.TellsTexts reply.now text) }
     ensures never_empty { IfOk result (λ text. 0 < length text) }
 {
     match reply {
@@ -76,8 +77,11 @@ fn marks(alloc: Global, typed: bool, hidden: bool, bookmarked: bool) -> Result<S
 
 // Those that are texts.
 fn texts(alloc: Global, url: &Txt, title: &Txt, tags: &Txt) -> Result<String, NoMemory>
-    ensures { IfOk result (λ text. string_bytes text ≡ join_with_byte 9
+    ensures exact { IfOk result (λ text. string_bytes text ≡ join_with_byte 9
         (escaped_text url.now ∷ escaped_text title.now ∷ escaped_text tags.now ∷ [])) }
+    ensures url { IfOk result (λ _. spec.IsReadAgain url.now) }
+    ensures title { IfOk result (λ _. spec.IsReadAgain title.now) }
+    ensures tags { IfOk result (λ _. spec.IsReadAgain tags.now) }
 {
     let url = escaped(alloc, url.as_str())?;
     let title = escaped(alloc, title.as_str())?;

@@ -4,7 +4,7 @@ use Rattle.std.specs.Prelude.{codes, decimal}
 use Rattle.std.specs.Fmt.{signed_decimal}
 use Rattle.std.proofs.lemmas.Int.{to_z-of_z}
 use Rattle.pl_script.specs.Reply.{date_text, reply_text}
-use Rattle.pl_script.proofs.ReplyLines.{never_empty, read_again}
+use Rattle.pl_script.proofs.ReplyLines.{never_empty, read_again, tells_texts}
 use Rattle.pl_script.proofs.reply.reply_text.Goals as goal
 
 pub returns-in_ok-format-in-Visit : goal.returns-in_ok-format-in-Visit
@@ -13,6 +13,7 @@ returns-in_ok-format-in-Visit c =
     record {
       exact = exact;
       reads_back = read_again c.args.reply.now c.from.result exact;
+      texts = rw c.in-Visit.is tt;
       never_empty = never_empty c.args.reply.now c.from.result exact;
     }
 
@@ -36,10 +37,16 @@ returns-in_ok-format-in-Page c =
     rw c.in-Page.is
     (c.from-in-Page.ensures
     ∙ joined _ (signed_decimal c.in-Page.frecency) _ _ _ _ _ _ _ _ _ _ _ _ numbers c.in_ok-marks-in-Page.ensures
-    c.in_ok-texts-in-Page.ensures c.in_ok-format-in-Page.ensures.ok) in
+    c.in_ok-texts-in-Page.ensures.exact c.in_ok-format-in-Page.ensures.ok) in
+    let told =
+    tells_texts c.in-Page.id c.in-Page.frecency c.in-Page.count c.in-Page.last c.in-Page.typed c.in-Page.hidden
+    c.in-Page.bookmarked c.in-Page.url c.in-Page.title c.in-Page.tags c.from-in-Page.result
+    (rw c.in-Page.is at exact) c.in_ok-texts-in-Page.ensures.url c.in_ok-texts-in-Page.ensures.title
+    c.in_ok-texts-in-Page.ensures.tags in
     record {
       exact = exact;
       reads_back = read_again c.args.reply.now c.from-in-Page.result exact;
+      texts = rw c.in-Page.is told;
       never_empty = never_empty c.args.reply.now c.from-in-Page.result exact;
     }
 
