@@ -19,19 +19,20 @@ pub struct Session {
 #[derive(Drop)]
 pub struct Prepared {
     pub(crate) engine: Engine<Flat>,
-    // None where the command changed nothing.
+    // None where there is nothing to be written.
     pub(crate) change: Option<Pending>,
     ghost base: { IsBase engine.rows (bytes_of engine.rows) } by { Prim.hlevel props },
 }
 
 impl Session {
-    ghost use Rattle.std.specs.Prelude.{◌≡◌, IfOk};
-    ghost use Rattle.pl_engine.specs.Step.{HasDates, perform};
+    ghost use Rattle.std.specs.Prelude.{◌≡◌, false, IfOk};
+    ghost use Rattle.pl_engine.specs.Step.{HasDates, is_change, perform};
     ghost use Rattle.pl_store.specs.Session.{IsPreparedFrom, session_limit, next_limit, next_store};
     ghost use Rattle.pl_store.specs.Session.{session_store, writes_nothing};
 
     /// Performs a command in memory: no call of the file is made. A refusal is a reply, and leaves
-    /// nothing to commit. After `NoMemory` the session is gone, and the file is as it was.
+    /// nothing to commit, as does a command of a kind that changes nothing. After `NoMemory` the
+    /// session is gone, and the file is as it was.
     pub fn prepare(self, command: &Command) -> Result<(Prepared, Reply), NoMemory>
         requires dates { HasDates command.now }
         ensures step { IfOk result (λ done. (done.1, next_store done.0)
@@ -40,9 +41,11 @@ impl Session {
         ensures from { IfOk result (λ done. IsPreparedFrom self done.0) }
         ensures refused { IfOk result
             (λ done. (refusal : Refusal) → done.1 ≡ Reply.Refused refusal → writes_nothing done.0) }
+        ensures unchanged { IfOk result
+            (λ done. is_change command.now ≡ false → writes_nothing done.0) }
     {
         let (mut engine, reply) = uncounted::apply(self.engine, command)?;
-        if let Reply::Refused(_) = reply {
+        if !command.is_change() || matches!(reply, Reply::Refused(_)) {
             return Ok((
                 Prepared {
                     engine,
@@ -52,7 +55,7 @@ impl Session {
             ));
         }
         let touched = uncounted::touched(&mut engine)?;
-        let change = Some(Pending { touched });
+        let change = Pending::of(touched);
         Ok((Prepared { engine, change }, reply))
     }
 }
