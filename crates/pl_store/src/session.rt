@@ -1,5 +1,7 @@
+ghost use Rattle.std.specs.Prelude.{◌↔◌, IsTrue};
 ghost use Rattle.std.proofs.Props.{props};
 ghost use Rattle.pl_plain.specs.Flat.{IsBase, bytes_of};
+ghost use Rattle.pl_store.specs.Unchanged.{ChangesNothing};
 
 use crate::pending::Pending;
 use crate::uncounted;
@@ -45,7 +47,7 @@ impl Session {
             (λ done. is_change command.now ≡ false → writes_nothing done.0) }
     {
         let (mut engine, reply) = uncounted::apply(self.engine, command)?;
-        if !command.is_change() || matches!(reply, Reply::Refused(_)) {
+        if changes_nothing(command, &reply) {
             return Ok((
                 Prepared {
                     engine,
@@ -58,4 +60,11 @@ impl Session {
         let change = Pending::of(touched);
         Ok((Prepared { engine, change }, reply))
     }
+}
+
+// Whether a command with this reply leaves the very same rows.
+fn changes_nothing(command: &Command, reply: &Reply) -> bool
+    ensures { IsTrue result ↔ ChangesNothing command.now reply.now }
+{
+    matches!(reply, Reply::Refused(_)) || !command.is_change()
 }

@@ -1,4 +1,4 @@
-use Rattle.std.proofs.Common.{◌≡◌, ℕ, List, length, take, sym, subst}
+use Rattle.std.proofs.Common.{◌≡◌, ℕ, List, length, take, inl, inr, ⊎_elim, sym, subst}
 use Rattle.std.proofs.Math.Seq.{take-length}
 use Rattle.std.proofs.lemmas.Bool.{both_ways}
 use Rattle.pl_base.specs.Rows.{store_of}
@@ -6,28 +6,21 @@ use Rattle.pl_form.specs.Form.{StandsFor}
 use Rattle.pl_plain.specs.declared.flat.Flat.{Flat}
 use Rattle.pl_plain.specs.Flat.{IsBase, bytes_of, kept_of}
 use Rattle.pl_store.specs.Session.{LeadsTo}
-use Rattle.pl_store.proofs.session.Session.prepare.Goals.{Joined-then-not-is_change, in-Refused, in_default}
-use Rattle.pl_store.proofs.session.Session.prepare.Goals.{then-not-is_change-via-then-not-is_change}
-use Rattle.pl_store.proofs.session.Session.prepare.Goals.{then-not-is_change-via-else-not-is_change+then-matches}
+use Rattle.pl_store.proofs.session.Session.prepare.Goals.{Then-changes_nothing}
 use Rattle.pl_store.proofs.session.Session.prepare.Goals as goal
 
--- a command of a kind that changes nothing leaves the very same rows, and so does a refused one
-same_rows : (c : Joined-then-not-is_change) → c.in_ok-engine.engine.rows ≡ c.args.self.engine.rows
+-- where the command changes nothing the rows are the very same
+same_rows : (c : Then-changes_nothing) → c.in_ok-engine.engine.rows ≡ c.args.self.engine.rows
 same_rows c =
-    elim c.then-not-is_change.branch [
-      | then-not-is_change-via-then-not-is_change w ↦ c.in_ok-engine.ensures.unchanged (sym w.if-not-is_change.ensures)
-      | then-not-is_change-via-else-not-is_change+then-matches w ↦ elim w.match-matches.branch [
-        | in-Refused w' ↦ c.in_ok-engine.ensures.refused w'.in-Refused.field-0 w'.in-Refused.is
-        | in_default w' ↦ absurd (both_ways w.match-matches.matches w'.matches-is w.if-matches.true)
-      ]
-    ]
+    ⊎_elim (λ refused. c.in_ok-engine.ensures.refused refused.0 refused.1) c.in_ok-engine.ensures.unchanged
+    (c.changes_nothing.ensures.0 c.if-changes_nothing.true)
 
 pub invariant_of-result : goal.invariant_of-result
 invariant_of-result c =
     record { base = subst (λ (rows : Flat). IsBase rows (bytes_of rows)) (sym (same_rows c)) c.args.self.base }
 
-pub returns-then-not-is_change-clause-from : goal.returns-then-not-is_change-clause-from
-returns-then-not-is_change-clause-from c = record {
+pub returns-then-changes_nothing-clause-from : goal.returns-then-changes_nothing-clause-from
+returns-then-changes_nothing-clause-from c = record {
   leads =
       subst (λ (rows : Flat). take (length (bytes_of rows)) (bytes_of c.args.self.engine.rows) ≡ bytes_of rows)
       (sym (same_rows c.before)) (take-length (bytes_of c.args.self.engine.rows));
@@ -50,7 +43,9 @@ returns-clause-from c =
 
 pub returns-clause-refused : goal.returns-clause-refused
 returns-clause-refused c refusal is =
-    elim c.match-matches.branch [
-      | in-Refused w ↦ absurd (both_ways c.match-matches.matches c.if-matches.false w.matches-is)
-      | in_default w ↦ absurd (w.in_default.not-Refused refusal is)
-    ]
+    absurd (both_ways c.changes_nothing.result c.if-changes_nothing.false
+    (c.changes_nothing.ensures.1 (inl (refusal, is))))
+
+pub returns-clause-unchanged : goal.returns-clause-unchanged
+returns-clause-unchanged c is =
+    absurd (both_ways c.changes_nothing.result c.if-changes_nothing.false (c.changes_nothing.ensures.1 (inr is)))
