@@ -1,7 +1,8 @@
 -- The page that a visit goes to, where one has its URL.
-use Rattle.std.proofs.Common.{◌≡◌, ◌∙◌, ◌<◌, ◌++◌, ◌==◌, ℕ, All, Bool, true, false, List, [], ◌∷◌, Some}
+use Rattle.std.proofs.Common.{◌≡◌, ◌∙◌, ◌<◌, ◌++◌, ◌==◌, ℕ, All, Bool, true, false, List, [], ◌∷◌, Option, Some}
 use Rattle.std.proofs.Common.{ap, arith, bytes_eq, eq-eqb, find, if◌then◌else◌, map, refl, subst, sym}
 use Rattle.std.specs.List.{AllByRecursion}
+use Rattle.std.specs.Option.{option_map}
 use Rattle.std.proofs.lemmas.Bool.{eqb-true}
 use Rattle.std.proofs.lemmas.List.Elements.{All-from_recursion}
 use Rattle.std.proofs.lemmas.Slice.Eq.{bytes_eq-Decides}
@@ -74,6 +75,12 @@ pub has_known : (kept : Kept) (url : List ℕ) (id : PageId) → IsKnown kept ur
 has_known kept url id k =
     rw k.whole (there (λ (p : KeptPage). p.page.id.0 == id.0) k.front k.page k.rest
     (eq-eqb k.page.page.id.0 id.0 (ap (λ (i : PageId). i.0) k.is)))
+
+-- the page that was found stands among the rows
+pub has_target : (kept : Kept) (url : List ℕ) (found : Option PageId) (id : PageId)
+    → found ≡ option_map (λ (p : Page). p.id) (find_page url (store_of kept).pages) → found ≡ Some id
+    → has_page kept id ≡ true
+has_target kept url found id is some = has_known kept url id (known kept url id (sym is ∙ some))
 
 only : (front : List KeptPage) (p : KeptPage) (rest : List KeptPage) → Ascend (front ++ p ∷ rest)
     → AllByRecursion (λ (q : KeptPage). (q.page.id.0 == p.page.id.0) ≡ true → q ≡ p) (front ++ p ∷ rest)

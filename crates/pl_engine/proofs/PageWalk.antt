@@ -92,6 +92,13 @@ at : (front : List KeptPage) (p : KeptPage) (rest : List KeptPage)
 at [] p rest low = rw (eq-eqb p.page.id.0 p.page.id.0 refl) refl
 at (q ∷ front) p rest low = rw (not_equal q.page.id.0 p.page.id.0 low.0) (at front p rest low.1)
 
+-- a page is found by its id
+pub found_at : (kept : Kept) (id : PageId) (front : List KeptPage) (p : KeptPage) (rest : List KeptPage)
+    → IsWellKept kept → kept.pages ≡ front ++ p ∷ rest → p.page.id ≡ id → page_at kept id ≡ Some p
+found_at kept id front p rest h whole is =
+    let ordered : Ascend (front ++ p ∷ rest) = subst Ascend whole (ascend kept h) in
+    rw (whole, ← is) (at front p rest (below front p rest ordered))
+
 pub there : {X : Type 0} (t : X → Bool) (front : List X) (x : X) (rest : List X) → t x ≡ true
     → list_any t (front ++ x ∷ rest) ≡ true
 there t [] x rest passes = rw passes refl
@@ -145,9 +152,7 @@ walk_starts test kept next h is =
 
 page_here : (test : List ℕ → Bool) (kept : Kept) (id : PageId) → IsWellKept kept → (s : StandsAt test kept id)
     → page_at kept id ≡ Some s.page
-page_here test kept id h s =
-    let ordered : Ascend (s.front ++ s.page ∷ s.rest) = subst Ascend s.whole (ascend kept h) in
-    rw (s.whole, ← s.is) (at s.front s.page s.rest (below s.front s.page s.rest ordered))
+page_here test kept id h s = found_at kept id s.front s.page s.rest h s.whole s.is
 
 pub has_here : (test : List ℕ → Bool) (kept : Kept) (id : PageId) → StandsAt test kept id → has_page kept id ≡ true
 has_here test kept id s =

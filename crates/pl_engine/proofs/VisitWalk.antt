@@ -82,10 +82,10 @@ row_is kept id row v is at =
     cc
 
 -- a visit of the page, which is found by its id
-abbrev IsVisitOf : Kept → PageId → Visit → Type 0
+abbrev pub IsVisitOf : Kept → PageId → Visit → Type 0
 IsVisitOf kept page v = (visit_at kept v.id ≡ Some v) × ((v.page.0 == page.0) ≡ true)
 
-visits_stand : (kept : Kept) (page : PageId) → IsWellKept kept
+pub visits_stand : (kept : Kept) (page : PageId) → IsWellKept kept
     → AllByRecursion (IsVisitOf kept page) (page_visits kept page)
 visits_stand kept page h =
     all-latest_first (IsVisitOf kept page) (visits_of (store_of kept) page)

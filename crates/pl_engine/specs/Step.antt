@@ -27,7 +27,7 @@ use Rattle.pl_engine.specs.declared.command.Command.TheVariants.{Title as TitleC
 use Rattle.pl_engine.specs.declared.command.Command.TheVariants.{Page as PageCommand}
 use Rattle.pl_engine.specs.declared.reply.Reply.{Reply}
 use Rattle.pl_engine.specs.declared.reply.Reply.TheVariants.{Visit as VisitReply}
-use Rattle.pl_engine.specs.declared.reply.Reply.TheVariants.{Page as PageReply, Refused}
+use Rattle.pl_engine.specs.declared.reply.Reply.TheVariants.{Page as PageReply, Done, Refused}
 use Rattle.pl_engine.specs.Parsed.{Parsed}
 
 -- ---- a visit
@@ -182,8 +182,9 @@ abbrev pub perform : ℕ → Store → Command → Reply × Store
 perform limit store (VisitCommand url transition date source) =
     unless_refused (visit_refusal limit store url transition date source) store
     (visit_reply store url transition date source, after_visit store url transition date source)
-perform limit store (TitleCommand url text) = (Refused NoPage, store)
-perform limit store (PageCommand url) = (Refused NoPage, store)
+perform limit store (TitleCommand url text) =
+    unless_refused (title_refusal limit store url text) store (Done, after_title store url text)
+perform limit store (PageCommand url) = (told_page store (find_page url store.pages), store)
 
 -- the reply to an entry of the script, and the store after it
 abbrev pub step : ℕ → Store → Parsed Command → Reply × Store

@@ -1,5 +1,8 @@
 mod find;
 mod mark;
+mod page;
+mod slots;
+mod title;
 mod visit;
 
 ghost use Rattle.std.specs.Prelude.{◌≡◌, ◌≤◌, ℕ, List, false, length, IfOk, IsErr, OnOk};
@@ -12,6 +15,8 @@ ghost use Rattle.pl_engine.specs.Engine.{IsVisited};
 ghost use Rattle.pl_engine.specs.Step as spec;
 
 use crate::command::Command;
+use crate::engine::page::page;
+use crate::engine::title::title;
 use crate::engine::visit::visit;
 use crate::reply::Reply;
 use pl_base::{NoMemory, Refusal, Rows, Steps, Touched};
@@ -93,7 +98,8 @@ impl<R: Rows + Drop> Engine<R> {
                 *source,
                 steps,
             )?,
-            Command::Title { .. } | Command::Page { .. } => Reply::Refused(Refusal::NoPage),
+            Command::Title { url, text } => title(&mut rows, limit, url, text, steps)?,
+            Command::Page { url } => page(alloc, &rows, url, steps)?,
         };
         Ok((Engine { alloc, rows, limit }, reply))
     }

@@ -2,4 +2,5 @@ mod ConstantRows
 mod Escapes
 mod FieldLemmas
 mod Numbers
+mod ReplyLines
 mod WorkedScripts

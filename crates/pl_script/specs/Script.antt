@@ -3,19 +3,20 @@ use Rattle.std.specs.Prelude.{ℕ, ◌+◌, ◌-◌, ◌^◌, ◌==◌, ◌&&◌
 use Rattle.std.specs.Prelude.{List, [], ◌∷◌, length, codes, bytes_eq, nat_lt}
 use Rattle.std.specs.Prelude.{nat_le, Option, Some, None, Ok, Err, if◌then◌else◌}
 use Rattle.std.specs.Char.{is_ascii_digit}
-use Rattle.std.specs.List.{filter_map, flat_map, list_all, slice_split}
-use Rattle.std.specs.Option.{option_and_then, option_map}
+use Rattle.std.specs.List.{filter_map, find, flat_map, list_all, slice_split}
+use Rattle.std.specs.Option.{ok_or, option_and_then, option_map}
 use Rattle.std.specs.Str.{is_utf8}
 use Rattle.std.specs.Str.Lines.{lines}
 use Rattle.std.specs.Str.Parse.{digits_value}
 use Rattle.pl_base.specs.declared.date.Micros.{Micros}
-use Rattle.pl_base.specs.declared.refusal.Refusal.TheVariants.{BadUrl, BadLine}
+use Rattle.pl_base.specs.declared.id.VisitId.{VisitId}
+use Rattle.pl_base.specs.declared.refusal.Refusal.TheVariants.{BadUrl, BadLine, BadDate}
 use Rattle.pl_base.specs.declared.transition.Transition.{Transition}
 use Rattle.pl_base.specs.Address.{canon}
 use Rattle.pl_base.specs.Date.{last_date}
 use Rattle.pl_base.specs.Transition.{transition_at}
 use Rattle.pl_engine.specs.declared.command.Command.{Command}
-use Rattle.pl_engine.specs.declared.command.Command.TheVariants.{Visit}
+use Rattle.pl_engine.specs.declared.command.Command.TheVariants.{Visit, Title, Page}
 use Rattle.pl_engine.specs.Parsed.{Parsed}
 use Rattle.pl_script.specs.declared.word.Word.{Word}
 use Rattle.pl_script.specs.declared.word.Word.TheVariants as word
@@ -90,13 +91,21 @@ number_of field =
 abbrev pub transition_of : List ℕ → Option Transition
 transition_of field = option_and_then transition_at (number_of field)
 
--- the date, where it is no later than the last one
-abbrev if_date : ℕ → Option Micros
-if_date n = if nat_le n last_date then Some (record { 0 = n }) else None
-
--- a date is a number of microseconds, of no later day than 9999-12-31
+-- a date is a number of microseconds. Whether it is in range is asked behind the whole line's form
 abbrev pub date_of : List ℕ → Option Micros
-date_of field = option_and_then if_date (number_of field)
+date_of field = option_map (λ n. record { 0 = n }) (number_of field)
+
+-- the number, where it is one of 32 bits
+abbrev if_id : ℕ → Option ℕ
+if_id n = if nat_lt n (2 ^ 32) then Some n else None
+
+-- an id is a number of at most 32 bits
+abbrev pub id_of : List ℕ → Option ℕ
+id_of field = option_and_then if_id (number_of field)
+
+-- the id of a visit
+abbrev pub visit_id_of : List ℕ → Option VisitId
+visit_id_of field = option_map (λ id. record { 0 = id }) (id_of field)
 
 -- ---- the fields of a line
 
@@ -131,6 +140,17 @@ field_in form column (field ∷ rest) = read_field column field rest (form field
 abbrev pub next_field : {A : Type 0} → (List ℕ → Option A) → Fields → Parsed (A × Fields)
 next_field form fields = field_in form fields.column fields.left
 
+-- the first field by its form, unless there is none
+abbrev pub last_field_in : {A : Type 0} → (List ℕ → Option A) → ℕ → List (List ℕ)
+    → Parsed (Option A × Fields)
+last_field_in form column [] = Ok (None, record { column = column; left = [] })
+last_field_in form column (field ∷ rest) =
+    read_field column field rest (option_map (λ x. Some x) (form field))
+
+-- a last field by its form, which the line may lack
+abbrev pub last_field : {A : Type 0} → (List ℕ → Option A) → Fields → Parsed (Option A × Fields)
+last_field form fields = last_field_in form fields.column fields.left
+
 -- a first field is refused at its column
 abbrev pub none_in : ℕ → List (List ℕ) → Parsed (Unit {0})
 none_in column [] = Ok tt
@@ -142,27 +162,57 @@ no_more_fields fields = none_in fields.column fields.left
 
 -- ---- the lines
 
+-- the words of lines
+abbrev pub words : List (List ℕ × Word)
+words =
+    (codes "visit", word.Visit) ∷ (codes "title", word.Title) ∷ (codes "page", word.Page) ∷ []
+
 -- the word that a line begins with
 abbrev pub word_of : List ℕ → Option Word
-word_of field = if bytes_eq field (codes "visit") then Some word.Visit else None
+word_of field = option_map (λ row. row.1) (find (λ row. bytes_eq field row.0) words)
 
--- a visit to the URL, where the address gives one
-abbrev pub visit_to : Transition → Micros → Option (List ℕ) → Parsed Command
-visit_to transition date None = Err BadUrl
-visit_to transition date (Some url) = Ok (Visit url transition date None)
+-- a date that is later than the last one is refused
+abbrev pub in_range : Micros → Parsed Micros
+in_range date = if nat_le date.0 last_date then Ok date else Err BadDate
 
--- `visit`, an address, a transition and a date
+-- the URL that an address gives
+abbrev pub url_of : List ℕ → Parsed (List ℕ)
+url_of address = ok_or (canon address) BadUrl
+
+-- `visit`, an address, a transition, a date, and its source or none
 abbrev pub visit_line : Fields → Parsed Command
 visit_line fields = do
   address ← next_field text_of fields
   transition ← next_field transition_of address.1
-  date ← next_field date_of transition.1
-  end ← no_more_fields date.1
-  visit_to transition.0 date.0 (canon address.0)
+  micros ← next_field date_of transition.1
+  source ← last_field visit_id_of micros.1
+  end ← no_more_fields source.1
+  date ← in_range micros.0
+  url ← url_of address.0
+  Ok (Visit url transition.0 date source.0)
+
+-- `title`, an address and a title
+abbrev pub title_line : Fields → Parsed Command
+title_line fields = do
+  address ← next_field text_of fields
+  title ← next_field text_of address.1
+  end ← no_more_fields title.1
+  url ← url_of address.0
+  Ok (Title url title.0)
+
+-- `page` and an address
+abbrev pub page_line : Fields → Parsed Command
+page_line fields = do
+  address ← next_field text_of fields
+  end ← no_more_fields address.1
+  url ← url_of address.0
+  Ok (Page url)
 
 -- the rest of a line by its word
 abbrev pub line_of : Word → Fields → Parsed Command
 line_of word.Visit fields = visit_line fields
+line_of word.Title fields = title_line fields
+line_of word.Page fields = page_line fields
 
 -- the bytes of the longest line that is read
 abbrev pub longest_line : ℕ

@@ -1,13 +1,13 @@
 // What one field stands for.
-ghost use Rattle.std.specs.Prelude.{◌≡◌, ◌++◌, false, Some, IfOk, IfSome, OnOk};
+ghost use Rattle.std.specs.Prelude.{◌≡◌, ◌++◌, false, Some, IfOk, OnOk, encode_utf8};
 ghost use Rattle.std.specs.Char.{is_ascii_digit};
 ghost use Rattle.std.specs.List.{list_all};
 ghost use Rattle.std.specs.Option.{option_map};
-ghost use Rattle.pl_base.specs.Date.{IsDate};
+ghost use Rattle.std.specs.String.{string_bytes};
 ghost use Rattle.pl_script.specs.Script as spec;
 
 use crate::word::Word;
-use pl_base::{Micros, NoMemory, Transition, Txt};
+use pl_base::{Micros, NoMemory, Transition, Txt, VisitId};
 use std::alloc::Global;
 
 /// The word of a field, where it begins a line that is known.
@@ -16,6 +16,8 @@ pub fn word(field: &[u8]) -> Option<Word>
 {
     match field {
         b"visit" => Some(Word::Visit),
+        b"title" => Some(Word::Title),
+        b"page" => Some(Word::Page),
         _ => None,
     }
 }
@@ -68,36 +70,39 @@ fn escaped_byte(byte: u8) -> Option<u8>
 }
 
 /// A text as replies write it, which reads back as the text.
-pub fn escaped(alloc: Global, text: &str) -> Result<Vec<u8>, NoMemory>
-    ensures exact { IfOk result (λ bytes. bytes.items ≡ spec.escaped text.now) }
-    ensures reads_back { IfOk result (λ bytes. spec.text_of bytes.items ≡ Some text.now) }
+pub fn escaped(alloc: Global, text: &str) -> Result<String, NoMemory>
+    ensures exact { IfOk result (λ written. string_bytes written ≡ spec.escaped text.now) }
+    ensures reads_back { IfOk result (λ written.
+        spec.text_of (string_bytes written) ≡ Some text.now) }
 {
-    let mut bytes = Vec::new(alloc);
-    for &byte in text.as_bytes() {
-        push_escaped(&mut bytes, byte)?;
+    let mut written = String::new(alloc);
+    for c in text.chars() {
+        push_escaped(&mut written, c)?;
     }
-    Ok(bytes)
+    Ok(written)
 }
 
-fn push_escaped(bytes: &mut Vec<u8>, byte: u8) -> Result<(), NoMemory>
-    ensures { OnOk result (bytes.new.items
-        ≡ bytes.old.items ++ spec.escaped_as byte (spec.escape_of byte)) }
+fn push_escaped(written: &mut String, c: char) -> Result<(), NoMemory>
+    ensures { OnOk result (string_bytes written.new
+        ≡ string_bytes written.old ++ spec.escaped (encode_utf8 c)) }
 {
-    match escape_of(byte) {
-        Some(letter) => bytes.extend_from_slice(&[b'\\', letter])?,
-        None => bytes.push(byte)?,
+    if let Some(letter) = escape_of(c) {
+        written.push('\\')?;
+        written.push(letter)?;
+    } else {
+        written.push(c)?;
     }
     Ok(())
 }
 
-fn escape_of(byte: u8) -> Option<u8>
-    ensures { result ≡ spec.escape_of byte }
+fn escape_of(c: char) -> Option<char>
+    ensures { result ≡ spec.escape_of c }
 {
-    match byte {
-        b'\\' => Some(b'\\'),
-        b'\t' => Some(b't'),
-        b'\n' => Some(b'n'),
-        b'\r' => Some(b'r'),
+    match c {
+        '\\' => Some('\\'),
+        '\t' => Some('t'),
+        '\n' => Some('n'),
+        '\r' => Some('r'),
         _ => None,
     }
 }
@@ -137,15 +142,21 @@ pub fn transition(field: &[u8]) -> Option<Transition>
     Transition::from_number(number(field)?)
 }
 
-/// A date of no later day than 9999-12-31.
+/// A date, which may be out of range.
 pub fn date(field: &[u8]) -> Option<Micros>
-    ensures exact { result ≡ spec.date_of field.now }
-    ensures range { IfSome result IsDate }
+    ensures { result ≡ spec.date_of field.now }
 {
-    let micros = Micros(number(field)?);
-    if micros <= Micros::LAST {
-        Some(micros)
-    } else {
-        None
-    }
+    Some(Micros(number(field)?))
+}
+
+fn id(field: &[u8]) -> Option<u32>
+    ensures { result ≡ spec.id_of field.now }
+{
+    u32::try_from(number(field)?).ok()
+}
+
+pub fn visit_id(field: &[u8]) -> Option<VisitId>
+    ensures { result ≡ spec.visit_id_of field.now }
+{
+    Some(VisitId(id(field)?))
 }

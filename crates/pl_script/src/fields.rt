@@ -2,7 +2,6 @@
 ghost use Rattle.std.specs.Prelude.{◌≡◌, ◌+◌, ◌-◌, ◌<◌, ◌≤◌, [], length, IfOk, IfErr, ◌==◌};
 ghost use Rattle.std.specs.Option.{ok_or};
 ghost use Rattle.std.specs.List.{position, position_or_len};
-ghost use Rattle.pl_base.specs.Date.{IsDate};
 ghost use Rattle.pl_script.specs.Fields.{GivesField, TakesField};
 ghost use Rattle.pl_script.specs.LineError.{ReadsAs, ReadsInPlace};
 ghost use Rattle.pl_script.specs.Script as spec;
@@ -10,7 +9,7 @@ ghost use Rattle.pl_script.specs.Script as spec;
 use crate::field;
 use crate::lines::LineError;
 use crate::word::Word;
-use pl_base::{Micros, Refusal, Transition, Txt};
+use pl_base::{Micros, Refusal, Transition, Txt, VisitId};
 use std::alloc::Global;
 use std::marker::Model;
 
@@ -106,12 +105,23 @@ impl<'a> Fields<'a> {
     }
 
     pub fn date(&mut self) -> Result<Micros, LineError>
-        ensures date { ReadsInPlace (λ date. (date, self.new)) result
+        ensures { ReadsInPlace (λ date. (date, self.new)) result
             (spec.next_field spec.date_of self.old) }
-        ensures range { IfOk result IsDate }
     {
         let (column, bytes) = self.next()?;
         formed(field::date(bytes), column)
+    }
+
+    /// The visit that the last field names, which the line may lack.
+    pub fn last_visit_id(&mut self) -> Result<Option<VisitId>, LineError>
+        ensures { ReadsInPlace (λ id. (id, self.new)) result
+            (spec.last_field spec.visit_id_of self.old) }
+    {
+        let column = self.column();
+        match self.take() {
+            None => Ok(None),
+            Some(bytes) => Ok(Some(formed(field::visit_id(bytes), column)?)),
+        }
     }
 
     /// A field too many is refused at its column.

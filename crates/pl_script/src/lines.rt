@@ -1,14 +1,16 @@
 // One line.
 ghost use Rattle.std.specs.Prelude.{◌≡◌, IfOk, IfSome, IsErrOf};
 ghost use Rattle.pl_engine.specs.Step.{HasDates};
+ghost use Rattle.pl_base.specs.Date.{IsDate};
 ghost use Rattle.pl_script.specs.LineError.{BecomesLineError, HasWord, ReadsAs, ReadsEntry};
+ghost use Rattle.pl_script.specs.LineError.{ReadsInPlace};
 ghost use Rattle.pl_script.specs.Script as spec;
 ghost use Rattle.pl_script.specs.declared.lines.LineError.TheVariants.{Refused};
 ghost use Rattle.pl_script.specs.declared.lines.LineError.TheVariants.{NoMemory as OutOfMemory};
 
 use crate::fields::{Fields, LONGEST_LINE};
 use crate::word::Word;
-use pl_base::{NoMemory, Refusal};
+use pl_base::{Micros, NoMemory, Refusal};
 use pl_engine::Command;
 use pl_link::{Canon, CanonError};
 use std::alloc::Global;
@@ -70,6 +72,8 @@ fn command_line(alloc: Global, bytes: &[u8]) -> Result<Command, LineError>
     let mut fields = Fields::new(bytes);
     match fields.word()? {
         Word::Visit => visit_line(alloc, fields),
+        Word::Title => title_line(alloc, fields),
+        Word::Page => page_line(alloc, fields),
     }
 }
 
@@ -80,12 +84,46 @@ fn visit_line(alloc: Global, mut fields: Fields<'_>) -> Result<Command, LineErro
     let address = fields.text(alloc)?;
     let transition = fields.transition()?;
     let date = fields.date()?;
+    let source = fields.last_visit_id()?;
     fields.end()?;
+    let date = in_range(date)?;
     let url = Canon::read(alloc, address.as_str())?;
     Ok(Command::Visit {
         url,
         transition,
         date,
-        source: None,
+        source,
     })
+}
+
+// The date, unless it is later than the last one.
+fn in_range(date: Micros) -> Result<Micros, LineError>
+    ensures date { ReadsInPlace (λ date. date) result (spec.in_range date) }
+    ensures range { IfOk result IsDate }
+{
+    if date > Micros::LAST {
+        return Err(LineError::Refused(Refusal::BadDate));
+    }
+    Ok(date)
+}
+
+fn title_line(alloc: Global, mut fields: Fields<'_>) -> Result<Command, LineError>
+    ensures command { ReadsAs (λ command. command) result (spec.title_line fields.entry) }
+    ensures dates { IfOk result HasDates }
+{
+    let address = fields.text(alloc)?;
+    let text = fields.text(alloc)?;
+    fields.end()?;
+    let url = Canon::read(alloc, address.as_str())?;
+    Ok(Command::Title { url, text })
+}
+
+fn page_line(alloc: Global, mut fields: Fields<'_>) -> Result<Command, LineError>
+    ensures command { ReadsAs (λ command. command) result (spec.page_line fields.entry) }
+    ensures dates { IfOk result HasDates }
+{
+    let address = fields.text(alloc)?;
+    fields.end()?;
+    let url = Canon::read(alloc, address.as_str())?;
+    Ok(Command::Page { url })
 }

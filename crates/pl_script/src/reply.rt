@@ -1,15 +1,21 @@
 // The text of a reply.
-ghost use Rattle.std.specs.Prelude.{◌≡◌, IfOk};
+ghost use Rattle.std.specs.Prelude.{◌≡◌, ◌<◌, [], ◌∷◌, length, IfOk, decimal};
+ghost use Rattle.std.specs.Fmt.{signed_decimal};
+ghost use Rattle.std.specs.List.{join_with_byte};
 ghost use Rattle.std.specs.String.{string_bytes};
 ghost use Rattle.pl_script.specs.Reply as spec;
+ghost use Rattle.pl_script.specs.Script.{escaped as escaped_text};
 
-use pl_base::{NoMemory, Refusal, Txt};
+use crate::field::escaped;
+use pl_base::{Micros, NoMemory, PageId, Refusal, Txt};
 use pl_engine::Reply;
 use std::alloc::Global;
 
 /// The reply's line, with its LF.
 pub fn reply_text(alloc: Global, reply: &Reply) -> Result<Txt, NoMemory>
-    ensures { IfOk result (λ text. text ≡ spec.reply_text reply.now) }
+    ensures exact { IfOk result (λ text. text ≡ spec.reply_text reply.now) }
+    ensures reads_back { IfOk result (λ text. spec.IsLineOf (spec.reply_fields reply.now) text) }
+    ensures never_empty { IfOk result (λ text. 0 < length text) }
 {
     match reply {
         Reply::Visit {
@@ -20,8 +26,79 @@ pub fn reply_text(alloc: Global, reply: &Reply) -> Result<Txt, NoMemory>
             "visit\t{}\tpage\t{}\tfrecency\t{frecency}\n",
             visit.0, page.0
         )?)),
+        Reply::Done => Txt::copied(alloc, "ok\n"),
+        Reply::Page {
+            id,
+            frecency,
+            count,
+            last,
+            typed,
+            hidden,
+            bookmarked,
+            url,
+            title,
+            tags,
+        } => {
+            let numbers = numbers(alloc, *id, *frecency, *count, *last)?;
+            let marks = marks(alloc, *typed, *hidden, *bookmarked)?;
+            let texts = texts(alloc, url, title, tags)?;
+            Ok(Txt::from(format!(in alloc; "page\t{numbers}\t{marks}\t{texts}\n")?))
+        }
         Reply::Refused(refusal) => Ok(Txt::from(refusal_text(alloc, refusal)?)),
     }
+}
+
+// The fields of a page's line that are numbers.
+fn numbers(
+    alloc: Global,
+    id: PageId,
+    frecency: i64,
+    count: u32,
+    last: Option<Micros>,
+) -> Result<String, NoMemory>
+    ensures { IfOk result (λ text. string_bytes text ≡ join_with_byte 9
+        (decimal id.0 ∷ signed_decimal frecency ∷ decimal count ∷ spec.date_text last ∷ [])) }
+{
+    let last = date_text(alloc, last)?;
+    Ok(format!(in alloc; "{}\t{frecency}\t{count}\t{last}", id.0)?)
+}
+
+// Those that are truth values.
+fn marks(alloc: Global, typed: bool, hidden: bool, bookmarked: bool) -> Result<String, NoMemory>
+    ensures { IfOk result (λ text. string_bytes text ≡ join_with_byte 9
+        (spec.truth_text typed ∷ spec.truth_text hidden ∷ spec.truth_text bookmarked ∷ [])) }
+{
+    let typed = truth_text(typed);
+    let hidden = truth_text(hidden);
+    let bookmarked = truth_text(bookmarked);
+    Ok(format!(in alloc; "{typed}\t{hidden}\t{bookmarked}")?)
+}
+
+// Those that are texts.
+fn texts(alloc: Global, url: &Txt, title: &Txt, tags: &Txt) -> Result<String, NoMemory>
+    ensures { IfOk result (λ text. string_bytes text ≡ join_with_byte 9
+        (escaped_text url.now ∷ escaped_text title.now ∷ escaped_text tags.now ∷ [])) }
+{
+    let url = escaped(alloc, url.as_str())?;
+    let title = escaped(alloc, title.as_str())?;
+    let tags = escaped(alloc, tags.as_str())?;
+    Ok(format!(in alloc; "{url}\t{title}\t{tags}")?)
+}
+
+// A date, or `-` where there is none.
+fn date_text(alloc: Global, date: Option<Micros>) -> Result<String, NoMemory>
+    ensures { IfOk result (λ text. string_bytes text ≡ spec.date_text date) }
+{
+    Ok(match date {
+        Some(date) => format!(in alloc; "{}", date.0)?,
+        None => String::from_str(alloc, "-")?,
+    })
+}
+
+fn truth_text(value: bool) -> &'static str
+    ensures { result.now ≡ spec.truth_text value }
+{
+    if value { "1" } else { "0" }
 }
 
 fn refusal_text(alloc: Global, refusal: &Refusal) -> Result<String, NoMemory>
@@ -34,6 +111,8 @@ fn refusal_text(alloc: Global, refusal: &Refusal) -> Result<String, NoMemory>
         Refusal::NoIds(kind) => format!(in alloc; "refused\t{number}\t{}\n", kind.number())?,
         Refusal::Full(slots) => format!(in alloc; "refused\t{number}\t{slots}\n")?,
         Refusal::BadLine(column) => format!(in alloc; "refused\t{number}\t{column}\n")?,
-        Refusal::BadUrl | Refusal::NotRecorded => format!(in alloc; "refused\t{number}\n")?,
+        Refusal::BadUrl | Refusal::NotRecorded | Refusal::NoPage | Refusal::BadDate => {
+            format!(in alloc; "refused\t{number}\n")?
+        }
     })
 }

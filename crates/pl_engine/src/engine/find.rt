@@ -1,4 +1,4 @@
-// Where a visit goes: the page with a URL, or else the origin of the URL.
+// The page with a URL, and where a visit goes: to that page, or else to the origin of the URL.
 ghost use Rattle.std.specs.Prelude.{◌≡◌, ◌&&◌, ℕ, List, Some, true, bytes_eq, IfOk};
 ghost use Rattle.std.specs.Option.{option_map};
 ghost use Rattle.pl_base.specs.Address as address;
@@ -42,7 +42,8 @@ fn has_url<R: Rows, L: Ledger>(
     Ok(text.as_str() == url)
 }
 
-fn find_page<R: Rows, L: Ledger>(
+/// The page with the URL.
+pub fn find_page<R: Rows, L: Ledger>(
     rows: &R,
     url: &str,
     steps: &mut Steps<L>,

@@ -6,7 +6,8 @@ ghost use Rattle.pl_base.specs.declared.id.VisitId.{VisitId};
 ghost use Rattle.pl_base.specs.Address.{is_unrecorded_url};
 ghost use Rattle.pl_base.specs.Date.{IsDate};
 ghost use Rattle.pl_base.specs.Good.{end_of_ids};
-ghost use Rattle.pl_base.specs.Live.{chunks, live_slots, slot_limit};
+ghost use Rattle.pl_base.specs.Live as live;
+ghost use Rattle.pl_base.specs.Live.{live_slots, slot_limit};
 ghost use Rattle.pl_base.specs.Rows.{IsOfVisits, has_visit, store_of};
 ghost use Rattle.pl_engine.specs.Engine.{IsSound};
 ghost use Rattle.pl_engine.specs.Refreshed.{AreRightBut, HaveCounts, source_page};
@@ -16,6 +17,7 @@ ghost use Rattle.pl_engine.specs.Target.{AddsVisit, HasRoom, IsReady, IsTargetOf
 use crate::command::Command;
 use crate::engine::find::{Target, find_target, is_place};
 use crate::engine::mark::{refresh, visited_mark};
+use crate::engine::slots::chunks;
 use crate::reply::Reply;
 use pl_base::{
     IdKind, Ids, Micros, NoMemory, PageId, Refusal, Rows, Slot, Steps, Transition, VisitId,
@@ -25,16 +27,12 @@ use pl_link::{Canon, split};
 use std::alloc::Global;
 use std::sync::ledger::Ledger;
 
-/// A text takes a slot for each so many bytes.
-const CHUNK_SIZE: usize = 120;
-
 // The slots of a new page with its first visit, and of its origin where that is new.
 fn new_slots(url: &Canon, origin: Option<Slot>) -> u64
-    ensures slots { result ≡ 2 + chunks url.now + (if is_none origin then 1 else 0) }
+    ensures slots { result ≡ 2 + live.chunks url.now + (if is_none origin then 1 else 0) }
     ensures most { result ≤ 550 }
 {
-    let chunks = url.text().len().div_ceil(CHUNK_SIZE) as u64;
-    2 + chunks + u64::from(origin.is_none())
+    2 + chunks(url.text()) + u64::from(origin.is_none())
 }
 
 // How many slots the store takes after a visit to the URL.

@@ -1,23 +1,31 @@
 use Rattle.pl_engine.specs.Engine.{IsSound}
 use Rattle.pl_engine.proofs.GoodRows.{good_of}
 use Rattle.pl_engine.proofs.engine.Engine.apply.Given.{Over}
-use Rattle.pl_engine.proofs.engine.Engine.apply.Goals.{After-result-1, in-Visit+in_ok-reply-in-Visit, in-Title}
+use Rattle.pl_engine.proofs.engine.Engine.apply.Goals.{Joined-command, in-Visit+in_ok-reply-in-Visit}
+use Rattle.pl_engine.proofs.engine.Engine.apply.Goals.{in-Title+in_ok-reply-in-Title, in-Page+in_ok-reply-in-Page}
 use Rattle.pl_engine.proofs.engine.Engine.apply.Goals as goal
 
-sound : (g : Over) (c : After-result-1 g) → IsSound (g.R.Rows.kept c.match-command.rows)
+-- whichever command it is
+sound : (g : Over) (c : Joined-command g) → IsSound (g.R.Rows.kept c.match-command.rows)
 sound g c =
     elim c.match-command.branch [
       | in-Visit+in_ok-reply-in-Visit w ↦ rw w.rows-is w.in_ok-reply-in-Visit.ensures.sound
-      | in-Title w ↦ rw w.rows-is (record {
+      | in-Title+in_ok-reply-in-Title w ↦ rw w.rows-is w.in_ok-reply-in-Title.ensures.sound
+      | in-Page+in_ok-reply-in-Page w ↦ rw w.rows-is (record {
         of_visits = c.args.self.of_visits;
         visited = c.args.self.visited;
         right = c.args.self.right;
       })
     ]
 
+pub invariant_of-result : goal.invariant_of-result
+invariant_of-result g c =
+    let s : IsSound (g.R.Rows.kept c.match-command.rows) = sound g c in
+    record { of_visits = s.of_visits; visited = s.visited; right = s.right; most = c.args.self.most }
+
 pub returns-clause-stands : goal.returns-clause-stands
 returns-clause-stands g c =
-    let kept = g.R.Rows.kept c.match-command.rows in
+    let s : IsSound (g.R.Rows.kept c.match-command.rows) = sound g c.before in
     g.met.R.Rows.stands c.match-command.rows
-    (good_of kept (g.met.R.Rows.well_kept c.match-command.rows) (sound g c).of_visits (sound g c).visited)
-    (sound g c).of_visits (sound g c).right
+    (good_of (g.R.Rows.kept c.match-command.rows) (g.met.R.Rows.well_kept c.match-command.rows) s.of_visits s.visited)
+    s.of_visits s.right

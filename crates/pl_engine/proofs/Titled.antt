@@ -1,0 +1,170 @@
+-- What a title makes of the rows: the step's store, and marks that stay right.
+use Rattle.std.proofs.Common.{◌≡◌, ◌≢◌, ◌≤◌, ◌==◌, ◌++◌, ◌∙◌, if◌then◌else◌, ℕ, All, Bool, true, false, IsTrue}
+use Rattle.std.proofs.Common.{List, [], ◌∷◌, Option, Some, ap, arith, bytes_eq, eq-eqb, get_or, length, map, refl}
+use Rattle.std.proofs.Common.{leb, slice_index, subst, suc, sym, take, zero}
+use Rattle.std.specs.Fmt.{is_char_start}
+use Rattle.std.specs.Fmt.Cut.{floor_char_boundary}
+use Rattle.std.specs.Cmp.{both_ways}
+use Rattle.std.specs.List.{AllByRecursion, AllPairs}
+use Rattle.std.specs.Option.{option_map}
+use Rattle.std.proofs.lemmas.Bool.{cond_both}
+use Rattle.std.proofs.lemmas.Bool.Decides.{nat_tests}
+use Rattle.std.proofs.lemmas.List.{length-take}
+use Rattle.std.proofs.lemmas.List.Elements.{All-map, recursion_from_All}
+use Rattle.std.proofs.lemmas.Slice.Eq.{bytes_eq-Decides}
+use Rattle.pl_base.specs.declared.id.PageId.{PageId}
+use Rattle.pl_base.specs.Frecency.{frecency_of}
+use Rattle.pl_base.specs.Good.{is_visited, longest_title}
+use Rattle.pl_base.specs.Marks.{is_hidden, visit_count}
+use Rattle.pl_base.specs.Rows.{IsWellKept, Kept, KeptPage, store_of, title_of, titled, with_title}
+use Rattle.pl_base.specs.Store.{Page, Store}
+use Rattle.pl_base.specs.Title.{cut_title}
+use Rattle.pl_engine.specs.declared.engine.find.Target.TheVariants.{Known}
+use Rattle.pl_engine.specs.Engine.{IsSound, IsTypedRight}
+use Rattle.pl_engine.specs.Step.{after_title, find_page, title_page}
+use Rattle.pl_engine.specs.Target.{IsTargetOf}
+use Rattle.pl_engine.proofs.KnownPage.{IsKnown, known, only_known}
+use Rattle.pl_engine.proofs.LookUps.{both}
+use Rattle.pl_engine.proofs.PageWalk.{found_at, part}
+
+-- ---- a title that is cut
+
+floor-le : (text : List ℕ) (i : ℕ) → floor_char_boundary text i ≤ i
+unfolding floor_char_boundary
+floor-le text zero = omega arith
+floor-le text (suc i) = choose (is_char_start (slice_index text (suc i))) (floor-le text i)
+  where
+    choose : (b : Bool) → floor_char_boundary text i ≤ i → (if b then suc i else floor_char_boundary text i) ≤ suc i
+    choose true rest = omega arith
+    choose false rest = omega (arith, rest)
+
+pub cut_title-le : (text : List ℕ) → length (cut_title text) ≤ longest_title
+cut_title-le text = choose (leb (length text) longest_title) refl
+  where
+    choose : (b : Bool) → leb (length text) longest_title ≡ b
+        → length (if b then text else take (floor_char_boundary text longest_title) text) ≤ longest_title
+    choose true few = grind (arith, nat_tests)
+    choose false many =
+        omega (
+          arith,
+          length-take (floor_char_boundary text longest_title) text,
+          floor-le text longest_title,
+        )
+
+-- ---- the page that has the URL
+
+pub target_by : (kept : Kept) (url text : List ℕ) (found : Option PageId) (page : PageId) → text ≡ url
+    → found ≡ option_map (λ (p : Page). p.id) (find_page text (store_of kept).pages) → found ≡ Some page
+    → IsTargetOf kept url (Known page)
+target_by kept url text found page same is some =
+    subst (λ (u : List ℕ). IsTargetOf kept u (Known page)) same (sym is ∙ some)
+
+pub known_at : (kept : Kept) (url : List ℕ) (id : PageId) → IsWellKept kept → (k : IsKnown kept url id)
+    → option_map (λ (p : KeptPage). p.page.title) (Some k.page) ≡ title_of kept id
+known_at kept url id h k =
+    ap (option_map (λ (p : KeptPage). p.page.title)) (sym (found_at kept id k.front k.page k.rest h k.whole k.is))
+
+-- its title
+pub old_title : (kept : Kept) (url : List ℕ) (id : PageId) (old : List ℕ) → IsWellKept kept
+    → (k : IsKnown kept url id) → Some old ≡ title_of kept id → old ≡ k.page.page.title
+old_title kept url id old h k is =
+    let same : Some old ≡ Some k.page.page.title = is ∙ sym (known_at kept url id h k) in
+    cc
+
+-- no other page has its URL
+only_url : (front : List KeptPage) (p : KeptPage) (rest : List KeptPage)
+    → AllPairs (λ (a b : KeptPage). a.page.url ≢ b.page.url) (front ++ p ∷ rest)
+    → AllByRecursion (λ (q : KeptPage). q.page.url ≡ p.page.url → q ≡ p) (front ++ p ∷ rest)
+only_url [] p rest apart = (
+  λ _. refl,
+  recursion_from_All (λ (q : KeptPage). q.page.url ≡ p.page.url → q ≡ p) rest
+      (λ k d within same. absurd (apart 0 (suc k) d (omega arith) (omega arith) (sym same))),
+)
+only_url (q ∷ front) p rest apart = (
+  λ same. absurd (part (λ (x : KeptPage). q.page.url ≢ x.page.url) front p rest
+      (recursion_from_All (λ (x : KeptPage). q.page.url ≢ x.page.url) (front ++ p ∷ rest)
+      (λ k d within. apart 0 (suc k) d (omega arith) (omega arith))) same),
+  only_url front p rest (λ i j d before within. apart (suc i) (suc j) d (omega arith) (omega arith)),
+)
+
+-- a page has the id exactly where it has the URL
+abbrev HasBoth : List ℕ → PageId → KeptPage → Type 0
+HasBoth url id q = (q.page.id.0 == id.0) ≡ bytes_eq q.page.url url
+
+have_both : (kept : Kept) (url : List ℕ) (id : PageId) → IsWellKept kept → IsKnown kept url id
+    → AllByRecursion (HasBoth url id) kept.pages
+have_both kept url id h k =
+    both (λ (q : KeptPage). (q.page.id.0 == id.0) ≡ true → q ≡ k.page)
+    (λ (q : KeptPage). q.page.url ≡ k.page.page.url → q ≡ k.page) (HasBoth url id) kept.pages
+    (λ q by_id by_url.
+    both_ways (q.page.id.0 == id.0) (bytes_eq q.page.url url)
+    (λ same. (bytes_eq-Decides q.page.url url).1 (ap (λ (x : KeptPage). x.page.url) (by_id same) ∙ k.url_is))
+    (λ same.
+    let one : q ≡ k.page = by_url ((bytes_eq-Decides q.page.url url).0 same ∙ sym k.url_is) in
+    eq-eqb q.page.id.0 id.0 (ap (λ (x : KeptPage). x.page.id.0) one ∙ ap (λ (i : PageId). i.0) k.is)))
+    (recursion_from_All (λ (q : KeptPage). (q.page.id.0 == id.0) ≡ true → q ≡ k.page) kept.pages
+    (only_known kept url id h k))
+    (rw k.whole (only_url k.front k.page k.rest
+    (subst (AllPairs (λ (a b : KeptPage). a.page.url ≢ b.page.url)) k.whole h.distinct_urls)))
+
+-- ---- the store
+
+page_of-titled : (b : Bool) (title : List ℕ) (p : KeptPage)
+    → (if b then titled title p else p).page ≡ (if b then record p.page { title = title } else p.page)
+page_of-titled true title p = refl
+page_of-titled false title p = refl
+
+pages-titled : (url title : List ℕ) (id : PageId) (pages : List KeptPage) → AllByRecursion (HasBoth url id) pages
+    → map (λ (p : KeptPage). p.page) (map (λ (p : KeptPage). if p.page.id.0 == id.0 then titled title p else p) pages)
+    ≡ map (title_page url title) (map (λ (p : KeptPage). p.page) pages)
+pages-titled url title id [] all = refl
+pages-titled url title id (p ∷ pages) all =
+    let here : (if p.page.id.0 == id.0 then titled title p else p).page ≡ title_page url title p.page =
+    page_of-titled (p.page.id.0 == id.0) title p
+    ∙ ap (λ (b : Bool). if b then record p.page { title = title } else p.page) all.0 in
+    rw (here, pages-titled url title id pages all.1) refl
+
+-- the rows with the title hold the step's store
+pub store_titled : (kept : Kept) (url text : List ℕ) (id : PageId) → IsWellKept kept → IsTargetOf kept url (Known id)
+    → store_of (with_title id (cut_title text) kept) ≡ after_title (store_of kept) url text
+store_titled kept url text id h of =
+    ap (λ (pages : List Page). record (store_of kept) { pages = pages })
+    (pages-titled url (cut_title text) id kept.pages (have_both kept url id h (known kept url id of)))
+
+-- ---- the marks
+
+each_titled : (P : KeptPage → Type 0) (id : PageId) (title : List ℕ) (pages : List KeptPage)
+    → ((p : KeptPage) → P p → P (titled title p)) → All P pages
+    → All P (map (λ (p : KeptPage). if p.page.id.0 == id.0 then titled title p else p) pages)
+each_titled P id title pages keeps all =
+    All-map P (λ (p : KeptPage). if p.page.id.0 == id.0 then titled title p else p) pages
+    (λ k d within.
+    let p : KeptPage = get_or pages k d in
+    cond_both (p.page.id.0 == id.0) (titled title p) p P (λ _. keeps p (all k d within)) (λ _. all k d within))
+
+-- nothing that is kept of a page beside its texts depends on a title
+pub sound_titled : (kept new : Kept) (id : PageId) (title : List ℕ) → new ≡ with_title id title kept → IsSound kept
+    → IsSound new
+sound_titled kept new id title is s =
+    let store : Store = store_of kept in
+    subst IsSound (sym is)
+    (record {
+      of_visits = s.of_visits;
+      visited = record {
+        visited =
+            each_titled (λ (p : KeptPage). IsTrue (is_visited store p.page.id)) id title kept.pages
+            (λ p visited. visited) s.visited.visited;
+        typed = each_titled (IsTypedRight kept) id title kept.pages (λ p typed. typed) s.visited.typed;
+      };
+      right = record {
+        frecencies =
+            each_titled (λ (p : KeptPage). p.frecency ≡ frecency_of store p.page) id title kept.pages
+            (λ p is. is) s.right.frecencies;
+        counts =
+            each_titled (λ (p : KeptPage). p.count ≡ visit_count store p.page.id) id title kept.pages
+            (λ p is. is) s.right.counts;
+        hidden =
+            each_titled (λ (p : KeptPage). p.hidden ≡ is_hidden store p.page) id title kept.pages
+            (λ p is. is) s.right.hidden;
+      };
+    })
