@@ -5,3 +5,4 @@ pub mod KeeperLaws
 pub mod Reading
 pub mod Session
 pub mod StandsLaws
+pub mod Unchanged

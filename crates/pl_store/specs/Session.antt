@@ -1,5 +1,5 @@
 -- Which files stand for a store, and what a session and a prepared command are to a file.
-use Rattle.std.specs.Prelude.{◌≡◌, ◌⊎◌, ◌↔◌, ℕ, true, List, length, Option, None, Some}
+use Rattle.std.specs.Prelude.{◌≡◌, ◌⊎◌, ◌↔◌, ℕ, true, List, length, take, Option, None, Some}
 use Rattle.pl_base.specs.Rows as rows
 use Rattle.pl_base.specs.Store.{Store}
 use Rattle.pl_base.specs.Touched.{changed, bytes_before}
@@ -87,9 +87,10 @@ bytes_of_change (Some pending) = commit_bytes (length pending.touched.pages)
 abbrev pub bytes_to_write : Prepared → ℕ
 bytes_to_write prepared = bytes_of_change prepared.change
 
--- the change makes of the bytes before it the ones after it
-abbrev LeadsTo : List ℕ → Option Pending → List ℕ → Type 0
-LeadsTo before None after = after ≡ before
+-- the change makes of the bytes before it the ones after it; where there is none, the ones before
+-- it begin with the ones after it
+abbrev pub LeadsTo : List ℕ → Option Pending → List ℕ → Type 0
+LeadsTo before None after = take (length after) before ≡ after
 LeadsTo before (Some pending) after =
     (changed pending.touched before ≡ after) × (length before ≡ bytes_before pending.touched.before)
 

@@ -1,5 +1,7 @@
+ghost use Rattle.std.specs.Prelude.{◌↔◌, IsTrue};
 ghost use Rattle.std.proofs.Props.{props};
 ghost use Rattle.pl_plain.specs.Flat.{IsBase, bytes_of};
+ghost use Rattle.pl_store.specs.Unchanged.{ChangesNothing};
 
 use crate::pending::Pending;
 use crate::uncounted;
@@ -19,19 +21,20 @@ pub struct Session {
 #[derive(Drop)]
 pub struct Prepared {
     pub(crate) engine: Engine<Flat>,
-    // None where the command changed nothing.
+    // None where there is nothing to be written.
     pub(crate) change: Option<Pending>,
     ghost base: { IsBase engine.rows (bytes_of engine.rows) } by { Prim.hlevel props },
 }
 
 impl Session {
-    ghost use Rattle.std.specs.Prelude.{◌≡◌, IfOk};
-    ghost use Rattle.pl_engine.specs.Step.{HasDates, perform};
+    ghost use Rattle.std.specs.Prelude.{◌≡◌, false, IfOk};
+    ghost use Rattle.pl_engine.specs.Step.{HasDates, is_change, perform};
     ghost use Rattle.pl_store.specs.Session.{IsPreparedFrom, session_limit, next_limit, next_store};
     ghost use Rattle.pl_store.specs.Session.{session_store, writes_nothing};
 
     /// Performs a command in memory: no call of the file is made. A refusal is a reply, and leaves
-    /// nothing to commit. After `NoMemory` the session is gone, and the file is as it was.
+    /// nothing to commit, as does a command of a kind that changes nothing. After `NoMemory` the
+    /// session is gone, and the file is as it was.
     pub fn prepare(self, command: &Command) -> Result<(Prepared, Reply), NoMemory>
         requires dates { HasDates command.now }
         ensures step { IfOk result (λ done. (done.1, next_store done.0)
@@ -40,9 +43,11 @@ impl Session {
         ensures from { IfOk result (λ done. IsPreparedFrom self done.0) }
         ensures refused { IfOk result
             (λ done. (refusal : Refusal) → done.1 ≡ Reply.Refused refusal → writes_nothing done.0) }
+        ensures unchanged { IfOk result
+            (λ done. is_change command.now ≡ false → writes_nothing done.0) }
     {
         let (mut engine, reply) = uncounted::apply(self.engine, command)?;
-        if let Reply::Refused(_) = reply {
+        if changes_nothing(command, &reply) {
             return Ok((
                 Prepared {
                     engine,
@@ -52,7 +57,14 @@ impl Session {
             ));
         }
         let touched = uncounted::touched(&mut engine)?;
-        let change = Some(Pending { touched });
+        let change = Pending::of(touched);
         Ok((Prepared { engine, change }, reply))
     }
+}
+
+// Whether a command with this reply leaves the very same rows.
+fn changes_nothing(command: &Command, reply: &Reply) -> bool
+    ensures { IsTrue result ↔ ChangesNothing command.now reply.now }
+{
+    matches!(reply, Reply::Refused(_)) || !command.is_change()
 }

@@ -1,10 +1,10 @@
 // The engine's calls where nothing is counted.
-ghost use Rattle.std.specs.Prelude.{◌≡◌, ◌≤◌, ◌<◌, ℕ, List, length, IfOk, OnOk};
+ghost use Rattle.std.specs.Prelude.{◌≡◌, ◌≤◌, ◌<◌, ℕ, List, false, length, IfOk, OnOk};
 ghost use Rattle.pl_base.specs.Rows.{store_of};
 ghost use Rattle.pl_base.specs.Touched.{IsWithin, changed, bytes_before};
 ghost use Rattle.pl_form.specs.Form.{StandsFor};
 ghost use Rattle.pl_plain.specs.Flat.{IsBase, bytes_of, kept_of};
-ghost use Rattle.pl_engine.specs.Step.{HasDates, perform};
+ghost use Rattle.pl_engine.specs.Step.{HasDates, is_change, perform};
 
 use pl_base::{NoMemory, Refusal, Steps, Touched};
 use pl_engine::{Command, Engine, Reply};
@@ -23,6 +23,8 @@ pub(crate) fn apply(
         ≡ perform engine.limit (store_of (kept_of engine.rows)) command.now) }
     ensures refused { IfOk result
         (λ done. (refusal : Refusal) → done.1 ≡ Reply.Refused refusal → done.0.rows ≡ engine.rows) }
+    ensures unchanged { IfOk result
+        (λ done. is_change command.now ≡ false → done.0.rows ≡ engine.rows) }
     ensures base { IfOk result
         (λ done. (bytes : List ℕ) → IsBase engine.rows bytes → IsBase done.0.rows bytes) }
     ensures stands { IfOk result
@@ -46,6 +48,8 @@ fn apply_with<L: Ledger>(
         ≡ perform engine.limit (store_of (kept_of engine.rows)) command.now) }
     ensures refused { IfOk result
         (λ done. (refusal : Refusal) → done.1 ≡ Reply.Refused refusal → done.0.rows ≡ engine.rows) }
+    ensures unchanged { IfOk result
+        (λ done. is_change command.now ≡ false → done.0.rows ≡ engine.rows) }
     ensures base { IfOk result
         (λ done. (bytes : List ℕ) → IsBase engine.rows bytes → IsBase done.0.rows bytes) }
     ensures stands { IfOk result

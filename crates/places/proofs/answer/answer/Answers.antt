@@ -117,7 +117,7 @@ returns-in-Ok-clause-said g c = let read = rw c.in-Ok-Some.field-0-is at c.in-Ok
     rw (text_of_command (keeper_limit c.args.keeper) (keeper_store c.args.keeper) (entries_in c.args.bytes.now)
     c.in-Ok-Some.command (c.in_ok-ready.reply, ready_store c.in_ok-ready.ready) c.as_bytes.result.now
     (ap option_to_list read.entry) c.in_ok-ready.ensures.step
-    (c.as_bytes.ensures.value ∙ c.as_str.ensures ∙ c.in_ok-text.ensures))
+    (c.as_bytes.ensures.value ∙ c.as_str.ensures ∙ c.in_ok-text.ensures.exact))
     (rw (sym c.commit.ensures.line.said) c.in-Ok.ensures.whole)
 
 pub returns-in-Ok-clause-shows : goal.returns-in-Ok-clause-shows
@@ -128,7 +128,7 @@ returns-in-Ok-clause-shows g c first before is kept = let desk = g.D.Desk in
     (c.in_ok-ready.reply, ready_store c.in_ok-ready.ready) before c.as_bytes.result.now is
     c.commit.ensures.line.said
     (ap option_to_list read.entry) c.in_ok-ready.ensures.step
-    (c.as_bytes.ensures.value ∙ c.as_str.ensures ∙ c.in_ok-text.ensures)
+    (c.as_bytes.ensures.value ∙ c.as_str.ensures ∙ c.in_ok-text.ensures.exact)
     (c.in_ok-next.ensures.kind c.args.keeper c.in_ok-ready.ensures.from) c.in_ok-next.ensures.store
     (c.in_ok-next.ensures.kept c.args.keeper first c.in_ok-ready.ensures.from kept)
     (c.commit.ensures.any_moment c.args.keeper first before c.in_ok-ready.ensures.from kept is) c.say_all.ensures.shows
@@ -144,7 +144,7 @@ returns-clause-stopped g c = let read = rw c.in-Ok-Some.field-0-is at c.in-Ok-So
     rw (text_of_command (keeper_limit c.args.keeper) (keeper_store c.args.keeper) (entries_in c.args.bytes.now)
     c.in-Ok-Some.command (c.in_ok-ready.reply, ready_store c.in_ok-ready.ready) c.as_bytes.result.now
     (ap option_to_list read.entry) c.in_ok-ready.ensures.step
-    (c.as_bytes.ensures.value ∙ c.as_str.ensures ∙ c.in_ok-text.ensures))
+    (c.as_bytes.ensures.value ∙ c.as_str.ensures ∙ c.in_ok-text.ensures.exact))
     (rw (sym c.commit.ensures.line.said) c.in-Err.ensures.front)
 
 pub returns-clause-left : goal.returns-clause-left
@@ -171,7 +171,7 @@ returns-clause-shows g c first before is kept = let desk = g.D.Desk in
     (c.in_ok-ready.reply, ready_store c.in_ok-ready.ready) before c.as_bytes.result.now is
     c.commit.ensures.line.said
     (ap option_to_list read.entry) c.in_ok-ready.ensures.step
-    (c.as_bytes.ensures.value ∙ c.as_str.ensures ∙ c.in_ok-text.ensures)
+    (c.as_bytes.ensures.value ∙ c.as_str.ensures ∙ c.in_ok-text.ensures.exact)
     (c.in_ok-next.ensures.kind c.args.keeper c.in_ok-ready.ensures.from) c.in_ok-next.ensures.store
     (c.in_ok-next.ensures.kept c.args.keeper first c.in_ok-ready.ensures.from kept)
     (c.commit.ensures.any_moment c.args.keeper first before c.in_ok-ready.ensures.from kept is) c.say_all.ensures.shows

@@ -1,6 +1,6 @@
 use Rattle.std.proofs.Common.{◌≡◌, ℕ, IsSome, List, Some, length, inl, sym, subst}
 use Rattle.pl_base.specs.Touched.{bytes_before}
-use Rattle.pl_desk.specs.AnyMoment.{begun, left_now, some_said, weaker}
+use Rattle.pl_desk.specs.AnyMoment.{begun, left_now, rests_less, some_said, weaker}
 use Rattle.pl_desk.specs.Shown.{AtAnyMoment, Rests}
 use Rattle.pl_gate.specs.States.{HoldsEither, IsClosed}
 use Rattle.pl_store.specs.declared.pending.Pending.{Pending}
@@ -8,7 +8,7 @@ use Rattle.pl_store.specs.declared.session.Prepared.{Prepared}
 use Rattle.pl_store.specs.declared.session.Session.{Session}
 use Rattle.pl_store.specs.Session.{IsPreparedFrom, IsSettled, StandsForEither, session_bytes, next_bytes, next_store}
 use Rattle.pl_store.specs.Session.{session_store}
-use Rattle.pl_store.specs.StandsLaws.{settled_stands, stands_by_either}
+use Rattle.pl_store.specs.StandsLaws.{closed_by, settled_stands, stands_by_either}
 use Rattle.pl_store.proofs.session.Prepared.commit.Given.{Over}
 use Rattle.pl_store.proofs.session.Prepared.commit.Goals as goal
 
@@ -30,9 +30,11 @@ write_shown g old new prepared pending is shows before from settled =
 
 pub returns-in_default-clause-settled : goal.returns-in_default-clause-settled
 returns-in_default-clause-settled g c before from settled =
-    let desk = g.D.Desk in let same = rw c.in_default.is at from.leads in
+    let begins = rw c.in_default.is at from.leads in
     record {
-      rests = subst (λ (bytes : List ℕ). Rests desk c.args.desk.now (IsClosed bytes)) (sym same) settled.rests;
+      rests = rests_less g.D.Desk c.args.desk.now (IsClosed (session_bytes before))
+          (IsClosed (next_bytes c.args.self)) settled.rests
+          (λ file closed. closed_by (next_bytes c.args.self) (session_bytes before) file begins closed);
       stands = from.stands;
     }
 

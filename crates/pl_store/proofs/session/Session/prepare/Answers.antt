@@ -1,20 +1,31 @@
-use Rattle.std.proofs.Common.{ℕ, List, sym, ap, subst}
+use Rattle.std.proofs.Common.{◌≡◌, ℕ, List, length, take, inl, inr, ⊎_elim, sym, subst}
+use Rattle.std.proofs.Math.Seq.{take-length}
+use Rattle.std.proofs.lemmas.Bool.{both_ways}
 use Rattle.pl_base.specs.Rows.{store_of}
 use Rattle.pl_form.specs.Form.{StandsFor}
 use Rattle.pl_plain.specs.declared.flat.Flat.{Flat}
-use Rattle.pl_plain.specs.Flat.{IsBase, bytes_of}
-use Rattle.pl_plain.specs.Flat.{kept_of}
+use Rattle.pl_plain.specs.Flat.{IsBase, bytes_of, kept_of}
+use Rattle.pl_store.specs.Session.{LeadsTo}
+use Rattle.pl_store.proofs.session.Session.prepare.Goals.{Then-changes_nothing}
 use Rattle.pl_store.proofs.session.Session.prepare.Goals as goal
+
+-- where the command changes nothing the rows are the very same
+same_rows : (c : Then-changes_nothing) → c.in_ok-engine.engine.rows ≡ c.args.self.engine.rows
+same_rows c =
+    ⊎_elim (λ refused. c.in_ok-engine.ensures.refused refused.0 refused.1) c.in_ok-engine.ensures.unchanged
+    (c.changes_nothing.ensures.0 c.if-changes_nothing.true)
 
 pub invariant_of-result : goal.invariant_of-result
 invariant_of-result c =
-    let same = c.in_ok-engine.ensures.refused c.in-Refused.field-0 c.in-Refused.is in
-    record { base = subst (λ (rows : Flat). IsBase rows (bytes_of rows)) (sym same) c.args.self.base }
+    record { base = subst (λ (rows : Flat). IsBase rows (bytes_of rows)) (sym (same_rows c)) c.args.self.base }
 
-pub returns-in-Refused-clause-from : goal.returns-in-Refused-clause-from
-returns-in-Refused-clause-from c =
-    let same = c.in_ok-engine.ensures.refused c.in-Refused.field-0 c.in-Refused.is in
-    record { leads = ap bytes_of same; stands = c.in_ok-engine.ensures.stands }
+pub returns-then-changes_nothing-clause-from : goal.returns-then-changes_nothing-clause-from
+returns-then-changes_nothing-clause-from c = record {
+  leads =
+      subst (λ (rows : Flat). take (length (bytes_of rows)) (bytes_of c.args.self.engine.rows) ≡ bytes_of rows)
+      (sym (same_rows c.before)) (take-length (bytes_of c.args.self.engine.rows));
+  stands = c.in_ok-engine.ensures.stands;
+}
 
 pub returns-clause-from : goal.returns-clause-from
 returns-clause-from c =
@@ -22,8 +33,19 @@ returns-clause-from c =
     let base = c.in_ok-engine.ensures.base before c.args.self.base in
     let mid = c.in_ok-engine.engine.rows in let new = c.touched.new.engine.rows in
     record {
-      leads = (c.in_ok-touched.ensures.whole before base, c.in_ok-touched.ensures.before before base);
+      leads =
+          subst (λ (bytes : List ℕ). LeadsTo before c.of-change.result bytes) (c.in_ok-touched.ensures.whole before base)
+          (c.of-change.ensures.leads before (c.in_ok-touched.ensures.before before base));
       stands = subst (λ (bytes : List ℕ). StandsFor bytes (store_of (kept_of new))) (sym c.touched.ensures.bytes)
           (subst (λ kept. StandsFor (bytes_of mid) (store_of kept)) (sym c.touched.ensures.kept)
           c.in_ok-engine.ensures.stands);
     }
+
+pub returns-clause-refused : goal.returns-clause-refused
+returns-clause-refused c refusal is =
+    absurd (both_ways c.changes_nothing.result c.if-changes_nothing.false
+    (c.changes_nothing.ensures.1 (inl (refusal, is))))
+
+pub returns-clause-unchanged : goal.returns-clause-unchanged
+returns-clause-unchanged c is =
+    absurd (both_ways c.changes_nothing.result c.if-changes_nothing.false (c.changes_nothing.ensures.1 (inr is)))
