@@ -68,6 +68,20 @@ const ROWS: &[(&[u8], &[u8])] = &[
         b"visit\thttps://a.example/\t2\t0\nvisit\thttps://b.example/\t5\t1\t1\npage\thttps://a.example/\npage\thttps://b.example/\n",
         b"visit\t1\tpage\t1\tfrecency\t2000\nvisit\t2\tpage\t2\tfrecency\t2000\npage\t1\t25\t1\t0\t1\t1\t0\thttps://a.example/\t\t\npage\t2\t2000\t1\t1\t0\t0\t0\thttps://b.example/\t\t\n",
     ),
+    (
+        b"visit\thttps://a.example/\t2\t0\nvisit\thttps://b.example/\t5\t1\t1\npage\thttps://a.example/",
+        b"visit\t1\tpage\t1\tfrecency\t2000\nvisit\t2\tpage\t2\tfrecency\t2000\npage\t1\t25\t1\t0\t1\t1\t0\thttps://a.example/\t\t\n",
+    ),
+    // A source that is no visit, and one that is no id.
+    (
+        b"visit\thttps://a.example/\t1\t0\t0\nvisit\thttps://a.example/\t1\t0\t4294967295\nvisit\thttps://a.example/\t1\t0\t4294967296\n",
+        b"refused\t3\t0\nrefused\t3\t4294967295\nrefused\t14\t30\n",
+    ),
+    // A page whose visits add nothing, and one that was left by a redirect to itself.
+    (
+        b"visit\thttps://a.example/\t9\t0\nvisit\thttps://b.example/\t5\t1\t1\nvisit\thttps://b.example/\t6\t2\t2\npage\thttps://a.example/\npage\thttps://b.example/\n",
+        b"visit\t1\tpage\t1\tfrecency\t0\nvisit\t2\tpage\t2\tfrecency\t-1\nvisit\t3\tpage\t2\tfrecency\t75\npage\t1\t0\t0\t0\t0\t1\t0\thttps://a.example/\t\t\npage\t2\t75\t2\t2\t0\t0\t0\thttps://b.example/\t\t\n",
+    ),
     // Without a visit to it an address has no page, whatever is asked.
     (
         b"page\thttps://a.example/\ntitle\thttps://a.example/\tA\npage\tabout:blank\n",
