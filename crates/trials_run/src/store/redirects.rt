@@ -1,5 +1,5 @@
 // Visits with sources: what the file keeps of every page after each of them.
-ghost use Rattle.std.specs.Prelude.{◌≡◌, ◌<◌};
+ghost use Rattle.std.specs.Prelude.{◌≡◌, ◌<◌, IfOk};
 ghost use Rattle.pl_engine.specs.Step.{HasDates};
 
 use super::*;
