@@ -16,7 +16,7 @@ use Rattle.pl_base.specs.declared.id.PageId.{PageId}
 use Rattle.pl_base.specs.Frecency.{frecency_of}
 use Rattle.pl_base.specs.Good.{is_visited, longest_title}
 use Rattle.pl_base.specs.Marks.{is_hidden, visit_count}
-use Rattle.pl_base.specs.Rows.{IsWellKept, Kept, KeptPage, store_of, title_of, titled, with_title}
+use Rattle.pl_base.specs.Rows.{IsWellKept, Kept, KeptPage, store_of, titled, with_title}
 use Rattle.pl_base.specs.Store.{Page, Store}
 use Rattle.pl_base.specs.Title.{cut_title}
 use Rattle.pl_engine.specs.declared.engine.find.Target.TheVariants.{Known}
@@ -25,7 +25,7 @@ use Rattle.pl_engine.specs.Step.{after_title, find_page, title_page}
 use Rattle.pl_engine.specs.Target.{IsTargetOf}
 use Rattle.pl_engine.proofs.KnownPage.{IsKnown, known, only_known}
 use Rattle.pl_engine.proofs.LookUps.{both}
-use Rattle.pl_engine.proofs.PageWalk.{found_at, part}
+use Rattle.pl_engine.proofs.PageWalk.{part}
 
 -- ---- a title that is cut
 
@@ -58,18 +58,6 @@ pub target_by : (kept : Kept) (url text : List ℕ) (found : Option PageId) (pag
     → IsTargetOf kept url (Known page)
 target_by kept url text found page same is some =
     subst (λ (u : List ℕ). IsTargetOf kept u (Known page)) same (sym is ∙ some)
-
-pub known_at : (kept : Kept) (url : List ℕ) (id : PageId) → IsWellKept kept → (k : IsKnown kept url id)
-    → option_map (λ (p : KeptPage). p.page.title) (Some k.page) ≡ title_of kept id
-known_at kept url id h k =
-    ap (option_map (λ (p : KeptPage). p.page.title)) (sym (found_at kept id k.front k.page k.rest h k.whole k.is))
-
--- its title
-pub old_title : (kept : Kept) (url : List ℕ) (id : PageId) (old : List ℕ) → IsWellKept kept
-    → (k : IsKnown kept url id) → Some old ≡ title_of kept id → old ≡ k.page.page.title
-old_title kept url id old h k is =
-    let same : Some old ≡ Some k.page.page.title = is ∙ sym (known_at kept url id h k) in
-    cc
 
 -- no other page has its URL
 only_url : (front : List KeptPage) (p : KeptPage) (rest : List KeptPage)

@@ -4,3 +4,4 @@ pub mod Refreshed
 pub mod Run
 pub mod Step
 pub mod Target
+pub mod Titled
