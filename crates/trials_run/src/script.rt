@@ -84,12 +84,21 @@ const CAUSES: &[(&[u8], Refusal)] = &[
     (b"title\tno url\tA", Refusal::BadUrl),
     (b"page\tno url", Refusal::BadUrl),
     (b"page\t", Refusal::BadUrl),
-    (b"visit\thttps://a.example/\t1\t253402300800000000", Refusal::BadDate),
-    (b"visit\thttps://a.example/\t1\t18446744073709551615", Refusal::BadDate),
+    (
+        b"visit\thttps://a.example/\t1\t253402300800000000",
+        Refusal::BadDate,
+    ),
+    (
+        b"visit\thttps://a.example/\t1\t18446744073709551615",
+        Refusal::BadDate,
+    ),
     // A date is asked before an address, and a field that is not of its form before both.
     (b"visit\tno url\t1\t253402300800000000", Refusal::BadDate),
     (b"visit\tno url\t1\t00", Refusal::BadLine(16)),
-    (b"visit\tno url\t1\t253402300800000000\t", Refusal::BadLine(35)),
+    (
+        b"visit\tno url\t1\t253402300800000000\t",
+        Refusal::BadLine(35),
+    ),
 ];
 
 #[test]
@@ -292,7 +301,8 @@ fn writes_pages(rt: HostRuntime) -> Result<(), Fail> {
     let texts = ("https://a.example/\\", "a\tb\nc\rd\\", "red,Blue");
     let full = page(alloc, Some(Micros(10)), (false, true, true), texts)?;
     let text = reply_text(alloc, &full)?;
-    let want = "page\t7\t-1\t11\t10\t0\t1\t1\thttps://a.example/\\\\\ta\\tb\\nc\\rd\\\\\tred,Blue\n";
+    let want =
+        "page\t7\t-1\t11\t10\t0\t1\t1\thttps://a.example/\\\\\ta\\tb\\nc\\rd\\\\\tred,Blue\n";
     assert_eq!(rt; text.as_str(), want);
     Ok(())
 }

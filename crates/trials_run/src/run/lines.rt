@@ -78,8 +78,18 @@ const TITLES: &[(usize, &[u8], usize, &[u8])] = &[
     (4_096, b"\npage\thttps://a.example/\n", 4_096, b"\t\n"),
     (262_000, b"\npage\thttps://a.example/\n", 4_096, b"\t\n"),
     // A character of two bytes within the limit, and one across it.
-    (4_094, b"\xc3\xa9\npage\thttps://a.example/\n", 4_094, b"\xc3\xa9\t\n"),
-    (4_095, b"\xc3\xa9y\npage\thttps://a.example/\n", 4_095, b"\t\n"),
+    (
+        4_094,
+        b"\xc3\xa9\npage\thttps://a.example/\n",
+        4_094,
+        b"\xc3\xa9\t\n",
+    ),
+    (
+        4_095,
+        b"\xc3\xa9y\npage\thttps://a.example/\n",
+        4_095,
+        b"\t\n",
+    ),
 ];
 
 #[test]
