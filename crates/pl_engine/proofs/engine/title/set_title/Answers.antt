@@ -39,7 +39,8 @@ returns-then-is_full-clause-step g c =
 pub set_title-requires-clause-live : goal.set_title-requires-clause-live
 set_title-requires-clause-live g c =
     has_room c.args.limit (g.R.Rows.kept c.args.rows.now) c.args.page c.args.title.now c.live-before.result
-    (c.live-before.result - c.chunks.result + c.chunks-2.result) (g.met.R.Rows.well_kept c.args.rows.now) c.requires.most
+    (c.live-before.result - c.chunks.result + c.chunks-2.result) (g.met.R.Rows.well_kept c.args.rows.now)
+    c.requires.most
     (are_slots (g.R.Rows.kept c.args.rows.now) c.args.page c.args.title.now c.as_str-2.result.now c.live-before.result
     c.chunks.result c.chunks-2.result (g.met.R.Rows.well_kept c.args.rows.now)
     (ap (λ (t : List ℕ). Some t) c.as_str-2.ensures ∙ c.in_ok-old.ensures.title) c.live-before.ensures.live
