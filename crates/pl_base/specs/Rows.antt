@@ -152,7 +152,8 @@ pub record AreTargets (store : Store) (source : VisitId) (targets : List Visit) 
 -- the visit that stands behind this one among the targets of its source
 abbrev pub target_behind : (VisitId → List Visit) → Kept → VisitId → Option VisitId
 target_behind targets kept id =
-    option_and_then (λ (v : Visit). option_and_then (λ source. id_behind id (targets source)) v.source)
+    option_and_then
+    (λ (v : Visit). option_and_then (λ source. id_behind id (targets source)) v.source)
     (visit_at kept id)
 
 -- ---- changes

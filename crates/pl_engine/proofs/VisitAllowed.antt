@@ -120,7 +120,8 @@ slots_page kept url origin transition date source target =
 
 pub has_room : (limit : ℕ) (kept : Kept) (url : List ℕ) (target : Target) (transition : Transition) (date : Micros)
     (source : Option VisitId) → IsWellKept kept → IsTargetOf kept url target
-    → visit_refusal limit (store_of kept) url transition date source ≡ None → limit ≤ slot_limit → HasRoom url target kept
+    → visit_refusal limit (store_of kept) url transition date source ≡ None → limit ≤ slot_limit
+    → HasRoom url target kept
 has_room limit kept url (Known id) transition date source h of none most = tt
 has_room limit kept url (New origin) transition date source h of none most = (
   below_last kept.ids.page end_of_ids h.page_ids.next_last

@@ -20,11 +20,15 @@ begins_by front bytes more first second =
     ∙ ap (take (length front)) second ∙ first
 
 -- a file that holds bytes holds a front of them
-pub closed_by : (front bytes file : List ℕ) → take (length front) bytes ≡ front → IsClosed bytes file
-    → IsClosed front file
+pub closed_by : (front bytes file : List ℕ) → take (length front) bytes ≡ front
+    → IsClosed bytes file → IsClosed front file
 closed_by front bytes file begins is = record {
   closed = is.closed;
-  holds = record { gate = is.holds.gate; begins = begins_by front bytes (laid file) begins is.holds.begins };
+  holds =
+      record {
+        gate = is.holds.gate;
+        begins = begins_by front bytes (laid file) begins is.holds.begins;
+      };
 }
 
 -- bytes that begin with bytes that stand for a store, stand for it

@@ -32,8 +32,12 @@ const ROWS: &[(&[u8], &[u8])] = &[
     ),
     // Two pages, the second under two spellings of one address.
     (
-        b"visit\thttps://a.example/\t2\t0\nvisit\tHTTPS://B.example\t1\t1\nvisit\thttps://b.example/\t1\t1\n",
-        b"visit\t1\tpage\t1\tfrecency\t2000\nvisit\t2\tpage\t2\tfrecency\t100\nvisit\t3\tpage\t2\tfrecency\t200\n",
+        b"visit\thttps://a.example/\t2\t0\n\
+          visit\tHTTPS://B.example\t1\t1\n\
+          visit\thttps://b.example/\t1\t1\n",
+        b"visit\t1\tpage\t1\tfrecency\t2000\n\
+          visit\t2\tpage\t2\tfrecency\t100\n\
+          visit\t3\tpage\t2\tfrecency\t200\n",
     ),
     // A refused line changes nothing, and the run goes on.
     (
@@ -41,7 +45,12 @@ const ROWS: &[(&[u8], &[u8])] = &[
         b"refused\t2\nrefused\t1\nrefused\t14\t1\nvisit\t1\tpage\t1\tfrecency\t100\n",
     ),
     (
-        b"visit\thttps://a.example/\t10\t0\ntitle\thttps://a.example/\nvisit\tno url\t1\t0\nvisit\thttps://a.example/\t1\t0\t9\n# x\n\n",
+        b"visit\thttps://a.example/\t10\t0\n\
+          title\thttps://a.example/\n\
+          visit\tno url\t1\t0\n\
+          visit\thttps://a.example/\t1\t0\t9\n\
+          # x\n\
+          \n",
         b"refused\t14\t26\nrefused\t14\t25\nrefused\t1\nrefused\t3\t9\n",
     ),
     (
@@ -55,32 +64,94 @@ const ROWS: &[(&[u8], &[u8])] = &[
     ),
     // Ten visits of 100 each are the latest, of 11 and then 12 that count.
     (
-        b"visit\thttps://a.example/\t2\t0\nvisit\thttps://a.example/\t1\t1\nvisit\thttps://a.example/\t1\t2\nvisit\thttps://a.example/\t1\t3\nvisit\thttps://a.example/\t1\t4\nvisit\thttps://a.example/\t1\t5\nvisit\thttps://a.example/\t1\t6\nvisit\thttps://a.example/\t1\t7\nvisit\thttps://a.example/\t1\t8\nvisit\thttps://a.example/\t1\t9\nvisit\thttps://a.example/\t1\t10\nvisit\thttps://a.example/\t2\t0\n",
-        b"visit\t1\tpage\t1\tfrecency\t2000\nvisit\t2\tpage\t1\tfrecency\t2100\nvisit\t3\tpage\t1\tfrecency\t2200\nvisit\t4\tpage\t1\tfrecency\t2300\nvisit\t5\tpage\t1\tfrecency\t2400\nvisit\t6\tpage\t1\tfrecency\t2500\nvisit\t7\tpage\t1\tfrecency\t2600\nvisit\t8\tpage\t1\tfrecency\t2700\nvisit\t9\tpage\t1\tfrecency\t2800\nvisit\t10\tpage\t1\tfrecency\t2900\nvisit\t11\tpage\t1\tfrecency\t1100\nvisit\t12\tpage\t1\tfrecency\t1200\n",
+        b"visit\thttps://a.example/\t2\t0\n\
+          visit\thttps://a.example/\t1\t1\n\
+          visit\thttps://a.example/\t1\t2\n\
+          visit\thttps://a.example/\t1\t3\n\
+          visit\thttps://a.example/\t1\t4\n\
+          visit\thttps://a.example/\t1\t5\n\
+          visit\thttps://a.example/\t1\t6\n\
+          visit\thttps://a.example/\t1\t7\n\
+          visit\thttps://a.example/\t1\t8\n\
+          visit\thttps://a.example/\t1\t9\n\
+          visit\thttps://a.example/\t1\t10\n\
+          visit\thttps://a.example/\t2\t0\n",
+        b"visit\t1\tpage\t1\tfrecency\t2000\n\
+          visit\t2\tpage\t1\tfrecency\t2100\n\
+          visit\t3\tpage\t1\tfrecency\t2200\n\
+          visit\t4\tpage\t1\tfrecency\t2300\n\
+          visit\t5\tpage\t1\tfrecency\t2400\n\
+          visit\t6\tpage\t1\tfrecency\t2500\n\
+          visit\t7\tpage\t1\tfrecency\t2600\n\
+          visit\t8\tpage\t1\tfrecency\t2700\n\
+          visit\t9\tpage\t1\tfrecency\t2800\n\
+          visit\t10\tpage\t1\tfrecency\t2900\n\
+          visit\t11\tpage\t1\tfrecency\t1100\n\
+          visit\t12\tpage\t1\tfrecency\t1200\n",
     ),
     // 100 over 3, 4, .., 10 is rounded up, and then the latest ten add nothing.
     (
-        b"visit\thttps://a.example/\t1\t0\nvisit\thttps://a.example/\t9\t1\nvisit\thttps://a.example/\t9\t2\nvisit\thttps://a.example/\t9\t3\nvisit\thttps://a.example/\t9\t4\nvisit\thttps://a.example/\t9\t5\nvisit\thttps://a.example/\t9\t6\nvisit\thttps://a.example/\t9\t7\nvisit\thttps://a.example/\t9\t8\nvisit\thttps://a.example/\t9\t9\nvisit\thttps://a.example/\t9\t10\n",
-        b"visit\t1\tpage\t1\tfrecency\t100\nvisit\t2\tpage\t1\tfrecency\t50\nvisit\t3\tpage\t1\tfrecency\t34\nvisit\t4\tpage\t1\tfrecency\t25\nvisit\t5\tpage\t1\tfrecency\t20\nvisit\t6\tpage\t1\tfrecency\t17\nvisit\t7\tpage\t1\tfrecency\t15\nvisit\t8\tpage\t1\tfrecency\t13\nvisit\t9\tpage\t1\tfrecency\t12\nvisit\t10\tpage\t1\tfrecency\t10\nvisit\t11\tpage\t1\tfrecency\t-1\n",
+        b"visit\thttps://a.example/\t1\t0\n\
+          visit\thttps://a.example/\t9\t1\n\
+          visit\thttps://a.example/\t9\t2\n\
+          visit\thttps://a.example/\t9\t3\n\
+          visit\thttps://a.example/\t9\t4\n\
+          visit\thttps://a.example/\t9\t5\n\
+          visit\thttps://a.example/\t9\t6\n\
+          visit\thttps://a.example/\t9\t7\n\
+          visit\thttps://a.example/\t9\t8\n\
+          visit\thttps://a.example/\t9\t9\n\
+          visit\thttps://a.example/\t9\t10\n",
+        b"visit\t1\tpage\t1\tfrecency\t100\n\
+          visit\t2\tpage\t1\tfrecency\t50\n\
+          visit\t3\tpage\t1\tfrecency\t34\n\
+          visit\t4\tpage\t1\tfrecency\t25\n\
+          visit\t5\tpage\t1\tfrecency\t20\n\
+          visit\t6\tpage\t1\tfrecency\t17\n\
+          visit\t7\tpage\t1\tfrecency\t15\n\
+          visit\t8\tpage\t1\tfrecency\t13\n\
+          visit\t9\tpage\t1\tfrecency\t12\n\
+          visit\t10\tpage\t1\tfrecency\t10\n\
+          visit\t11\tpage\t1\tfrecency\t-1\n",
     ),
     // A typed page leads to a redirect, and counts 25 from then on.
     (
-        b"visit\thttps://a.example/\t2\t0\nvisit\thttps://b.example/\t5\t1\t1\npage\thttps://a.example/\npage\thttps://b.example/\n",
-        b"visit\t1\tpage\t1\tfrecency\t2000\nvisit\t2\tpage\t2\tfrecency\t2000\npage\t1\t25\t1\t0\t1\t1\t0\thttps://a.example/\t\t\npage\t2\t2000\t1\t1\t0\t0\t0\thttps://b.example/\t\t\n",
+        b"visit\thttps://a.example/\t2\t0\n\
+          visit\thttps://b.example/\t5\t1\t1\n\
+          page\thttps://a.example/\n\
+          page\thttps://b.example/\n",
+        b"visit\t1\tpage\t1\tfrecency\t2000\n\
+          visit\t2\tpage\t2\tfrecency\t2000\n\
+          page\t1\t25\t1\t0\t1\t1\t0\thttps://a.example/\t\t\n\
+          page\t2\t2000\t1\t1\t0\t0\t0\thttps://b.example/\t\t\n",
     ),
     (
-        b"visit\thttps://a.example/\t2\t0\nvisit\thttps://b.example/\t5\t1\t1\npage\thttps://a.example/",
-        b"visit\t1\tpage\t1\tfrecency\t2000\nvisit\t2\tpage\t2\tfrecency\t2000\npage\t1\t25\t1\t0\t1\t1\t0\thttps://a.example/\t\t\n",
+        b"visit\thttps://a.example/\t2\t0\n\
+          visit\thttps://b.example/\t5\t1\t1\n\
+          page\thttps://a.example/",
+        b"visit\t1\tpage\t1\tfrecency\t2000\n\
+          visit\t2\tpage\t2\tfrecency\t2000\n\
+          page\t1\t25\t1\t0\t1\t1\t0\thttps://a.example/\t\t\n",
     ),
     // A source that is no visit, and one that is no id.
     (
-        b"visit\thttps://a.example/\t1\t0\t0\nvisit\thttps://a.example/\t1\t0\t4294967295\nvisit\thttps://a.example/\t1\t0\t4294967296\n",
+        b"visit\thttps://a.example/\t1\t0\t0\n\
+          visit\thttps://a.example/\t1\t0\t4294967295\n\
+          visit\thttps://a.example/\t1\t0\t4294967296\n",
         b"refused\t3\t0\nrefused\t3\t4294967295\nrefused\t14\t30\n",
     ),
     // A page whose visits add nothing, and one that was left by a redirect to itself.
     (
-        b"visit\thttps://a.example/\t9\t0\nvisit\thttps://b.example/\t5\t1\t1\nvisit\thttps://b.example/\t6\t2\t2\npage\thttps://a.example/\npage\thttps://b.example/\n",
-        b"visit\t1\tpage\t1\tfrecency\t0\nvisit\t2\tpage\t2\tfrecency\t-1\nvisit\t3\tpage\t2\tfrecency\t75\npage\t1\t0\t0\t0\t0\t1\t0\thttps://a.example/\t\t\npage\t2\t75\t2\t2\t0\t0\t0\thttps://b.example/\t\t\n",
+        b"visit\thttps://a.example/\t9\t0\n\
+          visit\thttps://b.example/\t5\t1\t1\n\
+          visit\thttps://b.example/\t6\t2\t2\n\
+          page\thttps://a.example/\n\
+          page\thttps://b.example/\n",
+        b"visit\t1\tpage\t1\tfrecency\t0\n\
+          visit\t2\tpage\t2\tfrecency\t-1\n\
+          visit\t3\tpage\t2\tfrecency\t75\n\
+          page\t1\t0\t0\t0\t0\t1\t0\thttps://a.example/\t\t\n\
+          page\t2\t75\t2\t2\t0\t0\t0\thttps://b.example/\t\t\n",
     ),
     // Without a visit to it an address has no page, whatever is asked.
     (
@@ -90,13 +161,35 @@ const ROWS: &[(&[u8], &[u8])] = &[
     // The date of the latest visit, and not that of the last one. A title is kept, may be the same
     // again, and may be none.
     (
-        b"visit\thttps://a.example/\t1\t9\nvisit\thttps://a.example/\t1\t3\ntitle\thttps://A.example\ta\\tb\\n\\r\\\\\ntitle\thttps://a.example/\ta\\tb\\n\\r\\\\\npage\thttps://a.example/\ntitle\thttps://a.example/\t\npage\thttps://a.example/\n",
-        b"visit\t1\tpage\t1\tfrecency\t100\nvisit\t2\tpage\t1\tfrecency\t200\nok\nok\npage\t1\t200\t2\t9\t0\t0\t0\thttps://a.example/\ta\\tb\\n\\r\\\\\t\nok\npage\t1\t200\t2\t9\t0\t0\t0\thttps://a.example/\t\t\n",
+        b"visit\thttps://a.example/\t1\t9\n\
+          visit\thttps://a.example/\t1\t3\n\
+          title\thttps://A.example\ta\\tb\\n\\r\\\\\n\
+          title\thttps://a.example/\ta\\tb\\n\\r\\\\\n\
+          page\thttps://a.example/\n\
+          title\thttps://a.example/\t\n\
+          page\thttps://a.example/\n",
+        b"visit\t1\tpage\t1\tfrecency\t100\n\
+          visit\t2\tpage\t1\tfrecency\t200\n\
+          ok\n\
+          ok\n\
+          page\t1\t200\t2\t9\t0\t0\t0\thttps://a.example/\ta\\tb\\n\\r\\\\\t\n\
+          ok\n\
+          page\t1\t200\t2\t9\t0\t0\t0\thttps://a.example/\t\t\n",
     ),
     // A query is hidden, a download shows its page without counting, and one embedded visit hides.
     (
-        b"visit\tplace:sort=8\t1\t0\nvisit\thttps://a.example/\t7\t5\nvisit\thttps://b.example/\t4\t6\npage\tplace:sort=8\npage\thttps://a.example/\npage\thttps://b.example/\n",
-        b"visit\t1\tpage\t1\tfrecency\t100\nvisit\t2\tpage\t2\tfrecency\t0\nvisit\t3\tpage\t3\tfrecency\t0\npage\t1\t100\t1\t0\t0\t1\t0\tplace:sort=8\t\t\npage\t2\t0\t0\t5\t0\t0\t0\thttps://a.example/\t\t\npage\t3\t0\t0\t6\t0\t1\t0\thttps://b.example/\t\t\n",
+        b"visit\tplace:sort=8\t1\t0\n\
+          visit\thttps://a.example/\t7\t5\n\
+          visit\thttps://b.example/\t4\t6\n\
+          page\tplace:sort=8\n\
+          page\thttps://a.example/\n\
+          page\thttps://b.example/\n",
+        b"visit\t1\tpage\t1\tfrecency\t100\n\
+          visit\t2\tpage\t2\tfrecency\t0\n\
+          visit\t3\tpage\t3\tfrecency\t0\n\
+          page\t1\t100\t1\t0\t0\t1\t0\tplace:sort=8\t\t\n\
+          page\t2\t0\t0\t5\t0\t0\t0\thttps://a.example/\t\t\n\
+          page\t3\t0\t0\t6\t0\t1\t0\thttps://b.example/\t\t\n",
     ),
     // Embedded visits alone add nothing.
     (

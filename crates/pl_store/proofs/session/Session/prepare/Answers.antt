@@ -34,7 +34,8 @@ returns-clause-from c =
     let mid = c.in_ok-engine.engine.rows in let new = c.touched.new.engine.rows in
     record {
       leads =
-          subst (λ (bytes : List ℕ). LeadsTo before c.of-change.result bytes) (c.in_ok-touched.ensures.whole before base)
+          subst (λ (bytes : List ℕ). LeadsTo before c.of-change.result bytes)
+          (c.in_ok-touched.ensures.whole before base)
           (c.of-change.ensures.leads before (c.in_ok-touched.ensures.before before base));
       stands = subst (λ (bytes : List ℕ). StandsFor bytes (store_of (kept_of new))) (sym c.touched.ensures.bytes)
           (subst (λ kept. StandsFor (bytes_of mid) (store_of kept)) (sym c.touched.ensures.kept)
