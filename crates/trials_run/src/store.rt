@@ -8,7 +8,7 @@ mod redirects;
 mod stops;
 
 use pl_base::{
-    IdKind, Ids, Micros, NoMemory, PAGE_SIZE, PageId, Refusal, Steps, Transition, VisitId,
+    IdKind, Ids, Micros, NoMemory, PAGE_SIZE, PageId, Refusal, Steps, Transition, Txt, VisitId,
 };
 use pl_desk::MemDesk;
 use pl_engine::{Command, Engine, Reply};
@@ -130,4 +130,31 @@ fn a_refusal_makes_no_call(rt: HostRuntime) -> Result<(), Fail> {
     assert_eq!(rt; reply, Reply::Refused(Refusal::Full(10)));
     assert_eq!(rt; desk.calls(), calls);
     Ok(())
+}
+
+// A title that stands already is no change, and what is asked of a page is none.
+#[test]
+fn what_changes_nothing_makes_no_call(rt: HostRuntime) -> Result<(), Fail> {
+    let alloc = rt.alloc();
+    let mut desk = MemDesk::holding(alloc, &[], &[])?;
+    let session = create(alloc, &mut desk)?;
+    let (session, _) = perform(session, &first(alloc)?, &mut desk)?;
+    let (session, reply) = perform(session, &title(alloc, "A")?, &mut desk)?;
+    assert!(rt; reply == Reply::Done);
+    let calls = desk.calls();
+    let (session, reply) = perform(session, &title(alloc, "A")?, &mut desk)?;
+    assert!(rt; reply == Reply::Done);
+    let url = Canon::read(alloc, "https://a.example/")?;
+    let (_, reply) = perform(session, &Command::Page { url }, &mut desk)?;
+    assert!(rt; matches!(reply, Reply::Page { .. }));
+    assert_eq!(rt; desk.calls(), calls);
+    Ok(())
+}
+
+fn title(alloc: Global, text: &str) -> Result<Command, Fail>
+    ensures { IfOk result HasDates }
+{
+    let url = Canon::read(alloc, "https://a.example/")?;
+    let text = Txt::copied(alloc, text)?;
+    Ok(Command::Title { url, text })
 }
