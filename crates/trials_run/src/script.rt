@@ -199,26 +199,36 @@ const TITLES: &[(&[u8], &str)] = &[
     (b"title\thttps://a.example/\t#\xc3\xa9", "#\u{e9}"),
 ];
 
+fn expect_title(rt: &impl Abort, command: &Option<Command>, title: &str) {
+    match command {
+        Some(Command::Title { url, text }) => {
+            assert_eq!(rt; url.text(), "https://a.example/");
+            assert_eq!(rt; text.as_str(), title);
+        }
+        _ => assert!(rt; false, "no title"),
+    }
+}
+
 #[test]
 fn reads_titles(rt: HostRuntime) -> Result<(), Fail> {
     for (bytes, title) in TITLES {
-        match line(rt.alloc(), bytes)? {
-            Some(Command::Title { url, text }) => {
-                assert_eq!(rt; url.text(), "https://a.example/");
-                assert_eq!(rt; text.as_str(), *title);
-            }
-            _ => assert!(rt; false, "no title"),
-        }
+        let command = line(rt.alloc(), bytes)?;
+        expect_title(&rt, &command, title);
     }
     Ok(())
 }
 
-#[test]
-fn reads_pages(rt: HostRuntime) -> Result<(), Fail> {
-    match line(rt.alloc(), b"page\tHTTPS://A.example")? {
+fn expect_page(rt: &impl Abort, command: &Option<Command>) {
+    match command {
         Some(Command::Page { url }) => assert_eq!(rt; url.text(), "https://a.example/"),
         _ => assert!(rt; false, "no page"),
     }
+}
+
+#[test]
+fn reads_pages(rt: HostRuntime) -> Result<(), Fail> {
+    let command = line(rt.alloc(), b"page\tHTTPS://A.example")?;
+    expect_page(&rt, &command);
     Ok(())
 }
 

@@ -121,11 +121,12 @@ fn visit_from(
     visit(alloc, url, transition, Micros(u64::from(date)), source)
 }
 
+// No table has more than nine pages.
 fn check_marks<L: Ledger>(rt: &impl Abort, flat: &Flat, marks: &[Kept], steps: &mut Steps<L>) {
-    for (index, want) in marks.iter().enumerate() {
-        let mark = flat.page_at(PageId(index as u32 + 1), steps);
+    for (id, want) in (1..10).zip(marks) {
+        let mark = flat.page_at(PageId(id), steps);
         let kept = mark.map(|mark| (mark.frecency, mark.count, mark.hidden));
-        assert!(rt; kept == Some(*want), "page {index}: {kept:?}");
+        assert!(rt; kept == Some(*want), "page {id}: {kept:?}");
     }
 }
 
