@@ -187,7 +187,7 @@ const TARGETS: [(&str, Transition); 3] = [
     (D, Transition::RedirectTemporary),
 ];
 
-const ORDERS: [[usize; 3]; 6] = [
+const ORDERS: [[u8; 3]; 6] = [
     [0, 1, 2],
     [0, 2, 1],
     [1, 0, 2],
@@ -202,8 +202,8 @@ const SOURCE: [Kept; 2] = [(100, 1, false), (25, 1, true)];
 fn check_orders(
     rt: &impl Abort,
     alloc: Global,
-    arrival: [usize; 3],
-    dates: [usize; 3],
+    arrival: [u8; 3],
+    dates: [u8; 3],
 ) -> Result<(), Fail> {
     let mut desk = MemDesk::holding(alloc, &[], &[])?;
     let mut session = create(alloc, &mut desk)?;
@@ -211,9 +211,10 @@ fn check_orders(
     session = perform_and_check(rt, alloc, session, &source, &mut desk, &SOURCE[..1])?;
     let mut has_led = false;
     for target in arrival {
+        let target = usize::from(target);
         assert!(rt; target < 3);
         let (url, transition) = TARGETS[target];
-        let command = visit_from(alloc, url, transition, dates[target] as u8, 1)?;
+        let command = visit_from(alloc, url, transition, dates[target], 1)?;
         has_led = has_led || transition != Transition::Link;
         let mark = if has_led { &SOURCE[1..] } else { &SOURCE[..1] };
         session = perform_and_check(rt, alloc, session, &command, &mut desk, mark)?;
