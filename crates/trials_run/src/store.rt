@@ -21,42 +21,30 @@ use std::process::Abort;
 use std::sync::ledger::{Blank, Ledger};
 use std::test::Fail;
 
-fn visit(
-    alloc: Global,
-    url: &str,
-    transition: Transition,
-    date: Micros,
-    source: Option<VisitId>,
-) -> Result<Command, Fail>
+fn visit(url: Canon, transition: Transition, date: Micros, source: Option<VisitId>) -> Command
     requires { IsDate date }
-    ensures { IfOk result HasDates }
+    ensures { HasDates result }
 {
-    let url = Canon::read(alloc, url)?;
-    Ok(Command::Visit {
+    Command::Visit {
         url,
         transition,
         date,
         source,
-    })
+    }
 }
 
 fn first(alloc: Global) -> Result<Command, Fail>
     ensures { IfOk result HasDates }
 {
-    let url = "https://a.example/";
-    visit(alloc, url, Transition::Typed, Micros(0), None)
+    let url = Canon::read(alloc, "https://a.example/")?;
+    Ok(visit(url, Transition::Typed, Micros(0), None))
 }
 
 fn second(alloc: Global) -> Result<Command, Fail>
     ensures { IfOk result HasDates }
 {
-    visit(
-        alloc,
-        "https://b.example/",
-        Transition::Link,
-        Micros(1),
-        None,
-    )
+    let url = Canon::read(alloc, "https://b.example/")?;
+    Ok(visit(url, Transition::Link, Micros(1), None))
 }
 
 const FIRST_REPLY: Reply = Reply::Visit {
@@ -132,6 +120,38 @@ fn a_refusal_makes_no_call(rt: HostRuntime) -> Result<(), Fail> {
     Ok(())
 }
 
+fn titling(url: Canon, text: Txt) -> Command
+    ensures { HasDates result }
+{
+    Command::Title { url, text }
+}
+
+// The first page gets a title.
+fn give_title(
+    rt: &impl Abort,
+    alloc: Global,
+    session: Session,
+    desk: &mut MemDesk,
+) -> Result<Session, Fail> {
+    let url = Canon::read(alloc, "https://a.example/")?;
+    let command = titling(url, Txt::copied(alloc, "A")?);
+    let (session, reply) = perform(session, &command, desk)?;
+    assert!(rt; reply == Reply::Done);
+    Ok(session)
+}
+
+fn ask_page(
+    rt: &impl Abort,
+    alloc: Global,
+    session: Session,
+    desk: &mut MemDesk,
+) -> Result<(), Fail> {
+    let url = Canon::read(alloc, "https://a.example/")?;
+    let (_, reply) = perform(session, &Command::Page { url }, desk)?;
+    assert!(rt; matches!(reply, Reply::Page { .. }));
+    Ok(())
+}
+
 // A title that stands already is no change, and what is asked of a page is none.
 #[test]
 fn what_changes_nothing_makes_no_call(rt: HostRuntime) -> Result<(), Fail> {
@@ -139,22 +159,10 @@ fn what_changes_nothing_makes_no_call(rt: HostRuntime) -> Result<(), Fail> {
     let mut desk = MemDesk::holding(alloc, &[], &[])?;
     let session = create(alloc, &mut desk)?;
     let (session, _) = perform(session, &first(alloc)?, &mut desk)?;
-    let (session, reply) = perform(session, &title(alloc, "A")?, &mut desk)?;
-    assert!(rt; reply == Reply::Done);
+    let session = give_title(&rt, alloc, session, &mut desk)?;
     let calls = desk.calls();
-    let (session, reply) = perform(session, &title(alloc, "A")?, &mut desk)?;
-    assert!(rt; reply == Reply::Done);
-    let url = Canon::read(alloc, "https://a.example/")?;
-    let (_, reply) = perform(session, &Command::Page { url }, &mut desk)?;
-    assert!(rt; matches!(reply, Reply::Page { .. }));
+    let session = give_title(&rt, alloc, session, &mut desk)?;
+    ask_page(&rt, alloc, session, &mut desk)?;
     assert_eq!(rt; desk.calls(), calls);
     Ok(())
-}
-
-fn title(alloc: Global, text: &str) -> Result<Command, Fail>
-    ensures { IfOk result HasDates }
-{
-    let url = Canon::read(alloc, "https://a.example/")?;
-    let text = Txt::copied(alloc, text)?;
-    Ok(Command::Title { url, text })
 }
