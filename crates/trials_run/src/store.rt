@@ -72,19 +72,29 @@ fn perform(
     Ok((session, reply))
 }
 
-// An engine over rows that have given all ids of pages refuses the first visit.
-fn expect_no_page_ids<L: Ledger>(rt: &impl Abort, alloc: Global, blank: Blank) -> Result<(), Fail>
-    requires name { blank.name ≡ L.name }
-    requires parts { blank.parts ≡ L.parts }
-    requires some { 0 < blank.parts }
-{
+// An engine over rows that have given all ids of pages.
+fn without_page_ids(alloc: Global) -> Result<Engine<Flat>, Fail> {
     let ids = Ids {
         page: Ids::END,
         ..Ids::OPENING
     };
-    let engine = Engine::over(alloc, Flat::with_ids(alloc, ids)?, SLOT_LIMIT)?;
-    let (_, reply) = engine.apply(&first(alloc)?, &mut Steps::<L>::none(blank))?;
-    assert_eq!(rt; reply, Reply::Refused(Refusal::NoIds(IdKind::Page)));
+    let rows = Flat::with_ids(alloc, ids)?;
+    Ok(Engine::over(alloc, rows, SLOT_LIMIT)?)
+}
+
+fn expect_no_page_ids<L: Ledger>(
+    rt: &impl Abort,
+    engine: Engine<Flat>,
+    command: &Command,
+    blank: Blank,
+) -> Result<(), Fail>
+    requires dates { HasDates command.now }
+    requires name { blank.name ≡ L.name }
+    requires parts { blank.parts ≡ L.parts }
+    requires some { 0 < blank.parts }
+{
+    let (_, reply) = engine.apply(command, &mut Steps::<L>::none(blank))?;
+    assert!(rt; reply == Reply::Refused(Refusal::NoIds(IdKind::Page)));
     Ok(())
 }
 
@@ -97,13 +107,19 @@ fn a_store_in_memory_answers(rt: HostRuntime) -> Result<(), Fail> {
     assert_eq!(rt; reply, Reply::Refused(Refusal::Full(10)));
     let (_, reply) = Memory::opening(alloc, 10)?.step(&first(alloc)?)?;
     assert_eq!(rt; reply, FIRST_REPLY);
-    expect_no_page_ids::<Brand>(&rt, alloc, Blank::new(1))?;
     let memory = Memory::opening(alloc, SLOT_LIMIT)?;
     let (memory, reply) = memory.step(&first(alloc)?)?;
     assert_eq!(rt; reply, FIRST_REPLY);
     let (_, reply) = memory.step(&second(alloc)?)?;
     assert_eq!(rt; reply, SECOND_REPLY);
     Ok(())
+}
+
+#[test]
+fn an_engine_without_ids_refuses(rt: HostRuntime) -> Result<(), Fail> {
+    let alloc = rt.alloc();
+    let command = first(alloc)?;
+    expect_no_page_ids::<Brand>(&rt, without_page_ids(alloc)?, &command, Blank::new(1))
 }
 
 // A refused command leaves nothing to commit.
