@@ -6,15 +6,27 @@ use super::*;
 // What a stop leaves in the bytes that may hold anything.
 const FILLERS: [u8; 3] = [0, 1, 255];
 
+fn visit_in(reply: &Reply) -> Option<VisitId> {
+    match reply {
+        Reply::Visit { visit, .. } => Some(*visit),
+        _ => None,
+    }
+}
+
+// The id of the visit that the session would answer.
+fn next_visit(session: Session, command: &Command) -> Result<VisitId, Fail>
+    requires { HasDates command.now }
+{
+    let (_, reply) = session.prepare(command)?;
+    Ok(visit_in(&reply).ok_or("no visit")?)
+}
+
 // How many commands the file holds, by the id of the visit that a session over it answers next.
 fn commands_in(alloc: Global, desk: &mut MemDesk) -> Result<u32, Fail> {
+    let command = first(alloc)?;
     let session = reopen(alloc, desk, SLOT_LIMIT)?;
-    let (_, reply) = session.prepare(&first(alloc)?)?;
-    let next = match reply {
-        Reply::Visit { visit, .. } => Ok(visit),
-        _ => Err("no visit"),
-    };
-    Ok(next?.0.saturating_sub(1))
+    let next = next_visit(session, &command)?;
+    Ok(next.0.saturating_sub(1))
 }
 
 // A stop within this call leaves as many commands as were committed, or one more.
