@@ -1,5 +1,5 @@
 -- Where a title is cut.
-use Rattle.std.proofs.Common.{◌≡◌, ◌<◌, ◌≤◌, ◌+◌, ◌-◌, ℕ, Bool, true, false, List, ap, arith, if◌then◌else◌, inl, inr}
+use Rattle.std.proofs.Common.{◌≡◌, ◌<◌, ◌≤◌, ◌-◌, ℕ, Bool, true, false, List, ap, arith, if◌then◌else◌, inl, inr}
 use Rattle.std.proofs.Common.{◌∙◌, leb, take}
 use Rattle.std.proofs.Common.{length, refl, slice_index, subst, suc, sym, zero}
 use Rattle.std.proofs.lemmas.Bool.{cases_order}

@@ -1,9 +1,8 @@
 -- Samples of visits of a store.
-use Rattle.std.proofs.Common.{◌≡◌, ◌≤◌, ◌∙◌, ℕ, All, List, ap, get_or, length, map, refl}
+use Rattle.std.proofs.Common.{◌≡◌, ◌≤◌, All, List, get_or, length, map, refl}
 use Rattle.std.specs.List.{sum_by}
 use Rattle.std.proofs.lemmas.List.{length-map}
 use Rattle.std.proofs.lemmas.List.Elements.{All-map}
-use Rattle.pl_base.specs.declared.id.PageId.{PageId}
 use Rattle.pl_base.specs.Address.{is_place_url}
 use Rattle.pl_base.specs.Frecency.{frecency_from, frecency_of, points, visit_bonus}
 use Rattle.pl_base.specs.Marks.{is_referenced, visit_count}
