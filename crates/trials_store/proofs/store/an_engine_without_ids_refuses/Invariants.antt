@@ -1,4 +1,4 @@
-use Rattle.trials_run.proofs.store.an_engine_without_ids_refuses.Given as goal
+use Rattle.trials_store.proofs.store.an_engine_without_ids_refuses.Given as goal
 
 -- the ledger is the one of the blank
 abbrev pub ghosts-expect_no_page_ids : goal.ghosts-expect_no_page_ids
