@@ -4,6 +4,7 @@ use Rattle.std.proofs.Common.{◌≡◌, refl}
 use Rattle.pl_base.specs.declared.date.TheConstants.Micros.{LAST as LAST_DATE}
 use Rattle.pl_base.specs.declared.date.TheConstants.Day.{LAST as LAST_DAY}
 use Rattle.pl_base.specs.declared.id.TheConstants.Ids.{END, OPENING}
+use Rattle.pl_base.specs.declared.id.TheConstants.ItemId.{TAGS}
 use Rattle.pl_base.specs.declared.date.TheConstants.{MICROS_PER_DAY}
 use Rattle.pl_base.specs.declared.rows.TheConstants.{SLOT_LIMIT}
 use Rattle.pl_base.specs.declared.touched.TheConstants.{PAGE_SIZE}
@@ -12,6 +13,7 @@ use Rattle.pl_base.specs.Date.{day_number, last_date, last_day, micros_per_day}
 use Rattle.pl_base.specs.Good.{end_of_ids, longest_title}
 use Rattle.pl_base.specs.Live.{slot_limit}
 use Rattle.pl_base.specs.Store.{opening}
+use Rattle.pl_base.specs.Tags.{tags_root}
 use Rattle.pl_base.specs.Touched.{page_size}
 
 -- the last microsecond of 9999-12-31, and its day
@@ -29,6 +31,9 @@ micros_per_day_are = refl
 
 opening_ids_are : OPENING ≡ opening.ids
 opening_ids_are = refl
+
+tags_root_is : TAGS ≡ tags_root
+tags_root_is = refl
 
 end_of_ids_is : END ≡ end_of_ids
 end_of_ids_is = refl

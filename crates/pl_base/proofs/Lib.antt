@@ -1,10 +1,13 @@
 mod AddressRows
 mod ConstantRows
 pub mod IdsLaws
+pub mod ItemLaws
 pub mod ListLaws
 pub mod OriginLaws
 pub mod RootsLaws
+pub mod Searches
 pub mod TablesLaws
 mod TitleCuts
+mod TreeRows
 pub mod VisitsLaws
 mod WorkedRows

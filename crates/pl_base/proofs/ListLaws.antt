@@ -1,7 +1,9 @@
 -- Facts of lists.
+use Rattle.std.proofs.Common.{Some, find}
 use Rattle.std.proofs.Common.{◌≡◌, ◌+◌, ◌<◌, ◌≤◌, ◌++◌, ◌&&◌, ◌||◌, ◌∙◌, ℕ, All, Bool, true, false, List}
 use Rattle.std.proofs.Common.{[], ◌∷◌, ap, arith, count_by, filter, if◌then◌else◌, length, map, refl, subst}
 use Rattle.std.specs.List.{AllByRecursion, AllPairs, list_any, sum_by}
+use Rattle.std.specs.Option.{IsSome}
 use Rattle.std.proofs.lemmas.Bool.{or_left, or_right}
 use Rattle.std.proofs.lemmas.List.{get_or-map, length-map}
 use Rattle.std.proofs.lemmas.List.Elements.{All-head, All-tail}
@@ -11,6 +13,10 @@ use Rattle.std.proofs.lemmas.List.Sums.{sum_by-cons}
 pub map-map : {X Y Z : Type 0} (g : Y → Z) (f : X → Y) (xs : List X) → map g (map f xs) ≡ map (λ x. g (f x)) xs
 map-map g f [] = refl
 map-map g f (x ∷ xs) = ap (λ zs. g (f x) ∷ zs) (map-map g f xs)
+
+pub map-alike : {X Y : Type 0} (f g : X → Y) (xs : List X) → ((x : X) → f x ≡ g x) → map f xs ≡ map g xs
+map-alike f g [] alike = refl
+map-alike f g (x ∷ xs) alike = rw (alike x, map-alike f g xs alike)
 
 pub All-from_map : {X Y : Type 0} (P : Y → Type 0) (f : X → Y) (xs : List X) → All P (map f xs) → All (λ x. P (f x)) xs
 All-from_map P f xs all k d within =
@@ -99,3 +105,23 @@ all-filter P q (x ∷ xs) all = choose (q x) (all-filter P q xs all.1)
     choose : (b : Bool) → AllByRecursion P (filter q xs) → AllByRecursion P (if b then x ∷ filter q xs else filter q xs)
     choose true rest = (all.0, rest)
     choose false rest = rest
+
+-- ---- what is found
+
+pub found_in : {A : Type 0} (p : A → Bool) (xs : List A) → list_any p xs ≡ true → IsSome (find p xs)
+found_in p [] some = absurd (cc)
+found_in p (x ∷ xs) some = choose (p x) some (found_in p xs)
+  where
+    choose : (b : Bool) → (b || list_any p xs) ≡ true → (list_any p xs ≡ true → IsSome (find p xs))
+        → IsSome (if b then Some x else find p xs)
+    choose true here rest = refl
+    choose false here rest = rest here
+
+pub some_in : {A : Type 0} (p : A → Bool) (xs : List A) → IsSome (find p xs) → list_any p xs ≡ true
+some_in p [] found = absurd (cc)
+some_in p (x ∷ xs) found = choose (p x) found (some_in p xs)
+  where
+    choose : (b : Bool) → IsSome (if b then Some x else find p xs) → (IsSome (find p xs) → list_any p xs ≡ true)
+        → (b || list_any p xs) ≡ true
+    choose true here rest = refl
+    choose false here rest = rest here

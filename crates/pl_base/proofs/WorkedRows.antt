@@ -3,6 +3,7 @@ use Rattle.std.proofs.Common.{◌≡◌, ℕ, ◌+◌, List, [], ◌∷◌, ◌+
 use Rattle.std.specs.Prelude.{ℤ, pos, negsuc, codes, length, replicate}
 use Rattle.std.specs.Fmt.Cut.{floor_char_boundary}
 use Rattle.std.specs.List.{range_with_len}
+use Rattle.pl_base.specs.declared.item.ItemKind.TheVariants.{Bookmark as ItemBookmark}
 use Rattle.pl_base.specs.declared.transition.Transition.{Transition}
 use Rattle.pl_base.specs.declared.transition.Transition.TheVariants.{Link, Typed, Bookmark, Embed, RedirectPermanent}
 use Rattle.pl_base.specs.declared.transition.Transition.TheVariants.{RedirectTemporary, Download, FramedLink, Reload}
@@ -13,7 +14,7 @@ use Rattle.pl_base.specs.Frecency.{frecency_of}
 use Rattle.pl_base.specs.Live.{chunks, live_slots}
 use Rattle.pl_base.specs.Marks.{is_hidden, visit_count}
 use Rattle.pl_base.specs.Redirects.{others_from, redirects_from}
-use Rattle.pl_base.specs.Store.{Store, Page, Visit, Item, item_id, bookmark, opening}
+use Rattle.pl_base.specs.Store.{Store, Page, Visit, Item, item_id, opening}
 use Rattle.pl_base.specs.Title.{cut_title}
 
 abbrev page : ℕ → Page
@@ -64,7 +65,7 @@ bookmarked = record (on_day 0 (typed ∷ [])) { items = row ∷ [] }
     row : Item
     row = record {
       id = item_id 7;
-      kind = bookmark;
+      kind = ItemBookmark;
       title = [];
       page = Some (record { 0 = 1 });
       added = record { 0 = 0 };

@@ -1,20 +1,22 @@
 -- What holds of every store that the program makes or opens.
-use Rattle.std.specs.Prelude.{◌≡◌, ◌≢◌, ◌↔◌, ℕ, ◌+◌, ◌-◌, ◌<◌, ◌≤◌, ◌==◌, ◌||◌, not, Bool}
-use Rattle.std.specs.Prelude.{List, [], ◌∷◌, length, map, slice_index, chars, encode_utf8_all}
-use Rattle.std.specs.Prelude.{Option, Some, None, IfSome, IsSome, IsSomeAnd, IsTrue}
-use Rattle.std.specs.List.{All, AllPairs, filter_map, find, flat_map, list_any, range_with_len}
-use Rattle.std.specs.List.Sorted.{IsPermutation, IsStrictlyIncreasing}
+use Rattle.std.specs.Prelude.{◌≡◌, ◌≢◌, ◌↔◌, ℕ, ◌-◌, ◌<◌, ◌≤◌, ◌==◌, ◌||◌, not, Bool}
+use Rattle.std.specs.Prelude.{List, [], ◌∷◌, length, map, slice_index}
+use Rattle.std.specs.Prelude.{Some, IfSome, IsSome, IsSomeAnd, IsTrue}
+use Rattle.std.specs.List.{All, AllPairs, flat_map, list_any, range_with_len}
+use Rattle.std.specs.List.Sorted.{IsStrictlyIncreasing}
 use Rattle.std.specs.Str.{IsUtf8}
-use Rattle.caseless.specs.Caseless.{default_case_fold}
 use Rattle.pl_base.specs.declared.id.ItemId.{ItemId}
 use Rattle.pl_base.specs.declared.id.PageId.{PageId}
+use Rattle.pl_base.specs.declared.item.ItemKind.TheVariants.{Bookmark, Folder}
 use Rattle.pl_base.specs.declared.transition.Transition.TheVariants.{Typed}
 use Rattle.pl_base.specs.Address.{canon}
 use Rattle.pl_base.specs.Date.{IsDate, IsDay}
 use Rattle.pl_base.specs.Marks.{is_referenced}
 use Rattle.pl_base.specs.Redirects.{visit_by_id}
-use Rattle.pl_base.specs.Store.{Store, Page, Visit, Item, bookmark}
-use Rattle.pl_base.specs.Store.{folder, root_folder, top_folders}
+use Rattle.pl_base.specs.Fold.{folded}
+use Rattle.pl_base.specs.Store.{Store, Page, Visit, Item, item_id, root_folder, top_folders}
+use Rattle.pl_base.specs.Tags.{tags_of}
+use Rattle.pl_base.specs.Tree.{child_items, has_item, item_at}
 
 -- the id that is never given
 abbrev pub end_of_ids : ℕ
@@ -63,45 +65,39 @@ pub record IsGoodItem (store : Store) (i : Item) : Type 0 where
   pub title : IsTitle i.title
   pub added : IsDate i.added
   pub modified : IsDate i.modified
-  pub bookmark : IsSome i.page ↔ (i.kind ≡ bookmark)
+  pub bookmark : IsSome i.page ↔ (i.kind ≡ Bookmark)
   pub page : IfSome i.page (λ id. IsTrue (has_page_at store id))
-  pub children : i.children ≢ [] → i.kind ≡ folder
+  pub children : i.children ≢ [] → i.kind ≡ Folder
 
 -- ---- the bookmark tree
 
--- the item with this id
-abbrev pub item_at : Store → ItemId → Option Item
-item_at store id = find (λ (i : Item). i.id.0 == id.0) store.items
-
--- the children of an item, if there is one
-abbrev children_in : Store → Option Item → List Item
-children_in store None = []
-children_in store (Some i) = filter_map (item_at store) i.children
-
--- the children of an item, and none where there is no such item
-abbrev pub children_of : Store → ItemId → List Item
-children_of store id = children_in store (item_at store id)
-
 -- the ids of all children
-abbrev pub child_ids : List Item → List ℕ
-child_ids items = flat_map (λ (i : Item). map (λ (c : ItemId). c.0) i.children) items
+abbrev pub child_ids : List Item → List ItemId
+child_ids items = flat_map (λ (i : Item). i.children) items
 
--- the items are one tree: all but item 1 are a child once, and each child lies
--- one deeper than its parent
+-- every item is reached from item 1 by way of children: what holds of item 1, and of each child of
+-- an item that it holds of, holds of all
+abbrev pub IsReached : List Item → Type 0
+IsReached items =
+    (holds : ItemId → Bool) → IsTrue (holds (item_id 1))
+    → All (λ (i : Item). IsTrue (holds i.id) → All (λ c. IsTrue (holds c)) i.children) items
+    → All (λ (i : Item). IsTrue (holds i.id)) items
+
+-- the items are one tree: each child is an item, item 1 is no child and no item is one twice, and
+-- every item is reached from item 1
 pub record IsTree (items : List Item) : Type 0 where
-  pub one_parent : IsPermutation (map (λ (i : Item). i.id.0) items) (1 ∷ child_ids items)
-  pub depth : ℕ → ℕ
-  pub deeper :
-      All (λ (i : Item). All (λ (c : ItemId). depth c.0 ≡ depth i.id.0 + 1) i.children) items
+  pub known : All (λ c. IsTrue (has_item items c)) (child_ids items)
+  pub once : AllPairs (λ (a b : ItemId). a ≢ b) (item_id 1 ∷ child_ids items)
+  pub reached : IsReached items
 
 -- item n is a folder as it stood at first, but for its children
 abbrev pub IsTopFolder : Store → ℕ → Type 0
 IsTopFolder store n =
-    IsSomeAnd (item_at store (record { 0 = n })) (λ i. i ≡ root_folder n i.children)
+    IsSomeAnd (item_at store.items (item_id n)) (λ i. i ≡ root_folder n i.children)
 
 -- the six roots stand as they stood at first, but for the children of 2 to 6
 pub record HasRoots (store : Store) : Type 0 where
-  pub root : item_at store (record { 0 = 1 }) ≡ Some (root_folder 1 top_folders)
+  pub root : item_at store.items (item_id 1) ≡ Some (root_folder 1 top_folders)
   pub top : All (IsTopFolder store) (range_with_len 2 5)
 
 -- ---- tags
@@ -119,21 +115,14 @@ pub record IsTagName (name : List ℕ) : Type 0 where
   pub no_blank_before : IsTrue (not (is_blank (slice_index name 0)))
   pub no_blank_after : IsTrue (not (is_blank (slice_index name (length name - 1))))
 
--- the text with its case folded, by which names are compared
-abbrev pub folded : List ℕ → List ℕ
-folded text = encode_utf8_all (default_case_fold (chars text))
-
 -- a tag folder is named by the tag, and holds a bookmark without a title for each page that has it
 pub record IsTagFolder (store : Store) (tag : Item) : Type 0 where
-  pub kind : tag.kind ≡ folder
+  pub kind : tag.kind ≡ Folder
   pub name : IsTagName tag.title
   pub used : tag.children ≢ []
-  pub entries : All (λ (i : Item). (i.kind ≡ bookmark) × (i.title ≡ [])) (children_of store tag.id)
-  pub pages : AllPairs (λ (i j : Item). i.page ≢ j.page) (children_of store tag.id)
-
--- the children of the tags root, item 4
-abbrev pub tags_of : Store → List Item
-tags_of store = children_of store (record { 0 = 4 })
+  pub entries :
+      All (λ (i : Item). (i.kind ≡ Bookmark) × (i.title ≡ [])) (child_items store.items tag.id)
+  pub pages : AllPairs (λ (i j : Item). i.page ≢ j.page) (child_items store.items tag.id)
 
 -- the tags are tag folders, and no two have the same name
 pub record HasTags (store : Store) : Type 0 where

@@ -1,7 +1,9 @@
 pub mod Address
 pub mod Date
+pub mod Fold
 pub mod Frecency
 pub mod Good
+pub mod ItemKind
 pub mod Live
 pub mod Marks
 pub mod Redirects
@@ -9,7 +11,9 @@ pub mod Refusal
 pub mod Rows
 pub mod Store
 pub mod Tables
+pub mod Tags
 pub mod Title
 pub mod Touched
 pub mod Transition
+pub mod Tree
 pub mod Visits

@@ -12,6 +12,7 @@ use Rattle.pl_base.specs.declared.transition.Transition.TheVariants.{FramedLink,
 use Rattle.pl_base.specs.Address.{is_place_url}
 use Rattle.pl_base.specs.Redirects.{is_redirect_source}
 use Rattle.pl_base.specs.Store.{Store, Page, Visit, Item}
+use Rattle.pl_base.specs.Tree.{is_page}
 use Rattle.pl_base.specs.Visits.{latest_first, visits_of}
 
 -- visits that `visit_count` counts: all but embedded and framed ones, downloads and reloads
@@ -39,11 +40,6 @@ first_date (v ∷ vs) = Some v.date
 -- the date of the latest visit of a page
 abbrev pub last_date_of : Store → PageId → Option Micros
 last_date_of store page = first_date (latest_first (visits_of store page))
-
--- the page is there, and is this one
-abbrev pub is_page : PageId → Option PageId → Bool
-is_page page None = false
-is_page page (Some other) = other.0 == page.0
 
 -- an item of the tree has the page
 abbrev pub is_referenced : Store → PageId → Bool

@@ -6,10 +6,13 @@ use Rattle.std.specs.List.{All, AllPairs, find, list_any}
 use Rattle.std.specs.List.Sorted.{IsPermutation}
 use Rattle.std.specs.Option.{option_and_then, option_map}
 use Rattle.pl_base.specs.declared.date.Day.{Day}
+use Rattle.pl_base.specs.declared.date.Micros.{Micros}
 use Rattle.pl_base.specs.declared.id.Ids.{Ids}
+use Rattle.pl_base.specs.declared.id.ItemId.{ItemId}
 use Rattle.pl_base.specs.declared.id.PageId.{PageId}
 use Rattle.pl_base.specs.declared.id.Slot.{Slot}
 use Rattle.pl_base.specs.declared.id.VisitId.{VisitId}
+use Rattle.pl_base.specs.declared.item.ItemRow.{ItemRow}
 use Rattle.pl_base.specs.declared.row.Mark.{Mark}
 use Rattle.pl_base.specs.declared.row.VisitRow.{VisitRow}
 use Rattle.pl_base.specs.Address.{is_store_url, same_origin}
@@ -19,7 +22,8 @@ use Rattle.pl_base.specs.Good.{AreIds, IsTitle}
 use Rattle.pl_base.specs.Live.{live_slots, slot_limit}
 use Rattle.pl_base.specs.Marks.{is_hidden, visit_count}
 use Rattle.pl_base.specs.Redirects.{others_from, redirects_from}
-use Rattle.pl_base.specs.Store.{Store, Page, Visit, Item, roots}
+use Rattle.pl_base.specs.Store.{Store, Page, Visit, Item, item_id, roots}
+use Rattle.pl_base.specs.Tree.{inserted, retitled}
 use Rattle.pl_base.specs.Visits.{latest_first, visits_of}
 
 -- the most records that a call on one row reads
@@ -241,6 +245,27 @@ with_title id title kept =
 abbrev pub live_with_title : PageId → List ℕ → Kept → ℕ
 live_with_title id title kept = live_slots (store_of (with_title id title kept))
 
+-- the rows with a new item, which has the next id
+abbrev pub with_item : ItemRow → List ℕ → Option ItemId → Kept → Kept
+with_item row title after kept =
+    record kept {
+      ids = record kept.ids { item = kept.ids.item + 1 };
+      items = inserted (item_id kept.ids.item) row title after kept.items;
+    }
+
+-- the rows with these items
+abbrev pub with_items : List Item → Kept → Kept
+with_items items kept = record kept { items = items }
+
+-- the slots of the store with that item
+abbrev pub live_with_item : ItemRow → List ℕ → Option ItemId → Kept → ℕ
+live_with_item row title after kept = live_slots (store_of (with_item row title after kept))
+
+-- the slots of the store where the item has this title
+abbrev pub live_with_item_title : ItemId → List ℕ → Micros → Kept → ℕ
+live_with_item_title id title modified kept =
+    live_slots (store_of (with_items (retitled id title modified kept.items) kept))
+
 -- ---- what holds of the rows
 
 -- the names of the origins
@@ -295,10 +320,6 @@ pub record IsWellKept (kept : Kept) : Type 0 where
   pub sources : All (HasSource kept) kept.visits
   pub origins : NamesOrigins kept
   pub live : live_slots (store_of kept) ≤ slot_limit
-
--- Nothing but what visits and titles make: no item but the roots.
-abbrev pub IsOfVisits : Store → Type 0
-IsOfVisits store = store.items ≡ roots
 
 -- what was computed of each page is what the definitions give on the store's day
 pub record IsRight (kept : Kept) : Type 0 where

@@ -8,6 +8,8 @@ use Rattle.pl_base.specs.declared.id.Ids.{Ids}
 use Rattle.pl_base.specs.declared.id.ItemId.{ItemId}
 use Rattle.pl_base.specs.declared.id.PageId.{PageId}
 use Rattle.pl_base.specs.declared.id.VisitId.{VisitId}
+use Rattle.pl_base.specs.declared.item.ItemKind.{ItemKind}
+use Rattle.pl_base.specs.declared.item.ItemKind.TheVariants.{Folder}
 use Rattle.pl_base.specs.declared.transition.Transition.{Transition}
 
 -- a page, and whether its address was ever typed while the page stands
@@ -24,12 +26,6 @@ pub record Visit : Type 0 where
   pub date : Micros
   pub transition : Transition
   pub source : Option VisitId
-
--- what an item is
-pub data ItemKind : Type 0 where
-  bookmark : ItemKind
-  folder : ItemKind
-  separator : ItemKind
 
 -- a row of the bookmark tree. Tags are rows too: a tag is a folder in the tags root, and the pages
 -- that have the tag are the bookmarks in that folder
@@ -59,7 +55,7 @@ abbrev pub root_folder : ℕ → List ItemId → Item
 root_folder n children =
     record {
       id = item_id n;
-      kind = folder;
+      kind = Folder;
       title = [];
       page = None;
       added = record { 0 = 0 };

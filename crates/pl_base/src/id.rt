@@ -13,6 +13,11 @@ pub struct VisitId(pub u32);
 #[derive(Clone, Copy, Debug, PartialEq, Eq, PartialOrd, Ord, Hash)]
 pub struct ItemId(pub u32);
 
+impl ItemId {
+    /// `tags________`, whose children are the tag folders.
+    pub const TAGS: ItemId = ItemId(4);
+}
+
 /// Names an origin, a prefix with a host, among those of the same rows. 0 names none.
 #[derive(Clone, Copy, Debug, PartialEq, Eq, PartialOrd, Ord, Hash)]
 pub struct Slot(pub u32);

@@ -6,6 +6,7 @@
 mod date;
 mod fault;
 mod id;
+mod item;
 mod memory;
 mod refusal;
 mod row;
@@ -18,6 +19,7 @@ mod txt;
 pub use date::{Day, Micros};
 pub use fault::DeviceFault;
 pub use id::{IdKind, Ids, ItemId, PageId, Slot, VisitId};
+pub use item::{ItemKind, ItemRow, TreeItem};
 pub use memory::NoMemory;
 pub use refusal::Refusal;
 pub use row::{Mark, VisitRow};

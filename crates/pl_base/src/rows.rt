@@ -1,5 +1,5 @@
 ghost use Rattle.std.specs.Prelude.{◌≡◌, ◌≢◌, ◌↔◌, ◌+◌, ◌≤◌, ◌<◌, ℕ, List};
-ghost use Rattle.std.specs.Prelude.{Some, true, length, IfOk, IfSome, OnOk};
+ghost use Rattle.std.specs.Prelude.{[], Some, true, length, IfOk, IfSome, IsSomeAnd, OnOk};
 ghost use Rattle.std.specs.List.{All};
 ghost use Rattle.std.specs.Option.{option_map};
 ghost use Rattle.pl_base.specs.declared.id.VisitId.{VisitId};
@@ -7,16 +7,23 @@ ghost use Rattle.pl_base.specs.Address.{is_store_url};
 ghost use Rattle.pl_base.specs.Date.{IsDate, IsDay};
 ghost use Rattle.pl_base.specs.Good.{IsGood, end_of_ids, longest_title};
 ghost use Rattle.pl_base.specs.Live.{live_slots, slot_limit};
-ghost use Rattle.pl_base.specs.Rows.{Kept, KeptPage, IsWellKept, IsOfVisits, IsRight, store_of};
+ghost use Rattle.pl_base.specs.Rows.{Kept, KeptPage, IsWellKept, IsRight, store_of};
 ghost use Rattle.pl_base.specs.Rows.{has_page, has_visit, mark_of, row_of, page_at, visit_at};
 ghost use Rattle.pl_base.specs.Rows.{page_behind, page_visits, first_id, older_visit, url_of};
 ghost use Rattle.pl_base.specs.Rows.{origin_of, IsOriginOf, WithPageIn, with_day, with_mark};
 ghost use Rattle.pl_base.specs.Rows.{with_visit, live_with_page, most_reads, title_of, with_title};
 ghost use Rattle.pl_base.specs.Rows.{live_with_title, AreTargets, target_behind};
+ghost use Rattle.pl_base.specs.Rows.{live_with_item, live_with_item_title, with_item, with_items};
 ghost use Rattle.pl_base.specs.Store.{Store, Visit};
 ghost use Rattle.pl_base.specs.Touched.{changed, bytes_before, IsWithin};
+ghost use Rattle.pl_base.specs.Tree.{children_of, first_item, has_item, item_at, item_row};
+ghost use Rattle.pl_base.specs.Tree.{item_title, moved, parent_of, redated, reference_behind};
+ghost use Rattle.pl_base.specs.Tree.{references, removed, retitled, sibling_behind};
 
-use crate::{Day, Ids, Mark, NoMemory, PageId, Slot, Steps, Touched, Txt, VisitId, VisitRow};
+use crate::{
+    Day, Ids, ItemId, ItemRow, Mark, Micros, NoMemory, PageId, Slot, Steps, Touched, Txt, VisitId,
+    VisitRow,
+};
 use std::sync::ledger::Ledger;
 
 /// No store takes more slots of 128 bytes.
@@ -163,6 +170,106 @@ pub trait Rows {
         ensures kept { OnOk result (kept self.new ≡ with_visit row.now (kept self.old)) }
         ensures base { OnOk result ((bytes : List ℕ) → base self.old bytes → base self.new bytes) };
 
+    fn item_at<L: Ledger>(&self, item: ItemId, steps: &mut Steps<L>) -> Option<ItemRow>
+        ensures row { result ≡ option_map (item_row (kept self.now).items)
+            (item_at (kept self.now).items item) }
+        ensures cost { steps.new ≤ steps.old + most_reads };
+
+    fn item_title<L: Ledger>(&self, item: ItemId, steps: &mut Steps<L>) -> Result<Txt, NoMemory>
+        requires { has_item (kept self.now).items item ≡ true }
+        ensures title { IfOk result (λ title.
+            Some title ≡ item_title (kept self.now).items item) };
+
+    fn first_child<L: Ledger>(&self, item: ItemId, steps: &mut Steps<L>) -> Option<ItemId>
+        ensures first { result ≡ first_item (children_of (kept self.now).items item) }
+        ensures cost { steps.new ≤ steps.old + most_reads };
+
+    /// The child of the same item that comes next.
+    fn next_sibling<L: Ledger>(&self, item: ItemId, steps: &mut Steps<L>) -> Option<ItemId>
+        ensures next { result ≡ sibling_behind (kept self.now).items item }
+        ensures cost { steps.new ≤ steps.old + most_reads };
+
+    /// The first by id of the items that have this page.
+    fn first_reference<L: Ledger>(&self, page: PageId, steps: &mut Steps<L>) -> Option<ItemId>
+        ensures first { result ≡ first_item (references (kept self.now).items page) }
+        ensures cost { steps.new ≤ steps.old + most_reads };
+
+    /// The next by id of the items that have the same page.
+    fn next_reference<L: Ledger>(&self, item: ItemId, steps: &mut Steps<L>) -> Option<ItemId>
+        ensures next { result ≡ reference_behind (kept self.now).items item }
+        ensures cost { steps.new ≤ steps.old + most_reads };
+
+    /// A new item with the next id, the child of its row's parent behind the given one, or the
+    /// first child.
+    fn insert_item<L: Ledger>(
+        &mut self,
+        row: &ItemRow,
+        title: &str,
+        after: Option<ItemId>,
+        steps: &mut Steps<L>,
+    ) -> Result<ItemId, NoMemory>
+        requires parent { IsSomeAnd row.now.parent
+            (λ id. has_item (kept self.old).items id ≡ true) }
+        requires after { IfSome after (λ id. parent_of (kept self.old).items id ≡ row.now.parent) }
+        requires page { IfSome row.now.page (λ id. has_page (kept self.old) id ≡ true) }
+        requires title { length title.now ≤ longest_title }
+        requires added { IsDate row.now.added }
+        requires modified { IsDate row.now.modified }
+        requires id { (kept self.old).ids.item < end_of_ids }
+        requires live { live_with_item row.now title.now after (kept self.old) ≤ slot_limit }
+        ensures item { IfOk result (λ item. item.0 ≡ (kept self.old).ids.item) }
+        ensures kept { OnOk result (kept self.new
+            ≡ with_item row.now title.now after (kept self.old)) }
+        ensures base { OnOk result ((bytes : List ℕ) → base self.old bytes → base self.new bytes) };
+
+    /// The item becomes a child of this parent, behind the given one, or the first child. No memory
+    /// is taken.
+    fn move_item<L: Ledger>(
+        &mut self,
+        item: ItemId,
+        parent: ItemId,
+        after: Option<ItemId>,
+        steps: &mut Steps<L>,
+    )
+        requires item { has_item (kept self.old).items item ≡ true }
+        requires parent { has_item (kept self.old).items parent ≡ true }
+        requires after { IfSome after (λ id.
+            (id ≢ item) × (parent_of (kept self.old).items id ≡ Some parent)) }
+        ensures kept { kept self.new
+            ≡ with_items (moved item parent after (kept self.old).items) (kept self.old) }
+        ensures base { (bytes : List ℕ) → base self.old bytes → base self.new bytes };
+
+    fn set_item<L: Ledger>(
+        &mut self,
+        item: ItemId,
+        title: &str,
+        modified: Micros,
+        steps: &mut Steps<L>,
+    ) -> Result<(), NoMemory>
+        requires item { has_item (kept self.old).items item ≡ true }
+        requires title { length title.now ≤ longest_title }
+        requires modified { IsDate modified }
+        requires live { live_with_item_title item title.now modified (kept self.old) ≤ slot_limit }
+        ensures kept { OnOk result (kept self.new
+            ≡ with_items (retitled item title.now modified (kept self.old).items)
+            (kept self.old)) }
+        ensures base { OnOk result ((bytes : List ℕ) → base self.old bytes → base self.new bytes) };
+
+    fn set_modified<L: Ledger>(&mut self, item: ItemId, modified: Micros, steps: &mut Steps<L>)
+        requires item { has_item (kept self.old).items item ≡ true }
+        requires modified { IsDate modified }
+        ensures kept { kept self.new
+            ≡ with_items (redated item modified (kept self.old).items) (kept self.old) }
+        ensures base { (bytes : List ℕ) → base self.old bytes → base self.new bytes };
+
+    /// The item goes, which has no child.
+    fn remove_item<L: Ledger>(&mut self, item: ItemId, steps: &mut Steps<L>)
+        requires item { has_item (kept self.old).items item ≡ true }
+        requires leaf { children_of (kept self.old).items item ≡ [] }
+        ensures kept { kept self.new
+            ≡ with_items (removed item (kept self.old).items) (kept self.old) }
+        ensures base { (bytes : List ℕ) → base self.old bytes → base self.new bytes };
+
     /// The pages of the bytes that changed since the last such call, or since the rows were made.
     fn touched<L: Ledger>(&mut self, steps: &mut Steps<L>) -> Result<Touched, NoMemory>
         ensures whole { IfOk result (λ change. (base_bytes : List ℕ) → base self.old base_bytes
@@ -188,8 +295,8 @@ pub trait Rows {
     ghost targeted: { (rows : Self) (source : VisitId)
         → AreTargets (store_of (kept rows)) source (targets rows source) };
 
-    /// The bytes stand for a good store whose marks are right, as far as this form has it yet.
+    /// The bytes stand for a good store whose marks are right.
     ghost stands: { (rows : Self)
-        → IsGood (store_of (kept rows)) → IsOfVisits (store_of (kept rows)) → IsRight (kept rows)
+        → IsGood (store_of (kept rows)) → IsRight (kept rows)
         → form (bytes rows) (store_of (kept rows)) };
 }

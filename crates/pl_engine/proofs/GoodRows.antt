@@ -1,26 +1,61 @@
--- Well kept rows of visits hold a good store, and each page of a good store of visits is visited.
-use Rattle.std.proofs.Common.{◌≡◌, ◌≢◌, ◌<◌, ◌==◌, ◌||◌, ◌∙◌, ℕ, All, Bool, true, false}
-use Rattle.std.proofs.Common.{IsTrue, List, Option, Some, None, get_or, refl, subst, sym}
+-- Well kept rows with good items whose pages stand there by a visit or an item hold a good store.
+use Rattle.std.proofs.Common.{◌≡◌, ◌≢◌, ◌<◌, ◌==◌, ◌∙◌, ℕ, All, IsTrue, List, Option, Some, None, get_or, refl}
+use Rattle.std.proofs.Common.{subst, sym}
 use Rattle.std.specs.Option.{IfSome, IsSome, option_map}
-use Rattle.std.proofs.lemmas.Bool.{or_left}
-use Rattle.std.proofs.lemmas.List.Elements.{All-map}
+use Rattle.std.proofs.lemmas.List.Elements.{All-map, All-weaker}
 use Rattle.pl_base.specs.declared.id.PageId.{PageId}
 use Rattle.pl_base.specs.declared.id.VisitId.{VisitId}
-use Rattle.pl_base.specs.Good.{HasRoots, HasTags, IsGood, IsGoodItem, IsGoodPage, IsTree, has_page_at, is_visited}
-use Rattle.pl_base.specs.Marks.{is_referenced}
+use Rattle.pl_base.specs.Good.{IsGood, IsGoodItem, IsGoodPage, IsTagFolder, has_page_at}
 use Rattle.pl_base.specs.Redirects.{visit_by_id}
-use Rattle.pl_base.specs.Rows.{IsOfVisits, IsWellKept, Kept, KeptPage, has_page as is_kept, has_visit, store_of}
-use Rattle.pl_base.specs.Store.{Item, Page, Store, Visit, roots}
+use Rattle.pl_base.specs.Rows.{IsWellKept, Kept, KeptPage, has_page as is_kept, has_visit, store_of}
+use Rattle.pl_base.specs.Store.{Item, Page, Store, Visit}
+use Rattle.pl_base.specs.Tags.{tags_of}
 use Rattle.pl_base.proofs.OriginLaws.{canon-store_url}
-use Rattle.pl_engine.specs.Engine.{IsVisited}
-use Rattle.pl_engine.proofs.PageScore.{not_referenced}
+use Rattle.pl_engine.specs.Engine.{AreStanding, HasGoodItems}
 use Rattle.pl_engine.proofs.Targets.{found_where}
 use Rattle.pl_base.proofs.ListLaws.{All-from_map, AllPairs-map, list_any-map, map-map}
-use Rattle.pl_base.proofs.RootsLaws.{has_roots, no_tags, roots_are_good, roots_are_tree, with_roots}
 
--- what holds of a store with the roots alone holds of one that has no more
-of_roots : (P : Store → Type 0) (store : Store) → store.items ≡ roots → P (with_roots store) → P store
-of_roots P store same h = subst (λ (items : List Item). P (record store { items = items })) (sym same) h
+-- ---- the items
+
+-- the items of a good store
+pub items_of : (store : Store) → IsGood store → HasGoodItems store
+items_of store good = record { items = good.items; roots = good.roots; tree = good.tree; tags = good.tags }
+
+page_still : (old new : Store) (page : Option PageId)
+    → ((id : PageId) → IsTrue (has_page_at old id) → IsTrue (has_page_at new id))
+    → IfSome page (λ id. IsTrue (has_page_at old id)) → IfSome page (λ id. IsTrue (has_page_at new id))
+page_still old new None stays there = tt
+page_still old new (Some id) stays there = stays id there
+
+-- the same items are good in a store that has the same pages and more
+pub items_still : (old new : Store) → old.items ≡ new.items
+    → ((id : PageId) → IsTrue (has_page_at old id) → IsTrue (has_page_at new id)) → HasGoodItems old
+    → HasGoodItems new
+items_still old new same stays good =
+    let mid : Store = record new { items = old.items } in
+    subst (λ (items : List Item). HasGoodItems (record new { items = items })) same
+    (record {
+      items =
+          All-weaker (IsGoodItem old) (IsGoodItem mid)
+          (λ i h. record {
+            title = h.title;
+            added = h.added;
+            modified = h.modified;
+            bookmark = h.bookmark;
+            page = page_still old mid i.page stays h.page;
+            children = h.children;
+          })
+          old.items good.items;
+      roots = record { root = good.roots.root; top = good.roots.top };
+      tree = good.tree;
+      tags = record {
+        folders =
+            All-weaker (IsTagFolder old) (IsTagFolder mid)
+            (λ t h. record { kind = h.kind; name = h.name; used = h.used; entries = h.entries; pages = h.pages })
+            (tags_of old) good.tags.folders;
+        names = good.tags.names;
+      };
+    })
 
 -- ---- the rows
 
@@ -38,8 +73,8 @@ source_found kept n (Some id) stands = (
     option_map-id None = refl
     option_map-id (Some v) = refl
 
-pub good_of : (kept : Kept) → IsWellKept kept → IsOfVisits (store_of kept) → IsVisited kept → IsGood (store_of kept)
-good_of kept h few visited =
+pub good_of : (kept : Kept) → IsWellKept kept → HasGoodItems (store_of kept) → AreStanding kept → IsGood (store_of kept)
+good_of kept h items standing =
     let store : Store = store_of kept in
     let page_of : KeptPage → Page = λ (p : KeptPage). p.page in
     let there : (id : PageId) → IsTrue (is_kept kept id) → IsTrue (has_page_at store id) =
@@ -54,10 +89,8 @@ good_of kept h few visited =
           (λ k d within. record {
             url = canon-store_url (get_or kept.pages k d).page.url (h.urls k d within);
             title = h.titles k d within;
-            typed = visited.typed k d within;
-            kept =
-                or_left (is_visited store (get_or kept.pages k d).page.id)
-                (is_referenced store (get_or kept.pages k d).page.id) (visited.visited k d within);
+            typed = standing.typed k d within;
+            kept = standing.by_row k d within;
           });
       urls = AllPairs-map (λ (p q : Page). p.url ≢ q.url) page_of kept.pages h.distinct_urls;
       visits =
@@ -67,26 +100,16 @@ good_of kept h few visited =
             source =
                 source_found kept (get_or kept.visits k d).id.0 (get_or kept.visits k d).source (h.sources k d within);
           };
-      items = subst (λ (items : List Item). All (IsGoodItem store) items) (sym few) (roots_are_good store);
-      roots = of_roots HasRoots store few (has_roots store);
-      tree = subst IsTree (sym few) roots_are_tree;
-      tags = of_roots HasTags store few (no_tags store);
+      items = items.items;
+      roots = items.roots;
+      tree = items.tree;
+      tags = items.tags;
     }
 
-visited_or : (a b : Bool) → b ≡ false → (a || b) ≡ true → a ≡ true
-visited_or true b never some = refl
-visited_or false b never some = absurd (cc)
-
-pub visited_of : (kept : Kept) → IsOfVisits (store_of kept) → IsGood (store_of kept) → IsVisited kept
-visited_of kept few good =
+-- the pages of a good store
+pub standing_of : (kept : Kept) → IsGood (store_of kept) → AreStanding kept
+standing_of kept good =
     let store : Store = store_of kept in
     let pages : All (λ (p : KeptPage). IsGoodPage store p.page) kept.pages =
     All-from_map (IsGoodPage store) (λ (p : KeptPage). p.page) kept.pages good.pages in
-    record {
-      visited =
-          λ k d within.
-          let page : PageId = (get_or kept.pages k d).page.id in
-          visited_or (is_visited store page) (is_referenced store page) (not_referenced store page few)
-          (pages k d within).kept;
-      typed = λ k d within. (pages k d within).typed;
-    }
+    record { by_row = λ k d within. (pages k d within).kept; typed = λ k d within. (pages k d within).typed }

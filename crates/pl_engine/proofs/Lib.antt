@@ -1,4 +1,5 @@
 mod GoodRows
+mod ItemWalk
 mod KeptMark
 mod KeptUrls
 mod KnownPage
@@ -7,12 +8,15 @@ mod LiveTitled
 mod LookUps
 mod OriginParts
 mod PageScore
+mod PageTags
 mod PageTold
 mod PageWalk
 mod ReadyPage
 mod RedirectSources
 mod RightAfter
 mod SourcePage
+mod TagEntries
+mod TagTree
 mod Targets
 mod TitleStep
 mod Titled

@@ -1,6 +1,6 @@
--- The frecency of a page where no item has a page.
-use Rattle.std.proofs.Common.{◌≡◌, ◌∙◌, ◌<◌, ◌≤◌, ◌==◌, ℕ, All, Bool, false, List, Option}
-use Rattle.std.proofs.Common.{ap, arith, length, map, refl, sym, take}
+-- The frecency of a page, and whether an item has it.
+use Rattle.std.proofs.Common.{◌≡◌, ◌∙◌, ◌<◌, ◌≤◌, ◌==◌, ◌||◌, if◌then◌else◌, ℕ, All, Bool, true, false, List, [], ◌∷◌}
+use Rattle.std.proofs.Common.{Option, ap, arith, filter, is_some, length, map, refl, sym, take}
 use Rattle.std.specs.List.{list_any}
 use Rattle.std.proofs.lemmas.List.{length-map, length-take}
 use Rattle.std.proofs.lemmas.List.Sums.{length-filter}
@@ -10,11 +10,12 @@ use Rattle.pl_base.specs.declared.row.VisitRow.{VisitRow}
 use Rattle.pl_base.specs.declared.transition.Transition.{Transition}
 use Rattle.pl_base.specs.Address.{is_place_url}
 use Rattle.pl_base.specs.Frecency.{frecency_from, frecency_of}
-use Rattle.pl_base.specs.Marks.{is_counted, is_page, is_referenced, visit_count}
+use Rattle.pl_base.specs.Marks.{is_counted, is_referenced, visit_count}
 use Rattle.pl_base.specs.Redirects.{is_redirect_source, source_transition}
-use Rattle.pl_base.specs.Rows.{IsOfVisits, Kept, page_visits, row_of, store_of}
+use Rattle.pl_base.specs.Rows.{Kept, page_visits, row_of, store_of}
 use Rattle.pl_base.specs.Store.{Item, Page, Store, Visit}
 use Rattle.pl_base.specs.Tables.{bonus_of, greatest_bonus}
+use Rattle.pl_base.specs.Tree.{first_item, is_page, references}
 use Rattle.pl_base.specs.Visits.{sample_of, visits_of, sample_size}
 use Rattle.pl_score.specs.declared.sample.Sampled.{Sampled}
 use Rattle.pl_score.specs.Sample.{points_of, sampled_of}
@@ -22,22 +23,33 @@ use Rattle.pl_score.proofs.StoreSamples.{frecency-sampled, sampled-small}
 use Rattle.pl_base.proofs.ListLaws.{count_by-and-le}
 use Rattle.pl_base.proofs.VisitsLaws.{length-latest_first}
 
-pub not_referenced : (store : Store) (page : PageId) → IsOfVisits store → is_referenced store page ≡ false
-not_referenced store page few = ap (list_any (λ (item : Item). is_page page item.page)) few
+-- a first item with the page is there where an item has it
+pub referenced_by_first : (items : List Item) (page : PageId)
+    → is_some (first_item (references items page)) ≡ list_any (λ (i : Item). is_page page i.page) items
+referenced_by_first [] page = refl
+referenced_by_first (i ∷ items) page = choose (is_page page i.page) (referenced_by_first items page)
+  where
+    choose : (b : Bool)
+        → is_some (first_item (references items page)) ≡ list_any (λ (j : Item). is_page page j.page) items
+        → is_some (first_item (map (λ (j : Item). j.id)
+        (if b then i ∷ filter (λ (j : Item). is_page page j.page) items
+        else filter (λ (j : Item). is_page page j.page) items)))
+        ≡ (b || list_any (λ (j : Item). is_page page j.page) items)
+    choose true rest = refl
+    choose false rest = rest
 
 -- what is sampled of a visit
-pub sampled_is : (store : Store) (v : Visit) (row : VisitRow) (source : Option Transition) (led : Bool) (bonus : ℕ)
-    → row ≡ row_of v → source ≡ source_transition store v → led ≡ is_redirect_source store v → IsOfVisits store
-    → bonus ≡ bonus_of row.transition source led false
+pub sampled_is : (store : Store) (v : Visit) (row : VisitRow) (source : Option Transition) (led referenced : Bool)
+    (bonus : ℕ) → row ≡ row_of v → source ≡ source_transition store v → led ≡ is_redirect_source store v
+    → referenced ≡ is_referenced store v.page → bonus ≡ bonus_of row.transition source led referenced
     → ◌≡◌ {A = Sampled} (record { date = row.date; bonus = bonus }) (sampled_of store v)
-sampled_is store v row source led bonus rows came leads few is =
+sampled_is store v row source led referenced bonus rows came leads refers is =
     ap (λ (r : VisitRow). record { date = r.date; bonus = bonus }) rows
     ∙ ap (λ (n : ℕ). record { date = v.date; bonus = n })
-    (is ∙ ap (λ (r : VisitRow). bonus_of r.transition source led false) rows
-    ∙ ap (λ (o : Option Transition). bonus_of v.transition o led false) came
-    ∙ ap (λ (b : Bool). bonus_of v.transition (source_transition store v) b false) leads
-    ∙ ap (bonus_of v.transition (source_transition store v) (is_redirect_source store v))
-    (sym (not_referenced store v.page few)))
+    (is ∙ ap (λ (r : VisitRow). bonus_of r.transition source led referenced) rows
+    ∙ ap (λ (o : Option Transition). bonus_of v.transition o led referenced) came
+    ∙ ap (λ (b : Bool). bonus_of v.transition (source_transition store v) b referenced) leads
+    ∙ ap (bonus_of v.transition (source_transition store v) (is_redirect_source store v)) refers)
 
 pub small_bonuses : (store : Store) (vs : List Visit) (sample : List Sampled) → sample ≡ map (sampled_of store) vs
     → All (λ (s : Sampled). s.bonus ≤ greatest_bonus) sample
@@ -58,26 +70,17 @@ sample_filled kept page sample count is counted some =
       count_by-and-le (λ (v : Visit). v.page.0 == page.0) (λ (v : Visit). is_counted v.transition) kept.visits,
     )
 
--- where no item has the page, neither its typed mark nor its scheme matters
-either_mark : (total sampled count : ℕ) (typed place other_typed other_place : Bool)
-    → frecency_from total sampled count false typed place
-    ≡ frecency_from total sampled count false other_typed other_place
-either_mark total sampled count typed place other_typed other_place = refl
-
 pub score_is : (kept : Kept) (page : PageId) (p : Page) (sample : List Sampled) (day : Day) (count : ℕ)
-    (typed place : Bool) → IsOfVisits (store_of kept)
+    (referenced typed place : Bool)
     → sample ≡ map (sampled_of (store_of kept)) (take sample_size (page_visits kept page)) → day ≡ kept.day
-    → count ≡ visit_count (store_of kept) page → p.id ≡ page
-    → frecency_from (points_of day sample) (length sample) count false typed place ≡ frecency_of (store_of kept) p
-score_is kept page p sample day count typed place few is today counted same =
+    → count ≡ visit_count (store_of kept) page → referenced ≡ is_referenced (store_of kept) page → p.id ≡ page
+    → typed ≡ p.typed → place ≡ is_place_url p.url
+    → frecency_from (points_of day sample) (length sample) count referenced typed place
+    ≡ frecency_of (store_of kept) p
+score_is kept page p sample day count referenced typed place is today counted refers same types places =
     let store : Store = store_of kept in
-    let all : List Sampled = map (sampled_of store) (sample_of store p.id) in
-    let sampled : sample ≡ all =
+    let sampled : sample ≡ map (sampled_of store) (sample_of store p.id) =
     is ∙ ap (λ (id : PageId). map (sampled_of store) (sample_of store id)) (sym same) in
     let counts : count ≡ visit_count store p.id = counted ∙ ap (visit_count store) (sym same) in
-    rw (sampled, today, counts)
-    (either_mark (points_of kept.day all) (length all) (visit_count store p.id) typed place p.typed
-    (is_place_url p.url)
-    ∙ ap (λ (b : Bool). frecency_from (points_of kept.day all) (length all) (visit_count store p.id) b p.typed
-    (is_place_url p.url)) (sym (not_referenced store p.id few))
-    ∙ frecency-sampled store p)
+    let refers_to : referenced ≡ is_referenced store p.id = refers ∙ ap (is_referenced store) (sym same) in
+    rw (sampled, today, counts, refers_to, types, places) (frecency-sampled store p)

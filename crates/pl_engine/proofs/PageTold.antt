@@ -1,5 +1,5 @@
 -- What is told of a page.
-use Rattle.std.proofs.Common.{◌≡◌, ◌==◌, ◌∙◌, ℕ, ℤ, All, Bool, false, List, [], ◌∷◌, Option, Some, None}
+use Rattle.std.proofs.Common.{◌≡◌, ◌==◌, ◌∙◌, ℕ, ℤ, All, Bool, List, [], ◌∷◌, Option, Some, None}
 use Rattle.std.proofs.Common.{ap, refl, sym}
 use Rattle.std.specs.List.{AllByRecursion}
 use Rattle.std.specs.Option.{IsSome, option_map}
@@ -13,8 +13,10 @@ use Rattle.pl_base.specs.Frecency.{frecency_of}
 use Rattle.pl_base.specs.Marks.{is_hidden, last_date_of, visit_count}
 use Rattle.pl_base.specs.Rows.{IsRight, IsWellKept, Kept, KeptPage, first_id, mark_of, page_at, page_visits}
 use Rattle.pl_base.specs.Rows.{row_of, store_of, title_of, url_of, visit_at}
-use Rattle.pl_base.specs.Store.{Store, Visit}
+use Rattle.pl_base.specs.Store.{Page, Store, Visit}
+use Rattle.pl_base.specs.Tags.{is_bookmarked, tag_text}
 use Rattle.pl_engine.specs.declared.engine.find.Target.TheVariants.{Known}
+use Rattle.pl_engine.specs.declared.reply.Reply.{Reply}
 use Rattle.pl_engine.specs.declared.reply.Reply.TheVariants.{Page as PageReply}
 use Rattle.pl_engine.specs.Step.{find_page, told_page}
 use Rattle.pl_engine.specs.Target.{IsTargetOf}
@@ -71,6 +73,17 @@ record AreTold (kept : Kept) (p : KeptPage) (mark : Mark) (url title : List ℕ)
   pub url_is : url ≡ p.page.url
   pub title_is : title ≡ p.page.title
 
+-- what is told of a page, with its mark as the store has it
+abbrev told_with : Store → Page → PageId → Option Micros → Bool → List ℕ → List ℕ → List ℕ → Reply
+told_with store p id last bookmarked url title tags =
+    PageReply id (frecency_of store p) (visit_count store p.id) last p.typed (is_hidden store p) bookmarked url title
+    tags
+
+mark_alike : (typed : Bool) (y z : ℤ) (m n : ℕ) (a b : Bool) → y ≡ z → m ≡ n → a ≡ b
+    → ◌≡◌ {A = Mark} (record { frecency = y; count = m; typed = typed; hidden = a })
+    (record { frecency = z; count = n; typed = typed; hidden = b })
+mark_alike typed y z m n a b frecencies counts hidden = rw (frecencies, counts, hidden) refl
+
 told_at : (kept : Kept) (id : PageId) (p : KeptPage) (mark : Mark) (url title : List ℕ) → page_at kept id ≡ Some p
     → Some mark ≡ option_map mark_of (page_at kept id) → Some url ≡ url_of kept id → Some title ≡ title_of kept id
     → AreTold kept p mark url title
@@ -80,13 +93,14 @@ told_at kept id p mark url title at marks urls titles =
     let same_title : Some title ≡ Some p.page.title = titles ∙ ap (option_map (λ (q : KeptPage). q.page.title)) at in
     record { mark_is = cc; url_is = cc; title_is = cc }
 
-pub told : (kept : Kept) (asked : List ℕ) (id : PageId) (mark : Mark) (last : Option Micros) (url title : List ℕ)
-    → IsWellKept kept → IsRight kept → IsTargetOf kept asked (Known id)
+pub told : (kept : Kept) (asked : List ℕ) (id : PageId) (mark : Mark) (last : Option Micros) (bookmarked : Bool)
+    (url title tags : List ℕ) → IsWellKept kept → IsRight kept → IsTargetOf kept asked (Known id)
     → Some mark ≡ option_map mark_of (page_at kept id) → last ≡ last_date_of (store_of kept) id
-    → Some url ≡ url_of kept id → Some title ≡ title_of kept id
-    → PageReply id mark.frecency mark.count last mark.typed mark.hidden false url title []
+    → bookmarked ≡ is_bookmarked (store_of kept) id → Some url ≡ url_of kept id → Some title ≡ title_of kept id
+    → tags ≡ tag_text (store_of kept) id
+    → PageReply id mark.frecency mark.count last mark.typed mark.hidden bookmarked url title tags
     ≡ told_page (store_of kept) (find_page asked (store_of kept).pages)
-told kept asked id mark last url title h right of marks lasts urls titles =
+told kept asked id mark last bookmarked url title tags h right of marks lasts bookmarks urls titles tagged =
     let store : Store = store_of kept in
     let k : IsKnown kept asked id = known kept asked id of in
     let p : KeptPage = k.page in
@@ -95,22 +109,26 @@ told kept asked id mark last url title h right of marks lasts urls titles =
     let holds : (P : KeptPage → Type 0) → All P kept.pages → P p =
     λ P all. found_holds P (λ (q : KeptPage). q.page.id.0 == id.0) kept.pages p (recursion_from_All P kept.pages all)
     at in
-    ap (λ (m : Mark). PageReply id m.frecency m.count last m.typed m.hidden false url title []) t.mark_is
-    ∙ ap (λ (i : PageId). PageReply i p.frecency p.count last p.page.typed p.hidden false url title []) (sym k.is)
-    ∙ ap (λ (z : ℤ). PageReply p.page.id z p.count last p.page.typed p.hidden false url title [])
+    let shown : mark_of p ≡ record {
+      frecency = frecency_of store p.page;
+      count = visit_count store p.page.id;
+      typed = p.page.typed;
+      hidden = is_hidden store p.page;
+    } =
+    mark_alike p.page.typed p.frecency (frecency_of store p.page) p.count (visit_count store p.page.id) p.hidden
+    (is_hidden store p.page)
     (holds (λ (q : KeptPage). q.frecency ≡ frecency_of store q.page) right.frecencies)
-    ∙ ap (λ (n : ℕ). PageReply p.page.id (frecency_of store p.page) n last p.page.typed p.hidden false url title [])
     (holds (λ (q : KeptPage). q.count ≡ visit_count store q.page.id) right.counts)
-    ∙ ap (λ (o : Option Micros). PageReply p.page.id (frecency_of store p.page) (visit_count store p.page.id) o
-    p.page.typed p.hidden false url title [])
-    (lasts ∙ ap (last_date_of store) (sym k.is))
-    ∙ ap (λ (b : Bool). PageReply p.page.id (frecency_of store p.page) (visit_count store p.page.id)
-    (last_date_of store p.page.id) p.page.typed b false url title [])
-    (holds (λ (q : KeptPage). q.hidden ≡ is_hidden store q.page) right.hidden)
-    ∙ ap (λ (u : List ℕ). PageReply p.page.id (frecency_of store p.page) (visit_count store p.page.id)
-    (last_date_of store p.page.id) p.page.typed (is_hidden store p.page) false u title [])
+    (holds (λ (q : KeptPage). q.hidden ≡ is_hidden store q.page) right.hidden) in
+    ap (λ (m : Mark). PageReply id m.frecency m.count last m.typed m.hidden bookmarked url title tags)
+    (t.mark_is ∙ shown)
+    ∙ ap (λ (o : Option Micros). told_with store p.page id o bookmarked url title tags) lasts
+    ∙ ap (λ (b : Bool). told_with store p.page id (last_date_of store id) b url title tags) bookmarks
+    ∙ ap (λ (u : List ℕ). told_with store p.page id (last_date_of store id) (is_bookmarked store id) u title tags)
     t.url_is
-    ∙ ap (λ (u : List ℕ). PageReply p.page.id (frecency_of store p.page) (visit_count store p.page.id)
-    (last_date_of store p.page.id) p.page.typed (is_hidden store p.page) false p.page.url u [])
+    ∙ ap (λ (u : List ℕ). told_with store p.page id (last_date_of store id) (is_bookmarked store id) p.page.url u tags)
     t.title_is
+    ∙ ap (told_with store p.page id (last_date_of store id) (is_bookmarked store id) p.page.url p.page.title) tagged
+    ∙ ap (λ (i : PageId). told_with store p.page i (last_date_of store i) (is_bookmarked store i) p.page.url
+    p.page.title (tag_text store i)) (sym k.is)
     ∙ ap (told_page store) (sym k.found)

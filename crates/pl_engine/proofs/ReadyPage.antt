@@ -9,18 +9,19 @@ use Rattle.pl_base.specs.declared.id.PageId.{PageId}
 use Rattle.pl_base.specs.declared.id.Slot.{Slot}
 use Rattle.pl_base.specs.Address.{is_place_url}
 use Rattle.pl_base.specs.Date.{IsDate}
-use Rattle.pl_base.specs.Good.{is_visited}
+use Rattle.pl_base.specs.Good.{IsGood}
 use Rattle.pl_base.specs.Marks.{is_counted, visit_count}
 use Rattle.pl_base.specs.Rows.{IsWellKept, Kept, KeptPage, WithPageIn, has_page}
 use Rattle.pl_base.specs.Rows.{store_of, with_origin, with_new_page, next_page}
-use Rattle.pl_base.specs.Store.{Store, Visit}
+use Rattle.pl_base.specs.Store.{Page, Store, Visit}
 use Rattle.pl_engine.specs.declared.engine.find.Target.{Target}
 use Rattle.pl_engine.specs.declared.engine.find.Target.TheVariants.{Known, New}
-use Rattle.pl_engine.specs.Engine.{IsSound, IsTypedRight}
+use Rattle.pl_engine.specs.Engine.{AreStanding, HasGoodItems, IsSound, IsTypedRight, is_standing}
 use Rattle.pl_engine.specs.Refreshed.{IsRightPage}
 use Rattle.pl_engine.specs.Target.{IsReady, IsTargetOf, WithTarget}
+use Rattle.pl_engine.proofs.GoodRows.{items_of, items_still, standing_of}
 use Rattle.pl_engine.proofs.KnownPage.{IsKnown, has_known, known, only_known}
-use Rattle.pl_base.proofs.ListLaws.{All-from_map, list_any_last}
+use Rattle.pl_base.proofs.ListLaws.{All-from_map, list_any-map, list_any_last, list_any_push}
 use Rattle.pl_engine.proofs.PageWalk.{not_equal}
 
 -- ---- a page that is known
@@ -29,6 +30,7 @@ ready_known : (kept : Kept) (url : List ℕ) (page : PageId) (is_place : Bool) �
     → IsTargetOf kept url (Known page) → is_place ≡ is_place_url url → IsReady page is_place kept
 ready_known kept url page is_place h sound target place =
     let k : IsKnown kept url page = known kept url page target in
+    let standing : AreStanding kept = standing_of kept sound.good in
     record {
       there = has_known kept url page k;
       place =
@@ -37,7 +39,7 @@ ready_known kept url page is_place h sound target place =
           (λ q one same. place
           ∙ ap is_place_url (sym (ap (λ (p : KeptPage). p.page.url) (one same) ∙ k.url_is)))
           kept.pages (only_known kept url page h k);
-      of_visits = sound.of_visits;
+      items = items_of (store_of kept) sound.good;
       counts = sound.right.counts;
       right =
           λ i d within _. (
@@ -45,8 +47,8 @@ ready_known kept url page is_place h sound target place =
             sound.right.counts i d within,
             sound.right.hidden i d within,
           );
-      visited = λ i d within _. sound.visited.visited i d within;
-      typed = sound.visited.typed;
+      by_row = λ i d within _. standing.by_row i d within;
+      typed = standing.typed;
     }
 
 -- ---- a new page
@@ -100,12 +102,25 @@ no_count kept page h is =
     (λ (v : Visit). ((v.page.0 == page.0) && is_counted v.transition) ≡ false)
     (λ v other. ap (λ (b : Bool). b && is_counted v.transition) other) kept.visits (elsewhere kept page h is)))
 
+items_grown : (kept : Kept) (url : List ℕ) (origin : Slot) → IsGood (store_of kept)
+    → HasGoodItems (store_of (with_new_page url origin kept))
+items_grown kept url origin good =
+    let page_of : KeptPage → Page = λ (p : KeptPage). p.page in
+    items_still (store_of kept) (store_of (with_new_page url origin kept)) refl
+    (λ id some.
+    let test : Page → Bool = λ (p : Page). p.id.0 == id.0 in
+    list_any-map test page_of (with_new_page url origin kept).pages
+    ∙ list_any_push (λ (p : KeptPage). p.page.id.0 == id.0) kept.pages (next_page url origin kept)
+    (sym (list_any-map test page_of kept.pages) ∙ some))
+    (items_of (store_of kept) good)
+
 ready_fresh : (kept : Kept) (url : List ℕ) (origin : Slot) (page : PageId) (is_place : Bool) → IsWellKept kept
     → IsSound kept → page.0 ≡ kept.ids.page → is_place ≡ is_place_url url
     → IsReady page is_place (with_new_page url origin kept)
 ready_fresh kept url origin page is_place h sound is place =
     let new : KeptPage = next_page url origin kept in
     let store : Store = store_of kept in
+    let standing : AreStanding kept = standing_of kept sound.good in
     let here : (new.page.id.0 == page.0) ≡ true = eq-eqb kept.ids.page page.0 (sym is) in
     let others : All (λ (p : KeptPage). (p.page.id.0 == page.0) ≡ false) kept.pages =
     All-weaker (λ (p : KeptPage). p.page.id.0 < kept.ids.page) (λ (p : KeptPage). (p.page.id.0 == page.0) ≡ false)
@@ -116,7 +131,7 @@ ready_fresh kept url origin page is_place h sound is place =
           All-push (λ (p : KeptPage). (p.page.id.0 == page.0) ≡ true → is_place ≡ is_place_url p.page.url) kept.pages
           new
           (λ k d within same. absurd (false≢true (sym (others k d within) ∙ same))) (λ _. place);
-      of_visits = sound.of_visits;
+      items = items_grown kept url origin sound.good;
       counts =
           All-push (λ (p : KeptPage). p.count ≡ visit_count store p.page.id) kept.pages new sound.right.counts
           (sym (no_count kept new.page.id h refl));
@@ -129,13 +144,13 @@ ready_fresh kept url origin page is_place h sound is place =
             sound.right.hidden k d within,
           ))
           (λ other. absurd (false≢true (sym (or_parts (new.page.id.0 == page.0) false other).0 ∙ here)));
-      visited =
-          All-push (λ (p : KeptPage). (p.page.id.0 == page.0) ≡ false → IsTrue (is_visited store p.page.id)) kept.pages
+      by_row =
+          All-push (λ (p : KeptPage). (p.page.id.0 == page.0) ≡ false → IsTrue (is_standing store p.page.id)) kept.pages
           new
-          (λ k d within _. sound.visited.visited k d within)
+          (λ k d within _. standing.by_row k d within)
           (λ other. absurd (false≢true (sym other ∙ here)));
       typed =
-          All-push (IsTypedRight kept) kept.pages new sound.visited.typed
+          All-push (IsTypedRight kept) kept.pages new standing.typed
           (λ k d within of _. absurd (omega (arith, ap (λ (i : PageId). i.0) of, visits_below kept h k d within)));
     }
 
@@ -147,10 +162,10 @@ other_origins kept url origin page is_place r =
     record {
       there = r.there;
       place = r.place;
-      of_visits = r.of_visits;
+      items = record { items = r.items.items; roots = r.items.roots; tree = r.items.tree; tags = r.items.tags };
       counts = r.counts;
       right = r.right;
-      visited = r.visited;
+      by_row = r.by_row;
       typed = r.typed;
     }
 

@@ -237,7 +237,7 @@ right_refreshed ids page told is_place old new frecency right r counted place =
     (λ k d within same.
     let p : KeptPage = get_or old.pages k d in
     let id : p.page.id ≡ page = same_page p.page.id page same in (
-      r.scored (marked mark p).page id,
+      r.scored (marked mark p).page id refl (place k d within same),
       counted ∙ ap (visit_count (store_of old)) (sym id),
       r.shown (marked mark p).page id (place k d within same),
     )))

@@ -14,18 +14,20 @@ use Rattle.std.proofs.lemmas.List.Elements.{All-map, recursion_from_All}
 use Rattle.std.proofs.lemmas.Slice.Eq.{bytes_eq-Decides}
 use Rattle.pl_base.specs.declared.id.PageId.{PageId}
 use Rattle.pl_base.specs.Frecency.{frecency_of}
-use Rattle.pl_base.specs.Good.{is_visited, longest_title}
+use Rattle.pl_base.specs.Good.{IsGood, longest_title}
 use Rattle.pl_base.specs.Marks.{is_hidden, visit_count}
 use Rattle.pl_base.specs.Rows.{IsWellKept, Kept, KeptPage, store_of, titled, with_title}
 use Rattle.pl_base.specs.Store.{Page, Store}
 use Rattle.pl_base.specs.Title.{cut_title}
 use Rattle.pl_engine.specs.declared.engine.find.Target.TheVariants.{Known}
-use Rattle.pl_engine.specs.Engine.{IsSound, IsTypedRight}
+use Rattle.pl_engine.specs.Engine.{AreStanding, HasGoodItems, IsSound, IsTypedRight, is_standing}
 use Rattle.pl_engine.specs.Step.{after_title, find_page, title_page}
 use Rattle.pl_engine.specs.Target.{IsTargetOf}
+use Rattle.pl_engine.proofs.GoodRows.{good_of, items_of, items_still, standing_of}
 use Rattle.pl_engine.proofs.KnownPage.{IsKnown, known, only_known}
 use Rattle.pl_engine.proofs.LookUps.{both}
 use Rattle.pl_engine.proofs.PageWalk.{part}
+use Rattle.pl_base.proofs.ListLaws.{list_any-alike, list_any-map}
 
 -- ---- a title that is cut
 
@@ -130,20 +132,43 @@ each_titled P id title pages keeps all =
     let p : KeptPage = get_or pages k d in
     cond_both (p.page.id.0 == id.0) (titled title p) p P (λ _. keeps p (all k d within)) (λ _. all k d within))
 
+-- a title leaves the items, and each page keeps its id
+items_titled : (kept : Kept) (id : PageId) (title : List ℕ) → IsGood (store_of kept)
+    → HasGoodItems (store_of (with_title id title kept))
+items_titled kept id title good =
+    let page_of : KeptPage → Page = λ (p : KeptPage). p.page in
+    let change : KeptPage → KeptPage = λ (p : KeptPage). if p.page.id.0 == id.0 then titled title p else p in
+    items_still (store_of kept) (store_of (with_title id title kept)) refl
+    (λ other some.
+    let test : Page → Bool = λ (p : Page). p.id.0 == other.0 in
+    list_any-map test page_of (map change kept.pages)
+    ∙ list_any-map (λ (p : KeptPage). test p.page) change kept.pages
+    ∙ list_any-alike (λ (p : KeptPage). test (change p).page) (λ (p : KeptPage). test p.page) kept.pages
+    (λ p. same_id (p.page.id.0 == id.0) other p)
+    ∙ sym (list_any-map test page_of kept.pages) ∙ some)
+    (items_of (store_of kept) good)
+  where
+    same_id : (b : Bool) (other : PageId) (p : KeptPage)
+        → ((if b then titled title p else p).page.id.0 == other.0) ≡ (p.page.id.0 == other.0)
+    same_id true other p = refl
+    same_id false other p = refl
+
 -- nothing that is kept of a page beside its texts depends on a title
-pub sound_titled : (kept new : Kept) (id : PageId) (title : List ℕ) → new ≡ with_title id title kept → IsSound kept
-    → IsSound new
-sound_titled kept new id title is s =
+pub sound_titled : (kept new : Kept) (id : PageId) (title : List ℕ) → new ≡ with_title id title kept → IsWellKept new
+    → IsSound kept → IsSound new
+sound_titled kept new id title is h s =
     let store : Store = store_of kept in
+    let standing : AreStanding kept = standing_of kept s.good in
     subst IsSound (sym is)
     (record {
-      of_visits = s.of_visits;
-      visited = record {
-        visited =
-            each_titled (λ (p : KeptPage). IsTrue (is_visited store p.page.id)) id title kept.pages
-            (λ p visited. visited) s.visited.visited;
-        typed = each_titled (IsTypedRight kept) id title kept.pages (λ p typed. typed) s.visited.typed;
-      };
+      good =
+          good_of (with_title id title kept) (subst IsWellKept is h) (items_titled kept id title s.good)
+          (record {
+            by_row =
+                each_titled (λ (p : KeptPage). IsTrue (is_standing store p.page.id)) id title kept.pages
+                (λ p stands. stands) standing.by_row;
+            typed = each_titled (IsTypedRight kept) id title kept.pages (λ p typed. typed) standing.typed;
+          });
       right = record {
         frecencies =
             each_titled (λ (p : KeptPage). p.frecency ≡ frecency_of store p.page) id title kept.pages

@@ -1,9 +1,10 @@
 -- What holds of the rows after a visit.
-use Rattle.std.proofs.Common.{◌≡◌, ◌∙◌, ◌==◌, ◌||◌, ℕ, ℤ, Bool, true, false}
+use Rattle.std.proofs.Common.{◌≡◌, ◌∙◌, ◌==◌, ◌||◌, ℕ, ℤ, All, Bool, true, false, bytes_eq, eq-eqb}
 use Rattle.std.proofs.Common.{List, [], Option, Some, None, ap, if◌then◌else◌, is_none}
 use Rattle.std.proofs.Common.{get_or, option_to_list, refl, subst, sym, unwrap_or}
 use Rattle.std.specs.Option.{option_map}
-use Rattle.std.proofs.lemmas.List.Elements.{All-map, All-weaker}
+use Rattle.std.specs.List.{AllByRecursion}
+use Rattle.std.proofs.lemmas.List.Elements.{All-map, All-weaker, recursion_from_All}
 use Rattle.pl_base.specs.declared.id.PageId.{PageId}
 use Rattle.pl_base.specs.declared.id.VisitId.{VisitId}
 use Rattle.pl_base.specs.declared.refusal.Refusal.{Refusal}
@@ -19,16 +20,20 @@ use Rattle.pl_engine.specs.declared.engine.find.Target.{Target}
 use Rattle.pl_engine.specs.declared.engine.find.Target.TheVariants.{Known, New}
 use Rattle.pl_engine.specs.declared.reply.Reply.{Reply}
 use Rattle.pl_engine.specs.declared.reply.Reply.TheVariants.{Visit as VisitReply}
-use Rattle.pl_engine.specs.Engine.{IsSound, IsVisited}
+use Rattle.pl_engine.specs.Engine.{AreStanding, HasGoodItems, IsSound}
 use Rattle.pl_engine.specs.Refreshed.{AreRightBut, Refreshes, source_page, visited_mark}
 use Rattle.pl_engine.specs.Step.{after_visit, find_page, new_page, page_for, perform, unless_refused}
-use Rattle.pl_engine.specs.Step.{visit_refusal, visit_reply, visited_page, visited_store, with_page_for}
+use Rattle.pl_engine.specs.Step.{visit_page, visit_refusal, visit_reply, visited_page, visited_store, with_page_for}
 use Rattle.pl_engine.specs.Target.{AddsVisit, IsReady, IsTargetOf, WithTarget}
+use Rattle.pl_engine.proofs.GoodRows.{good_of, items_still}
+use Rattle.pl_engine.proofs.LookUps.{found_holds}
+use Rattle.pl_engine.proofs.PageWalk.{part}
 use Rattle.pl_engine.proofs.RightAfter.{right_refreshed, right_visited}
 use Rattle.pl_engine.proofs.Targets.{IsFound, found_page}
 use Rattle.pl_engine.proofs.VisitRows.{grown_store, store_visited, store_with_page}
 use Rattle.pl_engine.proofs.KeptMark.{IsMarkAt, count_told, mark_made, typed_at}
-use Rattle.pl_engine.proofs.VisitedPages.{typed_by, typed_still, visited_after, visited_alike}
+use Rattle.pl_engine.proofs.VisitedPages.{standing_after, standing_alike, typed_by, typed_still}
+use Rattle.pl_base.proofs.ListLaws.{list_any-alike, list_any-map}
 
 -- ---- the rows with the visit, and its page afresh
 
@@ -52,21 +57,25 @@ store_afresh old row mark frecency hidden h m =
     (λ p is same. ap (λ (b : Bool). b || is_typed row.transition) (is same)) old.pages
     (typed_at (with_visit row old) row.page mark h m)))
 
-visited_afresh : (old : Kept) (row : VisitRow) (is_place : Bool) (mark : Mark) (frecency : ℤ) (hidden : Bool)
+standing_afresh : (old : Kept) (row : VisitRow) (is_place : Bool) (mark : Mark) (frecency : ℤ) (hidden : Bool)
     → IsReady row.page is_place old → IsWellKept (with_visit row old) → IsMarkAt (with_visit row old) row.page mark
-    → IsVisited (with_mark row.page (afresh row mark frecency hidden) (with_visit row old))
-visited_afresh old row is_place mark frecency hidden r h m =
-    visited_after old row (afresh row mark frecency hidden) (typed_by row.transition mark.typed)
+    → AreStanding (with_mark row.page (afresh row mark frecency hidden) (with_visit row old))
+standing_afresh old row is_place mark frecency hidden r h m =
+    standing_after old row (afresh row mark frecency hidden) (typed_by row.transition mark.typed)
     (λ k d within same typed.
     typed_still (get_or old.pages k d).page.typed mark.typed (is_typed row.transition)
     (sym (typed_at (with_visit row old) row.page mark h m k d within same)) typed)
-    r.visited r.typed
+    r.by_row r.typed
+
+-- the frecency is that of the page after the visit
+abbrev IsScored : VisitRow → Kept → ℤ → Page → Type 0
+IsScored row now frecency p = p.id ≡ row.page → frecency ≡ frecency_of (store_of now) (visited_page row.transition p)
 
 -- the rows once the page of the visit is refreshed
 pub record IsAfresh (row : VisitRow) (old now : Kept) (frecency : ℤ) : Type 0 where
   pub store : store_of now ≡ visited_store row.page row.transition row.date row.source (store_of old)
-  pub visited : IsVisited now
-  pub scored : (p : Page) → p.id ≡ row.page → frecency ≡ frecency_of (store_of now) p
+  pub standing : AreStanding now
+  pub scored : All (IsScored row now frecency) (store_of old).pages
 
 afresh_after : (old now : Kept) (row : VisitRow) (is_place : Bool) (mark told : Mark) (frecency : ℤ)
     → IsReady row.page is_place old → IsWellKept (with_visit row old) → IsMarkAt (with_visit row old) row.page mark
@@ -78,9 +87,19 @@ afresh_after old now row is_place mark told frecency r h m is f =
     (with_visit row old)) is in
     record {
       store = ap store_of made ∙ store_afresh old row mark frecency f.hidden h m;
-      visited =
-          subst IsVisited (sym made) (visited_afresh old row is_place mark frecency f.hidden r h m);
-      scored = λ p same. f.scored p same ∙ ap (λ (k : Kept). frecency_of (store_of k) p) (sym f.rows);
+      standing =
+          subst AreStanding (sym made) (standing_afresh old row is_place mark frecency f.hidden r h m);
+      scored =
+          All-map (IsScored row now frecency) (λ (p : KeptPage). p.page) old.pages
+          (λ k d within same.
+          let p : Page = (get_or old.pages k d).page in
+          let here : (p.id.0 == row.page.0) ≡ true = eq-eqb p.id.0 row.page.0 (ap (λ (i : PageId). i.0) same) in
+          f.scored (visited_page row.transition p) same
+          (ap (λ (n : Mark). n.typed) is
+          ∙ ap (λ (b : Bool). b || is_typed row.transition)
+          (typed_at (with_visit row old) row.page mark h m k d within here))
+          (r.place k d within here)
+          ∙ ap (λ (k : Kept). frecency_of (store_of k) (visited_page row.transition p)) (sym f.rows));
     }
 
 pub afresh_made : (old made now : Kept) (row : VisitRow) (is_place : Bool) (mark told : Mark) (frecency : ℤ)
@@ -110,12 +129,30 @@ right_still old made now row is_place mark told frecency r h well made_is marks 
 
 -- ---- the rows at the end
 
+-- a visit leaves the items, and each page keeps its id
+items_visited : (row : VisitRow) (store : Store) → HasGoodItems store
+    → HasGoodItems (visited_store row.page row.transition row.date row.source store)
+items_visited row store good =
+    items_still store (visited_store row.page row.transition row.date row.source store) refl
+    (λ id some.
+    list_any-map (λ (p : Page). p.id.0 == id.0) (visit_page row.page row.transition) store.pages
+    ∙ list_any-alike (λ (p : Page). (visit_page row.page row.transition p).id.0 == id.0) (λ (p : Page). p.id.0 == id.0)
+    store.pages (λ p. same_id (p.id.0 == row.page.0) id p) ∙ some)
+    good
+  where
+    same_id : (b : Bool) (id : PageId) (p : Page)
+        → ((if b then visited_page row.transition p else p).id.0 == id.0) ≡ (p.id.0 == id.0)
+    same_id true id p = refl
+    same_id false id p = refl
+
 pub sound_after : (old now new : Kept) (row : VisitRow) (is_place : Bool) (frecency : ℤ) → IsReady row.page is_place old
-    → IsAfresh row old now frecency → store_of new ≡ store_of now → AreRightBut [] new → IsSound new
-sound_after old now new row is_place frecency r a same right =
+    → IsAfresh row old now frecency → IsWellKept new → store_of new ≡ store_of now → AreRightBut [] new → IsSound new
+sound_after old now new row is_place frecency r a h same right =
     record {
-      of_visits = ap (λ (s : Store). s.items) (same ∙ a.store) ∙ r.of_visits;
-      visited = visited_alike now new same a.visited;
+      good =
+          good_of new h
+          (subst HasGoodItems (sym (same ∙ a.store)) (items_visited row (store_of old) r.items))
+          (standing_alike now new same a.standing);
       right = record {
         frecencies = λ k d within. (right k d within refl).0;
         counts = λ k d within. (right k d within refl).1;
@@ -131,7 +168,10 @@ added_after old now new row visit frecency a same given =
       store = same ∙ a.store;
       frecency = frecency;
       tells = ap (λ (n : ℕ). VisitReply (record { 0 = n }) row.page frecency) given;
-      scored = λ p id. a.scored p id ∙ ap (λ (s : Store). frecency_of s p) (sym same);
+      scored =
+          λ k d within id. a.scored k d within id
+          ∙ ap (λ (s : Store). frecency_of s (visited_page row.transition (get_or (store_of old).pages k d)))
+          (sym same);
     }
 
 -- ---- the step
@@ -163,6 +203,18 @@ next_visit_same store url = choose (is_none (find_page url store.pages))
     choose true = refl
     choose false = refl
 
+-- what holds of each page holds of that of a visit
+page_for_holds : (P : Page → Type 0) (store : Store) (url : List ℕ) → All P (with_page_for store url).pages
+    → P (page_for store url)
+page_for_holds P store url all =
+    choose (find_page url store.pages) refl (recursion_from_All P (with_page_for store url).pages all)
+  where
+    choose : (found : Option Page) → find_page url store.pages ≡ found
+        → AllByRecursion P (if is_none found then grown_store store url else store).pages
+        → P (unwrap_or found (new_page store url))
+    choose None at each = part P store.pages (new_page store url) [] each
+    choose (Some p) at each = found_holds P (λ (q : Page). bytes_eq q.url url) store.pages p each at
+
 step_made : (store mid new : Store) (url : List ℕ) (row : VisitRow) (reply : Reply)
     → (page_for store url).id ≡ row.page → mid ≡ with_page_for store url → AddsVisit row mid new reply
     → ◌≡◌ {A = Reply × Store} (reply, new)
@@ -180,7 +232,10 @@ step_made store mid new url row reply is grown added =
     ∙ ap (λ (n : ℕ). VisitReply (record { 0 = n }) row.page added.frecency) next
     ∙ ap (λ (id : PageId). VisitReply (record { 0 = store.ids.visit }) id added.frecency) (sym is)
     ∙ ap (λ (z : ℤ). VisitReply (record { 0 = store.ids.visit }) (page_for store url).id z)
-    (added.scored p is ∙ ap (λ (s : Store). frecency_of s p) made) in
+    (page_for_holds (λ (q : Page). q.id ≡ row.page → added.frecency ≡ frecency_of new (visited_page row.transition q))
+    store url (subst (λ (s : Store). All (λ (q : Page). q.id ≡ row.page
+    → added.frecency ≡ frecency_of new (visited_page row.transition q)) s.pages) grown added.scored) is
+    ∙ ap (λ (s : Store). frecency_of s p) made) in
     ap (λ (r : Reply). (r, new)) told
     ∙ ap (λ (s : Store). (visit_reply store url row.transition row.date row.source, s)) made
 

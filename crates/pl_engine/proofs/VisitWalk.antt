@@ -23,6 +23,7 @@ use Rattle.pl_score.specs.Sample.{sampled_of}
 use Rattle.pl_engine.specs.Refreshed.{is_passing}
 use Rattle.pl_engine.proofs.LookUps.{apart_ascending, found_passes, found_self, found_some, where_passes}
 use Rattle.pl_engine.proofs.PageWalk.{part}
+use Rattle.pl_base.proofs.IdsLaws.{same_page}
 use Rattle.pl_base.proofs.ListLaws.{weaker}
 use Rattle.pl_base.proofs.VisitsLaws.{Differ, Differ-ascending, Differ-filter, all-in_place, all-latest_first}
 
@@ -137,6 +138,11 @@ stands kept page P id h w =
 pub at_here : (kept : Kept) (page : PageId) (P : List Visit → Type 0) (id : VisitId) → IsWellKept kept
     → (w : IsVisitHere kept page P id) → visit_at kept id ≡ Some w.visit
 at_here kept page P id h w = rw (← w.is) (stands kept page P id h w).0
+
+-- it is a visit to the page
+pub page_here : (kept : Kept) (page : PageId) (P : List Visit → Type 0) (id : VisitId) → IsWellKept kept
+    → (w : IsVisitHere kept page P id) → w.visit.page ≡ page
+page_here kept page P id h w = same_page w.visit.page page (stands kept page P id h w).1
 
 pub has_here : (kept : Kept) (page : PageId) (P : List Visit → Type 0) (id : VisitId) → IsWellKept kept
     → IsVisitHere kept page P id → has_visit kept id ≡ true

@@ -3,5 +3,6 @@ pub mod Parsed
 pub mod Refreshed
 pub mod Run
 pub mod Step
+pub mod TagFolders
 pub mod Target
 pub mod Titled

@@ -31,7 +31,8 @@ pub record Refreshes (page : PageId) (told : Mark) (is_place : Bool) (old new : 
     : Type 0 where
   pub hidden : Bool
   pub rows : new ≡ with_mark page (record told { frecency = frecency; hidden = hidden }) old
-  pub scored : (p : Page) → p.id ≡ page → frecency ≡ frecency_of (store_of old) p
+  pub scored : (p : Page) → p.id ≡ page → told.typed ≡ p.typed → is_place ≡ is_place_url p.url
+      → frecency ≡ frecency_of (store_of old) p
   pub shown : (p : Page) → p.id ≡ page → is_place ≡ is_place_url p.url
       → hidden ≡ is_hidden (store_of old) p
 

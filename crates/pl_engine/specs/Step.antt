@@ -20,6 +20,7 @@ use Rattle.pl_base.specs.Live.{live_slots}
 use Rattle.pl_base.specs.Marks.{is_hidden, is_typed, last_date_of, visit_count}
 use Rattle.pl_base.specs.Redirects.{visit_by_id}
 use Rattle.pl_base.specs.Store.{Store, Page, Visit}
+use Rattle.pl_base.specs.Tags.{is_bookmarked, tag_text}
 use Rattle.pl_base.specs.Title.{cut_title}
 use Rattle.pl_engine.specs.declared.command.Command.{Command}
 use Rattle.pl_engine.specs.declared.command.Command.TheVariants.{Visit as VisitCommand}
@@ -141,11 +142,11 @@ title_refusal limit store url text =
 
 -- ---- what is known of a page
 
--- no page is in the bookmark tree yet, and so none is bookmarked or has a tag
+-- what is known of a page: its row, its frecency, its visits, its bookmarks and its tags
 abbrev pub page_reply : Store → Page → Reply
 page_reply store p =
     PageReply p.id (frecency_of store p) (visit_count store p.id) (last_date_of store p.id)
-    p.typed (is_hidden store p) false p.url p.title []
+    p.typed (is_hidden store p) (is_bookmarked store p.id) p.url p.title (tag_text store p.id)
 
 -- what is told of the page, where there is one
 abbrev pub told_page : Store → Option Page → Reply

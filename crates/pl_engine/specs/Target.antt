@@ -8,10 +8,10 @@ use Rattle.pl_base.specs.declared.id.PageId.{PageId}
 use Rattle.pl_base.specs.declared.row.VisitRow.{VisitRow}
 use Rattle.pl_base.specs.Address.{is_place_url, record_of}
 use Rattle.pl_base.specs.Frecency.{frecency_of}
-use Rattle.pl_base.specs.Good.{end_of_ids, is_visited}
+use Rattle.pl_base.specs.Good.{end_of_ids}
 use Rattle.pl_base.specs.Live.{slot_limit}
-use Rattle.pl_base.specs.Rows.{IsOfVisits, IsOriginOf, Kept, KeptPage, WithPageIn, has_page}
-use Rattle.pl_base.specs.Rows.{live_with_page, store_of}
+use Rattle.pl_base.specs.Rows.{IsOriginOf, Kept, KeptPage, WithPageIn, has_page, live_with_page}
+use Rattle.pl_base.specs.Rows.{store_of}
 use Rattle.pl_base.specs.Store.{Page, Store}
 use Rattle.pl_link.specs.declared.parts.Parts.{Parts}
 use Rattle.pl_link.specs.Parts.{ArePartsOf}
@@ -19,9 +19,9 @@ use Rattle.pl_engine.specs.declared.engine.find.Target.{Target}
 use Rattle.pl_engine.specs.declared.engine.find.Target.TheVariants.{Known, New}
 use Rattle.pl_engine.specs.declared.reply.Reply.{Reply}
 use Rattle.pl_engine.specs.declared.reply.Reply.TheVariants.{Visit as VisitReply}
-use Rattle.pl_engine.specs.Engine.{IsTypedRight}
+use Rattle.pl_engine.specs.Engine.{HasGoodItems, IsTypedRight, is_standing}
 use Rattle.pl_engine.specs.Refreshed.{AreRightBut, HaveCounts}
-use Rattle.pl_engine.specs.Step.{find_page, visited_store}
+use Rattle.pl_engine.specs.Step.{find_page, visited_page, visited_store}
 
 -- the parts are those of the URL
 abbrev pub HasParts : List ℕ → Parts → Type 0
@@ -56,11 +56,11 @@ pub record IsReady (page : PageId) (is_place : Bool) (kept : Kept) : Type 0 wher
   pub there : has_page kept page ≡ true
   pub place : All (λ (p : KeptPage). (p.page.id.0 == page.0) ≡ true
       → is_place ≡ is_place_url p.page.url) kept.pages
-  pub of_visits : IsOfVisits (store_of kept)
+  pub items : HasGoodItems (store_of kept)
   pub counts : HaveCounts kept
   pub right : AreRightBut (page ∷ []) kept
-  pub visited : All (λ (p : KeptPage). (p.page.id.0 == page.0) ≡ false
-      → IsTrue (is_visited (store_of kept) p.page.id)) kept.pages
+  pub by_row : All (λ (p : KeptPage). (p.page.id.0 == page.0) ≡ false
+      → IsTrue (is_standing (store_of kept) p.page.id)) kept.pages
   pub typed : All (IsTypedRight kept) kept.pages
 
 -- the store with the visit; the reply tells it, and the frecency of its page from then on
@@ -68,4 +68,5 @@ pub record AddsVisit (row : VisitRow) (old new : Store) (reply : Reply) : Type 0
   pub store : new ≡ visited_store row.page row.transition row.date row.source old
   pub frecency : ℤ
   pub tells : reply ≡ VisitReply (record { 0 = old.ids.visit }) row.page frecency
-  pub scored : (p : Page) → p.id ≡ row.page → frecency ≡ frecency_of new p
+  pub scored : All (λ (p : Page). p.id ≡ row.page
+      → frecency ≡ frecency_of new (visited_page row.transition p)) old.pages

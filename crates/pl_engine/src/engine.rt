@@ -2,6 +2,7 @@ mod find;
 mod mark;
 mod page;
 mod slots;
+mod tags;
 mod title;
 mod visit;
 
@@ -9,9 +10,8 @@ ghost use Rattle.std.specs.Prelude.{◌≡◌, ◌≤◌, ℕ, List, false, leng
 ghost use Rattle.std.proofs.Props.{props};
 ghost use Rattle.pl_base.specs.Good.{IsGood};
 ghost use Rattle.pl_base.specs.Live.{slot_limit};
-ghost use Rattle.pl_base.specs.Rows.{IsOfVisits, IsRight, store_of};
+ghost use Rattle.pl_base.specs.Rows.{IsRight, store_of};
 ghost use Rattle.pl_base.specs.Touched.{IsWithin, changed, bytes_before};
-ghost use Rattle.pl_engine.specs.Engine.{IsVisited};
 ghost use Rattle.pl_engine.specs.Step as spec;
 
 use crate::command::Command;
@@ -32,8 +32,7 @@ pub struct Engine<R: Rows> {
     rows: R,
     // How many slots of 128 bytes the store may take.
     limit: u32,
-    ghost of_visits: { IsOfVisits (store_of (R.kept rows)) } by { Prim.hlevel props },
-    ghost visited: { IsVisited (R.kept rows) } by { Prim.hlevel props },
+    ghost good: { IsGood (store_of (R.kept rows)) } by { Prim.hlevel props },
     ghost right: { IsRight (R.kept rows) } by { Prim.hlevel props },
     ghost most: { limit ≤ slot_limit },
 }
@@ -42,7 +41,6 @@ impl<R: Rows + Drop> Engine<R> {
     /// Over rows whose store may take so many slots of 128 bytes.
     pub fn over(alloc: Global, rows: R, limit: u32) -> Result<Engine<R>, NoMemory>
         requires good { IsGood (store_of (R.kept rows)) }
-        requires of_visits { IsOfVisits (store_of (R.kept rows)) }
         requires right { IsRight (R.kept rows) }
         requires most { limit ≤ slot_limit }
         ensures rows { IfOk result (λ engine. engine.rows ≡ rows) }
@@ -67,6 +65,7 @@ impl<R: Rows + Drop> Engine<R> {
         // A command of a kind that changes nothing leaves the very same rows.
         ensures unchanged { IfOk result (λ done. spec.is_change command.now ≡ false
             → done.0.rows ≡ self.rows) }
+        ensures good { IfOk result (λ done. IsGood (store_of (R.kept done.0.rows))) }
         ensures right { IfOk result (λ done. IsRight (R.kept done.0.rows)) }
         ensures base { IfOk result (λ done. (bytes : List ℕ)
             → R.base self.rows bytes → R.base done.0.rows bytes) }

@@ -24,7 +24,7 @@ pub enum Reply {
         bookmarked: bool,
         url: Txt,
         title: Txt,
-        /// The names of its tags.
+        /// Its tags, in the order of their folds and joined by commas.
         tags: Txt,
     },
     Refused(Refusal),

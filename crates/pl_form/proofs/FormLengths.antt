@@ -6,10 +6,15 @@ use Rattle.std.proofs.lemmas.List.{length-replicate}
 use Rattle.std.proofs.lemmas.List.Sums.{sum_by-cons}
 use Rattle.pl_base.specs.Frecency.{frecency_of}
 use Rattle.pl_base.specs.Live.{chunks, live_slots}
-use Rattle.pl_base.specs.Store.{Page, Store, Visit, roots}
+use Rattle.pl_base.specs.declared.id.ItemId.{ItemId}
+use Rattle.pl_base.specs.Good.{IsGood, child_ids}
+use Rattle.pl_base.specs.ItemKind.{item_kind_number}
+use Rattle.pl_base.specs.Store.{Item, Page, Store, Visit}
 use Rattle.pl_base.specs.Touched.{bytes_before, page_size}
-use Rattle.pl_form.specs.Form.{FormRows, StandsFor, filled_pages, four, header, in_pages, item_bytes, listed}
-use Rattle.pl_form.specs.Form.{most_pages, page_bytes, plain_bytes, store_rows, text_bytes, visit_bytes}
+use Rattle.pl_form.specs.Form.{FormRows, StandsFor, eight, filled_pages, four, header, in_pages, item_bytes}
+use Rattle.pl_form.specs.Form.{listed, most_pages, page_bytes, page_or_zero, plain_bytes, store_rows, text_bytes}
+use Rattle.pl_form.specs.Form.{visit_bytes}
+use Rattle.pl_form.proofs.FewChildren.{few_children, some_items}
 use Rattle.pl_form.proofs.ReadingPlain.{filled-enough}
 
 -- ---- the plain bytes
@@ -46,11 +51,45 @@ length_visits (v ∷ visits) =
       length_visits visits,
     )
 
-length_roots : length (listed item_bytes roots) ≡ 222
-length_roots = refl
-
 length-listed : {A : Type 0} (form : A → List ℕ) (xs : List A) → length (listed form xs) ≡ 4 + length (flat_map form xs)
 length-listed form xs = omega arith
+
+length_of_three : (a b c : List ℕ) → length (a ++ b ++ c) ≡ length a + length b + length c
+length_of_three a b c = simp length-append (omega arith)
+
+length-children : (ids : List ItemId) → length (flat_map (λ (c : ItemId). four c.0) ids) ≡ 4 * length ids
+length-children [] = refl
+length-children (c ∷ cs) =
+    omega (
+      arith,
+      length-append (four c.0) (flat_map (λ (d : ItemId). four d.0) cs),
+      length-children cs,
+    )
+
+length-item_bytes : (i : Item)
+    → length (item_bytes i) ≤ 33 + 120 * chunks i.title + 4 * length i.children
+length-item_bytes i =
+    omega (
+      arith,
+      length_of_three (four i.id.0 ++ four (page_or_zero i.page) ++ (item_kind_number i.kind ∷ [])
+          ++ eight i.added.0 ++ eight i.modified.0) (text_bytes i.title) (listed (λ (c : ItemId). four c.0) i.children),
+      length-listed (λ (c : ItemId). four c.0) i.children,
+      length-children i.children,
+    )
+
+length_items : (items : List Item)
+    → length (flat_map item_bytes items)
+    ≤ 33 * length items + 120 * sum_by (λ (i : Item). chunks i.title) items + 4 * length (child_ids items)
+length_items [] = omega arith
+length_items (i ∷ items) =
+    omega (
+      arith,
+      length-append (item_bytes i) (flat_map item_bytes items),
+      length-append i.children (child_ids items),
+      length-item_bytes i,
+      length_items items,
+      sum_by-cons (λ (j : Item). chunks j.title) i items,
+    )
 
 length_of_seven : (a b c d e f g : List ℕ)
     → length (a ++ b ++ c ++ d ++ e ++ f ++ g) ≡ length a + length b + length c + length d + length e + length f
@@ -64,12 +103,12 @@ length-plain_bytes rows =
     length_of_seven (four rows.day.0) (four rows.ids.page) (four rows.ids.visit) (four rows.ids.item)
     (listed page_bytes rows.pages) (listed visit_bytes rows.visits) (listed item_bytes rows.items)
 
--- with the roots as the only items: no more than a slot for each row, and those of the texts
-pub plain_within : {X : Type 0} (row : X → Page × ℤ) (xs : List X) (rows : FormRows) (slots : ℕ)
-    → rows.pages ≡ map row xs → rows.items ≡ roots
-    → length xs + length rows.visits + 6 + sum_by (λ x. text_slots (row x)) xs ≤ slots
-    → length (plain_bytes rows) ≤ 128 * slots
-plain_within row xs rows slots are items enough =
+-- with no more children than items: at most 41 bytes for each row, and those of the texts
+pub plain_within : {X : Type 0} (row : X → Page × ℤ) (xs : List X) (rows : FormRows) → rows.pages ≡ map row xs
+    → length (child_ids rows.items) ≤ length rows.items
+    → length (plain_bytes rows) ≤ 28 + 41 * (length xs + length rows.visits + length rows.items)
+    + 120 * (sum_by (λ x. text_slots (row x)) xs + sum_by (λ (i : Item). chunks i.title) rows.items)
+plain_within row xs rows are few =
     omega (
       arith,
       length-plain_bytes rows,
@@ -78,24 +117,24 @@ plain_within row xs rows slots are items enough =
       length_pages row xs,
       length-listed visit_bytes rows.visits,
       length_visits rows.visits,
-      ap (λ is. length (listed item_bytes is)) items,
-      length_roots,
-      enough,
+      length-listed item_bytes rows.items,
+      length_items rows.items,
+      few,
     )
 
-pub store_within : (store : Store) → store.items ≡ roots
-    → length (plain_bytes (store_rows store)) ≤ 128 * live_slots store
-store_within store items =
-    plain_within (λ (p : Page). (p, frecency_of store p)) store.pages (store_rows store) (live_slots store) refl items
-    (omega (arith, ap length items))
+pub store_within : (store : Store) → IsGood store → length (plain_bytes (store_rows store)) ≤ 128 * live_slots store
+store_within store good =
+    omega (
+      arith,
+      plain_within (λ (p : Page). (p, frecency_of store p)) store.pages (store_rows store) refl
+          (few_children store.items good.tree),
+      some_items store good.roots,
+    )
 
 -- ---- the pages
 
 length-header : (n : ℕ) → length (header n) ≡ page_size
 length-header n = refl
-
-length_of_three : (a b c : List ℕ) → length (a ++ b ++ c) ≡ length a + length b + length c
-length_of_three a b c = simp length-append (omega arith)
 
 whole_pages : (all first plain rest filled : ℕ) → all ≡ first + plain + rest → first ≡ page_size
     → rest ≡ page_size * filled - plain → plain ≤ page_size * filled → all ≡ page_size * (2 + filled - 1)
@@ -112,4 +151,4 @@ length-in_pages plain =
 -- no store's file is longer than the longest
 pub stands_within : (bytes : List ℕ) (store : Store) → StandsFor bytes store
     → 2 + filled_pages (length (plain_bytes (store_rows store))) ≤ most_pages
-stands_within bytes store stands = omega (arith, store_within store stands.of_visits, stands.live)
+stands_within bytes store stands = omega (arith, store_within store stands.good, stands.live)

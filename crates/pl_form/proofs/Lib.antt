@@ -1,9 +1,11 @@
 mod ConstantRows
+pub mod FewChildren
 pub mod FormLengths
 pub mod FormReads
 pub mod OneForm
 pub mod ReadingFile
 pub mod ReadingHeader
+pub mod ReadingItems
 pub mod ReadingLists
 pub mod ReadingNumbers
 pub mod ReadingPlain

@@ -9,17 +9,25 @@ use Rattle.std.proofs.lemmas.List.{append_cancel_left}
 use Rattle.std.proofs.lemmas.List.Elements.{All-head, All-tail}
 use Rattle.std.proofs.lemmas.Nat.{from_le_bytes-to_le_bytes_4, from_le_bytes-to_le_bytes_8}
 use Rattle.pl_base.specs.declared.id.Ids.{Ids}
+use Rattle.pl_base.specs.declared.id.PageId.{PageId}
 use Rattle.pl_base.specs.declared.id.VisitId.{VisitId}
+use Rattle.pl_base.specs.declared.item.ItemKind.{ItemKind}
+use Rattle.pl_base.specs.declared.item.ItemKind.TheVariants as kinds
 use Rattle.pl_base.specs.declared.transition.Transition.{Transition}
 use Rattle.pl_base.specs.declared.transition.Transition.TheVariants.{Link, Typed, Bookmark, Embed, RedirectPermanent}
 use Rattle.pl_base.specs.declared.transition.Transition.TheVariants.{RedirectTemporary, Download, FramedLink, Reload}
 use Rattle.pl_base.specs.Good.{IsTitle}
+use Rattle.pl_base.specs.ItemKind.{item_kind_at, item_kind_number}
+use Rattle.pl_base.specs.Store.{item_id}
 use Rattle.pl_base.specs.Transition.{transition_at, transition_number}
-use Rattle.pl_form.specs.Form.{eight, filled_pages, four, in_pages, listed, signed_eight, text_bytes}
-use Rattle.pl_form.specs.Form.{visit_or_zero}
-use Rattle.pl_form.specs.Reading.{IsAny, IsEight, IsFour, IsSignedEight, IsSource, IsUrl}
-use Rattle.pl_form.specs.Stored.{AreIdsFour, AreListed, AreStored, IsShort, HoldsRows, IsStoredPage, IsStoredVisit}
-use Rattle.pl_form.specs.Stored.{Stored, ids_bytes, stored_bytes, stored_page_bytes, stored_visit_bytes}
+use Rattle.pl_form.specs.Form.{eight, filled_pages, four, in_pages, item_bytes, listed, page_or_zero}
+use Rattle.pl_form.specs.Form.{signed_eight, text_bytes, visit_or_zero}
+use Rattle.pl_form.specs.Reading.{IsAny, IsEight, IsFour, IsItemPage, IsSignedEight, IsSource, IsUrl}
+use Rattle.pl_form.specs.Stored.{AreIdsFour, AreListed, AreStored, HoldsRows, IsChild, IsShort, IsStoredItem}
+use Rattle.pl_form.specs.Stored.{IsStoredPage, IsStoredVisit, Stored, child_bytes, children_bytes, ids_bytes}
+use Rattle.pl_form.specs.Stored.{stored_bytes, stored_page_bytes, stored_visit_bytes}
+use Rattle.pl_form.proofs.ReadingItems.{after_added, after_item_id, after_item_page, after_kind, after_modified}
+use Rattle.pl_form.proofs.ReadingItems.{item_page_bytes, item_pieces, kind_bytes, same_items}
 use Rattle.pl_form.proofs.ReadingNumbers.{front_is, rest_is}
 use Rattle.pl_form.proofs.ReadingPlain.{behind_header, behind_len, behind_name, behind_pages}
 use Rattle.pl_form.proofs.ReadingPlain.{blank, name, padding, plain_pieces, short-len}
@@ -27,7 +35,7 @@ use Rattle.pl_form.proofs.ReadingRows.{after_frecency, after_page_id, after_sour
 use Rattle.pl_form.proofs.ReadingRows.{after_visited, page_pieces, same_pages, same_visits, source_bytes}
 use Rattle.pl_form.proofs.ReadingRows.{transition_bytes, typed_bytes, visit_pieces}
 use Rattle.pl_form.proofs.ReadingStored.{after_day, after_ids, after_pages, after_visits}
-use Rattle.pl_form.proofs.ReadingStored.{ids_pieces, roots_bytes, rows_pieces, same_rows}
+use Rattle.pl_form.proofs.ReadingStored.{ids_pieces, rows_pieces, same_rows}
 use Rattle.pl_form.proofs.ReadingTexts.{title-short, url-short}
 
 -- no bytes begin with the forms of two values, nor with that of one value in two ways
@@ -88,6 +96,22 @@ source_only x y r s one other same =
     let id = four_only (visit_or_zero x) (visit_or_zero y) r s (source_fits x one) (source_fits y other) same in
     (same_source x y one other id.0, id.1)
 
+item_page_fits : (page : Option PageId) → IsItemPage page → IsFour (page_or_zero page)
+item_page_fits None one = omega arith
+item_page_fits (Some id) one = one.1
+
+-- 0 is the id of no page
+same_item_page : (a b : Option PageId) → IsItemPage a → IsItemPage b → page_or_zero a ≡ page_or_zero b → a ≡ b
+same_item_page None None one other same = refl
+same_item_page None (Some id) one other same = absurd (omega (arith, other.0, same))
+same_item_page (Some id) None one other same = absurd (omega (arith, one.0, same))
+same_item_page (Some a) (Some b) one other same = ap (λ n. Some (record { 0 = n })) same
+
+item_page_only : IsOnly item_page_bytes IsItemPage
+item_page_only x y r s one other same =
+    let id = four_only (page_or_zero x) (page_or_zero y) r s (item_page_fits x one) (item_page_fits y other) same in
+    (same_item_page x y one other id.0, id.1)
+
 eight_bytes : (z : ℤ) → IsSignedEight z → IsEight (cast_unsigned w64 z)
 eight_bytes z fits = Fits-lt-pow {w = w64} {n = cast_unsigned w64 z} (Fits-of_z {w = w64} {z = z} fits)
 
@@ -142,6 +166,17 @@ transition_only x y r s one other same =
     let some : Some x ≡ Some y = sym (numbered x) ∙ ap transition_at number ∙ numbered y in
     (cc, cc)
 
+kind_numbered : (k : ItemKind) → item_kind_at (item_kind_number k) ≡ Some k
+kind_numbered kinds.Bookmark = refl
+kind_numbered kinds.Folder = refl
+kind_numbered kinds.Separator = refl
+
+kind_only : IsOnly kind_bytes IsAny
+kind_only x y r s one other same =
+    let number : item_kind_number x ≡ item_kind_number y = cc in
+    let some : Some x ≡ Some y = sym (kind_numbered x) ∙ ap item_kind_at number ∙ kind_numbered y in
+    (cc, cc)
+
 -- a form by the pieces that make it
 by_pieces : {A : Type 0} (form pieces : A → List ℕ) (IsOne : A → Type 0) → ((x : A) → IsOne x → form x ≡ pieces x)
     → IsOnly pieces IsOne → IsOnly form IsOne
@@ -190,6 +225,37 @@ visit_only =
       transition.1,
     ))
 
+child_only : IsOnly child_bytes IsChild
+child_only x y r s one other same =
+    let number = four_only x.0 y.0 r s one other same in
+    (ap item_id number.0, number.1)
+
+item_only : IsOnly item_bytes IsStoredItem
+item_only =
+    by_pieces item_bytes (λ i. four i.id.0 ++ after_item_id i) IsStoredItem item_pieces
+    (λ x y r s one other same.
+    let id =
+    first four IsFour x.id.0 y.id.0 (after_item_id x) (after_item_id y) r s four_only one.0 other.0 same in
+    let page =
+    first item_page_bytes IsItemPage x.page y.page (after_item_page x) (after_item_page y) r s item_page_only
+    one.1 other.1 id.1 in
+    let kind =
+    first kind_bytes IsAny x.kind y.kind (after_kind x) (after_kind y) r s kind_only tt tt page.1 in
+    let added =
+    first eight IsEight x.added.0 y.added.0 (after_added x) (after_added y) r s eight_only one.2 other.2 kind.1 in
+    let modified =
+    first eight IsEight x.modified.0 y.modified.0 (after_modified x) (after_modified y) r s eight_only one.3
+    other.3 added.1 in
+    let title =
+    first text_bytes IsTitle x.title y.title (children_bytes x.children) (children_bytes y.children) r s
+    (text_only IsTitle title-short) one.4 other.4 modified.1 in
+    let children =
+    listed_only child_bytes IsChild child_only x.children y.children r s one.5 other.5 title.1 in (
+      same_items x.id.0 y.id.0 x.page y.page x.kind y.kind x.added.0 y.added.0 x.modified.0 y.modified.0 x.title
+          y.title x.children y.children id.0 page.0 kind.0 added.0 modified.0 title.0 children.0,
+      children.1,
+    ))
+
 ids_only : IsOnly ids_bytes AreIdsFour
 ids_only =
     by_pieces ids_bytes (λ ids. four ids.page ++ (four ids.visit ++ four ids.item)) AreIdsFour ids_pieces
@@ -217,9 +283,12 @@ rows_only =
     let visits =
     first (listed stored_visit_bytes) (AreListed IsStoredVisit) x.visits y.visits (after_visits x)
     (after_visits y) r s (listed_only stored_visit_bytes IsStoredVisit visit_only) one.visits other.visits
-    pages.1 in (
-      same_rows x.day.0 y.day.0 x.ids y.ids x.pages y.pages x.visits y.visits day.0 ids.0 pages.0 visits.0,
-      (constant_only (roots_bytes tt) tt tt r s tt tt visits.1).1,
+    pages.1 in
+    let items =
+    listed_only item_bytes IsStoredItem item_only x.items y.items r s one.items other.items visits.1 in (
+      same_rows x.day.0 y.day.0 x.ids y.ids x.pages y.pages x.visits y.visits x.items y.items day.0 ids.0 pages.0
+          visits.0 items.0,
+      items.1,
     ))
 
 -- ---- the pages

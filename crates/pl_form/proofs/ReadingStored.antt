@@ -3,15 +3,15 @@ use Rattle.std.proofs.Common.{◌≡◌, ◌∙◌, ℕ, List, [], ◌∷◌, �
 use Rattle.std.specs.List.{flat_map}
 use Rattle.std.proofs.lemmas.List.{length-map}
 use Rattle.pl_base.specs.declared.id.Ids.{Ids}
-use Rattle.pl_base.specs.Store.{roots}
+use Rattle.pl_base.specs.Store.{Item}
 use Rattle.pl_form.specs.declared.check_error.CheckError.{CheckError}
 use Rattle.pl_form.specs.declared.stored.StoredVisit.{StoredVisit}
 use Rattle.pl_form.specs.declared.stored.StoredPage.{StoredPage}
 use Rattle.pl_form.specs.Form.{four, item_bytes, listed, page_bytes, visit_bytes}
-use Rattle.pl_form.specs.Reading.{IsAny, IsFour, Reads}
-use Rattle.pl_form.specs.Stored.{AreIdsFour, AreListed, AreStored, IsStoredPage, IsStoredVisit, Stored, ids_bytes}
-use Rattle.pl_form.specs.Stored.{page_row, stored_bytes, stored_page_bytes, stored_visit_bytes, visit_of}
-use Rattle.pl_form.proofs.FormReads.{Reached, started, further, stopped, arrived, regroup_five}
+use Rattle.pl_form.specs.Reading.{IsFour, Reads}
+use Rattle.pl_form.specs.Stored.{AreIdsFour, AreListed, AreStored, IsStoredItem, IsStoredPage, IsStoredVisit, Stored}
+use Rattle.pl_form.specs.Stored.{ids_bytes, page_row, stored_bytes, stored_page_bytes, stored_visit_bytes, visit_of}
+use Rattle.pl_form.proofs.FormReads.{Reached, started, further, stopped, arrived, regroup_five, to_last}
 
 -- ---- the next ids
 
@@ -39,11 +39,8 @@ listed-map f g xs =
     ap (λ n. four n ++ flat_map f (map g xs)) (length-map xs g)
     ∙ ap (λ ys. four (length xs) ++ ys) (flat_map-map f g xs)
 
-abbrev pub roots_bytes : Unit {0} → List ℕ
-roots_bytes _ = listed item_bytes roots
-
 abbrev pub after_visits : Stored → List ℕ
-after_visits rows = roots_bytes tt
+after_visits rows = listed item_bytes rows.items
 
 abbrev pub after_pages : Stored → List ℕ
 after_pages rows = listed stored_visit_bytes rows.visits ++ after_visits rows
@@ -61,12 +58,12 @@ regroup a b c d p v r = simp append_assoc
 pub rows_pieces : (rows : Stored) → AreStored rows → stored_bytes rows ≡ four rows.day.0 ++ after_day rows
 rows_pieces rows one =
     regroup (four rows.day.0) (four rows.ids.page) (four rows.ids.visit) (four rows.ids.item)
-    (listed page_bytes (map page_row rows.pages)) (listed visit_bytes (map visit_of rows.visits)) (roots_bytes tt)
+    (listed page_bytes (map page_row rows.pages)) (listed visit_bytes (map visit_of rows.visits)) (after_visits rows)
     ∙ ap (λ p. four rows.day.0
-    ++ (ids_bytes rows.ids ++ (p ++ (listed visit_bytes (map visit_of rows.visits) ++ roots_bytes tt))))
+    ++ (ids_bytes rows.ids ++ (p ++ (listed visit_bytes (map visit_of rows.visits) ++ after_visits rows))))
     (listed-map page_bytes page_row rows.pages)
     ∙ ap (λ v. four rows.day.0
-    ++ (ids_bytes rows.ids ++ (listed stored_page_bytes rows.pages ++ (v ++ roots_bytes tt))))
+    ++ (ids_bytes rows.ids ++ (listed stored_page_bytes rows.pages ++ (v ++ after_visits rows))))
     (listed-map visit_bytes visit_of rows.visits)
 
 day_reached : (bytes b : List ℕ) (day : ℕ) → Reads four IsFour bytes (Ok day) b
@@ -127,35 +124,40 @@ no_visits bytes b c d e day ids pages error first second third fourth =
     stopped (listed stored_visit_bytes) (AreListed IsStoredVisit) (λ rows. rows.visits) after_visits e error
     (λ rows one. one.visits) (pages_reached bytes b c d day ids pages first second third) fourth
 
-pub no_roots : (bytes b c d e f : List ℕ) (day : ℕ) (ids : Ids) (pages : List StoredPage) (visits : List StoredVisit)
+pub no_items : (bytes b c d e f : List ℕ) (day : ℕ) (ids : Ids) (pages : List StoredPage) (visits : List StoredVisit)
     (error : CheckError) → Reads four IsFour bytes (Ok day) b → Reads ids_bytes AreIdsFour b (Ok ids) c
     → Reads (listed stored_page_bytes) (AreListed IsStoredPage) c (Ok pages) d
     → Reads (listed stored_visit_bytes) (AreListed IsStoredVisit) d (Ok visits) e
-    → Reads {A = Unit {0}} roots_bytes IsAny e (Err error) f → Reads stored_bytes AreStored bytes (Err error) f
-no_roots bytes b c d e f day ids pages visits error first second third fourth fifth =
-    stopped roots_bytes IsAny (λ rows. tt) (λ rows. []) f error (λ rows one. tt)
-    (visits_reached bytes b c d e day ids pages visits first second third fourth) fifth
+    → Reads (listed item_bytes) (AreListed IsStoredItem) e (Err error) f
+    → Reads stored_bytes AreStored bytes (Err error) f
+no_items bytes b c d e f day ids pages visits error first second third fourth fifth =
+    stopped (listed item_bytes) (AreListed IsStoredItem) (λ rows. rows.items) (λ rows. []) f error
+    (λ rows one. one.items)
+    (to_last (visits_reached bytes b c d e day ids pages visits first second third fourth)) fifth
 
-pub same_rows : (i j : ℕ) (k l : Ids) (p q : List StoredPage) (v w : List StoredVisit) → i ≡ j → k ≡ l → p ≡ q → v ≡ w
-    → ◌≡◌ {A = Stored} (record { day = record { 0 = i }; ids = k; pages = p; visits = v })
-    (record { day = record { 0 = j }; ids = l; pages = q; visits = w })
-same_rows i j k l p q v w a b c d = cc
+abbrev pub rows_with : ℕ → Ids → List StoredPage → List StoredVisit → List Item → Stored
+rows_with day ids pages visits items =
+    record { day = record { 0 = day }; ids = ids; pages = pages; visits = visits; items = items }
+
+pub same_rows : (i j : ℕ) (k l : Ids) (p q : List StoredPage) (v w : List StoredVisit) (s t : List Item) → i ≡ j → k ≡ l
+    → p ≡ q → v ≡ w → s ≡ t → rows_with i k p v s ≡ rows_with j l q w t
+same_rows i j k l p q v w s t a b c d e = cc
 
 pub rows_read : (bytes b c d e f : List ℕ) (day : ℕ) (ids : Ids) (pages : List StoredPage) (visits : List StoredVisit)
-    → Reads four IsFour bytes (Ok day) b → Reads ids_bytes AreIdsFour b (Ok ids) c
+    (items : List Item) → Reads four IsFour bytes (Ok day) b → Reads ids_bytes AreIdsFour b (Ok ids) c
     → Reads (listed stored_page_bytes) (AreListed IsStoredPage) c (Ok pages) d
     → Reads (listed stored_visit_bytes) (AreListed IsStoredVisit) d (Ok visits) e
-    → Reads {A = Unit {0}} roots_bytes IsAny e (Ok tt) f
-    → Reads stored_bytes AreStored bytes
-    (Ok (record { day = record { 0 = day }; ids = ids; pages = pages; visits = visits })) f
-rows_read bytes b c d e f day ids pages visits first second third fourth fifth =
-    let rows : Stored = record { day = record { 0 = day }; ids = ids; pages = pages; visits = visits } in
+    → Reads (listed item_bytes) (AreListed IsStoredItem) e (Ok items) f
+    → Reads stored_bytes AreStored bytes (Ok (rows_with day ids pages visits items)) f
+rows_read bytes b c d e f day ids pages visits items first second third fourth fifth =
+    let rows : Stored = rows_with day ids pages visits items in
     let one : AreStored rows =
-    record { day = first.ok.0; ids = second.ok.0; pages = third.ok.0; visits = fourth.ok.0 } in
+    record { day = first.ok.0; ids = second.ok.0; pages = third.ok.0; visits = fourth.ok.0; items = fifth.ok.0 } in
     arrived {left = f} rows one
     (regroup_five (four day) (ids_bytes ids) (listed stored_page_bytes pages) (listed stored_visit_bytes visits)
-    (roots_bytes tt) ∙ sym (rows_pieces rows one))
-    (λ other ones same. same_rows day other.day.0 ids other.ids pages other.pages visits other.visits same.0.0.0.0.1
-    same.0.0.0.1 same.0.0.1 same.0.1)
-    (further roots_bytes IsAny (λ rows. tt) (λ rows. []) f tt (λ rows one. tt)
-    (visits_reached bytes b c d e day ids pages visits first second third fourth) fifth)
+    (listed item_bytes items) ∙ sym (rows_pieces rows one))
+    (λ other ones same. same_rows day other.day.0 ids other.ids pages other.pages visits other.visits items other.items
+    same.0.0.0.0.1 same.0.0.0.1 same.0.0.1 same.0.1 same.1)
+    (further (listed item_bytes) (AreListed IsStoredItem) (λ rows. rows.items) (λ rows. []) f items
+    (λ rows one. one.items)
+    (to_last (visits_reached bytes b c d e day ids pages visits first second third fourth)) fifth)

@@ -13,9 +13,10 @@ use Rattle.pl_base.specs.declared.id.PageId.{PageId}
 use Rattle.pl_base.specs.declared.id.VisitId.{VisitId}
 use Rattle.pl_base.specs.Frecency.{frecency_of}
 use Rattle.pl_base.specs.Good.{IsGood}
+use Rattle.pl_base.specs.ItemKind.{item_kind_number}
 use Rattle.pl_base.specs.Live.{live_slots, slot_limit, slot_size}
-use Rattle.pl_base.specs.Rows.{Kept, KeptPage, IsOfVisits}
-use Rattle.pl_base.specs.Store.{Store, Page, Visit, Item, ItemKind, bookmark, folder, separator}
+use Rattle.pl_base.specs.Rows.{Kept, KeptPage}
+use Rattle.pl_base.specs.Store.{Store, Page, Visit, Item}
 use Rattle.pl_base.specs.Touched.{page_size}
 use Rattle.pl_base.specs.Transition.{transition_number}
 
@@ -53,12 +54,6 @@ page_or_zero (Some id) = id.0
 abbrev pub visit_or_zero : Option VisitId → ℕ
 visit_or_zero None = 0
 visit_or_zero (Some id) = id.0
-
--- the number of what an item is
-abbrev pub item_kind_number : ItemKind → ℕ
-item_kind_number bookmark = 1
-item_kind_number folder = 2
-item_kind_number separator = 3
 
 -- a page and its frecency
 abbrev pub page_bytes : Page × ℤ → List ℕ
@@ -142,11 +137,10 @@ store_rows store =
       items = store.items;
     }
 
--- The bytes from page 1 on stand for a good store, as far as this form has it yet, with no more
--- slots than it may have and with URLs that are texts. What lies behind the store's pages is free.
+-- The bytes from page 1 on stand for a good store with no more slots than it may have and with URLs
+-- that are texts. What lies behind the store's pages is free.
 pub record StandsFor (bytes : List ℕ) (store : Store) : Type 0 where
   pub good : IsGood store
-  pub of_visits : IsOfVisits store
   pub texts : All (λ (p : Page). IsUtf8 p.url) store.pages
   pub live : live_slots store ≤ slot_limit
   pub begins : take (length (form_bytes (store_rows store))) bytes ≡ form_bytes (store_rows store)

@@ -5,6 +5,7 @@ use Rattle.std.specs.declared.alloc.Global.{Global}
 use Rattle.std.specs.Int.{w64}
 use Rattle.std.specs.Int.RustNames.{FitsSigned}
 use Rattle.std.specs.Str.{IsUtf8}
+use Rattle.pl_base.specs.declared.id.PageId.{PageId}
 use Rattle.pl_base.specs.declared.id.VisitId.{VisitId}
 use Rattle.pl_base.specs.Address.{canon}
 use Rattle.pl_form.specs.declared.check_error.CheckError.{CheckError}
@@ -29,6 +30,10 @@ IsUrl url = IsUtf8 url × (canon url ≡ Some url)
 -- no visit, or the id of one
 abbrev pub IsSource : Option VisitId → Type 0
 IsSource source = IfSome source (λ id. (0 < id.0) × IsFour id.0)
+
+-- no page, or the id of one
+abbrev pub IsItemPage : Option PageId → Type 0
+IsItemPage page = IfSome page (λ id. (0 < id.0) × IsFour id.0)
 
 -- any value
 abbrev pub IsAny : {A : Type 0} → A → Type 0

@@ -1,18 +1,19 @@
--- The rows of a store as a file has them, as far as its form has them yet.
+-- The rows of a store as a file has them.
 use Rattle.std.specs.Prelude.{◌≡◌, ◌+◌, ◌<◌, ◌^◌, ◌++◌, ℕ, ℤ, List}
 use Rattle.std.specs.Prelude.{length, map, Result, Ok, Err}
 use Rattle.std.specs.List.{All}
 use Rattle.pl_base.specs.declared.date.Day.{Day}
 use Rattle.pl_base.specs.declared.id.Ids.{Ids}
+use Rattle.pl_base.specs.declared.id.ItemId.{ItemId}
 use Rattle.pl_base.specs.Good.{IsTitle}
-use Rattle.pl_base.specs.Store.{Page, Store, Visit, roots}
+use Rattle.pl_base.specs.Store.{Item, Page, Store, Visit}
 use Rattle.pl_form.specs.declared.check_error.CheckError.{CheckError}
 use Rattle.pl_form.specs.declared.plain.Plain.{Plain}
 use Rattle.pl_form.specs.declared.stored.StoredVisit.{StoredVisit}
 use Rattle.pl_form.specs.declared.stored.StoredPage.{StoredPage}
-use Rattle.pl_form.specs.Form.{FormRows, filled_pages, four, in_pages}
+use Rattle.pl_form.specs.Form.{FormRows, filled_pages, four, in_pages, listed}
 use Rattle.pl_form.specs.Form.{page_bytes, plain_bytes, visit_bytes}
-use Rattle.pl_form.specs.Reading.{IsEight, IsFour, IsSignedEight, IsSource, IsUrl}
+use Rattle.pl_form.specs.Reading.{IsEight, IsFour, IsItemPage, IsSignedEight, IsSource, IsUrl}
 
 -- a page without its frecency
 abbrev pub stored_page : StoredPage → Page
@@ -53,14 +54,33 @@ IsStoredVisit v = IsFour v.id.0 × IsFour v.page.0 × IsSource v.source × IsEig
 abbrev pub AreListed : {A : Type 0} → (A → Type 0) → List A → Type 0
 AreListed IsOne xs = All IsOne xs × (length xs < 2 ^ 32)
 
--- the rows of a file whose only items are the roots
+-- a child whose number fits
+abbrev pub IsChild : ItemId → Type 0
+IsChild id = IsFour id.0
+
+-- the bytes of the id of a child
+abbrev pub child_bytes : ItemId → List ℕ
+child_bytes id = four id.0
+
+-- the bytes of the ids of children
+abbrev pub children_bytes : List ItemId → List ℕ
+children_bytes ids = listed child_bytes ids
+
+-- an item whose numbers fit, with a title that is not too long
+abbrev pub IsStoredItem : Item → Type 0
+IsStoredItem i =
+    IsFour i.id.0 × IsItemPage i.page × IsEight i.added.0 × IsEight i.modified.0 × IsTitle i.title
+    × AreListed IsChild i.children
+
+-- the rows of a file
 pub record Stored : Type 0 where
   pub day : Day
   pub ids : Ids
   pub pages : List StoredPage
   pub visits : List StoredVisit
+  pub items : List Item
 
--- the rows with the roots as their items
+-- the rows with their pages and visits as their form has them
 abbrev pub form_rows : Stored → FormRows
 form_rows rows =
     record {
@@ -68,7 +88,7 @@ form_rows rows =
       ids = rows.ids;
       pages = map page_row rows.pages;
       visits = map visit_of rows.visits;
-      items = roots;
+      items = rows.items;
     }
 
 -- the plain bytes of the rows
@@ -83,7 +103,7 @@ stored_store rows =
       ids = rows.ids;
       pages = map stored_page rows.pages;
       visits = map visit_of rows.visits;
-      items = roots;
+      items = rows.items;
     }
 
 -- the bytes of the next ids
@@ -100,6 +120,7 @@ pub record AreStored (rows : Stored) : Type 0 where
   pub ids : AreIdsFour rows.ids
   pub pages : AreListed IsStoredPage rows.pages
   pub visits : AreListed IsStoredVisit rows.visits
+  pub items : AreListed IsStoredItem rows.items
 
 -- plain bytes whose pages have a number of 4 bytes
 abbrev pub IsShort : List ℕ → Type 0

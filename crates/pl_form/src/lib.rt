@@ -3,10 +3,10 @@
 
 mod check_error;
 mod header;
+mod items;
 mod plain;
 mod read;
 mod reader;
-mod roots;
 mod stored;
 
 pub use check_error::CheckError;

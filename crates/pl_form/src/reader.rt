@@ -2,13 +2,14 @@ ghost use Rattle.std.specs.Prelude.{◌≡◌, ◌==◌, ◌<◌, ◌++◌, [], 
 ghost use Rattle.std.specs.Int.{w32, w64, from_le_bytes};
 ghost use Rattle.std.specs.List.{list_all};
 ghost use Rattle.pl_base.specs.Good.{IsTitle};
+ghost use Rattle.pl_base.specs.ItemKind.{item_kind_number};
 ghost use Rattle.pl_base.specs.Transition.{transition_number};
 ghost use Rattle.pl_form.specs.Form as form;
-ghost use Rattle.pl_form.specs.Reading.{IsAny, IsEight, IsFour, IsSignedEight, IsSource, IsUrl};
-ghost use Rattle.pl_form.specs.Reading.{Reads};
+ghost use Rattle.pl_form.specs.Reading.{IsAny, IsEight, IsFour, IsItemPage, IsSignedEight};
+ghost use Rattle.pl_form.specs.Reading.{IsSource, IsUrl, Reads};
 
 use crate::CheckError;
-use pl_base::{LONGEST_TITLE, Transition, Txt, VisitId};
+use pl_base::{ItemKind, LONGEST_TITLE, PageId, Transition, Txt, VisitId};
 use pl_link::Canon;
 use std::alloc::Global;
 use std::marker::Model;
@@ -165,6 +166,33 @@ impl<'a> Reader<'a> {
             return Ok(None);
         }
         Ok(Some(VisitId(id)))
+    }
+
+    /// The id of an item's page, or 0 of none.
+    pub fn item_page(&mut self) -> Result<Option<PageId>, CheckError>
+        ensures page { Reads (λ p. form.four (form.page_or_zero p)) IsItemPage
+            self.old result self.new }
+        ensures sure { IfErr result (λ e. e ≡ CheckError.NotAStore) }
+    {
+        match self.four()? {
+            0 => Ok(None),
+            id => Ok(Some(PageId(id))),
+        }
+    }
+
+    /// The number of what an item is.
+    pub fn item_kind(&mut self) -> Result<ItemKind, CheckError>
+        ensures kind { Reads (λ k. item_kind_number k ∷ []) IsAny self.old result self.new }
+        ensures sure { IfErr result (λ e. e ≡ CheckError.NotAStore) }
+    {
+        let Some((number, left)) = self.left.split_first() else {
+            return Err(CheckError::NotAStore);
+        };
+        let Some(kind) = ItemKind::from_number(*number) else {
+            return Err(CheckError::NotAStore);
+        };
+        self.left = left;
+        Ok(kind)
     }
 
     /// These bytes and no others.

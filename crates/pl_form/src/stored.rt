@@ -7,8 +7,7 @@ ghost use Rattle.pl_form.specs.Stored.{stored_page_bytes, stored_visit_bytes};
 
 use crate::CheckError;
 use crate::reader::Reader;
-use crate::roots::ROOTS;
-use pl_base::{Day, Ids, Micros, PageId, Transition, Txt, VisitId};
+use pl_base::{Day, Ids, Micros, PageId, Transition, TreeItem, Txt, VisitId};
 use pl_link::Canon;
 use std::alloc::Global;
 use std::marker::Model;
@@ -40,6 +39,7 @@ pub struct StoredRows {
     pub ids: Ids,
     pub pages: Vec<StoredPage>,
     pub visits: Vec<StoredVisit>,
+    pub items: Vec<TreeItem>,
 }
 
 impl Model for StoredRows {
@@ -52,11 +52,12 @@ impl Model for StoredRows {
       ids = r.ids;
       pages = r.pages.items;
       visits = r.visits.items;
+      items = r.items.items;
     } };
 }
 
 impl Reader<'_> {
-    /// The rows of a store whose only items are the roots.
+    /// The rows of a store.
     pub fn rows(&mut self, alloc: Global) -> Result<StoredRows, CheckError>
         ensures { Reads stored_bytes AreStored self.old result self.new }
     {
@@ -64,12 +65,13 @@ impl Reader<'_> {
         let ids = self.ids()?;
         let pages = self.pages(alloc)?;
         let visits = self.visits(alloc)?;
-        self.constant(ROOTS)?;
+        let items = self.items(alloc)?;
         Ok(StoredRows {
             day,
             ids,
             pages,
             visits,
+            items,
         })
     }
 

@@ -1,13 +1,16 @@
 -- What one write after another leaves.
-use Rattle.std.proofs.Common.{◌≡◌, ◌+◌, ◌-◌, ◌<◌, ◌≤◌, ◌++◌, ◌∙◌, ℕ, List, ap}
-use Rattle.std.proofs.Common.{append_assoc, arith, get_or, length, map, take}
-use Rattle.std.specs.List.{flat_map, range_with_len}
+use Rattle.std.proofs.Common.{◌≡◌, ◌+◌, ◌<◌, ◌≤◌, ◌++◌, ◌∙◌, ℕ, List, [], ◌∷◌, ap, arith}
+use Rattle.std.proofs.Common.{append_assoc, get_or, length, length-append, map, refl, suc, take, zero}
+use Rattle.std.specs.List.{All}
+use Rattle.std.specs.List.{flat_map}
 use Rattle.std.proofs.lemmas.List.{flat_map_more, length-map, map_push, take_more}
+use Rattle.std.proofs.lemmas.List.Elements.{All-cons, All-head, All-nil, All-tail}
 use Rattle.std.proofs.lemmas.List.Folds.{flat_map-map}
-use Rattle.std.proofs.lemmas.List.FromFn.{map-range_with_len_more}
 use Rattle.pl_base.specs.declared.id.ItemId.{ItemId}
-use Rattle.pl_base.specs.Store.{item_id}
+use Rattle.pl_base.specs.Good.{child_ids}
+use Rattle.pl_base.specs.Store.{Item}
 use Rattle.pl_form.specs.Form.{four, listed}
+use Rattle.pl_items.specs.declared.by_id.Child.{Child}
 
 -- two writes, and more
 pub two_writes : (o a b : List ℕ) {o1 o2 : List ℕ} → o1 ≡ o ++ a → o2 ≡ o1 ++ b → o2 ≡ o ++ (a ++ b)
@@ -36,15 +39,44 @@ listed_more form row xs i x before out new within read so_far wrote =
     rw (take_more xs i x within, ← read, map_push row (take i xs) x)
     (wrote ∙ ap (λ zs. zs ++ form (row x)) so_far ∙ flat_map_more form before (map row (take i xs)) (row x))
 
--- the form of one number more
-pub numbered_more : {A : Type 0} (form : A → List ℕ) (row : ℕ → A) (first i : ℕ) (before out new : List ℕ) → first ≤ i
-    → out ≡ before ++ flat_map form (map row (range_with_len first (i - first))) → new ≡ out ++ form (row i)
-    → new ≡ before ++ flat_map form (map row (range_with_len first (i + 1 - first)))
-numbered_more form row first i before out new reached so_far wrote =
-    let count : i + 1 - first ≡ i - first + 1 = omega arith in
-    rw (count, map-range_with_len_more row first (i - first) i (omega arith))
-    (wrote ∙ ap (λ zs. zs ++ form (row i)) so_far
-    ∙ flat_map_more form before (map row (range_with_len first (i - first))) (row i))
+-- one element more of a list that is written as it stands
+pub written_more : {A : Type 0} (form : A → List ℕ) (xs : List A) (i : ℕ) (x : A) (before out new : List ℕ)
+    → i < length xs → x ≡ get_or xs i x → out ≡ before ++ flat_map form (take i xs) → new ≡ out ++ form x
+    → new ≡ before ++ flat_map form (take (i + 1) xs)
+written_more form xs i x before out new within read so_far wrote =
+    rw (take_more xs i x within, ← read)
+    (wrote ∙ ap (λ zs. zs ++ form x) so_far ∙ flat_map_more form before (take i xs) x)
 
-pub listed-item_id : (ids : List ℕ) → listed four ids ≡ listed (λ (c : ItemId). four c.0) (map item_id ids)
-listed-item_id ids = rw (length-map ids item_id, flat_map-map (λ (c : ItemId). four c.0) item_id ids)
+-- an item has no more children than all have
+pub children_within : (items : List Item) (k : ℕ) (d : Item) → k < length items
+    → length (get_or items k d).children ≤ length (child_ids items)
+children_within [] k d within = absurd (omega arith)
+children_within (i ∷ items) zero d within = omega (arith, length-append i.children (child_ids items))
+children_within (i ∷ items) (suc k) d within =
+    omega (arith, length-append i.children (child_ids items), children_within items k d (omega arith))
+
+-- what holds of all of two lists holds of each
+All-parts : {A : Type 0} (P : A → Type 0) (xs ys : List A) → All P (xs ++ ys) → All P xs × All P ys
+All-parts P [] ys all = (All-nil P, all)
+All-parts P (x ∷ xs) ys all =
+    let rest = All-parts P xs ys (All-tail P x (xs ++ ys) all) in
+    (All-cons P x xs (All-head P x (xs ++ ys) all) rest.0, rest.1)
+
+-- what holds of the children of all holds of those of one
+pub children_known : (P : ItemId → Type 0) (items : List Item) (k : ℕ) (d : Item) → k < length items
+    → All P (child_ids items) → All P (get_or items k d).children
+children_known P [] k d within known = absurd (omega arith)
+children_known P (i ∷ items) zero d within known =
+    (All-parts P i.children (child_ids items) known).0
+children_known P (i ∷ items) (suc k) d within known =
+    children_known P items k d (omega arith) (All-parts P i.children (child_ids items) known).1
+
+-- the ids of children
+pub listed-children : (children : List Child)
+    → listed (λ (c : Child). four c.id.0) children
+    ≡ listed (λ (id : ItemId). four id.0) (map (λ (c : Child). c.id) children)
+listed-children children =
+    rw (
+      length-map children (λ (c : Child). c.id),
+      flat_map-map (λ (id : ItemId). four id.0) (λ (c : Child). c.id) children,
+    ) refl

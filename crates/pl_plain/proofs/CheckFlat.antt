@@ -15,12 +15,12 @@ use Rattle.pl_base.specs.declared.id.Slot.{Slot}
 use Rattle.pl_base.specs.Address.{is_store_url, same_origin}
 use Rattle.pl_base.specs.Date.{IsDate}
 use Rattle.pl_base.specs.Frecency.{frecency_of}
-use Rattle.pl_base.specs.Good.{AreIds, IsGoodVisit, IsTitle}
+use Rattle.pl_base.specs.Good.{AreIds, IsGood, IsGoodItem, IsGoodVisit, IsTitle, IsTree}
 use Rattle.pl_base.specs.Live.{chunks, live_slots, origin_count}
 use Rattle.pl_base.specs.Marks.{is_hidden, visit_count}
 use Rattle.pl_base.specs.Redirects.{visit_by_id}
 use Rattle.pl_base.specs.Rows.{HasSource, IsRight, Kept, KeptPage, has_page, store_of, AreAlike}
-use Rattle.pl_base.specs.Store.{Page, Store, Visit, roots}
+use Rattle.pl_base.specs.Store.{Item, Page, Store, Visit}
 use Rattle.pl_base.proofs.OriginLaws.{origins_equal}
 use Rattle.pl_plain.specs.declared.flat.row.FlatPage.{FlatPage}
 use Rattle.pl_form.specs.declared.stored.StoredPage.{StoredPage}
@@ -35,7 +35,7 @@ use Rattle.pl_base.specs.Touched.{bytes_before}
 use Rattle.pl_plain.proofs.CheckOrigins.{same_of_key}
 use Rattle.pl_form.proofs.FormLengths.{length-in_pages}
 use Rattle.pl_base.proofs.ListLaws.{list_any-map, map-map, sum_by-map, AllPairs-from_map}
-use Rattle.pl_plain.proofs.Lookups.{some_in}
+use Rattle.pl_base.proofs.ListLaws.{some_in}
 use Rattle.pl_plain.proofs.StoredTexts.{store_url-is}
 
 same_page : (rows : Stored) (p : StoredPage) (q : FlatPage) → IsAssessed rows p q → (page_of q).page ≡ stored_page p
@@ -58,7 +58,7 @@ pub store-same : (rows : Stored) (qs : List FlatPage) (origins : ℕ) → AllZip
     → store_of (kept_of_rows rows qs origins) ≡ stored_store rows
 store-same rows qs origins zip =
     ap (λ (pages : List Page).
-    record { day = rows.day; ids = rows.ids; pages = pages; visits = map visit_of rows.visits; items = roots })
+    record { day = rows.day; ids = rows.ids; pages = pages; visits = map visit_of rows.visits; items = rows.items })
     (pages_same rows rows.pages qs zip)
 
 -- what holds of each flat page
@@ -120,16 +120,16 @@ rows_same : (rows : Stored) (qs : List FlatPage) (origins : ℕ) → AllZip (IsA
     → kept_rows (kept_of_rows rows qs origins) ≡ form_rows rows
 rows_same rows qs origins zip =
     ap (λ (pages : List (Page × ℤ)).
-    record { day = rows.day; ids = rows.ids; pages = pages; visits = map visit_of rows.visits; items = roots })
+    record { day = rows.day; ids = rows.ids; pages = pages; visits = map visit_of rows.visits; items = rows.items })
     (kept_pages rows rows.pages qs zip)
 
 pub bytes-same : (rows : Stored) (qs : List FlatPage) (origins : ℕ) → AllZip (IsAssessed rows) rows.pages qs
-    → bytes_from rows.day rows.ids qs origins rows.visits ≡ in_pages (stored_bytes rows)
+    → bytes_from rows.day rows.ids qs origins rows.visits rows.items ≡ in_pages (stored_bytes rows)
 bytes-same rows qs origins zip = ap form_bytes (rows_same rows qs origins zip)
 
 pub bytes-length : (rows : Stored) (qs : List FlatPage) (origins pages : ℕ) → AllZip (IsAssessed rows) rows.pages qs
     → pages ≡ 2 + filled_pages (length (stored_bytes rows))
-    → length (bytes_from rows.day rows.ids qs origins rows.visits) ≡ bytes_before pages
+    → length (bytes_from rows.day rows.ids qs origins rows.visits rows.items) ≡ bytes_before pages
 bytes-length rows qs origins pages zip counted =
     ap length (bytes-same rows qs origins zip) ∙ length-in_pages (stored_bytes rows) ∙ ap bytes_before (sym counted)
 
@@ -147,8 +147,9 @@ page_urls rows qs origins zip =
 
 pub slots-by : (rows : Stored) (qs : List FlatPage) (keys : List Key) (origins live : ℕ)
     → AllZip (IsAssessed rows) rows.pages qs → AreNamed qs keys → origins ≡ length keys
-    → live ≡ origins + length rows.pages + length rows.visits + 6
+    → live ≡ origins + length rows.pages + length rows.visits + length rows.items
     + sum_by (λ (p : StoredPage). chunks p.url + chunks p.title) rows.pages
+    + sum_by (λ (i : Item). chunks i.title) rows.items
     → live ≡ live_slots (stored_store rows)
 slots-by rows qs keys origins live zip named count slots =
     let counted : origins ≡ origin_count (map (λ (p : Page). p.url) (map stored_page rows.pages)) =
@@ -209,15 +210,18 @@ alike keys p q distinct first second = (
 )
 
 pub is-flat : (rows : Stored) (qs : List FlatPage) (keys : List Key) (origins live : ℕ)
-    → IsGiven rows qs keys origins live → IsFlat (kept_of_rows rows qs origins) origins live
-is-flat rows qs keys origins live h =
+    → IsGiven rows qs keys origins live → IsTree rows.items → IsFlat (kept_of_rows rows qs origins) origins live
+is-flat rows qs keys origins live h tree =
     let kept : Kept = kept_of_rows rows qs origins in
+    let good : IsGood (stored_store rows) = h.good tree in
     record {
-      day = h.good.day;
-      page_ids = subst (AreIds 1 rows.ids.page) (sym (ids_same rows qs h.pages)) h.good.page_ids;
-      visit_ids = h.good.visit_ids;
-      item_first = h.good.item_ids.next_first;
-      item_last = h.good.item_ids.next_last;
+      day = good.day;
+      page_ids = subst (AreIds 1 rows.ids.page) (sym (ids_same rows qs h.pages)) good.page_ids;
+      visit_ids = good.visit_ids;
+      item_ids = good.item_ids;
+      item_titles =
+          All-weaker (IsGoodItem (stored_store rows)) (λ (i : Item). IsTitle i.title) (λ i one. one.title) rows.items
+          good.items;
       urls =
           All-map (λ (k : KeptPage). IsTrue (is_store_url k.page.url)) page_of qs
           (each_stored rows IsStoredPage (λ (q : FlatPage). IsTrue (is_store_url q.url)) rows.pages qs
@@ -228,22 +232,22 @@ is-flat rows qs keys origins live h =
           (λ p q one fits. ap is_utf8 one.url ∙ is_utf8-from_IsUtf8 p.url fits.2.0) h.stored.pages.0 h.pages);
       distinct_urls =
           AllPairs-from_map (λ (p q : Page). p.url ≢ q.url) (λ (k : KeptPage). k.page) (map page_of qs)
-          (subst (AllPairs (λ (p q : Page). p.url ≢ q.url)) (sym (pages_same rows rows.pages qs h.pages)) h.good.urls);
+          (subst (AllPairs (λ (p q : Page). p.url ≢ q.url)) (sym (pages_same rows rows.pages qs h.pages)) good.urls);
       visits =
           All-weaker (IsGoodVisit (stored_store rows)) (λ (v : Visit). IsDate v.date × IsTrue (has_page kept v.page))
-          (λ v good. (good.date, has_page_same rows qs origins v.page h.pages ∙ good.page)) (map visit_of rows.visits)
-          h.good.visits;
+          (λ v one. (one.date, has_page_same rows qs origins v.page h.pages ∙ one.page)) (map visit_of rows.visits)
+          good.visits;
       titles =
           All-map (λ (k : KeptPage). IsTitle k.page.title) page_of qs
           (each_stored rows IsStoredPage (λ (q : FlatPage). IsTitle q.title) rows.pages qs
           (λ p q one fits. subst IsTitle (sym one.title) fits.3) h.stored.pages.0 h.pages);
       sources =
           All-weaker (IsGoodVisit (stored_store rows)) (HasSource kept)
-          (λ v good. IfSome_then v.source {P = λ id. (id.0 < v.id.0) × IsSome (visit_by_id (stored_store rows) id)}
-          good.source (λ id there. (
+          (λ v one. IfSome_then v.source {P = λ id. (id.0 < v.id.0) × IsSome (visit_by_id (stored_store rows) id)}
+          one.source (λ id there. (
             there.0,
             some_in (λ (w : Visit). w.id.0 == id.0) (map visit_of rows.visits) there.1,
-          ))) (map visit_of rows.visits) h.good.visits;
+          ))) (map visit_of rows.visits) good.visits;
       named =
           All-map (λ (k : KeptPage). (0 < k.origin.0) × (k.origin.0 ≤ origins)) page_of qs
           (λ k d within. (
@@ -280,7 +284,7 @@ pub store_rows-is : (rows : Stored) → All (IsFrecencyRight rows) rows.pages
     → store_rows (stored_store rows) ≡ form_rows rows
 store_rows-is rows right =
     ap (λ (pages : List (Page × ℤ)).
-    record { day = rows.day; ids = rows.ids; pages = pages; visits = map visit_of rows.visits; items = roots })
+    record { day = rows.day; ids = rows.ids; pages = pages; visits = map visit_of rows.visits; items = rows.items })
     (rows_right rows rows.pages right)
 
 all_right : (rows : Stored) (ps : List StoredPage) (qs : List FlatPage) → AllZip (IsAssessed rows) ps qs
@@ -294,15 +298,14 @@ begins_with : (bytes form rest : List ℕ) → bytes ≡ form ++ rest → take (
 begins_with bytes form rest begins = ap (take (length form)) begins ∙ take-append_seam form rest
 
 pub stands-for : (bytes : List ℕ) (rows : Stored) (qs : List FlatPage) (keys : List Key) (origins live : ℕ)
-    → HoldsRows bytes rows → IsGiven rows qs keys origins live
+    → HoldsRows bytes rows → IsGiven rows qs keys origins live → IsTree rows.items
     → StandsFor bytes (store_of (kept_of_rows rows qs origins))
-stands-for bytes rows qs keys origins live holds h =
+stands-for bytes rows qs keys origins live holds h tree =
     let form : form_bytes (store_rows (stored_store rows)) ≡ in_pages (stored_bytes rows) =
     ap form_bytes (store_rows-is rows (all_right rows rows.pages qs h.pages)) in
     subst (StandsFor bytes) (sym (store-same rows qs origins h.pages))
     (record {
-      good = h.good;
-      of_visits = refl;
+      good = h.good tree;
       texts =
           All-map (λ (p : Page). IsUtf8 p.url) stored_page rows.pages (λ k d within. (h.stored.pages.0 k d within).2.0);
       live = omega (arith, slots-by rows qs keys origins live h.pages h.named h.count h.slots, h.few);

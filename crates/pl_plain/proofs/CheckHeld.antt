@@ -8,21 +8,23 @@ use Rattle.std.specs.Option.{IsSome}
 use Rattle.std.specs.Str.{IsUtf8}
 use Rattle.std.proofs.lemmas.Bool.{eqb-true}
 use Rattle.std.proofs.lemmas.List.{length-map, length-take, take-append-drop}
-use Rattle.std.proofs.lemmas.List.Elements.{All-map}
+use Rattle.std.proofs.lemmas.List.Elements.{All-map, All-weaker}
 use Rattle.std.proofs.lemmas.List.Folds.{Any-from_list_any}
 use Rattle.std.proofs.lemmas.List.Sums.{count_by-le-length}
 use Rattle.std.proofs.lemmas.Option.{IfSome_then}
 use Rattle.std.proofs.Math.Nat.{div-le_self, mul-le-mul}
+use Rattle.pl_base.specs.declared.id.ItemId.{ItemId}
 use Rattle.pl_base.specs.declared.id.PageId.{PageId}
 use Rattle.pl_base.specs.Address.{is_place_url}
 use Rattle.pl_base.specs.Frecency.{frecency_from, frecency_of, points, rounded_up}
 use Rattle.pl_base.specs.Frecency.{unvisited_frecency, visit_bonus, visited_frecency}
-use Rattle.pl_base.specs.Good.{AreIds, IsGood, IsGoodVisit}
+use Rattle.pl_base.specs.Good.{AreIds, IsGood, IsGoodItem, IsGoodVisit, has_page_at}
+use Rattle.pl_base.specs.Tree.{has_item}
+use Rattle.std.specs.Prelude.{IsTrue}
 use Rattle.pl_base.specs.Live.{live_slots, slot_limit}
 use Rattle.pl_base.specs.Marks.{is_counted, is_referenced, visit_count}
 use Rattle.pl_base.specs.Redirects.{visit_by_id}
-use Rattle.pl_base.specs.Rows.{IsOfVisits}
-use Rattle.pl_base.specs.Store.{Item, Page, Store, Visit, roots}
+use Rattle.pl_base.specs.Store.{Item, Page, Store, Visit}
 use Rattle.pl_base.specs.Visits.{latest_first, sample_of, visits_of}
 use Rattle.pl_score.specs.declared.sample.Sampled.{Sampled}
 use Rattle.pl_score.specs.Sample.{sampled_of}
@@ -33,13 +35,16 @@ use Rattle.pl_form.specs.declared.check_error.CheckError.TheVariants.{NoMemory, 
 use Rattle.pl_form.specs.declared.stored.StoredVisit.{StoredVisit}
 use Rattle.pl_form.specs.declared.stored.StoredPage.{StoredPage}
 use Rattle.pl_plain.specs.CheckPages.{IsFrecencyRight}
-use Rattle.pl_form.specs.Reading.{IsSource}
+use Rattle.pl_form.specs.Reading.{IsItemPage, IsSource}
 use Rattle.pl_form.specs.Form.{FormRows, StandsFor, filled_pages, form_bytes, in_pages, plain_bytes, store_rows}
-use Rattle.pl_form.specs.Stored.{AreStored, HoldsRows, IsShort, IsStoredPage, IsStoredVisit, Stored}
+use Rattle.pl_form.specs.Stored.{AreStored, HoldsRows, IsChild, IsShort, IsStoredItem, IsStoredPage}
+use Rattle.pl_form.specs.Stored.{IsStoredVisit, Stored}
 use Rattle.pl_form.specs.Stored.{form_rows, stored_bytes, stored_page, stored_store, visit_of}
 use Rattle.pl_plain.proofs.CheckFlat.{store_rows-is}
-use Rattle.pl_plain.proofs.Lookups.{some_in}
+use Rattle.pl_base.proofs.ListLaws.{some_in}
+use Rattle.pl_form.proofs.FewChildren.{few_children}
 use Rattle.pl_form.proofs.FormLengths.{store_within}
+use Rattle.pl_plain.proofs.Appends.{children_known, children_within}
 use Rattle.pl_base.proofs.ListLaws.{All-from_map, sum_by-map}
 use Rattle.pl_base.proofs.IdsLaws.{few_ids}
 
@@ -57,6 +62,7 @@ rows_of store =
       ids = store.ids;
       pages = map (page_from store) store.pages;
       visits = map visit_from store.visits;
+      items = store.items;
     }
 
 pages_back : (store : Store) (ps : List Page) → map stored_page (map (page_from store) ps) ≡ ps
@@ -67,26 +73,16 @@ visits_back : (vs : List Visit) → map visit_of (map visit_from vs) ≡ vs
 visits_back [] = refl
 visits_back (v ∷ vs) = ap (λ (ws : List Visit). v ∷ ws) (visits_back vs)
 
-pub store-back : (store : Store) → IsOfVisits store → stored_store (rows_of store) ≡ store
-store-back store h =
-    ap (λ (ps : List Page). record {
-      day = store.day;
-      ids = store.ids;
-      pages = ps;
-      visits = map visit_of (map visit_from store.visits);
-      items = roots;
-    }) (pages_back store store.pages)
-    ∙ ap (λ (vs : List Visit).
-    record { day = store.day; ids = store.ids; pages = store.pages; visits = vs; items = roots })
-    (visits_back store.visits)
-    ∙ ap (λ (is : List Item).
-    record { day = store.day; ids = store.ids; pages = store.pages; visits = store.visits; items = is })
-    (sym h)
+pub store-back : (store : Store) → stored_store (rows_of store) ≡ store
+store-back store =
+    ap (λ (ps : List Page). record store { pages = ps; visits = map visit_of (map visit_from store.visits) })
+    (pages_back store store.pages)
+    ∙ ap (λ (vs : List Visit). record store { visits = vs }) (visits_back store.visits)
 
-pub right-back : (store : Store) → IsOfVisits store → All (IsFrecencyRight (rows_of store)) (rows_of store).pages
-right-back store h =
+pub right-back : (store : Store) → All (IsFrecencyRight (rows_of store)) (rows_of store).pages
+right-back store =
     All-map (IsFrecencyRight (rows_of store)) (page_from store) store.pages
-    (λ k d within. ap (λ (s : Store). frecency_of s (get_or store.pages k d)) (sym (store-back store h)))
+    (λ k d within. ap (λ (s : Store). frecency_of s (get_or store.pages k d)) (sym (store-back store)))
 
 id_fits : (ids : List ℕ) (next k d : ℕ) → AreIds 1 next ids → k < length ids → get_or ids k d < 2 ^ 32
 id_fits ids next k d h within = omega (arith, (h.given k d within).1, h.next_last)
@@ -168,6 +164,70 @@ source-fits store v good one =
     let number : at.1.id.0 ≡ id.0 = eqb-true at.1.id.0 id.0 at.4 in
     (omega (arith, given.0, number), omega (arith, given.1, number, good.visit_ids.next_last)))
 
+few_items : (store : Store) → IsGood store → length store.items < 2 ^ 32
+few_items store good =
+    omega (
+      arith,
+      few_ids (map (λ (i : Item). i.id.0) store.items) store.ids.item (length store.items)
+          (record {
+            ascending = good.item_ids.ascending;
+            given = good.item_ids.given;
+            next_first = omega (arith, good.item_ids.next_first);
+            next_last = good.item_ids.next_last;
+          })
+          (length-map store.items (λ (i : Item). i.id.0)),
+    )
+
+-- the page of an item is there, so its id fits
+item_page_fits : (store : Store) (i : Item) → IsGood store → IsGoodItem store i → IsItemPage i.page
+item_page_fits store i good one =
+    IfSome_then i.page {P = λ id. IsTrue (has_page_at store id)} one.page
+    (λ id there.
+    let at = Any-from_list_any (λ (p : Page). p.id.0 == id.0) store.pages there in
+    let given : (0 < at.1.id.0) × (at.1.id.0 < store.ids.page) =
+    subst (λ (p : Page). (0 < p.id.0) × (p.id.0 < store.ids.page)) at.3
+    (All-from_map (λ n. (0 < n) × (n < store.ids.page)) (λ (p : Page). p.id.0) store.pages good.page_ids.given
+    at.0 at.1 at.2) in
+    let number : at.1.id.0 ≡ id.0 = eqb-true at.1.id.0 id.0 at.4 in
+    (omega (arith, given.0, number), omega (arith, given.1, number, good.page_ids.next_last)))
+
+-- a child is an item, so its id fits
+child_fits : (store : Store) (id : ItemId) → IsGood store → has_item store.items id ≡ true → id.0 < 2 ^ 32
+child_fits store id good there =
+    let at = Any-from_list_any (λ (i : Item). i.id.0 == id.0) store.items there in
+    let below : at.1.id.0 < store.ids.item =
+    subst (λ (i : Item). i.id.0 < store.ids.item) at.3
+    (All-from_map (λ n. (0 < n) × (n < store.ids.item)) (λ (i : Item). i.id.0) store.items good.item_ids.given
+    at.0 at.1 at.2).1 in
+    omega (arith, below, eqb-true at.1.id.0 id.0 at.4, good.item_ids.next_last)
+
+items_fit : (store : Store) → IsGood store → All IsStoredItem store.items
+items_fit store good k d within =
+    let i : Item = get_or store.items k d in
+    let one : IsGoodItem store i = good.items k d within in (
+      omega (
+        arith,
+        (All-from_map (λ n. (0 < n) × (n < store.ids.item)) (λ (j : Item). j.id.0) store.items good.item_ids.given
+            k d within).1,
+        good.item_ids.next_last,
+      ),
+      item_page_fits store i good one,
+      omega (arith, one.added),
+      omega (arith, one.modified),
+      one.title,
+      (
+        All-weaker (λ (c : ItemId). IsTrue (has_item store.items c)) IsChild (λ c there. child_fits store c good there)
+            i.children
+            (children_known (λ (c : ItemId). IsTrue (has_item store.items c)) store.items k d within good.tree.known),
+        omega (
+          arith,
+          children_within store.items k d within,
+          few_children store.items good.tree,
+          few_items store good,
+        ),
+      ),
+    )
+
 pub stored-back : (store : Store) → IsGood store → All (λ (p : Page). IsUtf8 p.url) store.pages
     → AreStored (rows_of store)
 stored-back store good texts =
@@ -226,31 +286,32 @@ stored-back store good texts =
             )),
         omega (arith, few_visits, length-map store.visits visit_from),
       );
+      items = (items_fit store good, few_items store good);
     }
 
-plain_short : (store : Store) → store.items ≡ roots → live_slots store ≤ slot_limit
+plain_short : (store : Store) → IsGood store → live_slots store ≤ slot_limit
     → length (plain_bytes (store_rows store)) < 2 ^ 40
-plain_short store items few = omega (arith, store_within store items)
+plain_short store good few = omega (arith, store_within store good)
 
 few_filled : (n : ℕ) → n < 2 ^ 40 → 2 + filled_pages n < 2 ^ 32
 few_filled n few = omega arith
 
-form-back : (store : Store) → IsOfVisits store → form_rows (rows_of store) ≡ store_rows store
-form-back store h = sym (store_rows-is (rows_of store) (right-back store h)) ∙ ap store_rows (store-back store h)
+form-back : (store : Store) → form_rows (rows_of store) ≡ store_rows store
+form-back store = sym (store_rows-is (rows_of store) (right-back store)) ∙ ap store_rows (store-back store)
 
-short-back : (store : Store) → IsOfVisits store → live_slots store ≤ slot_limit → IsShort (stored_bytes (rows_of store))
-short-back store h few =
+short-back : (store : Store) → IsGood store → live_slots store ≤ slot_limit → IsShort (stored_bytes (rows_of store))
+short-back store good few =
     few_filled (length (stored_bytes (rows_of store)))
-    (subst (λ (rows : FormRows). length (plain_bytes rows) < 2 ^ 40) (sym (form-back store h))
-    (plain_short store h few))
+    (subst (λ (rows : FormRows). length (plain_bytes rows) < 2 ^ 40) (sym (form-back store))
+    (plain_short store good few))
 
 pub holds-back : (bytes : List ℕ) (store : Store) → StandsFor bytes store → HoldsRows bytes (rows_of store)
 holds-back bytes store h =
     let form : form_bytes (store_rows store) ≡ in_pages (stored_bytes (rows_of store)) =
-    ap (λ (s : Store). form_bytes (store_rows s)) (sym (store-back store h.of_visits))
-    ∙ ap form_bytes (store_rows-is (rows_of store) (right-back store h.of_visits)) in
+    ap (λ (s : Store). form_bytes (store_rows s)) (sym (store-back store))
+    ∙ ap form_bytes (store_rows-is (rows_of store) (right-back store)) in
     record {
-      short = short-back store h.of_visits h.live;
+      short = short-back store h.good h.live;
       rest = drop (length (form_bytes (store_rows store))) bytes;
       begins =
           sym (take-append-drop (length (form_bytes (store_rows store))) bytes)
@@ -277,17 +338,17 @@ not_read bytes store e h whole =
 pub good_read : (bytes : List ℕ) (store : Store) (got : Stored) → StandsFor bytes store
     → ((rows : Stored) → AreStored rows → HoldsRows bytes rows → got ≡ rows) → IsGood (stored_store got)
 good_read bytes store got h whole =
-    subst IsGood (sym (ap stored_store (rows_read bytes store got h whole) ∙ store-back store h.of_visits)) h.good
+    subst IsGood (sym (ap stored_store (rows_read bytes store got h whole) ∙ store-back store)) h.good
 
 pub right_read : (bytes : List ℕ) (store : Store) (got : Stored) → StandsFor bytes store
     → ((rows : Stored) → AreStored rows → HoldsRows bytes rows → got ≡ rows) → All (IsFrecencyRight got) got.pages
 right_read bytes store got h whole =
     let P : Stored → Type 0 = λ rows. All (IsFrecencyRight rows) rows.pages in
-    subst P (sym (rows_read bytes store got h whole)) (right-back store h.of_visits)
+    subst P (sym (rows_read bytes store got h whole)) (right-back store)
 
 pub live_read : (bytes : List ℕ) (store : Store) (got : Stored) → StandsFor bytes store
     → ((rows : Stored) → AreStored rows → HoldsRows bytes rows → got ≡ rows)
     → live_slots (stored_store got) ≤ slot_limit
 live_read bytes store got h whole =
     let P : Store → Type 0 = λ s. live_slots s ≤ slot_limit in
-    subst P (sym (ap stored_store (rows_read bytes store got h whole) ∙ store-back store h.of_visits)) h.live
+    subst P (sym (ap stored_store (rows_read bytes store got h whole) ∙ store-back store)) h.live

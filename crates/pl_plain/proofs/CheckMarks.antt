@@ -1,7 +1,8 @@
 -- The marks of a page of a file's rows.
-use Rattle.std.proofs.Common.{◌≡◌, ◌∙◌, ℕ, ◌<◌, ◌≤◌, ◌==◌, ◌||◌, List, [], ◌∷◌, length, map, filter, All}
+use Rattle.std.proofs.Common.{◌≡◌, ◌∙◌, ℕ, ◌<◌, ◌≤◌, ◌==◌, ◌||◌, ◌&&◌, List, [], ◌∷◌, length, map, filter, All}
+use Rattle.std.proofs.Common.{suc, take, zero}
 use Rattle.std.proofs.Common.{arith, ap, Bool, true, false, find, refl, sym, if◌then◌else◌, Option, Some, None}
-use Rattle.std.specs.List.{list_all, list_any}
+use Rattle.std.specs.List.{AllByRecursion, list_all, list_any}
 use Rattle.std.specs.Option.{option_map}
 use Rattle.std.proofs.lemmas.List.{length-map, length-take}
 use Rattle.std.proofs.lemmas.List.Folds.{list_all-map}
@@ -15,13 +16,16 @@ use Rattle.pl_base.specs.Store.{Store, Visit}
 use Rattle.pl_base.specs.Tables.{greatest_bonus}
 use Rattle.pl_base.specs.Visits.{sample_of, latest_first, visits_of, sample_size}
 use Rattle.pl_base.proofs.ListLaws.{count_by-and-le, map-map}
-use Rattle.pl_base.proofs.VisitsLaws.{length-latest_first}
+use Rattle.pl_base.proofs.IdsLaws.{same_page}
+use Rattle.pl_base.proofs.VisitsLaws.{all-latest_first, length-latest_first}
 use Rattle.pl_score.specs.declared.sample.Sampled.{Sampled}
 use Rattle.pl_score.specs.Sample.{sampled_of}
 use Rattle.pl_score.proofs.StoreSamples.{sampled-small}
 use Rattle.pl_form.specs.declared.stored.StoredPage.{StoredPage}
 use Rattle.pl_form.specs.declared.stored.StoredVisit.{StoredVisit}
 use Rattle.pl_form.specs.Stored.{Stored, stored_page, stored_store, visit_of}
+use Rattle.pl_check.specs.Items.{has_reference}
+use Rattle.pl_plain.specs.CheckPages.{told_sample}
 use Rattle.pl_plain.proofs.CheckSamples.{of_page, visits_of-rows}
 use Rattle.pl_plain.proofs.Lookups.{find-map}
 
@@ -38,12 +42,50 @@ sample_of-filled store page h =
       count_by-and-le (λ (v : Visit). v.page.0 == page.0) (λ (v : Visit). is_counted v.transition) store.visits,
     )
 
+-- the visits of a sample are those of its page
+of_its_page : (store : Store) (page : PageId)
+    → AllByRecursion (λ (v : Visit). (v.page.0 == page.0) ≡ true) (sample_of store page)
+of_its_page store page =
+    first_of sample_size (latest_first (visits_of store page))
+    (all-latest_first (λ (v : Visit). (v.page.0 == page.0) ≡ true) (visits_of store page) (kept store.visits))
+  where
+    kept : (vs : List Visit)
+        → AllByRecursion (λ (v : Visit). (v.page.0 == page.0) ≡ true) (filter (λ (v : Visit). v.page.0 == page.0) vs)
+    kept [] = tt
+    kept (v ∷ vs) = choose (v.page.0 == page.0) refl (kept vs)
+      where
+        choose : (b : Bool) → (v.page.0 == page.0) ≡ b
+            → AllByRecursion (λ (w : Visit). (w.page.0 == page.0) ≡ true)
+            (filter (λ (w : Visit). w.page.0 == page.0) vs)
+            → AllByRecursion (λ (w : Visit). (w.page.0 == page.0) ≡ true)
+            (if b then v ∷ filter (λ (w : Visit). w.page.0 == page.0) vs
+            else filter (λ (w : Visit). w.page.0 == page.0) vs)
+        choose true is rest = (is, rest)
+        choose false is rest = rest
+
+    first_of : (n : ℕ) (vs : List Visit) → AllByRecursion (λ (v : Visit). (v.page.0 == page.0) ≡ true) vs
+        → AllByRecursion (λ (v : Visit). (v.page.0 == page.0) ≡ true) (take n vs)
+    first_of zero vs all = tt
+    first_of (suc n) [] all = tt
+    first_of (suc n) (v ∷ vs) all = (all.0, first_of n vs all.1)
+
+-- what they count, where it is told right whether an item has the page
+told_right : (rows : Stored) (page : PageId) (vs : List Visit)
+    → AllByRecursion (λ (v : Visit). (v.page.0 == page.0) ≡ true) vs
+    → map (told_sample rows (has_reference rows.items page)) vs ≡ map (sampled_of (stored_store rows)) vs
+told_right rows page [] all = refl
+told_right rows page (v ∷ vs) all =
+    rw (same_page v.page page all.0, told_right rows page vs all.1) refl
+
 -- what the rows of a sample count
-pub sampled-is : (store : Store) (page : PageId) (sample : List StoredVisit)
-    → map visit_of sample ≡ sample_of store page
-    → map (λ (v : StoredVisit). sampled_of store (visit_of v)) sample ≡ map (sampled_of store) (sample_of store page)
-sampled-is store page sample is =
-    sym (map-map (sampled_of store) visit_of sample) ∙ ap (map (sampled_of store)) is
+pub sampled-is : (rows : Stored) (page : PageId) (referenced : Bool) (sample : List StoredVisit)
+    → referenced ≡ has_reference rows.items page → map visit_of sample ≡ sample_of (stored_store rows) page
+    → map (λ (v : StoredVisit). told_sample rows referenced (visit_of v)) sample
+    ≡ map (sampled_of (stored_store rows)) (sample_of (stored_store rows) page)
+sampled-is rows page referenced sample told is =
+    sym (map-map (told_sample rows referenced) visit_of sample) ∙ ap (map (told_sample rows referenced)) is
+    ∙ ap (λ b. map (told_sample rows b) (sample_of (stored_store rows) page)) told
+    ∙ told_right rows page (sample_of (stored_store rows) page) (of_its_page (stored_store rows) page)
 
 pub sampled-small-by : (store : Store) (vs : List Visit) (sampled : List Sampled) → sampled ≡ map (sampled_of store) vs
     → All (λ v. v.bonus ≤ greatest_bonus) sampled
@@ -65,43 +107,46 @@ is_unseen store v = is_framed v.transition || is_redirect_source store v
 abbrev are_unseen : Store → List StoredVisit → Bool
 are_unseen store seen = list_all (λ (v : StoredVisit). is_unseen store (visit_of v)) seen
 
+-- there are some
+abbrev has_some : {X : Type 0} → List X → Bool
+has_some [] = false
+has_some (x ∷ xs) = true
+
 hidden_with : (rows : Stored) (p : StoredPage) (seen : List StoredVisit)
-    → visits_of (stored_store rows) p.id ≡ map visit_of seen → 0 < length seen
-    → is_hidden (stored_store rows) (stored_page p) ≡ (is_place_url p.url || are_unseen (stored_store rows) seen)
-hidden_with rows p [] all some = absurd (omega arith)
-hidden_with rows p (v ∷ seen) all some =
+    → visits_of (stored_store rows) p.id ≡ map visit_of seen
+    → is_hidden (stored_store rows) (stored_page p)
+    ≡ (is_place_url p.url || (has_some seen && are_unseen (stored_store rows) seen))
+hidden_with rows p [] all = rw all refl
+hidden_with rows p (v ∷ seen) all =
     rw all (ap (λ b. is_place_url p.url || b) (list_all-map (is_unseen (stored_store rows)) visit_of (v ∷ seen)))
 
-some_kept : {X : Type 0} (p : X → Bool) (xs : List X) → list_any p xs ≡ true → 0 < length (filter p xs)
-some_kept p [] some = absurd (cc)
-some_kept p (x ∷ xs) some =
-    elim (p x) as (λ b. (b || list_any p xs) ≡ true → 0 < length (if b then x ∷ filter p xs else filter p xs)) [
-      | true ↦ λ h. omega arith
-      | false ↦ λ h. some_kept p xs h
-    ] some
+some_kept : {X : Type 0} (p : X → Bool) (xs : List X) → has_some (filter p xs) ≡ list_any p xs
+some_kept p [] = refl
+some_kept p (x ∷ xs) =
+    elim (p x) as (λ b. has_some (if b then x ∷ filter p xs else filter p xs) ≡ (b || list_any p xs)) [
+      | true ↦ refl
+      | false ↦ some_kept p xs
+    ]
+
+-- a page has visits, and each is such
+abbrev hidden_by_rows : Stored → PageId → Bool
+hidden_by_rows rows page =
+    list_any (of_page page) rows.visits && are_unseen (stored_store rows) (filter (of_page page) rows.visits)
 
 hidden-is : (rows : Stored) (p : StoredPage)
-    → list_any (λ (v : StoredVisit). v.page.0 == p.id.0) rows.visits ≡ true
-    → is_hidden (stored_store rows) (stored_page p)
-    ≡ (is_place_url p.url || are_unseen (stored_store rows) (filter (of_page p.id) rows.visits))
-hidden-is rows p some =
+    → is_hidden (stored_store rows) (stored_page p) ≡ (is_place_url p.url || hidden_by_rows rows p.id)
+hidden-is rows p =
     hidden_with rows p (filter (of_page p.id) rows.visits) (sym (visits_of-rows p.id rows.visits))
-    (some_kept (of_page p.id) rows.visits some)
+    ∙ ap (λ b. is_place_url p.url || (b && are_unseen (stored_store rows) (filter (of_page p.id) rows.visits)))
+    (some_kept (of_page p.id) rows.visits)
 
-pub hidden-place : (rows : Stored) (p : StoredPage)
-    → list_any (λ (v : StoredVisit). v.page.0 == p.id.0) rows.visits ≡ true → true ≡ is_place_url p.url
+pub hidden-place : (rows : Stored) (p : StoredPage) → true ≡ is_place_url p.url
     → true ≡ is_hidden (stored_store rows) (stored_page p)
-hidden-place rows p some place =
-    ap (λ b. b || are_unseen (stored_store rows) (filter (of_page p.id) rows.visits)) place
-    ∙ sym (hidden-is rows p some)
+hidden-place rows p place = ap (λ b. b || hidden_by_rows rows p.id) place ∙ sym (hidden-is rows p)
 
-pub hidden-unseen : (rows : Stored) (p : StoredPage)
-    → list_any (λ (v : StoredVisit). v.page.0 == p.id.0) rows.visits ≡ true → false ≡ is_place_url p.url
-    → are_unseen (stored_store rows) (filter (of_page p.id) rows.visits)
-    ≡ is_hidden (stored_store rows) (stored_page p)
-hidden-unseen rows p some place =
-    ap (λ b. b || are_unseen (stored_store rows) (filter (of_page p.id) rows.visits)) place
-    ∙ sym (hidden-is rows p some)
+pub hidden-by_visits : (rows : Stored) (p : StoredPage) → false ≡ is_place_url p.url
+    → hidden_by_rows rows p.id ≡ is_hidden (stored_store rows) (stored_page p)
+hidden-by_visits rows p place = ap (λ b. b || hidden_by_rows rows p.id) place ∙ sym (hidden-is rows p)
 
 -- ---- what a redirect came from
 

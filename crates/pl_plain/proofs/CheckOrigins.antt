@@ -16,7 +16,7 @@ use Rattle.pl_link.specs.declared.parts.Parts.{Parts}
 use Rattle.pl_plain.specs.declared.flat.row.FlatPage.{FlatPage}
 use Rattle.pl_plain.specs.CheckOrigins.{AreNamed, IsNamed, Key, Names, key_of, HasName}
 use Rattle.pl_base.proofs.ListLaws.{list_any-map, list_any_last, list_any_push}
-use Rattle.pl_plain.proofs.CheckGood.{none_by}
+use Rattle.pl_check.proofs.GoodRows.{none_by}
 
 abbrev pub is_same : Parts → Parts → Bool
 is_same parts other = bytes_eq other.prefix parts.prefix && bytes_eq other.host parts.host

@@ -1,24 +1,19 @@
 -- Pages with what the definitions give of them.
-use Rattle.std.proofs.Common.{◌≡◌, ◌∙◌, ◌==◌, ◌+◌, ◌≤◌, ◌++◌, ℕ, ◌<◌, All, true, List, [], ◌∷◌, Result, Ok}
+use Rattle.std.proofs.Common.{◌≡◌, ◌∙◌, ◌+◌, ◌≤◌, ◌++◌, ℕ, ◌<◌, All, List, [], ◌∷◌, Result, Ok}
 use Rattle.std.proofs.Common.{Err, Option, Some, get_or, length, take, inl, inr, arith, sym, ap, refl, subst}
 use Rattle.std.proofs.lemmas.List.{length_push, take_more}
-use Rattle.std.specs.List.{AllZip, list_any}
+use Rattle.std.specs.List.{AllZip}
 use Rattle.std.specs.Result.{IsOkAnd}
-use Rattle.std.proofs.lemmas.Bool.{and_parts}
 use Rattle.pl_base.specs.Address.{host_and_port, is_place_url, origin_of_record, origin_of_url, prefix, record_of}
-use Rattle.pl_base.specs.Good.{IsGood, IsGoodPage}
 use Rattle.pl_link.specs.declared.parts.Parts.{Parts}
 use Rattle.pl_link.specs.Parts.{ArePartsOf}
 use Rattle.pl_base.specs.declared.id.Slot.{Slot}
 use Rattle.pl_plain.specs.declared.flat.row.FlatPage.{FlatPage}
-use Rattle.pl_form.specs.declared.stored.StoredVisit.{StoredVisit}
 use Rattle.pl_form.specs.declared.stored.StoredPage.{StoredPage}
 use Rattle.pl_plain.specs.CheckOrigins.{AreNamed, Key, Names, key_of}
 use Rattle.pl_plain.specs.CheckPages.{IsAssessed, IsFrecencyRight}
-use Rattle.pl_form.specs.Stored.{Stored, stored_page, stored_store}
-use Rattle.pl_plain.proofs.CheckGood.{page-from}
+use Rattle.pl_form.specs.Stored.{Stored}
 use Rattle.pl_plain.proofs.CheckOrigins.{named_push}
-use Rattle.pl_base.proofs.ListLaws.{All-from_map}
 
 found_in : {X E : Type 0} (r : Result X E) (P : X → Type 0) → IsOkAnd r P → (x : X) × (r ≡ Ok x) × P x
 found_in (Ok x) P h = (x, refl, h)
@@ -39,22 +34,6 @@ pub place-is : (text : List ℕ) (parts : Parts) → IsOkAnd (record_of text) (�
 place-is text parts h =
     let at = found_in (record_of text) (λ found. ArePartsOf found parts) h in
     rw at.1 at.2.is_place
-
--- a page of a good store has a visit
-pub visited-is : (rows : Stored) (k : ℕ) (p : StoredPage) → IsGood (stored_store rows) → k < length rows.pages
-    → p ≡ get_or rows.pages k p → list_any (λ (v : StoredVisit). v.page.0 == p.id.0) rows.visits ≡ true
-visited-is rows k p good within at =
-    let page : IsGoodPage (stored_store rows) (stored_page p) =
-    subst (λ (q : StoredPage). IsGoodPage (stored_store rows) (stored_page q)) (sym at)
-    (All-from_map (IsGoodPage (stored_store rows)) stored_page rows.pages good.pages k p within) in
-    (and_parts _ _ (page-from rows p page)).0
-
-pub visited-at : (rows : Stored) (items : List StoredPage) (k : ℕ) (p : StoredPage) → items ≡ rows.pages
-    → IsGood (stored_store rows) → k < length items → p ≡ get_or items k p
-    → list_any (λ (v : StoredVisit). v.page.0 == p.id.0) rows.visits ≡ true
-visited-at rows items k p same good within at =
-    visited-is rows k p good (subst (λ (xs : List StoredPage). k < length xs) same within)
-    (at ∙ ap (λ (xs : List StoredPage). get_or xs k p) same)
 
 pub right-at : (rows : Stored) (items : List StoredPage) (k : ℕ) (p : StoredPage) → items ≡ rows.pages
     → All (IsFrecencyRight rows) rows.pages → k < length items → p ≡ get_or items k p → IsFrecencyRight rows p

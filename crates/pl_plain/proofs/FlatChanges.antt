@@ -33,8 +33,9 @@ use Rattle.pl_base.proofs.ListLaws.{sum_by-map}
 use Rattle.pl_base.proofs.OriginLaws.{new_origins-append, same_origin-self, same_origin-sym, same_origin-trans}
 use Rattle.pl_plain.specs.FlatRows.{IsFlat}
 use Rattle.pl_plain.specs.Place.{IsSlotOf, urls_of}
-use Rattle.pl_plain.proofs.Lists.{AreIds_push, map-alike}
-use Rattle.pl_plain.proofs.Searches.{rises}
+use Rattle.pl_base.proofs.ListLaws.{map-alike}
+use Rattle.pl_plain.proofs.Lists.{AreIds_push}
+use Rattle.pl_base.proofs.Searches.{rises}
 
 pub IsFlat-with_day : (day : Day) (kept : Kept) (origins live : ℕ) → IsDay day → IsFlat kept origins live
     → IsFlat (with_day day kept) origins live
@@ -43,8 +44,8 @@ IsFlat-with_day day kept origins live in_range h =
       day = in_range;
       page_ids = h.page_ids;
       visit_ids = h.visit_ids;
-      item_first = h.item_first;
-      item_last = h.item_last;
+      item_ids = h.item_ids;
+      item_titles = h.item_titles;
       urls = h.urls;
       texts = h.texts;
       distinct_urls = h.distinct_urls;
@@ -100,8 +101,8 @@ IsFlat-altered title mark kept origins live after titles filled few h =
       day = h.day;
       page_ids = rw (map-map (λ (p : KeptPage). p.page.id.0) f kept.pages) h.page_ids;
       visit_ids = h.visit_ids;
-      item_first = h.item_first;
-      item_last = h.item_last;
+      item_ids = h.item_ids;
+      item_titles = h.item_titles;
       urls = All-map (λ (p : KeptPage). IsTrue (is_store_url p.page.url)) f kept.pages h.urls;
       texts = All-map (λ (p : KeptPage). IsTrue (is_utf8 p.page.url)) f kept.pages h.texts;
       distinct_urls = AllPairs-map (λ (p q : KeptPage). p.page.url ≢ q.page.url) f kept.pages h.distinct_urls;
@@ -188,7 +189,7 @@ map-none q f (x ∷ xs) none =
     rw (All-head (λ y. q y ≡ false) x xs none, map-none q f xs (All-tail (λ y. q y ≡ false) x xs none)) refl
 
 -- a sum in which the only element that passes a test is changed
-sum_changed : {X : Type 0} (q : X → Bool) (f : X → X) (n : X → ℕ) (xs : List X) (x : X)
+pub sum_changed : {X : Type 0} (q : X → Bool) (f : X → X) (n : X → ℕ) (xs : List X) (x : X)
     → AllPairs (λ a b. q a ≡ true → q b ≡ false) xs → find q xs ≡ Some x
     → sum_by n (map (λ y. if q y then f y else y) xs) + n x ≡ sum_by n xs + n (f x)
 sum_changed q f n [] x once found = absurd (cc)
@@ -298,8 +299,8 @@ IsFlat-with_page url slot kept named origins after live own text absent place ro
           (AreIds_push 1 kept.ids.page (map (λ (p : KeptPage). p.page.id.0) kept.pages) (omega arith)
           (λ full. omega arith) h.page_ids);
       visit_ids = h.visit_ids;
-      item_first = h.item_first;
-      item_last = h.item_last;
+      item_ids = h.item_ids;
+      item_titles = h.item_titles;
       urls = All-push (λ (p : KeptPage). IsTrue (is_store_url p.page.url)) kept.pages new h.urls own;
       texts = All-push (λ (p : KeptPage). IsTrue (is_utf8 p.page.url)) kept.pages new h.texts text;
       distinct_urls =
@@ -368,8 +369,8 @@ IsFlat-with_visit row kept origins live there in_range source room fits h =
           rw (map_push (λ (v : Visit). v.id.0) kept.visits new)
           (AreIds_push 1 kept.ids.visit (map (λ (v : Visit). v.id.0) kept.visits) (omega arith) (λ full. omega arith)
           h.visit_ids);
-      item_first = h.item_first;
-      item_last = h.item_last;
+      item_ids = h.item_ids;
+      item_titles = h.item_titles;
       urls = h.urls;
       texts = h.texts;
       distinct_urls = h.distinct_urls;

@@ -1,10 +1,9 @@
 -- How long the form of a well kept store is.
-use Rattle.std.proofs.Common.{◌≡◌, ◌<◌, ◌≤◌, ◌^◌, ℕ, All, IsTrue, List, ap, arith, length, map, refl}
+use Rattle.std.proofs.Common.{◌<◌, ◌≤◌, ◌^◌, ℕ, All, IsTrue, List, arith, length, map, refl}
 use Rattle.std.proofs.lemmas.List.Elements.{All-weaker}
 use Rattle.pl_base.specs.Address.{is_store_url, longest_url}
-use Rattle.pl_base.specs.Good.{IsTitle, longest_title}
+use Rattle.pl_base.specs.Good.{IsTitle, child_ids, longest_title}
 use Rattle.pl_base.specs.Rows.{Kept, KeptPage}
-use Rattle.pl_base.specs.Store.{roots}
 use Rattle.pl_base.proofs.OriginLaws.{store_url-fits}
 use Rattle.pl_form.specs.Form.{kept_rows, plain_bytes}
 use Rattle.pl_form.proofs.FormLengths.{plain_within}
@@ -14,13 +13,14 @@ use Rattle.pl_plain.proofs.FlatChanges.{slots_of}
 use Rattle.pl_base.proofs.ListLaws.{All-from_map}
 
 -- the plain bytes are far fewer than fill all pages that a number of 4 bytes names
-pub plain_is_short : (kept : Kept) (origins live : ℕ) → kept.items ≡ roots → IsFlat kept origins live
-    → length (plain_bytes (kept_rows kept)) < 2 ^ 40
-plain_is_short kept origins live items h =
+pub plain_is_short : (kept : Kept) (origins live : ℕ) → length (child_ids kept.items) ≤ length kept.items
+    → IsFlat kept origins live → length (plain_bytes (kept_rows kept)) < 2 ^ 40
+plain_is_short kept origins live few h =
     omega (
       arith,
-      plain_within (λ (p : KeptPage). (p.page, p.frecency)) kept.pages (kept_rows kept) live refl items
-          (omega (arith, slots_of kept, h.filled, ap length items)),
+      plain_within (λ (p : KeptPage). (p.page, p.frecency)) kept.pages (kept_rows kept) refl few,
+      slots_of kept,
+      h.filled,
       h.few,
     )
 

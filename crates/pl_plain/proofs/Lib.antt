@@ -1,13 +1,13 @@
 pub mod Appends
+pub mod CheckEnds
 pub mod CheckFlat
-pub mod CheckGood
 pub mod CheckHeld
 pub mod CheckMarks
 pub mod CheckOrigins
 pub mod CheckPages
 pub mod CheckSamples
-pub mod CheckTests
 pub mod FlatChanges
+pub mod ItemChanges
 pub mod LatestVisits
 pub mod Lengths
 pub mod Lists

@@ -1,16 +1,10 @@
--- Facts of lists, and of ids in a list.
-use Rattle.std.proofs.Common.{◌≡◌, ◌≢◌, ◌+◌, ◌<◌, ◌≤◌, ◌++◌, ℕ, All, List, [], ◌∷◌, arith, inl, inr, length, map, refl}
+-- Facts of ids in a list.
+use Rattle.std.proofs.Common.{◌≡◌, ◌≢◌, ◌+◌, ◌<◌, ◌≤◌, ◌++◌, ℕ, All, List, [], ◌∷◌, arith, inl, inr, length}
 use Rattle.std.specs.List.Sorted.{IsStrictlyIncreasing}
 use Rattle.std.proofs.lemmas.Bool.{cases_lt}
 use Rattle.std.proofs.lemmas.List.{get_or_append_left, get_or_push, length_push}
 use Rattle.std.proofs.lemmas.List.Elements.{All-push, All-weaker}
 use Rattle.pl_base.specs.Good.{AreIds, end_of_ids}
-
-pub map-alike : {X Y : Type 0} (f g : X → Y) (xs : List X) → ((x : X) → f x ≡ g x) → map f xs ≡ map g xs
-map-alike f g [] alike = refl
-map-alike f g (x ∷ xs) alike = rw (alike x, map-alike f g xs alike)
-
--- ---- ids
 
 pub IsStrictlyIncreasing_push : (ids : List ℕ) (n : ℕ) → IsStrictlyIncreasing ids → All (λ id. id < n) ids
     → IsStrictlyIncreasing (ids ++ n ∷ [])

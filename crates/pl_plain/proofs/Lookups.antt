@@ -1,16 +1,18 @@
 -- A row that was found, seen as what is kept.
-use Rattle.std.proofs.Common.{Bor, ◌≡◌, ◌∙◌, ◌||◌, ℕ, Bool, true, false, List, [], ◌∷◌, Option}
-use Rattle.std.proofs.Common.{Some, None, ap, if◌then◌else◌, find, map, nat_lt, refl, sym}
+use Rattle.std.proofs.Common.{Bor, ◌≡◌, ◌∙◌, ◌||◌, ◌==◌, ℕ, Bool, true, false, List, [], ◌∷◌, Option}
+use Rattle.std.proofs.Common.{Some, None, ap, if◌then◌else◌, find, map, nat_lt, refl, subst, sym}
 use Rattle.std.specs.List.{list_any}
 use Rattle.std.specs.Option.{IsSome, option_copied, option_map}
+use Rattle.pl_base.specs.declared.id.ItemId.{ItemId}
 use Rattle.pl_base.specs.declared.id.PageId.{PageId}
 use Rattle.pl_base.specs.declared.id.VisitId.{VisitId}
 use Rattle.pl_base.specs.Rows.{Kept, KeptPage, first_id, older_visit, page_behind, visit_at}
-use Rattle.pl_base.specs.Store.{Visit}
+use Rattle.pl_base.specs.Store.{Item, Visit}
+use Rattle.pl_base.specs.Tree.{has_item, item_at, item_title}
 use Rattle.pl_plain.specs.declared.flat.row.FlatPage.{FlatPage}
 use Rattle.pl_plain.specs.FlatRows.{page_of}
 use Rattle.pl_plain.specs.Latest.{first_of}
-use Rattle.pl_base.proofs.ListLaws.{list_any-map}
+use Rattle.pl_base.proofs.ListLaws.{found_in, list_any-map}
 use Rattle.pl_plain.proofs.OlderVisits.{id_of-first}
 
 pub find-map : {A B : Type 0} (p : B → Bool) (f : A → B) (xs : List A)
@@ -42,24 +44,6 @@ pub found-some : {A B C : Type 0} (p : B → Bool) (f : A → B) (g : B → C) (
     (x : Bor A) → found ≡ Some x → option_copied found ≡ find (λ x. p (f x)) ys → ys ≡ xs
     → Some (g (f x.now)) ≡ option_map g (find p (map f xs))
 found-some p f g xs ys found x some is same = ap (option_map g) (one-found p f xs ys found x some is same)
-
-pub found_in : {A : Type 0} (p : A → Bool) (xs : List A) → list_any p xs ≡ true → IsSome (find p xs)
-found_in p [] some = absurd (cc)
-found_in p (x ∷ xs) some = choose (p x) some (found_in p xs)
-  where
-    choose : (b : Bool) → (b || list_any p xs) ≡ true → (list_any p xs ≡ true → IsSome (find p xs))
-        → IsSome (if b then Some x else find p xs)
-    choose true here rest = refl
-    choose false here rest = rest here
-
-pub some_in : {A : Type 0} (p : A → Bool) (xs : List A) → IsSome (find p xs) → list_any p xs ≡ true
-some_in p [] found = absurd (cc)
-some_in p (x ∷ xs) found = choose (p x) found (some_in p xs)
-  where
-    choose : (b : Bool) → IsSome (if b then Some x else find p xs) → (IsSome (find p xs) → list_any p xs ≡ true)
-        → (b || list_any p xs) ≡ true
-    choose true here rest = refl
-    choose false here rest = rest here
 
 -- one was found where there is one
 pub found-there : {A B : Type 0} (p : B → Bool) (f : A → B) (xs ys : List A) (found : Option (Bor A))
@@ -116,3 +100,33 @@ there-found p f (x ∷ xs) y found = choose (p x) found (there-found p f xs y)
         → (Some y ≡ option_map f (find p xs) → list_any p xs ≡ true) → (b || list_any p xs) ≡ true
     choose true here rest = refl
     choose false here rest = rest here
+
+-- ---- items
+
+-- the title of an item that is there is told
+pub title_told : (id : ItemId) (items : List Item) (told : Option (Bor (List ℕ)))
+    → option_map (λ (t : Bor (List ℕ)). t.now) told ≡ item_title items id → has_item items id ≡ true → IsSome told
+title_told id items told is there =
+    some_mapped told
+    (subst IsSome (sym is)
+    (some_mapped_to (item_at items id) (found_in (λ (i : Item). i.id.0 == id.0) items there)))
+  where
+    some_mapped : (o : Option (Bor (List ℕ))) → IsSome (option_map (λ (t : Bor (List ℕ)). t.now) o) → IsSome o
+    some_mapped None some = absurd (cc)
+    some_mapped (Some t) some = refl
+
+    some_mapped_to : (o : Option Item) → IsSome o → IsSome (option_map (λ (i : Item). i.title) o)
+    some_mapped_to None some = absurd (cc)
+    some_mapped_to (Some i) some = refl
+
+-- an item that is there, and its title
+pub told_item : (id : ItemId) (items : List Item) (told : Option (Bor (List ℕ))) (t : Bor (List ℕ))
+    → option_map (λ (t : Bor (List ℕ)). t.now) told ≡ item_title items id → told ≡ Some t
+    → (i : Item) × (item_at items id ≡ Some i) × (i.title ≡ t.now)
+told_item id items told t is some =
+    at (item_at items id) refl (sym is ∙ ap (option_map (λ (t : Bor (List ℕ)). t.now)) some)
+  where
+    at : (o : Option Item) → item_at items id ≡ o → option_map (λ (i : Item). i.title) o ≡ Some t.now
+        → (i : Item) × (item_at items id ≡ Some i) × (i.title ≡ t.now)
+    at None here title = absurd (cc)
+    at (Some i) here title = (i, here, cc)

@@ -13,4 +13,4 @@ one_store bytes one_rows a b one other =
     let rows : rows_of a ≡ rows_of b =
     one_rows (rows_of a) (rows_of b) (stored-back a one.good one.texts)
     (stored-back b other.good other.texts) (holds-back bytes a one) (holds-back bytes b other) in
-    sym (store-back a one.of_visits) ∙ ap stored_store rows ∙ store-back b other.of_visits
+    sym (store-back a) ∙ ap stored_store rows ∙ store-back b

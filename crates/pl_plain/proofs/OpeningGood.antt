@@ -1,21 +1,51 @@
 -- The opening store is good, whatever ids come next.
-use Rattle.std.proofs.Common.{◌≤◌, ℕ, [], arith}
-use Rattle.std.proofs.lemmas.List.Elements.{All-nil}
+use Rattle.std.proofs.Common.{◌<◌, ◌≤◌, ℕ, All, [], ◌∷◌, arith}
+use Rattle.std.proofs.lemmas.Str.{IsUtf8-nil}
+use Rattle.pl_base.specs.Store.{Item, roots}
+use Rattle.std.proofs.lemmas.List.Elements.{All-from_recursion, All-nil}
 use Rattle.pl_base.specs.declared.id.Ids.{Ids}
-use Rattle.pl_base.specs.Good.{AreIds, IsGood, end_of_ids}
+use Rattle.pl_base.specs.Good.{AreIds, IsGood, IsTitle, end_of_ids}
 use Rattle.pl_base.specs.Rows.{opening_with, store_of}
-use Rattle.pl_form.specs.Stored.{Stored, stored_store}
-use Rattle.pl_plain.specs.FlatLaws.{root_ids}
-use Rattle.pl_base.proofs.RootsLaws.{has_roots, no_tags, roots_are_good, roots_are_tree}
+use Rattle.pl_base.proofs.RootsLaws.{has_roots, no_tags, roots_are_good, roots_are_tree, roots_ascend}
 
-no_ids : (next : ℕ) → 1 ≤ next → next ≤ end_of_ids → AreIds 1 next []
+-- the roots have the ids 1 to 6
+pub root_ids : (next : ℕ) → 7 ≤ next → next ≤ end_of_ids → AreIds 7 next (1 ∷ 2 ∷ 3 ∷ 4 ∷ 5 ∷ 6 ∷ [])
+root_ids next first last =
+    record {
+      ascending = roots_ascend;
+      given =
+          All-from_recursion (λ id. (0 < id) × (id < next)) (1 ∷ 2 ∷ 3 ∷ 4 ∷ 5 ∷ 6 ∷ []) (
+            (omega arith, omega arith),
+            (
+              (omega arith, omega arith),
+              (
+                (omega arith, omega arith),
+                (
+                  (omega arith, omega arith),
+                  ((omega arith, omega arith), ((omega arith, omega arith), tt)),
+                ),
+              ),
+            ),
+          );
+      next_first = first;
+      next_last = last;
+    }
+
+pub root_titles : All (λ (i : Item). IsTitle i.title) roots
+root_titles =
+    All-from_recursion (λ (i : Item). IsTitle i.title) roots
+    (own, (own, (own, (own, (own, (own, tt))))))
+  where
+    own : IsTitle []
+    own = (IsUtf8-nil, omega arith)
+
+pub no_ids : (next : ℕ) → 1 ≤ next → next ≤ end_of_ids → AreIds 1 next []
 no_ids next first last =
     record { ascending = λ k h. absurd (omega arith); given = All-nil _; next_first = first; next_last = last }
 
 pub opening_is_good : (ids : Ids) → 1 ≤ ids.page → 1 ≤ ids.visit → 7 ≤ ids.item → ids.page ≤ end_of_ids
     → ids.visit ≤ end_of_ids → ids.item ≤ end_of_ids → IsGood (store_of (opening_with ids))
 opening_is_good ids page visit item page_last visit_last item_last =
-    let rows : Stored = record { day = record { 0 = 0 }; ids = ids; pages = []; visits = [] } in
     record {
       day = omega arith;
       page_ids = no_ids ids.page page page_last;
@@ -24,8 +54,8 @@ opening_is_good ids page visit item page_last visit_last item_last =
       pages = All-nil _;
       urls = λ i j d before within same. absurd (omega arith);
       visits = All-nil _;
-      items = roots_are_good (stored_store rows);
-      roots = has_roots (stored_store rows);
+      items = roots_are_good (store_of (opening_with ids));
+      roots = has_roots (store_of (opening_with ids));
       tree = roots_are_tree;
-      tags = no_tags (stored_store rows);
+      tags = no_tags (store_of (opening_with ids));
     }

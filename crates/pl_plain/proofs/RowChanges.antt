@@ -14,7 +14,7 @@ use Rattle.pl_base.specs.declared.id.PageId.{PageId}
 use Rattle.pl_base.specs.Rows.{KeptPage}
 use Rattle.pl_plain.specs.declared.flat.row.FlatPage.{FlatPage}
 use Rattle.pl_plain.specs.FlatRows.{flat_page_ids, page_of, row_with}
-use Rattle.pl_plain.proofs.Searches.{rises}
+use Rattle.pl_base.proofs.Searches.{rises}
 
 -- how a page is changed
 abbrev Change : Type 0

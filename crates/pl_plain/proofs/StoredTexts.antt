@@ -5,6 +5,7 @@ use Rattle.std.specs.List.{sum_by}
 use Rattle.std.proofs.lemmas.List.Sums.{sum_by-le}
 use Rattle.pl_base.specs.Address.{if_store_url, is_store_url, record_of, serialized, text_limit}
 use Rattle.pl_base.specs.Live.{chunks}
+use Rattle.pl_base.specs.Store.{Item}
 use Rattle.pl_base.proofs.OriginLaws.{store_url-fits}
 use Rattle.pl_form.specs.declared.stored.StoredPage.{StoredPage}
 use Rattle.pl_form.specs.Reading.{IsUrl}
@@ -38,3 +39,10 @@ few_chunks rows one =
     let each : All (λ (p : StoredPage). chunks p.url + chunks p.title ≤ 582) rows.pages =
     λ k d within. chunks-le (get_or rows.pages k d) (one.pages.0 k d within) in
     omega (arith, sum_by-le (λ (p : StoredPage). chunks p.url + chunks p.title) 582 rows.pages each, one.pages.1)
+
+pub few_title_chunks : (rows : Stored) → AreStored rows
+    → sum_by (λ (i : Item). chunks i.title) rows.items ≤ 35 * 4_294_967_296
+few_title_chunks rows one =
+    let each : All (λ (i : Item). chunks i.title ≤ 35) rows.items =
+    λ k d within. omega (arith, (one.items.0 k d within).4.1) in
+    omega (arith, sum_by-le (λ (i : Item). chunks i.title) 35 rows.items each, one.items.1)

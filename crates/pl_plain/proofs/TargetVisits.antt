@@ -18,10 +18,10 @@ use Rattle.pl_base.specs.Store.{Visit}
 use Rattle.pl_base.proofs.ListLaws.{all-filter}
 use Rattle.pl_form.specs.declared.stored.StoredVisit.{StoredVisit}
 use Rattle.pl_form.specs.Stored.{visit_of}
-use Rattle.pl_plain.specs.Check.{stored_visit_ids}
+use Rattle.pl_check.specs.Rows.{stored_visit_ids}
 use Rattle.pl_plain.specs.Targets.{is_other_from, is_redirect_from, target_among, targets_of}
 use Rattle.pl_plain.proofs.Lookups.{find-map}
-use Rattle.pl_plain.proofs.Searches.{found_at, none_at, rises}
+use Rattle.pl_base.proofs.Searches.{found_at, none_at, rises}
 
 -- the first of those that pass a test
 pub first_id-find : (q : Visit → Bool) (rows : List StoredVisit)

@@ -3,11 +3,10 @@
 use Rattle.std.specs.Prelude.{◌≡◌, ◌+◌, ◌≤◌, ◌<◌, ◌-◌, ◌==◌, ℕ, ℤ, Contains}
 use Rattle.std.specs.Prelude.{List, [], ◌∷◌, length, map, take, true}
 use Rattle.std.specs.List.{All, list_any, range_with_len}
-use Rattle.std.proofs.Common.{◌∙◌, ap, arith, get_or, refl, subst, suc, sym, zero}
-use Rattle.std.specs.List.Sorted.{IsStrictlyIncreasing}
+use Rattle.std.proofs.Common.{◌∙◌, ap, arith, get_or, refl, subst, sym}
 use Rattle.std.proofs.lemmas.Bool.{eqb-true}
 use Rattle.std.proofs.lemmas.List.{get_or-map, length-map, take_all}
-use Rattle.std.proofs.lemmas.List.Elements.{All-from_recursion, All-head, All-map, All-tail}
+use Rattle.std.proofs.lemmas.List.Elements.{All-head, All-map, All-tail}
 use Rattle.std.proofs.lemmas.List.Folds.{Any-from_list_any}
 use Rattle.std.proofs.lemmas.List.FromFn.{get_or-range_with_len, length-range_with_len}
 use Rattle.std.proofs.lemmas.List.Sorted.{IsPermutation-refl}
@@ -17,11 +16,11 @@ use Rattle.pl_base.specs.declared.date.Day.{Day}
 use Rattle.pl_base.specs.declared.id.Ids.{Ids}
 use Rattle.pl_base.specs.Frecency.{frecency_of}
 use Rattle.pl_base.specs.declared.id.VisitId.{VisitId}
-use Rattle.pl_base.specs.Good.{AreIds, IsGood, end_of_ids}
+use Rattle.pl_base.specs.Good.{IsGood}
 use Rattle.pl_base.specs.Redirects.{others_from, redirects_from}
-use Rattle.pl_base.specs.Rows.{AreTargets, IsOfVisits, IsRight, IsWellKept, Kept, KeptOrigin}
+use Rattle.pl_base.specs.Rows.{AreTargets, IsRight, IsWellKept, Kept, KeptOrigin}
 use Rattle.pl_base.specs.Rows.{KeptPage, NamesOrigins, page_origins, store_of}
-use Rattle.pl_base.specs.Store.{Page, Store}
+use Rattle.pl_base.specs.Store.{Item, Page, Store}
 use Rattle.pl_plain.specs.declared.flat.row.FlatPage.{FlatPage}
 use Rattle.pl_form.specs.declared.stored.StoredVisit.{StoredVisit}
 use Rattle.pl_plain.specs.FlatRows.{IsFlat, kept_from, origin_named}
@@ -105,50 +104,18 @@ origins_named kept origins live h names =
       same = h.same;
     })
 
-roots_ascend : IsStrictlyIncreasing (1 ∷ 2 ∷ 3 ∷ 4 ∷ 5 ∷ 6 ∷ [])
-roots_ascend zero h = omega arith
-roots_ascend (suc zero) h = omega arith
-roots_ascend (suc (suc zero)) h = omega arith
-roots_ascend (suc (suc (suc zero))) h = omega arith
-roots_ascend (suc (suc (suc (suc zero)))) h = omega arith
-roots_ascend (suc (suc (suc (suc (suc k))))) h = absurd (omega arith)
-
--- the roots have the ids 1 to 6
-pub root_ids : (next : ℕ) → 7 ≤ next → next ≤ end_of_ids
-    → AreIds 7 next (1 ∷ 2 ∷ 3 ∷ 4 ∷ 5 ∷ 6 ∷ [])
-root_ids next first last =
-    record {
-      ascending = roots_ascend;
-      given =
-          All-from_recursion (λ id. (0 < id) × (id < next)) (1 ∷ 2 ∷ 3 ∷ 4 ∷ 5 ∷ 6 ∷ []) (
-            (omega arith, omega arith),
-            (
-              (omega arith, omega arith),
-              (
-                (omega arith, omega arith),
-                (
-                  (omega arith, omega arith),
-                  ((omega arith, omega arith), ((omega arith, omega arith), tt)),
-                ),
-              ),
-            ),
-          );
-      next_first = first;
-      next_last = last;
-    }
-
 -- a flat store's rows are well kept
 pub well_kept : (day : Day) (ids : Ids) (pages : List FlatPage) (origins : ℕ)
-    (visits : List StoredVisit) (live : ℕ)
-    → IsFlat (kept_from day ids pages origins visits) origins live
-    → IsWellKept (kept_from day ids pages origins visits)
-well_kept day ids pages origins visits live h =
-    let kept : Kept = kept_from day ids pages origins visits in
+    (visits : List StoredVisit) (items : List Item) (live : ℕ)
+    → IsFlat (kept_from day ids pages origins visits items) origins live
+    → IsWellKept (kept_from day ids pages origins visits items)
+well_kept day ids pages origins visits items live h =
+    let kept : Kept = kept_from day ids pages origins visits items in
     record {
       day = h.day;
       page_ids = h.page_ids;
       visit_ids = h.visit_ids;
-      item_ids = root_ids ids.item h.item_first h.item_last;
+      item_ids = h.item_ids;
       urls = h.urls;
       distinct_urls = h.distinct_urls;
       titles = h.titles;
@@ -197,12 +164,11 @@ whole bytes = take_all (length bytes) bytes (omega arith)
 
 -- the bytes of right rows of a good store stand for it
 pub stands : (kept : Kept) (origins live : ℕ) → IsFlat kept origins live → IsGood (store_of kept)
-    → IsOfVisits (store_of kept) → IsRight kept
+    → IsRight kept
     → StandsFor (form_bytes (kept_rows kept)) (store_of kept)
-stands kept origins live h good of_visits right =
+stands kept origins live h good right =
     record {
       good = good;
-      of_visits = of_visits;
       texts =
           All-map (λ (p : Page). IsUtf8 p.url) (λ (p : KeptPage). p.page) kept.pages
           (λ k d within. IsUtf8-from_is_utf8 (get_or kept.pages k d).page.url (h.texts k d within));

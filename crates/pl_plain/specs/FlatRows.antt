@@ -9,11 +9,11 @@ use Rattle.pl_base.specs.declared.id.PageId.{PageId}
 use Rattle.pl_base.specs.declared.row.Mark.{Mark}
 use Rattle.pl_base.specs.Address.{is_store_url}
 use Rattle.pl_base.specs.Date.{IsDate, IsDay}
-use Rattle.pl_base.specs.Good.{AreIds, IsTitle, end_of_ids}
+use Rattle.pl_base.specs.Good.{AreIds, IsTitle}
 use Rattle.pl_base.specs.Live.{live_slots, origin_count, slot_limit}
 use Rattle.pl_base.specs.Rows.{AreAlike, HasSource, Kept, KeptOrigin, KeptPage}
 use Rattle.pl_base.specs.Rows.{has_page, store_of}
-use Rattle.pl_base.specs.Store.{Page, Visit, roots}
+use Rattle.pl_base.specs.Store.{Item, Page, Visit}
 use Rattle.pl_plain.specs.declared.flat.row.FlatPage.{FlatPage}
 use Rattle.pl_form.specs.declared.stored.StoredVisit.{StoredVisit}
 use Rattle.pl_form.specs.Form.{form_bytes, kept_rows}
@@ -68,22 +68,22 @@ flat_page_ids pages = map (λ (p : FlatPage). p.id.0) pages
 abbrev pub origin_named : ℕ → KeptOrigin
 origin_named n = record { origin = record { 0 = n }; total = 0 }
 
--- the rows, with so many origins, and the six roots as the only items
-abbrev pub kept_from : Day → Ids → List FlatPage → ℕ → List StoredVisit → Kept
-kept_from day ids pages origins visits =
+-- the rows, with so many origins
+abbrev pub kept_from : Day → Ids → List FlatPage → ℕ → List StoredVisit → List Item → Kept
+kept_from day ids pages origins visits items =
     record {
       day = day;
       ids = ids;
       pages = map page_of pages;
       origins = map origin_named (range_with_len 1 origins);
       visits = map visit_of visits;
-      items = roots;
+      items = items;
     }
 
 -- the bytes that a file of these rows holds from page 1 on
-abbrev pub bytes_from : Day → Ids → List FlatPage → ℕ → List StoredVisit → List ℕ
-bytes_from day ids pages origins visits =
-    form_bytes (kept_rows (kept_from day ids pages origins visits))
+abbrev pub bytes_from : Day → Ids → List FlatPage → ℕ → List StoredVisit → List Item → List ℕ
+bytes_from day ids pages origins visits items =
+    form_bytes (kept_rows (kept_from day ids pages origins visits items))
 
 -- the rows are well kept, where the names of the origins are 1 to `origins`,
 -- and they take so many slots
@@ -91,12 +91,12 @@ pub record IsFlat (kept : Kept) (origins live : ℕ) : Type 0 where
   pub day : IsDay kept.day
   pub page_ids : AreIds 1 kept.ids.page (map (λ (p : KeptPage). p.page.id.0) kept.pages)
   pub visit_ids : AreIds 1 kept.ids.visit (map (λ (v : Visit). v.id.0) kept.visits)
-  pub item_first : 7 ≤ kept.ids.item
-  pub item_last : kept.ids.item ≤ end_of_ids
+  pub item_ids : AreIds 7 kept.ids.item (map (λ (i : Item). i.id.0) kept.items)
   pub urls : All (λ (p : KeptPage). IsTrue (is_store_url p.page.url)) kept.pages
   pub texts : All (λ (p : KeptPage). IsTrue (is_utf8 p.page.url)) kept.pages
   pub distinct_urls : AllPairs (λ (p q : KeptPage). p.page.url ≢ q.page.url) kept.pages
   pub titles : All (λ (p : KeptPage). IsTitle p.page.title) kept.pages
+  pub item_titles : All (λ (i : Item). IsTitle i.title) kept.items
   pub visits : All (λ (v : Visit). IsDate v.date × IsTrue (has_page kept v.page)) kept.visits
   pub sources : All (HasSource kept) kept.visits
   pub named : All (λ (p : KeptPage). (0 < p.origin.0) × (p.origin.0 ≤ origins)) kept.pages

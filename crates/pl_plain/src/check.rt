@@ -1,5 +1,4 @@
 // What a file's bytes stand for.
-mod good;
 mod live;
 mod marks;
 mod origins;
@@ -13,11 +12,11 @@ ghost use Rattle.pl_base.specs.Touched.{behind_gate};
 ghost use Rattle.pl_plain.specs.Flat.{IsBase, bytes_of, kept_of};
 ghost use Rattle.pl_form.specs.Form.{StandsFor};
 
-use crate::check::good::are_good;
 use crate::check::live::live;
 use crate::check::pages::{into_flat, name_origins};
 use crate::flat::Flat;
 use pl_base::SLOT_LIMIT;
+use pl_check::{References, are_good};
 use pl_form::{CheckError, FileRows, read_rows};
 use std::alloc::Global;
 
@@ -40,14 +39,15 @@ impl Flat {
             → IsBase flat base_bytes ↔ (base_bytes ≡ bytes_of flat)) }
     {
         let FileRows { rows, pages } = read_rows(alloc, bytes)?;
-        if !are_good(&rows) {
+        let references = References::of(alloc, &rows.items)?;
+        if !are_good(alloc, &rows, &references)? {
             return Err(CheckError::NotAStore);
         }
-        let named = name_origins(alloc, &rows)?;
+        let named = name_origins(alloc, &rows, &references)?;
         let live = live(&rows, named.origins);
         if live > u64::from(SLOT_LIMIT) {
             return Err(CheckError::NotAStore);
         }
-        Ok(into_flat(alloc, rows, named, live, pages))
+        into_flat(alloc, rows, named, live, pages)
     }
 }

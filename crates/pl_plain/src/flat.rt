@@ -1,5 +1,6 @@
 // A store over vectors.
 mod insert;
+mod items;
 mod mark;
 pub(crate) mod row;
 mod rows;
@@ -17,12 +18,14 @@ ghost use Rattle.pl_plain.specs.FlatRows.{IsFlat, kept_from, bytes_from};
 use crate::flat::row::FlatPage;
 use pl_base::{Day, Ids, NoMemory};
 use pl_form::StoredVisit;
+use pl_items::Items;
 use std::alloc::Global;
 
 /// A store over vectors of its rows.
 ///
 /// A page or a visit is found by its id by halves. A page's latest visits, and the visits that
-/// came from one, are found by a scan of all visits, and `touched` gives the whole store.
+/// came from one, are found by a scan of all visits, an item by a scan of all items, and `touched`
+/// gives the whole store.
 #[derive(Debug, Drop)]
 pub struct Flat {
     alloc: Global,
@@ -32,6 +35,7 @@ pub struct Flat {
     pages: Vec<FlatPage>,
     // By ascending id.
     visits: Vec<StoredVisit>,
+    items: Items,
     // The names of origins are 1 to this.
     origins: u32,
     // In slots of 128 bytes.
@@ -40,30 +44,30 @@ pub struct Flat {
     before: u32,
     // Whether the rows may differ from those of the last `touched`.
     is_changed: bool,
-    ghost rows: { IsFlat (kept_from day ids pages.items origins visits.items)
+    ghost rows: { IsFlat (kept_from day ids pages.items origins visits.items items)
         origins live } by { Prim.hlevel props },
     ghost some_page: { 1 ≤ before },
     ghost settled: { is_changed ≡ false
-        → length (bytes_from day ids pages.items origins visits.items) ≡ bytes_before before },
+        → length (bytes_from day ids pages.items origins visits.items items)
+        ≡ bytes_before before },
 }
 
 impl Flat {
-    ghost use Rattle.std.specs.Prelude.{◌↔◌, ℕ, List, [], IfOk, IsOk};
+    ghost use Rattle.std.specs.Prelude.{◌↔◌, ℕ, List, [], IfOk};
     ghost use Rattle.pl_base.specs.Good.{IsGood};
     ghost use Rattle.pl_base.specs.Rows.{opening_with, store_of};
     ghost use Rattle.pl_plain.specs.Flat.{IsBase, bytes_of, kept_of};
 
-    /// The store before its first command, made over nothing. No memory is taken.
+    /// The store before its first command, made over nothing.
     pub fn opening(alloc: Global) -> Result<Flat, NoMemory>
         ensures kept { IfOk result (λ flat. kept_of flat ≡ opening_with Ids.OPENING) }
         ensures good { IfOk result (λ flat. IsGood (store_of (kept_of flat))) }
         ensures base { IfOk result (λ flat. (bytes : List ℕ) → IsBase flat bytes ↔ (bytes ≡ [])) }
-        ensures succeeds { IsOk result }
     {
         Flat::with_ids(alloc, Ids::OPENING)
     }
 
-    /// The opening store with these next ids, made over nothing. No memory is taken.
+    /// The opening store with these next ids, made over nothing.
     pub fn with_ids(alloc: Global, ids: Ids) -> Result<Flat, NoMemory>
         requires page { 1 ≤ ids.page }
         requires visit { 1 ≤ ids.visit }
@@ -71,7 +75,6 @@ impl Flat {
         ensures kept { IfOk result (λ flat. kept_of flat ≡ opening_with ids) }
         ensures good { IfOk result (λ flat. IsGood (store_of (kept_of flat))) }
         ensures base { IfOk result (λ flat. (bytes : List ℕ) → IsBase flat bytes ↔ (bytes ≡ [])) }
-        ensures succeeds { IsOk result }
     {
         Ok(Flat {
             alloc,
@@ -79,6 +82,7 @@ impl Flat {
             ids,
             pages: Vec::new(alloc),
             visits: Vec::new(alloc),
+            items: Items::opening(alloc)?,
             origins: 0,
             live: ROOT_SLOTS,
             before: 1,
@@ -93,15 +97,18 @@ impl Flat {
         ids: Ids,
         pages: Vec<FlatPage>,
         visits: Vec<StoredVisit>,
+        items: Items,
         origins: u32,
         live: u64,
         before: u32,
     ) -> Flat
-        requires rows { IsFlat (kept_from day ids pages.items origins visits.items) origins live }
+        requires rows { IsFlat (kept_from day ids pages.items origins visits.items items)
+            origins live }
         requires some_page { 1 ≤ before }
-        requires settled { length (bytes_from day ids pages.items origins visits.items)
+        requires settled { length (bytes_from day ids pages.items origins visits.items items)
             ≡ bytes_before before }
-        ensures kept { kept_of result ≡ kept_from day ids pages.items origins visits.items }
+        ensures kept { kept_of result
+            ≡ kept_from day ids pages.items origins visits.items items }
         ensures base { (bytes : List ℕ) → IsBase result bytes ↔ (bytes ≡ bytes_of result) }
     {
         Flat {
@@ -110,6 +117,7 @@ impl Flat {
             ids,
             pages,
             visits,
+            items,
             origins,
             live,
             before,

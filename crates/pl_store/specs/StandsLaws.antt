@@ -36,7 +36,6 @@ pub stands_for_more : (bytes more : List ℕ) (store : Store) → StandsFor byte
     → take (length bytes) more ≡ bytes → StandsFor more store
 stands_for_more bytes more store stands begins = record {
   good = stands.good;
-  of_visits = stands.of_visits;
   texts = stands.texts;
   live = stands.live;
   begins = begins_by (form_bytes (store_rows store)) bytes more stands.begins begins;

@@ -1,7 +1,7 @@
 // The rows of a file and its header page, by hand.
 
 use crate::roots::ROOTS;
-use pl_base::{Day, Micros, PAGE_SIZE, PageId, Transition, VisitId};
+use pl_base::{Day, ItemId, ItemKind, Micros, PAGE_SIZE, PageId, Transition, TreeItem, VisitId};
 use pl_form::{CheckError, FileRows, StoredPage, StoredVisit, named_pages, read_rows};
 use std::alloc::Global;
 use std::process::Abort;
@@ -21,15 +21,29 @@ const PAGES: &[u8; 43] = b"\x01\0\0\0\
 const VISITS: &[u8; 25] = b"\x01\0\0\0\
     \x07\0\0\0\x04\0\0\0\0\0\0\0\x02\x01\0\0\0\0\0\0\x07";
 
+// The same with 196 plain bytes.
+const ITEMS_HEADER: &[u8; 20] = b"PLFLAT01\x03\0\0\0\xc4\0\0\0\0\0\0\0";
+
+// Bookmark 7 of page 4, folder 8 with the children 9 and 7, and separator 9.
+const ITEMS: &[u8; 112] = b"\x03\0\0\0\
+    \x07\0\0\0\x04\0\0\0\x01\x02\x01\0\0\0\0\0\0\x03\0\0\0\0\0\0\0\x01\0\0\0a\0\0\0\0\
+    \x08\0\0\0\0\0\0\0\x02\0\0\0\0\0\0\0\0\0\0\0\0\0\0\0\0\0\0\0\0\
+    \x02\0\0\0\x09\0\0\0\x07\0\0\0\
+    \x09\0\0\0\0\0\0\0\x03\0\0\0\0\0\0\0\0\0\0\0\0\0\0\0\0\0\0\0\0\0\0\0\0";
+
 fn file(alloc: Global) -> Result<Vec<u8>, Fail> {
+    file_with(alloc, HEADER, ROOTS)
+}
+
+fn file_with(alloc: Global, header: &[u8], items: &[u8]) -> Result<Vec<u8>, Fail> {
     let mut bytes = Vec::new(alloc);
     bytes.resize(PAGE_SIZE, 0x5a)?;
-    bytes.extend_from_slice(HEADER)?;
+    bytes.extend_from_slice(header)?;
     bytes.resize(2 * PAGE_SIZE, 0)?;
     bytes.extend_from_slice(NEXT)?;
     bytes.extend_from_slice(PAGES)?;
     bytes.extend_from_slice(VISITS)?;
-    bytes.extend_from_slice(ROOTS)?;
+    bytes.extend_from_slice(items)?;
     bytes.resize(3 * PAGE_SIZE, 0)?;
     Ok(bytes)
 }
@@ -55,6 +69,26 @@ fn check_rows(rt: &impl Abort, read: &FileRows) {
     check_page(rt, &rows.pages[0]);
     assert!(rt; rows.visits.len() == 1);
     check_visit(rt, &rows.visits[0]);
+    assert_eq!(rt; rows.items.len(), 6);
+}
+
+fn check_item(rt: &impl Abort, item: &TreeItem, id: u32, kind: ItemKind, children: &[ItemId]) {
+    assert_eq!(rt; (item.id, item.kind), (ItemId(id), kind));
+    assert!(rt; &item.children[..] == children);
+}
+
+fn check_items(rt: &impl Abort, items: &[TreeItem]) {
+    assert!(rt; items.len() == 3);
+    check_item(rt, &items[0], 7, ItemKind::Bookmark, &[]);
+    check_item(rt, &items[1], 8, ItemKind::Folder, &[ItemId(9), ItemId(7)]);
+    check_item(rt, &items[2], 9, ItemKind::Separator, &[]);
+    let (bookmark, folder) = (&items[0], &items[1]);
+    assert_eq!(rt;
+        (bookmark.added, bookmark.modified),
+        (Micros(258), Micros(3))
+    );
+    assert_eq!(rt; bookmark.title.as_str(), "a");
+    assert_eq!(rt; (bookmark.page, folder.page), (Some(PageId(4)), None));
 }
 
 #[test]
@@ -64,6 +98,14 @@ fn reads_the_rows_of_a_file(rt: HostRuntime) -> Result<(), Fail> {
     check_rows(&rt, &read_rows(alloc, &bytes)?);
     bytes.extend_from_slice(b"left behind")?;
     check_rows(&rt, &read_rows(alloc, &bytes)?);
+    Ok(())
+}
+
+#[test]
+fn reads_the_items_of_a_file(rt: HostRuntime) -> Result<(), Fail> {
+    let alloc = rt.alloc();
+    let bytes = file_with(alloc, ITEMS_HEADER, ITEMS)?;
+    check_items(&rt, &read_rows(alloc, &bytes)?.rows.items);
     Ok(())
 }
 

@@ -2,6 +2,7 @@ ghost use Rattle.std.specs.Prelude.{◌<◌};
 
 // What the program says, with values that were worked out by hand.
 
+mod bookmarks;
 mod cuts;
 mod faults;
 mod lines;

@@ -6,8 +6,8 @@ ghost use Rattle.pl_base.specs.Frecency.{frecency_of};
 ghost use Rattle.pl_base.specs.Good.{end_of_ids};
 ghost use Rattle.pl_base.specs.Marks as marks;
 ghost use Rattle.pl_base.specs.Redirects as redirects;
-ghost use Rattle.pl_base.specs.Rows.{IsOfVisits, has_page, has_visit, page_visits, row_of};
-ghost use Rattle.pl_base.specs.Rows.{store_of, visit_at};
+ghost use Rattle.pl_base.specs.Rows.{has_page, has_visit, page_visits, row_of, store_of};
+ghost use Rattle.pl_base.specs.Rows.{visit_at};
 ghost use Rattle.pl_base.specs.Store.{Page, Visit};
 ghost use Rattle.pl_base.specs.Visits.{sample_size};
 ghost use Rattle.pl_score.specs.Sample.{sampled_of};
@@ -60,10 +60,23 @@ fn source_transition<R: Rows, L: Ledger>(
     Some(source.transition)
 }
 
-fn sampled<R: Rows, L: Ledger>(rows: &R, visit: VisitId, steps: &mut Steps<L>) -> Sampled
-    requires visit { has_visit (R.kept rows.now) visit ≡ true }
-    requires of_visits { IsOfVisits (store_of (R.kept rows.now)) }
+// Whether an item of the bookmark tree has the page.
+fn is_referenced<R: Rows, L: Ledger>(rows: &R, page: PageId, steps: &mut Steps<L>) -> bool
+    ensures { result ≡ marks.is_referenced (store_of (R.kept rows.now)) page }
+{
+    rows.first_reference(page, steps).is_some()
+}
+
+// What a visit of a page counts, which an item has or not.
+fn sampled<R: Rows, L: Ledger>(
+    rows: &R,
+    visit: VisitId,
+    referenced: bool,
+    steps: &mut Steps<L>,
+) -> Sampled
+    requires { has_visit (R.kept rows.now) visit ≡ true }
     ensures { (v : Visit) → visit_at (R.kept rows.now) visit ≡ Some v
+        → referenced ≡ marks.is_referenced (store_of (R.kept rows.now)) v.page
         → result ≡ sampled_of (store_of (R.kept rows.now)) v }
 {
     let row = rows.visit_at(visit, steps).unwrap();
@@ -71,7 +84,7 @@ fn sampled<R: Rows, L: Ledger>(rows: &R, visit: VisitId, steps: &mut Steps<L>) -
     let is_source = is_redirect_source(rows, visit, steps);
     Sampled {
         date: row.date,
-        bonus: bonus(row.transition, source, is_source, false),
+        bonus: bonus(row.transition, source, is_source, referenced),
     }
 }
 
@@ -80,10 +93,11 @@ fn sample<R: Rows, L: Ledger>(
     alloc: Global,
     rows: &R,
     page: PageId,
+    referenced: bool,
     steps: &mut Steps<L>,
 ) -> Result<Vec<Sampled>, NoMemory>
     requires page { has_page (R.kept rows.now) page ≡ true }
-    requires of_visits { IsOfVisits (store_of (R.kept rows.now)) }
+    requires referenced { referenced ≡ marks.is_referenced (store_of (R.kept rows.now)) page }
     ensures { IfOk result (λ sample. sample.items
         ≡ map (sampled_of (store_of (R.kept rows.now)))
         (take sample_size (page_visits (R.kept rows.now) page))) }
@@ -94,29 +108,31 @@ fn sample<R: Rows, L: Ledger>(
         let Some(visit) = next else {
             return Ok(sample);
         };
-        sample.push(sampled(rows, visit, steps))?;
+        sample.push(sampled(rows, visit, referenced, steps))?;
         next = rows.older(visit, steps);
     }
     Ok(sample)
 }
 
-// The frecency of a page with this `visit_count`. No item has the page.
+// The frecency of a page with this `visit_count` and typed mark.
 fn frecency<R: Rows, L: Ledger>(
     alloc: Global,
     rows: &R,
     page: PageId,
     mark: Mark,
+    is_place: bool,
     steps: &mut Steps<L>,
 ) -> Result<i64, NoMemory>
     requires page { has_page (R.kept rows.now) page ≡ true }
-    requires of_visits { IsOfVisits (store_of (R.kept rows.now)) }
     requires count { mark.count ≡ marks.visit_count (store_of (R.kept rows.now)) page }
     ensures { IfOk result (λ frecency. (p : Page) → p.id ≡ page
+        → mark.typed ≡ p.typed → is_place ≡ is_place_url p.url
         → frecency ≡ frecency_of (store_of (R.kept rows.now)) p) }
 {
-    let sample = sample(alloc, rows, page, steps)?;
+    let referenced = is_referenced(rows, page, steps);
+    let sample = sample(alloc, rows, page, referenced, steps)?;
     let day = rows.day(steps);
-    Ok(score(&sample, day, mark.count, false, mark.typed, false))
+    Ok(score(&sample, day, mark.count, referenced, mark.typed, is_place))
 }
 
 // Whether the visit is within a frame or led to a redirect.
@@ -157,13 +173,12 @@ pub fn refresh<R: Rows, L: Ledger>(
     steps: &mut Steps<L>,
 ) -> Result<i64, NoMemory>
     requires page { has_page (R.kept rows.old) page ≡ true }
-    requires of_visits { IsOfVisits (store_of (R.kept rows.old)) }
     requires count { told.count ≡ marks.visit_count (store_of (R.kept rows.old)) page }
     ensures refreshed { IfOk result (spec.Refreshes page told is_place
         (R.kept rows.old) (R.kept rows.new)) }
     ensures base { OnOk result ((bytes : List ℕ) → R.base rows.old bytes → R.base rows.new bytes) }
 {
-    let frecency = frecency(alloc, rows, page, told, steps)?;
+    let frecency = frecency(alloc, rows, page, told, is_place, steps)?;
     let hidden = is_place || is_hidden_by_visits(rows, page, steps);
     let mark = Mark {
         frecency,

@@ -1,12 +1,14 @@
 // What is known of a page.
 ghost use Rattle.std.specs.Prelude.{◌≡◌, true, IfOk};
 ghost use Rattle.pl_base.specs.Marks.{last_date_of};
-ghost use Rattle.pl_base.specs.Rows.{IsRight, has_page, store_of};
+ghost use Rattle.pl_base.specs.Rows.{has_page, store_of};
+ghost use Rattle.pl_engine.specs.Engine.{IsSound};
 ghost use Rattle.pl_engine.specs.Step as spec;
 
 use crate::engine::find::find_page;
+use crate::engine::tags::{is_bookmarked, tag_text};
 use crate::reply::Reply;
-use pl_base::{Micros, NoMemory, PageId, Refusal, Rows, Steps, Txt};
+use pl_base::{Micros, NoMemory, PageId, Refusal, Rows, Steps};
 use pl_link::Canon;
 use std::alloc::Global;
 use std::sync::ledger::Ledger;
@@ -28,7 +30,7 @@ pub fn page<R: Rows, L: Ledger>(
     url: &Canon,
     steps: &mut Steps<L>,
 ) -> Result<Reply, NoMemory>
-    requires { IsRight (R.kept rows.now) }
+    requires sound { IsSound (R.kept rows.now) }
     ensures { IfOk result (λ reply. reply ≡ spec.told_page (store_of (R.kept rows.now))
         (spec.find_page url.now (store_of (R.kept rows.now)).pages)) }
 {
@@ -44,9 +46,9 @@ pub fn page<R: Rows, L: Ledger>(
         last,
         typed: mark.typed,
         hidden: mark.hidden,
-        bookmarked: false,
+        bookmarked: is_bookmarked(rows, id, steps),
         url: rows.url(id, steps)?,
         title: rows.title(id, steps)?,
-        tags: Txt::copied(alloc, "")?,
+        tags: tag_text(alloc, rows, id, steps)?,
     })
 }

@@ -8,7 +8,7 @@ ghost use Rattle.pl_base.specs.Date.{IsDate};
 ghost use Rattle.pl_base.specs.Good.{end_of_ids};
 ghost use Rattle.pl_base.specs.Live as live;
 ghost use Rattle.pl_base.specs.Live.{live_slots, slot_limit};
-ghost use Rattle.pl_base.specs.Rows.{IsOfVisits, has_visit, store_of};
+ghost use Rattle.pl_base.specs.Rows.{has_visit, store_of};
 ghost use Rattle.pl_engine.specs.Engine.{IsSound};
 ghost use Rattle.pl_engine.specs.Refreshed.{AreRightBut, HaveCounts, source_page};
 ghost use Rattle.pl_engine.specs.Step as spec;
@@ -140,7 +140,6 @@ fn refresh_source<R: Rows, L: Ledger>(
     steps: &mut Steps<L>,
 ) -> Result<(), NoMemory>
     requires source { IfSome row.now.source (λ id. has_visit (R.kept rows.old) id ≡ true) }
-    requires of_visits { IsOfVisits (store_of (R.kept rows.old)) }
     requires counts { HaveCounts (R.kept rows.old) }
     requires right { AreRightBut (option_to_list (source_page (R.kept rows.old) row.now))
         (R.kept rows.old) }

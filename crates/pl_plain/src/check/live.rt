@@ -4,18 +4,19 @@ ghost use Rattle.std.specs.List.{sum_by};
 ghost use Rattle.pl_base.specs.Live as live;
 ghost use Rattle.pl_form.specs.Stored.{AreStored};
 
-use crate::flat::ROOT_SLOTS;
 use crate::slots::chunks;
 use pl_form::{StoredPage, StoredRows};
 
 /// The slots of 128 bytes that the store takes with so many origins.
 pub fn live(rows: &StoredRows, origins: u32) -> u64
     requires { AreStored rows.now }
-    ensures { result ≡ origins + length rows.now.pages + length rows.now.visits + 6
-        + sum_by (λ p. live.chunks p.url + live.chunks p.title) rows.now.pages }
+    ensures { result
+        ≡ origins + length rows.now.pages + length rows.now.visits + length rows.now.items
+        + sum_by (λ p. live.chunks p.url + live.chunks p.title) rows.now.pages
+        + sum_by (λ i. live.chunks i.title) rows.now.items }
 {
     let slots = u64::from(origins) + rows.pages.len() as u64 + rows.visits.len() as u64;
-    slots + ROOT_SLOTS + text_slots(rows)
+    slots + rows.items.len() as u64 + text_slots(rows) + title_slots(rows)
 }
 
 fn text_slots(rows: &StoredRows) -> u64
@@ -24,6 +25,18 @@ fn text_slots(rows: &StoredRows) -> u64
     ensures greatest { result ≤ 582 * 4_294_967_296 }
 {
     rows.pages.iter().map(page_slots).sum()
+}
+
+// The slots of the items' titles.
+fn title_slots(rows: &StoredRows) -> u64
+    requires { AreStored rows.now }
+    ensures exact { result ≡ sum_by (λ i. live.chunks i.title) rows.now.items }
+    ensures greatest { result ≤ 35 * 4_294_967_296 }
+{
+    rows.items
+        .iter()
+        .map(|item| chunks(item.title.as_str()))
+        .sum()
 }
 
 // The slots of a page's URL and of its title.

@@ -8,6 +8,8 @@ ghost use Rattle.pl_base.specs.Marks as marks;
 ghost use Rattle.pl_base.specs.Redirects as redirects;
 ghost use Rattle.pl_base.specs.Visits.{in_place, sample_of, sample_size};
 ghost use Rattle.pl_score.specs.Sample.{sampled_of};
+ghost use Rattle.pl_check.specs.Items.{has_reference};
+ghost use Rattle.pl_plain.specs.CheckPages.{told_sample};
 ghost use Rattle.pl_form.specs.Stored.{AreStored, stored_page, stored_store, visit_of};
 
 use crate::check::redirects::{is_redirect_source, source_transition};
@@ -17,16 +19,18 @@ use pl_form::{StoredPage, StoredRows, StoredVisit};
 use pl_score::{SAMPLE_SIZE, Sampled, bonus, score};
 use std::alloc::Global;
 
-/// What the definitions give of a page with a visit, whose address is told to hold a query or not.
+/// What the definitions give of a page, which is told to be an item's or not, and to be a query or
+/// not.
 pub fn mark(
     alloc: Global,
     rows: &StoredRows,
     page: &StoredPage,
+    is_referenced: bool,
     is_place: bool,
 ) -> Result<Mark, NoMemory>
     requires stored { AreStored rows.now }
     requires place { is_place ≡ is_place_url page.now.url }
-    requires visited { list_any (λ v. v.page.0 == page.now.id.0) rows.now.visits ≡ true }
+    requires referenced { is_referenced ≡ has_reference rows.now.items page.now.id }
     ensures frecency { IfOk result (λ mark.
         mark.frecency ≡ frecency_of (stored_store rows.now) (stored_page page.now)) }
     ensures count { IfOk result (λ mark.
@@ -36,24 +40,39 @@ pub fn mark(
         mark.hidden ≡ marks.is_hidden (stored_store rows.now) (stored_page page.now)) }
 {
     let count = visit_count(rows, page.id);
-    let sampled = sampled(alloc, rows, page.id)?;
-    let frecency = score(&sampled, rows.day, count, false, page.typed, is_place);
+    let sampled = sampled(alloc, rows, page.id, is_referenced)?;
+    let frecency = score(
+        &sampled,
+        rows.day,
+        count,
+        is_referenced,
+        page.typed,
+        is_place,
+    );
     Ok(Mark {
         frecency,
         count,
         typed: page.typed,
-        hidden: is_place || is_unseen(rows, page.id),
+        hidden: is_place || is_hidden_by_visits(rows, page.id),
     })
 }
 
 // The page's sample, with what its visits count.
-fn sampled(alloc: Global, rows: &StoredRows, page: PageId) -> Result<Vec<Sampled>, NoMemory>
-    requires { AreStored rows.now }
+fn sampled(
+    alloc: Global,
+    rows: &StoredRows,
+    page: PageId,
+    is_referenced: bool,
+) -> Result<Vec<Sampled>, NoMemory>
+    requires stored { AreStored rows.now }
+    requires referenced { is_referenced ≡ has_reference rows.now.items page }
     ensures { IfOk result (λ sampled. sampled.items
         ≡ map (sampled_of (stored_store rows.now)) (sample_of (stored_store rows.now) page)) }
 {
     let sample = sample(alloc, rows, page)?;
-    let counted = sample.iter().map(|visit| sampled_of(rows, visit));
+    let counted = sample
+        .iter()
+        .map(|visit| sampled_of(rows, visit, is_referenced));
     Ok(counted.collect(alloc)?)
 }
 
@@ -76,6 +95,22 @@ fn visit_count(rows: &StoredRows, page: PageId) -> u32
     let counted = rows.visits.iter().filter(|visit| visit.page == page
         && visit.transition.is_counted());
     counted.count() as u32
+}
+
+// Whether the page has visits, and each was within a frame or led to a redirect.
+fn is_hidden_by_visits(rows: &StoredRows, page: PageId) -> bool
+    ensures { result ≡ (list_any (λ v. v.page.0 == page.0) rows.now.visits
+        && list_all (λ v. marks.is_framed v.transition
+        || redirects.is_redirect_source (stored_store rows.now) (visit_of v))
+        (filter (λ v. v.page.0 == page.0) rows.now.visits)) }
+{
+    is_visited(rows, page) && is_unseen(rows, page)
+}
+
+fn is_visited(rows: &StoredRows, page: PageId) -> bool
+    ensures { result ≡ list_any (λ v. v.page.0 == page.0) rows.now.visits }
+{
+    rows.visits.iter().any(|visit| visit.page.0 == page.0)
 }
 
 // Whether each visit of the page was within a frame or led to a redirect.
@@ -108,9 +143,9 @@ fn put_in_place(sample: &mut Vec<StoredVisit>, visit: StoredVisit) -> Result<(),
     Ok(())
 }
 
-// What a visit counts in the sample of its page.
-fn sampled_of(rows: &StoredRows, visit: &StoredVisit) -> Sampled
-    ensures { result ≡ sampled_of (stored_store rows.now) (visit_of visit.now) }
+// What a visit counts in the sample of its page, which is told to be an item's or not.
+fn sampled_of(rows: &StoredRows, visit: &StoredVisit, is_referenced: bool) -> Sampled
+    ensures { result ≡ told_sample rows.now is_referenced (visit_of visit.now) }
 {
     Sampled {
         date: visit.date,
@@ -118,7 +153,7 @@ fn sampled_of(rows: &StoredRows, visit: &StoredVisit) -> Sampled
             visit.transition,
             source_transition(rows, visit),
             is_redirect_source(rows, visit),
-            false,
+            is_referenced,
         ),
     }
 }

@@ -4,7 +4,8 @@ use crate::flat::targets::{first_target, next_target};
 use crate::flat::touched::whole_change;
 use crate::{Flat, visit};
 use pl_base::{
-    Day, Ids, Mark, NoMemory, PageId, Rows, Slot, Steps, Touched, Txt, VisitId, VisitRow,
+    Day, Ids, ItemId, ItemRow, Mark, Micros, NoMemory, PageId, Rows, Slot, Steps, Touched, Txt,
+    VisitId, VisitRow,
 };
 use pl_form::StoredVisit;
 use std::sync::ledger::Ledger;
@@ -140,6 +141,70 @@ impl Rows for Flat {
         Ok(id)
     }
 
+    fn item_at<L: Ledger>(&self, item: ItemId, steps: &mut Steps<L>) -> Option<ItemRow> {
+        self.items.item_at(item)
+    }
+
+    fn item_title<L: Ledger>(&self, item: ItemId, steps: &mut Steps<L>) -> Result<Txt, NoMemory> {
+        Txt::copied(self.alloc, self.items.title(item).unwrap())
+    }
+
+    fn first_child<L: Ledger>(&self, item: ItemId, steps: &mut Steps<L>) -> Option<ItemId> {
+        self.items.first_child(item)
+    }
+
+    fn next_sibling<L: Ledger>(&self, item: ItemId, steps: &mut Steps<L>) -> Option<ItemId> {
+        self.items.next_sibling(item)
+    }
+
+    fn first_reference<L: Ledger>(&self, page: PageId, steps: &mut Steps<L>) -> Option<ItemId> {
+        self.items.first_reference(page)
+    }
+
+    fn next_reference<L: Ledger>(&self, item: ItemId, steps: &mut Steps<L>) -> Option<ItemId> {
+        self.items.next_reference(item)
+    }
+
+    fn insert_item<L: Ledger>(
+        &mut self,
+        row: &ItemRow,
+        title: &str,
+        after: Option<ItemId>,
+        steps: &mut Steps<L>,
+    ) -> Result<ItemId, NoMemory> {
+        self.add_item(row, title, after)
+    }
+
+    fn move_item<L: Ledger>(
+        &mut self,
+        item: ItemId,
+        parent: ItemId,
+        after: Option<ItemId>,
+        steps: &mut Steps<L>,
+    ) {
+        self.items.move_to(item, parent, after);
+        self.is_changed = true;
+    }
+
+    fn set_item<L: Ledger>(
+        &mut self,
+        item: ItemId,
+        title: &str,
+        modified: Micros,
+        steps: &mut Steps<L>,
+    ) -> Result<(), NoMemory> {
+        self.retitle_item(item, title, modified)
+    }
+
+    fn set_modified<L: Ledger>(&mut self, item: ItemId, modified: Micros, steps: &mut Steps<L>) {
+        self.items.set_modified(item, modified);
+        self.is_changed = true;
+    }
+
+    fn remove_item<L: Ledger>(&mut self, item: ItemId, steps: &mut Steps<L>) {
+        self.drop_item(item);
+    }
+
     fn touched<L: Ledger>(&mut self, steps: &mut Steps<L>) -> Result<Touched, NoMemory> {
         if !self.is_changed {
             return Ok(Touched::empty(self.alloc, self.before, self.before));
@@ -154,7 +219,7 @@ impl Rows for Flat {
     ghost based = { based };
 
     ghost well_kept = { λ flat. laws.well_kept flat.day flat.ids flat.pages.items flat.origins
-        flat.visits.items flat.live flat.rows };
+        flat.visits.items flat.items flat.live flat.rows };
 
     ghost targeted = { λ flat source. laws.targeted (kept_of flat) source };
 

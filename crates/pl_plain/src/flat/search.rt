@@ -5,7 +5,7 @@ ghost use Rattle.std.specs.Option.{option_copied, option_map};
 ghost use Rattle.pl_base.specs.Visits.{latest_first};
 ghost use Rattle.pl_form.specs.Stored.{visit_of};
 ghost use Rattle.pl_plain.specs.declared.flat.row.FlatPage.{FlatPage};
-ghost use Rattle.pl_plain.specs.Check.{stored_visit_ids};
+ghost use Rattle.pl_check.specs.Rows.{stored_visit_ids};
 ghost use Rattle.pl_plain.specs.FlatRows.{flat_page_ids};
 ghost use Rattle.pl_plain.specs.Latest.{first_of, is_within};
 

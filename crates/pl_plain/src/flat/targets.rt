@@ -3,7 +3,7 @@ ghost use Rattle.std.specs.Prelude.{◌≡◌, ◌++◌, filter, map};
 ghost use Rattle.std.specs.List.Sorted.{IsStrictlyIncreasing};
 ghost use Rattle.pl_base.specs.Rows.{first_id};
 ghost use Rattle.pl_form.specs.Stored.{visit_of};
-ghost use Rattle.pl_plain.specs.Check.{stored_visit_ids};
+ghost use Rattle.pl_check.specs.Rows.{stored_visit_ids};
 ghost use Rattle.pl_plain.specs.Targets.{is_other_from, is_redirect_from};
 ghost use Rattle.pl_plain.specs.Targets.{target_among, targets_of};
 

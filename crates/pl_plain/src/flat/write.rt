@@ -1,18 +1,20 @@
 ghost use Rattle.std.specs.Prelude.{◌≡◌, ◌+◌, ◌≤◌, ◌<◌, ◌^◌, ◌∷◌, ◌++◌, []};
 ghost use Rattle.std.specs.Prelude.{codes, length, map, replicate, All, OnOk};
 ghost use Rattle.pl_base.specs.Address.{longest_url};
-ghost use Rattle.pl_base.specs.Good.{longest_title};
-ghost use Rattle.pl_base.specs.Store.{item_id, root_folder, roots};
+ghost use Rattle.pl_base.specs.Good.{child_ids, longest_title};
 ghost use Rattle.pl_form.specs.Stored.{visit_of};
 ghost use Rattle.pl_plain.specs.FlatRows.{form_row};
 ghost use Rattle.pl_form.specs.Form.{eight, filled_pages, four, header, item_bytes, listed};
-ghost use Rattle.pl_form.specs.Form.{page_bytes, text_bytes, visit_bytes, visit_or_zero};
+ghost use Rattle.pl_form.specs.Form.{page_bytes, page_or_zero, text_bytes, visit_bytes};
+ghost use Rattle.pl_form.specs.Form.{visit_or_zero};
+ghost use Rattle.pl_items.specs.declared.by_id.Child.{Child};
 ghost use Rattle.pl_form.specs.Form as form;
 
 use crate::Flat;
 use crate::flat::row::FlatPage;
-use pl_base::{NoMemory, VisitId};
+use pl_base::{NoMemory, PageId, VisitId};
 use pl_form::StoredVisit;
+use pl_items::{Child, Items, Listed};
 
 pub fn put_four(out: &mut Vec<u8>, n: u32) -> Result<(), NoMemory>
     ensures { OnOk result (out.new.items ≡ out.old.items ++ four n) }
@@ -100,43 +102,52 @@ pub fn put_visits(out: &mut Vec<u8>, visits: &[StoredVisit]) -> Result<(), NoMem
     Ok(())
 }
 
-fn put_ids(out: &mut Vec<u8>, ids: &[u32]) -> Result<(), NoMemory>
-    requires { length ids.now < 2 ^ 32 }
-    ensures { OnOk result (out.new.items ≡ out.old.items ++ listed four ids.now) }
+fn put_children(out: &mut Vec<u8>, children: &[Child]) -> Result<(), NoMemory>
+    requires { length children.now < 2 ^ 32 }
+    ensures { OnOk result (out.new.items
+        ≡ out.old.items ++ listed (λ (c : Child). four c.id.0) children.now) }
 {
-    put_four(out, ids.len() as u32)?;
-    for id in ids {
-        put_four(out, *id)?;
+    put_four(out, children.len() as u32)?;
+    for child in children {
+        put_four(out, child.id.0)?;
     }
     Ok(())
 }
 
-fn put_root(out: &mut Vec<u8>, id: u32, children: &[u32]) -> Result<(), NoMemory>
-    requires { length children.now < 2 ^ 32 }
-    ensures { OnOk result (out.new.items
-        ≡ out.old.items ++ item_bytes (root_folder id (map item_id children.now))) }
+// The number of an item's page, or 0.
+fn page_number(page: Option<PageId>) -> u32
+    ensures { result ≡ page_or_zero page }
 {
-    put_four(out, id)?;
-    put_four(out, 0)?;
-    out.push(FOLDER)?;
-    put_eight(out, 0)?;
-    put_eight(out, 0)?;
-    put_text(out, "")?;
-    put_ids(out, children)?;
+    page.map_or(0, |page| page.0)
+}
+
+fn put_item(out: &mut Vec<u8>, item: &Listed<'_>) -> Result<(), NoMemory>
+    requires title { length item.now.title ≤ longest_title }
+    requires children { length item.now.children < 2 ^ 32 }
+    ensures { OnOk result (out.new.items ≡ out.old.items ++ item_bytes item.now) }
+{
+    put_four(out, item.id.0)?;
+    put_four(out, page_number(item.page))?;
+    out.push(item.kind.number())?;
+    put_eight(out, item.added.0)?;
+    put_eight(out, item.modified.0)?;
+    put_text(out, item.title)?;
+    put_children(out, item.children)?;
     Ok(())
 }
 
-// The number of a folder's kind.
-const FOLDER: u8 = 2;
-
-/// The six roots, which are the only items.
-pub fn put_roots(out: &mut Vec<u8>) -> Result<(), NoMemory>
-    ensures { OnOk result (out.new.items ≡ out.old.items ++ listed item_bytes roots) }
+pub fn put_items(out: &mut Vec<u8>, items: &Items) -> Result<(), NoMemory>
+    requires few { length items.now < 2 ^ 32 }
+    requires titles { All (λ i. length i.title ≤ longest_title) items.now }
+    ensures items { OnOk result (out.new.items
+        ≡ out.old.items ++ listed item_bytes items.now) }
+    ensures children { length (child_ids items.now) ≤ length items.now }
 {
-    put_four(out, 6)?;
-    put_root(out, 1, &[2, 3, 4, 5, 6])?;
-    for id in 2..7 {
-        put_root(out, id, &[])?;
+    let count = items.len();
+    let by_id = items.by_id()?;
+    put_four(out, count as u32)?;
+    for index in 0..count {
+        put_item(out, &by_id.get(index))?;
     }
     Ok(())
 }
@@ -159,7 +170,7 @@ impl Flat {
         put_four(&mut out, self.ids.item)?;
         put_pages(&mut out, &self.pages)?;
         put_visits(&mut out, &self.visits)?;
-        put_roots(&mut out)?;
+        put_items(&mut out, &self.items)?;
         Ok(out)
     }
 }

@@ -25,7 +25,6 @@ front_of bytes pages within hold = record {
   begins = ap (λ n. take n bytes) (length-take-le (bytes_before pages) bytes within);
   whole = λ store stands. record {
     good = stands.good;
-    of_visits = stands.of_visits;
     texts = stands.texts;
     live = stands.live;
     begins =

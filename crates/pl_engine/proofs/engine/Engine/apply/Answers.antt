@@ -1,5 +1,4 @@
 use Rattle.pl_engine.specs.Engine.{IsSound}
-use Rattle.pl_engine.proofs.GoodRows.{good_of}
 use Rattle.pl_engine.proofs.engine.Engine.apply.Given.{Over}
 use Rattle.pl_engine.proofs.engine.Engine.apply.Goals.{Joined-command, in-Visit+in_ok-reply-in-Visit}
 use Rattle.pl_engine.proofs.engine.Engine.apply.Goals.{in-Title+in_ok-reply-in-Title, in-Page+in_ok-reply-in-Page}
@@ -12,8 +11,7 @@ sound g c =
       | in-Visit+in_ok-reply-in-Visit w ↦ rw w.rows-is w.in_ok-reply-in-Visit.ensures.sound
       | in-Title+in_ok-reply-in-Title w ↦ rw w.rows-is w.in_ok-reply-in-Title.ensures.sound
       | in-Page+in_ok-reply-in-Page w ↦ rw w.rows-is (record {
-        of_visits = c.args.self.of_visits;
-        visited = c.args.self.visited;
+        good = c.args.self.good;
         right = c.args.self.right;
       })
     ]
@@ -21,11 +19,9 @@ sound g c =
 pub invariant_of-result : goal.invariant_of-result
 invariant_of-result g c =
     let s : IsSound (g.R.Rows.kept c.match-command.rows) = sound g c in
-    record { of_visits = s.of_visits; visited = s.visited; right = s.right; most = c.args.self.most }
+    record { good = s.good; right = s.right; most = c.args.self.most }
 
 pub returns-clause-stands : goal.returns-clause-stands
 returns-clause-stands g c =
     let s : IsSound (g.R.Rows.kept c.match-command.rows) = sound g c.before in
-    g.met.R.Rows.stands c.match-command.rows
-    (good_of (g.R.Rows.kept c.match-command.rows) (g.met.R.Rows.well_kept c.match-command.rows) s.of_visits s.visited)
-    s.of_visits s.right
+    g.met.R.Rows.stands c.match-command.rows s.good s.right

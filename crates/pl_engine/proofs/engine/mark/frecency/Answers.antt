@@ -1,4 +1,4 @@
-use Rattle.std.proofs.Common.{◌∙◌, rules, take, w64, false}
+use Rattle.std.proofs.Common.{◌∙◌, rules, take, w64}
 use Rattle.std.proofs.lemmas.Int.{to_z-of_z}
 use Rattle.pl_base.specs.Rows.{page_visits, store_of}
 use Rattle.pl_engine.proofs.PageScore.{sample_filled, score_is, small_bonuses}
@@ -16,9 +16,10 @@ score-requires-clause-sampled g c some =
     (c.deref.ensures.value ∙ c.in_ok-sample.ensures) c.requires.count some
 
 pub returns : goal.returns
-returns g c p same =
+returns g c p same typed place =
     to_z-of_z w64 c.score.result (search rules)
     ∙ c.score.ensures
     ∙ score_is (g.R.Rows.kept c.args.rows.now) c.args.page p c.deref.result.now c.day-day.result c.args.mark.count
-    c.args.mark.typed false c.requires.of_visits (c.deref.ensures.value ∙ c.in_ok-sample.ensures)
-    c.day-day.ensures.day c.requires.count same
+    c.is_referenced-referenced.result c.args.mark.typed c.args.is_place
+    (c.deref.ensures.value ∙ c.in_ok-sample.ensures) c.day-day.ensures.day c.requires.count
+    c.is_referenced-referenced.ensures same typed place

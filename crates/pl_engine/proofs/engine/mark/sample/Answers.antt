@@ -1,6 +1,7 @@
-use Rattle.std.proofs.Common.{◌+◌, arith, refl}
+use Rattle.std.proofs.Common.{◌+◌, ◌∙◌, ap, arith, refl, sym}
+use Rattle.pl_base.specs.Marks.{is_referenced}
 use Rattle.pl_base.specs.Rows.{Kept, store_of}
-use Rattle.pl_engine.proofs.VisitWalk.{AreSampled, IsVisitHere, at_here, has_here, sampled_all, sampled_more}
+use Rattle.pl_engine.proofs.VisitWalk.{AreSampled, IsVisitHere, at_here, has_here, page_here, sampled_all, sampled_more}
 use Rattle.pl_engine.proofs.VisitWalk.{sampled_ten, visit_here, walk_goes_on, walk_starts}
 use Rattle.pl_engine.proofs.engine.mark.sample.Goals as goal
 
@@ -10,8 +11,8 @@ loop-init g c =
     (AreSampled (store_of (g.R.Rows.kept c.args.rows.now)) c.new-sample.result.items 0) c.latest-next.result
     c.latest-next.ensures.latest (c.new-sample.ensures.items, refl)
 
-pub sampled-requires-clause-visit : goal.sampled-requires-clause-visit
-sampled-requires-clause-visit g c =
+pub sampled-requires : goal.sampled-requires
+sampled-requires g c =
     let kept : Kept = g.R.Rows.kept c.args.rows.now in
     has_here kept c.args.page (AreSampled (store_of kept) c.loop.sample.items c.loop.counter) c.in-Some.visit
     (g.met.R.Rows.well_kept c.args.rows.now)
@@ -40,7 +41,10 @@ loop-preserved g c =
     w.visit w.so_far
     (c.sampled.ensures w.visit
     (at_here kept c.args.page (AreSampled (store_of kept) c.loop.sample.items c.loop.counter) c.in-Some.visit
-    (g.met.R.Rows.well_kept c.args.rows.now) w))
+    (g.met.R.Rows.well_kept c.args.rows.now) w)
+    (c.requires.referenced ∙ ap (is_referenced (store_of kept))
+    (sym (page_here kept c.args.page (AreSampled (store_of kept) c.loop.sample.items c.loop.counter) c.in-Some.visit
+    (g.met.R.Rows.well_kept c.args.rows.now) w))))
     c.in_ok-push.ensures.items)
 
 pub returns-in_default : goal.returns-in_default

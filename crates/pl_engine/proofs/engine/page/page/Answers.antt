@@ -1,7 +1,6 @@
-use Rattle.std.proofs.Common.{◌==◌, ◌∙◌, ap, false, rules, sym, w64, ℤ, List, ℕ}
+use Rattle.std.proofs.Common.{◌==◌, ◌∙◌, ap, rules, sym, w64, ℤ}
 use Rattle.std.proofs.lemmas.Int.{to_z-of_z}
 use Rattle.pl_base.specs.Rows.{KeptPage, mark_of}
-use Rattle.pl_engine.specs.declared.reply.Reply.{Reply}
 use Rattle.pl_engine.specs.declared.reply.Reply.TheVariants.{Page as PageReply}
 use Rattle.pl_engine.proofs.KnownPage.{has_target}
 use Rattle.pl_engine.proofs.PageTold.{told}
@@ -33,14 +32,17 @@ title-requires g c =
 
 pub returns : goal.returns
 returns g c =
-    let reply : ℤ → List ℕ → Reply =
-    λ z tags. PageReply c.in-Some.id z c.unwrap-mark.result.count c.last_date-last.result c.unwrap-mark.result.typed
-    c.unwrap-mark.result.hidden false c.in_ok-url.field-0 c.in_ok-title.field-0 tags in
-    ap (λ z. reply z c.in_ok-copied.field-0) (to_z-of_z w64 c.unwrap-mark.result.frecency (search rules))
-    ∙ ap (reply c.unwrap-mark.result.frecency) c.in_ok-copied.ensures
+    ap (λ (z : ℤ). PageReply c.in-Some.id z c.unwrap-mark.result.count c.last_date-last.result
+    c.unwrap-mark.result.typed c.unwrap-mark.result.hidden c.is_bookmarked.result c.in_ok-url.field-0
+    c.in_ok-title.field-0
+    c.in_ok-tag_text.field-0) (to_z-of_z w64 c.unwrap-mark.result.frecency (search rules))
     ∙ told (g.R.Rows.kept c.args.rows.now) c.args.url.now c.in-Some.id c.unwrap-mark.result c.last_date-last.result
-    c.in_ok-url.field-0 c.in_ok-title.field-0 (g.met.R.Rows.well_kept c.args.rows.now) c.requires
+    c.is_bookmarked.result c.in_ok-url.field-0 c.in_ok-title.field-0 c.in_ok-tag_text.field-0
+    (g.met.R.Rows.well_kept c.args.rows.now) c.requires.sound.right
     (target_by (g.R.Rows.kept c.args.rows.now) c.args.url.now c.text.result.now c.in_ok-id.field-0 c.in-Some.id
     c.text.ensures.value c.in_ok-id.ensures c.in-Some.is)
-    (sym c.unwrap-mark.ensures ∙ c.page_at.ensures.mark) c.last_date-last.ensures c.in_ok-url.ensures.url
-    c.in_ok-title.ensures.title
+    (sym c.unwrap-mark.ensures ∙ c.page_at.ensures.mark) c.last_date-last.ensures c.is_bookmarked.ensures
+    c.in_ok-url.ensures.url c.in_ok-title.ensures.title c.in_ok-tag_text.ensures
+
+pub tag_text-requires : goal.tag_text-requires
+tag_text-requires g c = c.requires.sound.good

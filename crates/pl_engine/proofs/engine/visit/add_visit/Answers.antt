@@ -81,4 +81,5 @@ returns-clause-sound g c =
     c.in_ok-frecency.frecency c.requires.ready (g.met.R.Rows.well_kept c.insert_visit.new.self)
     c.in_ok-visit.ensures.kept (sym c.unwrap-mark.ensures ∙ c.page_at.ensures.mark) c.visited_mark-told.ensures
     c.in_ok-frecency.ensures.refreshed)
-    c.in_ok-refresh_source.ensures.store c.in_ok-refresh_source.ensures.right
+    (g.met.R.Rows.well_kept c.refresh_source.new.rows) c.in_ok-refresh_source.ensures.store
+    c.in_ok-refresh_source.ensures.right

@@ -1,5 +1,5 @@
 use Rattle.std.proofs.lemmas.Result.{err_from_is_err_and}
-use Rattle.pl_form.proofs.ReadingStored.{no_ids, no_pages, no_roots, no_visits, rows_read}
+use Rattle.pl_form.proofs.ReadingStored.{no_ids, no_items, no_pages, no_visits, rows_read}
 use Rattle.pl_form.proofs.reader.Reader.rows.Goals as goal
 
 pub returns-in_err-ids : goal.returns-in_err-ids
@@ -22,18 +22,18 @@ returns-in_err-visits c =
     c.in_ok-four.field-0 c.in_ok-ids.ids c.in_ok-pages.pages.items c.in_err-visits.field-0.0
     c.in_ok-four.ensures.number c.in_ok-ids.ensures c.in_ok-pages.ensures c.in_err-visits.ensures)
 
-pub returns-in_err-constant : goal.returns-in_err-constant
-returns-in_err-constant c =
-    let p = err_from_is_err_and c.from_residual-in_err-constant.result c.from_residual-in_err-constant.ensures.1 in
-    rw (p.1, p.2) (no_roots c.args.self.now c.four.new.self c.ids.new.self c.pages.new.self c.visits.new.self
-    c.constant.new.self c.in_ok-four.field-0 c.in_ok-ids.ids c.in_ok-pages.pages.items c.in_ok-visits.visits.items
-    c.in_err-constant.field-0.0
+pub returns-in_err-items : goal.returns-in_err-items
+returns-in_err-items c =
+    let p = err_from_is_err_and c.from_residual-in_err-items.result c.from_residual-in_err-items.ensures.1 in
+    rw (p.1, p.2) (no_items c.args.self.now c.four.new.self c.ids.new.self c.pages.new.self c.visits.new.self
+    c.items.new.self c.in_ok-four.field-0 c.in_ok-ids.ids c.in_ok-pages.pages.items c.in_ok-visits.visits.items
+    c.in_err-items.field-0.0
     c.in_ok-four.ensures.number c.in_ok-ids.ensures c.in_ok-pages.ensures c.in_ok-visits.ensures
-    c.in_err-constant.ensures.bytes)
+    c.in_err-items.ensures)
 
 pub returns : goal.returns
 returns c =
-    rows_read c.args.self.now c.four.new.self c.ids.new.self c.pages.new.self c.visits.new.self c.constant.new.self
-    c.in_ok-four.field-0 c.in_ok-ids.ids c.in_ok-pages.pages.items c.in_ok-visits.visits.items
+    rows_read c.args.self.now c.four.new.self c.ids.new.self c.pages.new.self c.visits.new.self c.items.new.self
+    c.in_ok-four.field-0 c.in_ok-ids.ids c.in_ok-pages.pages.items c.in_ok-visits.visits.items c.in_ok-items.items.items
     c.in_ok-four.ensures.number c.in_ok-ids.ensures c.in_ok-pages.ensures c.in_ok-visits.ensures
-    c.in_ok-constant.ensures.bytes
+    c.in_ok-items.ensures

@@ -1,6 +1,6 @@
 use Rattle.std.proofs.Common.{◌∙◌, sym}
 use Rattle.pl_form.specs.Stored.{stored_store}
-use Rattle.pl_plain.proofs.CheckMarks.{hidden-place, hidden-unseen, sample_filled, sampled-small-by}
+use Rattle.pl_plain.proofs.CheckMarks.{hidden-by_visits, hidden-place, sample_filled, sampled-small-by}
 use Rattle.pl_plain.proofs.check.marks.mark.Goals as goal
 use Rattle.pl_plain.proofs.check.marks.mark.Goals.{then-is_place, else-is_place}
 
@@ -19,10 +19,10 @@ returns-clause-hidden c =
     elim c.if-is_place.branch [
       | then-is_place w ↦
           w.result-is ∙ w.if-is_place.true
-          ∙ hidden-place c.args.rows.now c.args.page.now c.requires.visited
+          ∙ hidden-place c.args.rows.now c.args.page.now
           (sym w.if-is_place.true ∙ c.requires.place)
       | else-is_place w ↦
-          w.result-is ∙ w.is_unseen.ensures
-          ∙ hidden-unseen c.args.rows.now c.args.page.now c.requires.visited
+          w.result-is ∙ w.is_hidden_by_visits.ensures
+          ∙ hidden-by_visits c.args.rows.now c.args.page.now
           (sym w.if-is_place.false ∙ c.requires.place)
     ]

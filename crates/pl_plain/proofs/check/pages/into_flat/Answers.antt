@@ -1,21 +1,38 @@
-use Rattle.std.proofs.Common.{◌≡◌, length, subst, sym}
+use Rattle.std.proofs.Common.{◌≡◌, List, length, subst, sym}
+use Rattle.std.proofs.lemmas.Option.{MatchOption-at_some}
+use Rattle.pl_base.specs.Good.{IsTree}
+use Rattle.pl_base.specs.Store.{Item}
 use Rattle.pl_base.specs.Touched.{bytes_before}
 use Rattle.pl_plain.specs.CheckPages.{kept_of_rows}
-use Rattle.pl_plain.specs.FlatRows.{IsFlat, bytes_from}
+use Rattle.pl_plain.specs.FlatRows.{IsFlat, bytes_from, kept_from}
 use Rattle.pl_form.specs.Stored.{Stored}
 use Rattle.pl_plain.proofs.CheckFlat.{bytes-length, is-flat}
 use Rattle.pl_plain.proofs.check.pages.into_flat.Goals as goal
 
 pub from_rows-requires-clause-rows : goal.from_rows-requires-clause-rows
 from_rows-requires-clause-rows c =
-    subst (λ (r : Stored). IsFlat (kept_of_rows r c.args.named.pages.items c.args.named.origins) c.args.named.origins
-    c.args.live) (sym c.rows.view_is)
+    let r = c.rows.inside in
+    let planted : c.in-Some.items ≡ r.items.items =
+    MatchOption-at_some _ _ _ c.in-Some.is c.in_ok-items.ensures.items in
+    let tree : IsTree r.items.items = MatchOption-at_some _ _ _ c.in-Some.is c.in_ok-items.ensures.tree in
+    subst (λ (items : List Item).
+    IsFlat (kept_from r.day r.ids c.args.named.pages.items c.args.named.origins r.visits.items items)
+    c.args.named.origins c.args.live) (sym planted)
+    (subst (λ (rows : Stored). IsFlat (kept_of_rows rows c.args.named.pages.items c.args.named.origins)
+    c.args.named.origins c.args.live) (sym c.rows.view_is)
     (is-flat c.args.rows c.args.named.pages.items c.requires.given.0 c.args.named.origins c.args.live
-    c.requires.given.1)
+    c.requires.given.1 (subst (λ (rows : Stored). IsTree rows.items) c.rows.view_is tree)))
 
 pub from_rows-requires-clause-settled : goal.from_rows-requires-clause-settled
 from_rows-requires-clause-settled c =
-    subst (λ (r : Stored). length (bytes_from r.day r.ids c.args.named.pages.items c.args.named.origins r.visits)
+    let r = c.rows.inside in
+    let planted : c.in-Some.items ≡ r.items.items =
+    MatchOption-at_some _ _ _ c.in-Some.is c.in_ok-items.ensures.items in
+    subst (λ (items : List Item).
+    length (bytes_from r.day r.ids c.args.named.pages.items c.args.named.origins r.visits.items items)
+    ≡ bytes_before c.args.before) (sym planted)
+    (subst (λ (rows : Stored).
+    length (bytes_from rows.day rows.ids c.args.named.pages.items c.args.named.origins rows.visits rows.items)
     ≡ bytes_before c.args.before) (sym c.rows.view_is)
     (bytes-length c.args.rows c.args.named.pages.items c.args.named.origins c.args.before c.requires.given.1.pages
-    c.requires.before)
+    c.requires.before))

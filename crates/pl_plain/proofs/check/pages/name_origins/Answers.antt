@@ -1,14 +1,8 @@
 use Rattle.std.proofs.Common.{◌∙◌, ap}
 use Rattle.std.proofs.lemmas.Result.{err_from_is_err_and}
 use Rattle.pl_form.specs.Stored.{Stored}
-use Rattle.pl_plain.proofs.CheckPages.{assessed_more, names_fit, page_named, right-at, visited-at}
+use Rattle.pl_plain.proofs.CheckPages.{assessed_more, names_fit, page_named, right-at}
 use Rattle.pl_plain.proofs.check.pages.name_origins.Goals as goal
-
-pub flat_page-requires-clause-visited : goal.flat_page-requires-clause-visited
-flat_page-requires-clause-visited c =
-    visited-at c.args.rows.now c.deref-page-items.result.now c.loop-page.page-index c.page-item.result
-    (c.deref-page-items.ensures.value ∙ ap (λ (r : Stored). r.pages) c.rows.view_is) c.requires.good
-    c.loop-page-test.true c.page-item.is
 
 pub returns-in_err-flat_page-clause-right : goal.returns-in_err-flat_page-clause-right
 returns-in_err-flat_page-clause-right c all =

@@ -70,7 +70,8 @@ invariant_of-self c =
     ) in
     record {
       rows =
-          subst (λ (pages : List FlatPage). IsFlat (kept_from f.day f.ids pages f.origins f.visits.items) f.origins
+          subst (λ (pages : List FlatPage).
+          IsFlat (kept_from f.day f.ids pages f.origins f.visits.items f.items) f.origins
           (f.live - c.chunks-old.result + c.chunks.result)) (sym same)
           (subst (λ (pages : List KeptPage). IsFlat (record (kept_of f) { pages = pages }) f.origins
           (f.live - c.chunks-old.result + c.chunks.result))

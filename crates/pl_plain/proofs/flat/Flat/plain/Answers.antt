@@ -1,6 +1,5 @@
-use Rattle.std.proofs.Common.{◌∙◌, ◌++◌, ap, map, refl, sym}
+use Rattle.std.proofs.Common.{◌∙◌, ◌++◌, ap, map, sym}
 use Rattle.pl_base.specs.Rows.{KeptPage}
-use Rattle.pl_base.specs.Store.{roots}
 use Rattle.pl_form.specs.Stored.{visit_of}
 use Rattle.pl_plain.specs.Flat.{kept_of}
 use Rattle.pl_plain.specs.FlatRows.{form_row, page_of}
@@ -32,12 +31,12 @@ returns-clause-plain c =
     c.deref-2.ensures.value in
     seven_writes c.new-out.result.items (four f.day.0) (four f.ids.page) (four f.ids.visit) (four f.ids.item)
     (listed page_bytes (kept_rows (kept_of f)).pages) (listed visit_bytes (map visit_of f.visits.items))
-    (listed item_bytes roots)
+    (listed item_bytes (kept_rows (kept_of f)).items)
     c.in_ok-put_four.ensures c.in_ok-put_four-2.ensures c.in_ok-put_four-3.ensures c.in_ok-put_four-4.ensures pages
-    visits c.in_ok-put_roots.ensures
+    visits c.in_ok-put_items.ensures.items
     ∙ ap (λ start. start ++ plain_bytes (kept_rows (kept_of f))) c.new-out.ensures.items
 
 pub returns-clause-few : goal.returns-clause-few
 returns-clause-few c =
     let f = c.args.self.now in
-    rw (returns-clause-plain c) (plain_is_short (kept_of f) f.origins f.live refl f.rows)
+    rw (returns-clause-plain c) (plain_is_short (kept_of f) f.origins f.live c.put_items.ensures.children f.rows)

@@ -2,7 +2,7 @@ use Rattle.std.proofs.Common.{◌≡◌, ◌∙◌, Option, ap, find, nat_le, na
 use Rattle.std.specs.Option.{option_copied, option_map}
 use Rattle.std.proofs.lemmas.List.Sorted.{IsPartitionPoint-from_clause, IsPartitionedBy-leb}
 use Rattle.pl_plain.specs.declared.flat.row.FlatPage.{FlatPage}
-use Rattle.pl_plain.proofs.Searches.{above_at, got_at, never_falls}
+use Rattle.pl_base.proofs.Searches.{above_at, got_at, never_falls}
 use Rattle.pl_plain.proofs.flat.search.behind.Goals as goal
 use Rattle.pl_plain.proofs.flat.search.behind.Goals.{After-get}
 

@@ -1,7 +1,7 @@
 use Rattle.std.proofs.Common.{◌∙◌, ◌==◌, ap, sym}
 use Rattle.std.specs.Option.{option_copied}
 use Rattle.pl_plain.specs.declared.flat.row.FlatPage.{FlatPage}
-use Rattle.pl_plain.proofs.Searches.{found_at, got_at, none_at}
+use Rattle.pl_base.proofs.Searches.{found_at, got_at, none_at}
 use Rattle.pl_plain.proofs.flat.search.find_page.Goals as goal
 
 pub returns-in_err-page_index : goal.returns-in_err-page_index

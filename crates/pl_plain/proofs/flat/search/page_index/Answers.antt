@@ -1,7 +1,7 @@
 use Rattle.std.proofs.Common.{◌∙◌, rules}
 use Rattle.std.proofs.lemmas.List.Sorted.{answers_always}
 use Rattle.pl_plain.specs.declared.flat.row.FlatPage.{FlatPage}
-use Rattle.pl_plain.proofs.Searches.{place_searched}
+use Rattle.pl_base.proofs.Searches.{place_searched}
 use Rattle.pl_plain.proofs.flat.search.page_index.Goals as goal
 
 pub returns : goal.returns

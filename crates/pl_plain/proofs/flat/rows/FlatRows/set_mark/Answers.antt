@@ -25,7 +25,8 @@ invariant_of-self g c =
     (length-map f.pages.items (marked_row c.args.page c.args.mark)) (omega arith) in
     record {
       rows =
-          subst (λ (pages : List FlatPage). IsFlat (kept_from f.day f.ids pages f.origins f.visits.items) f.origins
+          subst (λ (pages : List FlatPage).
+          IsFlat (kept_from f.day f.ids pages f.origins f.visits.items f.items) f.origins
           f.live) (sym same)
           (subst (λ (pages : List KeptPage). IsFlat (record (kept_of f) { pages = pages }) f.origins f.live)
           (sym (kept_changed c.args.page (with_mark_of c.args.mark) (marked c.args.mark) (λ x. refl) f.pages.items))

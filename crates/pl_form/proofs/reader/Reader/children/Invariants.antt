@@ -1,0 +1,8 @@
+use Rattle.std.proofs.Common.{◌≡◌, length}
+use Rattle.pl_form.specs.Stored.{IsChild, child_bytes}
+use Rattle.pl_form.proofs.ReadingLists.{FirstRead}
+use Rattle.pl_form.proofs.reader.Reader.children.Given as goal
+
+abbrev pub invariant-loop-index : goal.invariant-loop-index
+invariant-loop-index l =
+    FirstRead child_bytes IsChild l.initial.self l.children.items l.self × (length l.children.items ≡ l._index)

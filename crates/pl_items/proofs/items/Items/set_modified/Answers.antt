@@ -1,0 +1,30 @@
+use Rattle.std.proofs.Common.{◌∙◌, ap, sym}
+use Rattle.std.specs.List.{position}
+use Rattle.pl_items.proofs.IdOrder.{has_id}
+use Rattle.pl_items.proofs.Children.{distinct_nodes}
+use Rattle.pl_items.proofs.Changes.{redated_are, redated_items, redating}
+use Rattle.pl_items.proofs.Lookups.{not_nowhere}
+use Rattle.pl_items.proofs.Places.{set_at}
+use Rattle.pl_items.proofs.items.Items.set_modified.Goals as goal
+
+pub invariant_of-self : goal.invariant_of-self
+invariant_of-self c =
+    redated_are c.args.id c.args.modified c.self.inside.nodes.items _ c.self.invariant
+    (set_at c.args.id (redating c.args.modified) c.self.inside.nodes.items c.in-Some.place
+    c.index_mut.result.now (distinct_nodes c.self.inside.nodes.items c.self.invariant)
+    (ap (position (has_id c.args.id)) (sym c.deref.ensures.value) ∙ sym c.place_of.ensures ∙ c.in-Some.is)
+    c.index_mut.ensures.value)
+
+pub returns-in-Some : goal.returns-in-Some
+returns-in-Some c =
+    rw (← c.self.view_is)
+    (redated_items c.args.id c.args.modified c.self.inside.nodes.items _
+    (set_at c.args.id (redating c.args.modified) c.self.inside.nodes.items c.in-Some.place
+    c.index_mut.result.now (distinct_nodes c.self.inside.nodes.items c.self.invariant)
+    (ap (position (has_id c.args.id)) (sym c.deref.ensures.value) ∙ sym c.place_of.ensures ∙ c.in-Some.is)
+    c.index_mut.ensures.value))
+
+pub returns-in_default : goal.returns-in_default
+returns-in_default c =
+    absurd (not_nowhere c.args.id c.self.inside.nodes.items (rw c.self.view_is c.requires.item)
+    (ap (position (has_id c.args.id)) (sym c.deref.ensures.value) ∙ sym c.place_of.ensures ∙ c.in_default.is))

@@ -1,0 +1,23 @@
+use Rattle.std.proofs.Common.{Some, None, ◌≡◌, ◌∙◌, ap, find, sym}
+use Rattle.std.specs.Option.{option_map}
+use Rattle.pl_items.proofs.IdOrder.{has_id}
+use Rattle.pl_items.proofs.Lookups.{found_none, found_some, no_title, title_found}
+use Rattle.pl_items.proofs.items.Items.title.Goals as goal
+
+pub returns-in_err-node : goal.returns-in_err-node
+returns-in_err-node c =
+    let found : find (has_id c.args.id) c.self.inside.nodes.items ≡ None =
+    ap (find (has_id c.args.id)) (sym c.deref.ensures.value)
+    ∙ found_none c.node_at.result c.in_err-node.was c.node_at.ensures in
+    rw (← c.self.view_is)
+    (ap (option_map (λ t. t.now)) c.from_residual.ensures
+    ∙ no_title c.self.inside.nodes.items c.args.id c.self.invariant found)
+
+pub returns : goal.returns
+returns c =
+    let found : find (has_id c.args.id) c.self.inside.nodes.items ≡ Some c.in_ok-node.node.now =
+    ap (find (has_id c.args.id)) (sym c.deref.ensures.value)
+    ∙ found_some c.node_at.result c.in_ok-node.node c.in_ok-node.was c.node_at.ensures in
+    rw (← c.self.view_is)
+    (ap (λ t. Some t) c.as_str.ensures
+    ∙ title_found c.self.inside.nodes.items c.args.id c.in_ok-node.node.now c.self.invariant found)

@@ -1,0 +1,19 @@
+use Rattle.std.proofs.Common.{List, subst, sym}
+use Rattle.std.proofs.lemmas.Bool.{true≢false}
+use Rattle.pl_base.specs.Store.{Item}
+use Rattle.pl_plain.specs.Flat.{kept_of}
+use Rattle.pl_plain.specs.FlatRows.{IsFlat, kept_from}
+use Rattle.pl_plain.proofs.ItemChanges.{IsFlat-with_redated}
+use Rattle.pl_plain.proofs.flat.rows.FlatRows.set_modified.Goals as goal
+
+pub invariant_of-self : goal.invariant_of-self
+invariant_of-self g c =
+    let f = c.args.self.now in
+    record {
+      rows =
+          subst (λ (items : List Item). IsFlat (kept_from f.day f.ids f.pages.items f.origins f.visits.items items)
+          f.origins f.live) (sym c.set_modified.ensures)
+          (IsFlat-with_redated c.args.item c.args.modified (kept_of f) f.origins f.live f.rows);
+      some_page = f.some_page;
+      settled = λ settled. absurd (true≢false settled);
+    }

@@ -1,0 +1,3 @@
+mod FoldRows
+pub mod TagNames
+mod TagRows

@@ -1,0 +1,83 @@
+-- What the calls of items tell of an item that was asked for, and that a new title has its slots.
+use Rattle.std.proofs.Common.{◌≡◌, ◌∙◌, ◌<◌, ◌≤◌, ◌==◌, ℕ, List, [], ◌∷◌, Option, Some, None, ap, arith, length}
+use Rattle.std.proofs.Common.{refl, true}
+use Rattle.std.proofs.lemmas.Bool.{eqb-true}
+use Rattle.std.specs.Option.{is_some, option_map}
+use Rattle.pl_base.specs.declared.date.Micros.{Micros}
+use Rattle.pl_base.specs.declared.id.ItemId.{ItemId}
+use Rattle.pl_base.specs.declared.id.PageId.{PageId}
+use Rattle.pl_base.specs.declared.item.ItemRow.{ItemRow}
+use Rattle.pl_base.specs.declared.row.Mark.{Mark}
+use Rattle.pl_base.specs.Good.{longest_title}
+use Rattle.pl_base.specs.Live.{live_slots, slot_limit}
+use Rattle.pl_base.specs.Rows.{Kept, KeptPage, has_page, live_with_item, live_with_item_title, mark_of, page_at}
+use Rattle.pl_base.specs.Rows.{store_of}
+use Rattle.pl_base.specs.Store.{Item}
+use Rattle.pl_base.specs.Tree.{children_of, first_item, has_item, item_at, item_row, parent_of}
+use Rattle.pl_plain.specs.FlatRows.{IsFlat}
+use Rattle.pl_check.proofs.RootTests.{found_passes}
+use Rattle.pl_plain.proofs.ItemChanges.{slots_retitled, slots_with_item}
+use Rattle.pl_plain.proofs.Lookups.{there-found}
+
+pub page_known : (kept : Kept) (page : PageId) (told : Option Mark)
+    → told ≡ option_map mark_of (page_at kept page) → is_some told ≡ true → has_page kept page ≡ true
+page_known kept page None is some = absurd (cc)
+page_known kept page (Some mark) is some =
+    there-found (λ (p : KeptPage). p.page.id.0 == page.0) mark_of kept.pages mark is
+
+pub item_there : (items : List Item) (id : ItemId) (row : ItemRow)
+    → Some row ≡ option_map (item_row items) (item_at items id) → has_item items id ≡ true
+item_there items id row told = there-found (λ (i : Item). i.id.0 == id.0) (item_row items) items row told
+
+pub item_known : (items : List Item) (id : ItemId) (told : Option ItemRow)
+    → told ≡ option_map (item_row items) (item_at items id) → is_some told ≡ true → has_item items id ≡ true
+item_known items id None is some = absurd (cc)
+item_known items id (Some row) is some = item_there items id row is
+
+-- what the rows tell of an item's parent
+pub parent_told : (items : List Item) (id : ItemId) (row : ItemRow)
+    → Some row ≡ option_map (item_row items) (item_at items id) → row.parent ≡ parent_of items id
+parent_told items id row told = choose (item_at items id) refl told
+  where
+    same : (i : Item) → item_at items id ≡ Some i → i.id ≡ id
+    same i at =
+        let number : i.id.0 ≡ id.0 = eqb-true i.id.0 id.0 (found_passes (λ (j : Item). j.id.0 == id.0) items i at) in
+        ap (λ (n : ℕ). record { 0 = n }) number
+
+    choose : (found : Option Item) → item_at items id ≡ found → Some row ≡ option_map (item_row items) found
+        → row.parent ≡ parent_of items id
+    choose None at none = absurd (cc)
+    choose (Some i) at some =
+        let is : row ≡ item_row items i = cc in
+        ap (λ (r : ItemRow). r.parent) is ∙ ap (parent_of items) (same i at)
+
+pub childless : (items : List Item) (id : ItemId) → None ≡ first_item (children_of items id)
+    → children_of items id ≡ []
+childless items id none = choose (children_of items id) none
+  where
+    choose : (ids : List ItemId) → None ≡ first_item ids → ids ≡ []
+    choose [] none = refl
+    choose (c ∷ cs) none = absurd (cc)
+
+pub room_for_item : (kept : Kept) (row : ItemRow) (title : List ℕ) (after : Option ItemId)
+    → length title ≤ longest_title → live_slots (store_of kept) < 4_000_000
+    → live_with_item row title after kept ≤ slot_limit
+room_for_item kept row title after short few = omega (arith, slots_with_item row title after kept)
+
+found_where : (items : List Item) (id : ItemId) (row : ItemRow)
+    → Some row ≡ option_map (item_row items) (item_at items id) → (i : Item) × (item_at items id ≡ Some i)
+found_where items id row told = choose (item_at items id) refl told
+  where
+    choose : (found : Option Item) → item_at items id ≡ found → Some row ≡ option_map (item_row items) found
+        → (i : Item) × (item_at items id ≡ Some i)
+    choose None is none = absurd (cc)
+    choose (Some i) is some = (i, is)
+
+pub room_for_name : (kept : Kept) (origins live : ℕ) (id : ItemId) (title : List ℕ) (modified : Micros)
+    (row : ItemRow) → IsFlat kept origins live
+    → Some row ≡ option_map (item_row kept.items) (item_at kept.items id)
+    → length title ≤ longest_title → live_slots (store_of kept) < 4_000_000
+    → live_with_item_title id title modified kept ≤ slot_limit
+room_for_name kept origins live id title modified row h told short few =
+    let i = found_where kept.items id row told in
+    omega (arith, slots_retitled id title modified kept origins live i.0 h i.1)

@@ -1,0 +1,198 @@
+//! Calls on the items of a store over vectors. Each asks first for what the call takes for granted.
+ghost use Rattle.std.specs.Prelude.{◌≡◌, true, IfSome, IsSomeAnd};
+ghost use Rattle.pl_base.specs.Rows.{has_page};
+ghost use Rattle.pl_base.specs.Tree.{has_item, parent_of};
+ghost use Rattle.pl_plain.specs.Flat.{kept_of};
+
+use pl_base::{
+    Ids, ItemId, ItemRow, LONGEST_TITLE, Micros, NoMemory, PAGE_SIZE, PageId, Rows, Steps, Touched,
+};
+use pl_plain::Flat;
+use std::alloc::Global;
+use std::process::Abort;
+use std::sync::ledger::Ledger;
+use std::test::Fail;
+
+// Whether the child, if there is one, has this parent.
+fn is_child<L: Ledger>(
+    flat: &Flat,
+    child: Option<ItemId>,
+    parent: Option<ItemId>,
+    steps: &mut Steps<L>,
+) -> bool
+    ensures { result ≡ true → IfSome child (λ id. parent_of (kept_of flat.now).items id ≡ parent) }
+{
+    match child {
+        Some(child) => has_parent(flat, child, parent, steps),
+        None => true,
+    }
+}
+
+fn has_parent<L: Ledger>(
+    flat: &Flat,
+    child: ItemId,
+    parent: Option<ItemId>,
+    steps: &mut Steps<L>,
+) -> bool
+    ensures { result ≡ true → parent_of (kept_of flat.now).items child ≡ parent }
+{
+    match flat.item_at(child, steps) {
+        Some(row) => row.parent == parent,
+        None => false,
+    }
+}
+
+// Whether the page, if there is one, is there.
+fn is_there<L: Ledger>(flat: &Flat, page: Option<PageId>, steps: &mut Steps<L>) -> bool
+    ensures { result ≡ true → IfSome page (λ id. has_page (kept_of flat.now) id ≡ true) }
+{
+    match page {
+        Some(page) => flat.page_at(page, steps).is_some(),
+        None => true,
+    }
+}
+
+// Whether the parent is there.
+fn is_parent<L: Ledger>(flat: &Flat, parent: Option<ItemId>, steps: &mut Steps<L>) -> bool
+    ensures { result ≡ true
+        → IsSomeAnd parent (λ id. has_item (kept_of flat.now).items id ≡ true) }
+{
+    match parent {
+        Some(parent) => flat.item_at(parent, steps).is_some(),
+        None => false,
+    }
+}
+
+pub fn insert<L: Ledger>(
+    rt: &impl Abort,
+    flat: &mut Flat,
+    row: &ItemRow,
+    title: &str,
+    after: Option<ItemId>,
+    steps: &mut Steps<L>,
+) -> Result<ItemId, NoMemory> {
+    assert!(rt; is_parent(flat, row.parent, steps));
+    assert!(rt; is_child(flat, after, row.parent, steps));
+    assert!(rt; is_there(flat, row.page, steps));
+    assert!(rt; row.added.0 <= Micros::LAST.0);
+    assert!(rt; row.modified.0 <= Micros::LAST.0);
+    assert!(rt; title.len() <= LONGEST_TITLE);
+    assert!(rt; flat.ids(steps).item < Ids::END);
+    assert!(rt; flat.live(steps) < 4_000_000);
+    flat.insert_item(row, title, after, steps)
+}
+
+pub fn move_item<L: Ledger>(
+    rt: &impl Abort,
+    flat: &mut Flat,
+    item: ItemId,
+    parent: ItemId,
+    after: Option<ItemId>,
+    steps: &mut Steps<L>,
+) -> Result<(), Fail> {
+    flat.item_at(item, steps).ok_or("no item")?;
+    flat.item_at(parent, steps).ok_or("no parent")?;
+    assert!(rt; is_child(flat, after, Some(parent), steps));
+    assert!(rt; after != Some(item));
+    flat.move_item(item, parent, after, steps);
+    Ok(())
+}
+
+pub fn set<L: Ledger>(
+    rt: &impl Abort,
+    flat: &mut Flat,
+    item: ItemId,
+    title: &str,
+    modified: Micros,
+    steps: &mut Steps<L>,
+) -> Result<(), Fail> {
+    flat.item_at(item, steps).ok_or("no item")?;
+    assert!(rt; title.len() <= LONGEST_TITLE);
+    assert!(rt; modified.0 <= Micros::LAST.0);
+    assert!(rt; flat.live(steps) < 4_000_000);
+    flat.set_item(item, title, modified, steps)?;
+    Ok(())
+}
+
+pub fn set_modified<L: Ledger>(
+    rt: &impl Abort,
+    flat: &mut Flat,
+    item: ItemId,
+    modified: Micros,
+    steps: &mut Steps<L>,
+) -> Result<(), Fail> {
+    flat.item_at(item, steps).ok_or("no item")?;
+    assert!(rt; modified.0 <= Micros::LAST.0);
+    flat.set_modified(item, modified, steps);
+    Ok(())
+}
+
+pub fn remove<L: Ledger>(
+    rt: &impl Abort,
+    flat: &mut Flat,
+    item: ItemId,
+    steps: &mut Steps<L>,
+) -> Result<(), Fail> {
+    flat.item_at(item, steps).ok_or("no item")?;
+    assert!(rt; flat.first_child(item, steps).is_none());
+    flat.remove_item(item, steps);
+    Ok(())
+}
+
+/// The parent has these children, in this order.
+pub fn check_children<L: Ledger>(
+    rt: &impl Abort,
+    flat: &Flat,
+    parent: u32,
+    children: &[u32],
+    steps: &mut Steps<L>,
+) {
+    let mut next = flat.first_child(ItemId(parent), steps);
+    for id in children {
+        let child = ItemId(*id);
+        assert_eq!(rt; next, Some(child));
+        assert!(rt; has_parent(flat, child, Some(ItemId(parent)), steps));
+        next = flat.next_sibling(child, steps);
+    }
+    assert_eq!(rt; next, None);
+}
+
+/// These items have the page.
+pub fn check_references<L: Ledger>(
+    rt: &impl Abort,
+    flat: &Flat,
+    page: u32,
+    items: &[u32],
+    steps: &mut Steps<L>,
+) {
+    let mut next = flat.first_reference(PageId(page), steps);
+    for id in items {
+        let item = ItemId(*id);
+        assert_eq!(rt; next, Some(item));
+        next = flat.next_reference(item, steps);
+    }
+    assert_eq!(rt; next, None);
+}
+
+// A gate's page, and behind it the pages of a change that touched all of them.
+fn file_of(rt: &impl Abort, alloc: Global, change: &Touched) -> Result<Vec<u8>, NoMemory> {
+    let mut bytes = Vec::new(alloc);
+    bytes.resize(PAGE_SIZE, 0x5a)?;
+    for index in 0..change.count() {
+        assert_eq!(rt; change.page(index) as usize * PAGE_SIZE, bytes.len());
+        bytes.extend_from_slice(change.image(index))?;
+    }
+    assert_eq!(rt; change.after() as usize * PAGE_SIZE, bytes.len());
+    Ok(bytes)
+}
+
+/// The file after a change that touches all pages.
+pub fn touched_bytes<L: Ledger>(
+    rt: &impl Abort,
+    alloc: Global,
+    flat: &mut Flat,
+    steps: &mut Steps<L>,
+) -> Result<Vec<u8>, NoMemory> {
+    let change = flat.touched(steps)?;
+    file_of(rt, alloc, &change)
+}

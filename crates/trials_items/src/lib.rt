@@ -1,0 +1,17 @@
+//! Tests of folds, tag names and items, by their public names. There is nothing else here, since a
+//! crate with tests of its own is proved twice; apart from those of the other layers, so that none
+//! waits for the others.
+#![tactic(auto)]
+
+#[cfg(test)]
+mod items;
+#[cfg(test)]
+mod large_trees;
+#[cfg(test)]
+mod tree;
+#[cfg(test)]
+mod tree_damages;
+#[cfg(test)]
+mod tree_file;
+#[cfg(test)]
+mod words;

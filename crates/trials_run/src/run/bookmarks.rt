@@ -1,0 +1,128 @@
+// A file by hand with bookmarks and tags: what `page` tells of them, and what they count in a
+// frecency.
+use super::in_memory;
+use pl_base::NoMemory;
+use pl_desk::{MemDesk, MemSource};
+use places::Status;
+use std::alloc::Global;
+use std::test::Fail;
+
+// The form's name, 3 pages, 652 plain bytes.
+const HEADER: &[u8; 20] = b"PLFLAT01\x03\0\0\0\x8c\x02\0\0\0\0\0\0";
+
+// Day 0, and the next ids.
+const NEXT: &[u8; 16] = b"\0\0\0\0\x04\0\0\0\x02\0\0\0\x0e\0\0\0";
+
+// The first page was visited and has a bookmark and two tags, the second has a tag alone, and the
+// third, which was typed once, a bookmark.
+const PAGES: &[u8; 121] = b"\x03\0\0\0\
+    \x01\0\0\0\0\xaf\0\0\0\0\0\0\0\x12\0\0\0https://a.example/\0\0\0\0\
+    \x02\0\0\0\0\x8c\0\0\0\0\0\0\0\x12\0\0\0https://b.example/\0\0\0\0\
+    \x03\0\0\0\x01\x54\x01\0\0\0\0\0\0\x12\0\0\0https://c.example/\0\0\0\0";
+
+// A link to the first page.
+const VISITS: &[u8; 25] = b"\x01\0\0\0\
+    \x01\0\0\0\x01\0\0\0\0\0\0\0\0\0\0\0\0\0\0\0\x01";
+
+const COUNT: &[u8; 4] = b"\x0d\0\0\0";
+
+// The roots: items 7 and 8 are in the menu, and the tags are items 10 and 9.
+const ROOTS: &[u8; 234] = b"\
+    \x01\0\0\0\0\0\0\0\x02\0\0\0\0\0\0\0\0\0\0\0\0\0\0\0\0\0\0\0\0\x05\0\0\0\
+    \x02\0\0\0\x03\0\0\0\x04\0\0\0\x05\0\0\0\x06\0\0\0\
+    \x02\0\0\0\0\0\0\0\x02\0\0\0\0\0\0\0\0\0\0\0\0\0\0\0\0\0\0\0\0\x02\0\0\0\
+    \x07\0\0\0\x08\0\0\0\
+    \x03\0\0\0\0\0\0\0\x02\0\0\0\0\0\0\0\0\0\0\0\0\0\0\0\0\0\0\0\0\0\0\0\0\
+    \x04\0\0\0\0\0\0\0\x02\0\0\0\0\0\0\0\0\0\0\0\0\0\0\0\0\0\0\0\0\x02\0\0\0\
+    \x0a\0\0\0\x09\0\0\0\
+    \x05\0\0\0\0\0\0\0\x02\0\0\0\0\0\0\0\0\0\0\0\0\0\0\0\0\0\0\0\0\0\0\0\0\
+    \x06\0\0\0\0\0\0\0\x02\0\0\0\0\0\0\0\0\0\0\0\0\0\0\0\0\0\0\0\0\0\0\0\0";
+
+// A bookmark of the first page and one of the third.
+const BOOKMARKS: &[u8; 68] = b"\
+    \x07\0\0\0\x01\0\0\0\x01\0\0\0\0\0\0\0\0\0\0\0\0\0\0\0\0\x01\0\0\0A\0\0\0\0\
+    \x08\0\0\0\x03\0\0\0\x01\0\0\0\0\0\0\0\0\0\0\0\0\0\0\0\0\x01\0\0\0C\0\0\0\0";
+
+// `Red` with an entry of the first page and one of the second, and `blue` with one of the first.
+const TAGS: &[u8; 184] = b"\
+    \x09\0\0\0\0\0\0\0\x02\0\0\0\0\0\0\0\0\0\0\0\0\0\0\0\0\x03\0\0\0Red\x02\0\0\0\
+    \x0b\0\0\0\x0c\0\0\0\
+    \x0a\0\0\0\0\0\0\0\x02\0\0\0\0\0\0\0\0\0\0\0\0\0\0\0\0\x04\0\0\0blue\x01\0\0\0\
+    \x0d\0\0\0\
+    \x0b\0\0\0\x01\0\0\0\x01\0\0\0\0\0\0\0\0\0\0\0\0\0\0\0\0\0\0\0\0\0\0\0\0\
+    \x0c\0\0\0\x02\0\0\0\x01\0\0\0\0\0\0\0\0\0\0\0\0\0\0\0\0\0\0\0\0\0\0\0\0\
+    \x0d\0\0\0\x01\0\0\0\x01\0\0\0\0\0\0\0\0\0\0\0\0\0\0\0\0\0\0\0\0\0\0\0\0";
+
+fn file(alloc: Global) -> Result<Vec<u8>, Fail> {
+    let mut bytes = Vec::new(alloc);
+    bytes.resize(1024, 0)?;
+    bytes.extend_from_slice(HEADER)?;
+    bytes.resize(2048, 0)?;
+    bytes.extend_from_slice(NEXT)?;
+    bytes.extend_from_slice(PAGES)?;
+    bytes.extend_from_slice(VISITS)?;
+    bytes.extend_from_slice(COUNT)?;
+    bytes.extend_from_slice(ROOTS)?;
+    bytes.extend_from_slice(BOOKMARKS)?;
+    bytes.extend_from_slice(TAGS)?;
+    bytes.resize(3072, 0)?;
+    Ok(bytes)
+}
+
+const ASKED: &[u8] = b"page\thttps://a.example/\n\
+    page\thttps://b.example/\n\
+    page\thttps://c.example/\n";
+
+const TOLD: &[u8] = b"page\t1\t175\t1\t0\t0\t0\t1\thttps://a.example/\t\tblue,Red\n\
+    page\t2\t140\t0\t-\t0\t0\t0\thttps://b.example/\t\tRed\n\
+    page\t3\t340\t0\t-\t1\t0\t1\thttps://c.example/\t\t\n";
+
+// Typed visits of the first page and of the third, and a link to the second. 75 is added to the
+// bonus of each.
+const VISITED: &[u8] = b"visit\thttps://a.example/\t2\t1\n\
+    visit\thttps://b.example/\t1\t2\n\
+    visit\thttps://c.example/\t2\t3\n\
+    page\thttps://c.example/\n";
+
+const COUNTED: &[u8] = b"visit\t2\tpage\t1\tfrecency\t2250\n\
+    visit\t3\tpage\t2\tfrecency\t175\n\
+    visit\t4\tpage\t3\tfrecency\t2075\n\
+    page\t3\t2075\t1\t3\t1\t0\t1\thttps://c.example/\t\t\n";
+
+// How a run of the script on the desk ends.
+fn run_on(alloc: Global, script: &[u8], desk: &mut MemDesk) -> Status {
+    match MemSource::over(alloc, script, 64, &[]) {
+        Ok(mut input) => in_memory(alloc, &["run", "s"], &mut input, desk),
+        Err(NoMemory) => Status::NoMemory,
+    }
+}
+
+#[test]
+fn tells_bookmarks_and_tags(rt: HostRuntime) -> Result<(), Fail> {
+    let alloc = rt.alloc();
+    let bytes = file(alloc)?;
+    let mut desk = MemDesk::holding(alloc, &bytes, &[])?;
+    let status = run_on(alloc, ASKED, &mut desk);
+    assert_eq!(rt; status, Status::Done);
+    assert_eq!(rt; desk.said(), TOLD);
+    assert_eq!(rt; desk.bytes(), bytes.as_slice());
+    Ok(())
+}
+
+#[test]
+fn counts_bookmarks_and_tags(rt: HostRuntime) -> Result<(), Fail> {
+    let alloc = rt.alloc();
+    let bytes = file(alloc)?;
+    let mut desk = MemDesk::holding(alloc, &bytes, &[])?;
+    let status = run_on(alloc, VISITED, &mut desk);
+    assert_eq!(rt; status, Status::Done);
+    assert_eq!(rt; desk.said(), COUNTED);
+    let mut again = MemDesk::holding(alloc, desk.bytes(), &[])?;
+    let status = run_on(alloc, b"page\thttps://b.example/\n", &mut again);
+    assert_eq!(rt; status, Status::Done);
+    assert_eq!(rt;
+        again.said(),
+        b"page\t2\t175\t1\t2\t0\t0\t0\thttps://b.example/\t\tRed\n".as_slice()
+    );
+    Ok(())
+}
