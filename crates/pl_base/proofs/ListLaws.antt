@@ -3,7 +3,7 @@ use Rattle.std.proofs.Common.{Some, find}
 use Rattle.std.proofs.Common.{◌≡◌, ◌+◌, ◌<◌, ◌≤◌, ◌++◌, ◌&&◌, ◌||◌, ◌∙◌, ℕ, All, Bool, true, false, List}
 use Rattle.std.proofs.Common.{[], ◌∷◌, ap, arith, count_by, filter, if◌then◌else◌, length, map, refl, subst}
 use Rattle.std.specs.List.{AllByRecursion, AllPairs, list_any, sum_by}
-use Rattle.std.specs.Option.{IsSome}
+use Rattle.std.specs.Option.{IsSome, option_map}
 use Rattle.std.proofs.lemmas.Bool.{or_left, or_right}
 use Rattle.std.proofs.lemmas.List.{get_or-map, length-map}
 use Rattle.std.proofs.lemmas.List.Elements.{All-head, All-tail}
@@ -107,6 +107,13 @@ all-filter P q (x ∷ xs) all = choose (q x) (all-filter P q xs all.1)
     choose false rest = rest
 
 -- ---- what is found
+
+pub find-map : {A B : Type 0} (p : B → Bool) (f : A → B) (xs : List A)
+    → find p (map f xs) ≡ option_map f (find (λ x. p (f x)) xs)
+find-map p f [] = refl
+find-map p f (x ∷ xs) =
+    elim (p (f x)) as (λ b. (if b then Some (f x) else find p (map f xs))
+    ≡ option_map f (if b then Some x else find (λ x. p (f x)) xs)) [ true ↦ refl | false ↦ find-map p f xs ]
 
 pub found_in : {A : Type 0} (p : A → Bool) (xs : List A) → list_any p xs ≡ true → IsSome (find p xs)
 found_in p [] some = absurd (cc)

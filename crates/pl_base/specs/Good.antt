@@ -131,6 +131,13 @@ pub record HasTags (store : Store) : Type 0 where
 
 -- ---- the whole
 
+-- the items are those of a good store, but for their ids
+pub record HasGoodItems (store : Store) : Type 0 where
+  pub items : All (IsGoodItem store) store.items
+  pub roots : HasRoots store
+  pub tree : IsTree store.items
+  pub tags : HasTags store
+
 -- each row is good, ids and URLs stand once, and the tree has its roots and tags
 pub record IsGood (store : Store) : Type 0 where
   pub day : IsDay store.day

@@ -1,8 +1,8 @@
 -- What is kept of a store: its rows, and beside each page what was computed of it last.
-use Rattle.std.specs.Prelude.{◌≡◌, ◌≢◌, ◌↔◌, ◌&&◌, ℕ, ℤ, pos, ◌+◌, ◌≤◌, ◌<◌, ◌==◌, Bool}
+use Rattle.std.specs.Prelude.{◌≡◌, ◌≢◌, ◌↔◌, ◌&&◌, not, ℕ, ℤ, pos, ◌+◌, ◌≤◌, ◌<◌, ◌==◌, Bool}
 use Rattle.std.specs.Prelude.{true, false, IsTrue, IsFalse, Contains, List, [], ◌∷◌}
 use Rattle.std.specs.Prelude.{◌++◌, map, nat_lt, Option, Some, None, IfSome, if◌then◌else◌}
-use Rattle.std.specs.List.{All, AllPairs, find, list_any}
+use Rattle.std.specs.List.{All, AllPairs, filter, find, list_any}
 use Rattle.std.specs.List.Sorted.{IsPermutation}
 use Rattle.std.specs.Option.{option_and_then, option_map}
 use Rattle.pl_base.specs.declared.date.Day.{Day}
@@ -265,6 +265,22 @@ live_with_item row title after kept = live_slots (store_of (with_item row title 
 abbrev pub live_with_item_title : ItemId → List ℕ → Micros → Kept → ℕ
 live_with_item_title id title modified kept =
     live_slots (store_of (with_items (retitled id title modified kept.items) kept))
+
+-- a page but for the name of its origin
+abbrev pub unnamed : KeptPage → KeptPage
+unnamed p = record p { origin = record { 0 = 0 } }
+
+-- the pages but the one with this id
+abbrev pub other_pages : PageId → List KeptPage → List KeptPage
+other_pages page pages = filter (λ (p : KeptPage). not (p.page.id.0 == page.0)) pages
+
+-- the rows without the page, where the origins of the others may have other names than before
+pub record WithoutPage (page : PageId) (old new : Kept) : Type 0 where
+  pub day : new.day ≡ old.day
+  pub ids : new.ids ≡ old.ids
+  pub pages : map unnamed new.pages ≡ map unnamed (other_pages page old.pages)
+  pub visits : new.visits ≡ old.visits
+  pub items : new.items ≡ old.items
 
 -- ---- what holds of the rows
 

@@ -20,15 +20,15 @@ tags_root = item_id 4
 abbrev pub tags_of : Store → List Item
 tags_of store = child_items store.items tags_root
 
--- the item is there, and is this one
-abbrev is_item : ItemId → Option ItemId → Bool
-is_item id None = false
-is_item id (Some other) = other.0 == id.0
+-- the item is there, and is the tags root
+abbrev pub is_tags_root : Option ItemId → Bool
+is_tags_root None = false
+is_tags_root (Some id) = id.0 == tags_root.0
 
 -- the item is in a tag folder: its parent's parent is the tags root
 abbrev pub is_tag_entry : Store → ItemId → Bool
 is_tag_entry store id =
-    is_item tags_root (option_and_then (parent_of store.items) (parent_of store.items id))
+    is_tags_root (option_and_then (parent_of store.items) (parent_of store.items id))
 
 -- an item has the page that is in no tag folder
 abbrev pub is_bookmarked : Store → PageId → Bool

@@ -1,18 +1,19 @@
 ghost use Rattle.std.specs.Prelude.{◌≡◌, ◌≢◌, ◌↔◌, ◌+◌, ◌≤◌, ◌<◌, ℕ, List};
-ghost use Rattle.std.specs.Prelude.{[], Some, true, length, IfOk, IfSome, IsSomeAnd, OnOk};
+ghost use Rattle.std.specs.Prelude.{[], Some, false, true, length, IfOk, IfSome, IsSomeAnd, OnOk};
 ghost use Rattle.std.specs.List.{All};
 ghost use Rattle.std.specs.Option.{option_map};
 ghost use Rattle.pl_base.specs.declared.id.VisitId.{VisitId};
 ghost use Rattle.pl_base.specs.Address.{is_store_url};
 ghost use Rattle.pl_base.specs.Date.{IsDate, IsDay};
-ghost use Rattle.pl_base.specs.Good.{IsGood, end_of_ids, longest_title};
+ghost use Rattle.pl_base.specs.Good.{IsGood, end_of_ids, is_visited, longest_title};
 ghost use Rattle.pl_base.specs.Live.{live_slots, slot_limit};
+ghost use Rattle.pl_base.specs.Marks.{is_referenced};
 ghost use Rattle.pl_base.specs.Rows.{Kept, KeptPage, IsWellKept, IsRight, store_of};
 ghost use Rattle.pl_base.specs.Rows.{has_page, has_visit, mark_of, row_of, page_at, visit_at};
 ghost use Rattle.pl_base.specs.Rows.{page_behind, page_visits, first_id, older_visit, url_of};
 ghost use Rattle.pl_base.specs.Rows.{origin_of, IsOriginOf, WithPageIn, with_day, with_mark};
 ghost use Rattle.pl_base.specs.Rows.{with_visit, live_with_page, most_reads, title_of, with_title};
-ghost use Rattle.pl_base.specs.Rows.{live_with_title, AreTargets, target_behind};
+ghost use Rattle.pl_base.specs.Rows.{live_with_title, AreTargets, target_behind, WithoutPage};
 ghost use Rattle.pl_base.specs.Rows.{live_with_item, live_with_item_title, with_item, with_items};
 ghost use Rattle.pl_base.specs.Store.{Store, Visit};
 ghost use Rattle.pl_base.specs.Touched.{changed, bytes_before, IsWithin};
@@ -109,6 +110,15 @@ pub trait Rows {
         ensures page { IfOk result (λ page. page.0 ≡ (kept self.old).ids.page) }
         ensures kept { OnOk result (WithPageIn url.now origin (kept self.old) (kept self.new)) }
         ensures base { OnOk result ((bytes : List ℕ) → base self.old bytes → base self.new bytes) };
+
+    /// The page goes, which has no visit and no item, and its origin with its last page. The other
+    /// origins may have other names from then on. No memory is taken.
+    fn remove_page<L: Ledger>(&mut self, page: PageId, steps: &mut Steps<L>)
+        requires page { has_page (kept self.old) page ≡ true }
+        requires unvisited { is_visited (store_of (kept self.old)) page ≡ false }
+        requires unreferenced { is_referenced (store_of (kept self.old)) page ≡ false }
+        ensures kept { WithoutPage page (kept self.old) (kept self.new) }
+        ensures base { (bytes : List ℕ) → base self.old bytes → base self.new bytes };
 
     fn set_title<L: Ledger>(
         &mut self,

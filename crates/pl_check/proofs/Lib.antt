@@ -1,6 +1,9 @@
+pub mod CheckMarks
+pub mod CheckSamples
 pub mod Distinct
 pub mod GoodRows
 pub mod ItemTests
+pub mod LatestVisits
 pub mod ListTests
 pub mod RootTests
 pub mod RowTests

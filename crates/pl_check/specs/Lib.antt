@@ -1,3 +1,6 @@
 pub mod Items
+pub mod Latest
 pub mod Rows
+pub mod Samples
 pub mod Tags
+pub mod Targets

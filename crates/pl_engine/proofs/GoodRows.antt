@@ -5,14 +5,15 @@ use Rattle.std.specs.Option.{IfSome, IsSome, option_map}
 use Rattle.std.proofs.lemmas.List.Elements.{All-map, All-weaker}
 use Rattle.pl_base.specs.declared.id.PageId.{PageId}
 use Rattle.pl_base.specs.declared.id.VisitId.{VisitId}
-use Rattle.pl_base.specs.Good.{IsGood, IsGoodItem, IsGoodPage, IsTagFolder, has_page_at}
+use Rattle.pl_base.specs.Good.{HasGoodItems, IsGood, IsGoodItem}
+use Rattle.pl_base.specs.Good.{IsGoodPage, IsTagFolder, has_page_at}
 use Rattle.pl_base.specs.Redirects.{visit_by_id}
 use Rattle.pl_base.specs.Rows.{IsWellKept, Kept, KeptPage, has_page as is_kept, has_visit, store_of}
 use Rattle.pl_base.specs.Store.{Item, Page, Store, Visit}
 use Rattle.pl_base.specs.Tags.{tags_of}
 use Rattle.pl_base.proofs.OriginLaws.{canon-store_url}
-use Rattle.pl_engine.specs.Engine.{AreStanding, HasGoodItems}
-use Rattle.pl_engine.proofs.Targets.{found_where}
+use Rattle.pl_engine.specs.Engine.{AreStanding}
+use Rattle.pl_marks.proofs.LookUps.{found_where}
 use Rattle.pl_base.proofs.ListLaws.{All-from_map, AllPairs-map, list_any-map, map-map}
 
 -- ---- the items
@@ -27,25 +28,25 @@ page_still : (old new : Store) (page : Option PageId)
 page_still old new None stays there = tt
 page_still old new (Some id) stays there = stays id there
 
--- the same items are good in a store that has the same pages and more
-pub items_still : (old new : Store) → old.items ≡ new.items
-    → ((id : PageId) → IsTrue (has_page_at old id) → IsTrue (has_page_at new id)) → HasGoodItems old
+-- the same items are good in a store that has their pages
+pub items_with : (old new : Store) → old.items ≡ new.items
+    → All (λ (i : Item). IfSome i.page (λ id. IsTrue (has_page_at new id))) old.items → HasGoodItems old
     → HasGoodItems new
-items_still old new same stays good =
+items_with old new same pages good =
     let mid : Store = record new { items = old.items } in
     subst (λ (items : List Item). HasGoodItems (record new { items = items })) same
     (record {
       items =
-          All-weaker (IsGoodItem old) (IsGoodItem mid)
-          (λ i h. record {
+          λ k d within.
+          let h : IsGoodItem old (get_or old.items k d) = good.items k d within in
+          record {
             title = h.title;
             added = h.added;
             modified = h.modified;
             bookmark = h.bookmark;
-            page = page_still old mid i.page stays h.page;
+            page = pages k d within;
             children = h.children;
-          })
-          old.items good.items;
+          };
       roots = record { root = good.roots.root; top = good.roots.top };
       tree = good.tree;
       tags = record {
@@ -56,6 +57,14 @@ items_still old new same stays good =
         names = good.tags.names;
       };
     })
+
+-- and in one that has the same pages and more
+pub items_still : (old new : Store) → old.items ≡ new.items
+    → ((id : PageId) → IsTrue (has_page_at old id) → IsTrue (has_page_at new id)) → HasGoodItems old
+    → HasGoodItems new
+items_still old new same stays good =
+    items_with old new same
+    (λ k d within. page_still old new (get_or old.items k d).page stays (good.items k d within).page) good
 
 -- ---- the rows
 

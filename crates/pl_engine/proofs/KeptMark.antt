@@ -15,8 +15,8 @@ use Rattle.pl_base.specs.Marks.{is_counted, visit_count}
 use Rattle.pl_base.specs.Rows.{IsWellKept, Kept, KeptPage}
 use Rattle.pl_base.specs.Rows.{next_visit, mark_of, page_at, store_of, with_visit}
 use Rattle.pl_base.specs.Store.{Visit}
-use Rattle.pl_engine.specs.Refreshed.{HaveCounts, visited_mark}
-use Rattle.pl_engine.proofs.LookUps.{apart_ascending, found_holds, found_one, found_passes}
+use Rattle.pl_marks.specs.Refreshed.{HaveCounts, visited_mark}
+use Rattle.pl_marks.proofs.LookUps.{apart_ascending, found_holds, found_one, found_passes}
 use Rattle.pl_base.proofs.IdsLaws.{few_ids, same_page}
 
 -- the page that the mark is kept of

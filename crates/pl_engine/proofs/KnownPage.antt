@@ -13,7 +13,7 @@ use Rattle.pl_engine.specs.declared.engine.find.Target.TheVariants.{Known}
 use Rattle.pl_engine.specs.Step.{find_page}
 use Rattle.pl_engine.specs.Target.{IsTargetOf}
 use Rattle.pl_base.proofs.ListLaws.{weaker}
-use Rattle.pl_engine.proofs.PageWalk.{Ascend, ascend, part, there}
+use Rattle.pl_marks.proofs.PageWalk.{Ascend, ascend, part, there}
 use Rattle.pl_engine.proofs.Targets.{IsFound, found_page}
 
 record Split (test : Page → Bool) (ps : List KeptPage) (found : Page) : Type 0 where

@@ -46,7 +46,7 @@ texts_visited id transition pages =
     let p : Page = get_or pages k d in
     rw (url_at (p.id.0 == id.0) transition p, title_at (p.id.0 == id.0) transition p) refl)
 
-live_visited : (id : PageId) (transition : Transition) (date : Micros) (source : Option VisitId) (store : Store)
+pub live_visited : (id : PageId) (transition : Transition) (date : Micros) (source : Option VisitId) (store : Store)
     → live_slots (visited_store id transition date source store) ≡ live_slots store + 1
 live_visited id transition date source store =
     let new : Visit = new_visit store id transition date source in

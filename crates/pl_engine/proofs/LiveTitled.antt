@@ -21,7 +21,7 @@ use Rattle.pl_engine.specs.declared.reply.Reply.TheVariants.{Done, Refused}
 use Rattle.pl_engine.specs.Step.{is_full}
 use Rattle.pl_engine.specs.Titled.{within_slots}
 use Rattle.pl_base.proofs.ListLaws.{AllPairs-from_map, sum_by-map}
-use Rattle.pl_engine.proofs.LookUps.{apart_ascending, found_one}
+use Rattle.pl_marks.proofs.LookUps.{apart_ascending, found_one}
 
 -- ---- the title that stands
 
@@ -122,7 +122,7 @@ map-none q f (x ∷ xs) none =
     rw (All-head (λ y. q y ≡ false) x xs none, map-none q f xs (All-tail (λ y. q y ≡ false) x xs none)) refl
 
 -- a sum in which the only element that passes a test is changed
-sum_changed : {X : Type 0} (q : X → Bool) (f : X → X) (n : X → ℕ) (xs : List X) (x : X)
+pub sum_changed : {X : Type 0} (q : X → Bool) (f : X → X) (n : X → ℕ) (xs : List X) (x : X)
     → AllPairs (λ a b. q a ≡ true → q b ≡ false) xs → find q xs ≡ Some x
     → sum_by n (map (λ y. if q y then f y else y) xs) + n x ≡ sum_by n xs + n (f x)
 sum_changed q f n [] x once found = absurd (cc)

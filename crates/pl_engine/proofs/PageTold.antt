@@ -21,9 +21,9 @@ use Rattle.pl_engine.specs.declared.reply.Reply.TheVariants.{Page as PageReply}
 use Rattle.pl_engine.specs.Step.{find_page, told_page}
 use Rattle.pl_engine.specs.Target.{IsTargetOf}
 use Rattle.pl_engine.proofs.KnownPage.{IsKnown, known}
-use Rattle.pl_engine.proofs.LookUps.{found_holds}
-use Rattle.pl_engine.proofs.PageWalk.{found_at}
-use Rattle.pl_engine.proofs.VisitWalk.{IsVisitOf, row_is, visits_stand}
+use Rattle.pl_marks.proofs.LookUps.{found_holds}
+use Rattle.pl_marks.proofs.PageWalk.{found_at}
+use Rattle.pl_marks.proofs.VisitWalk.{IsVisitOf, row_is, visits_stand}
 
 -- ---- the latest visit
 

@@ -9,20 +9,20 @@ use Rattle.pl_base.specs.declared.id.PageId.{PageId}
 use Rattle.pl_base.specs.declared.id.Slot.{Slot}
 use Rattle.pl_base.specs.Address.{is_place_url}
 use Rattle.pl_base.specs.Date.{IsDate}
-use Rattle.pl_base.specs.Good.{IsGood}
+use Rattle.pl_base.specs.Good.{HasGoodItems, IsGood}
 use Rattle.pl_base.specs.Marks.{is_counted, visit_count}
 use Rattle.pl_base.specs.Rows.{IsWellKept, Kept, KeptPage, WithPageIn, has_page}
 use Rattle.pl_base.specs.Rows.{store_of, with_origin, with_new_page, next_page}
 use Rattle.pl_base.specs.Store.{Page, Store, Visit}
 use Rattle.pl_engine.specs.declared.engine.find.Target.{Target}
 use Rattle.pl_engine.specs.declared.engine.find.Target.TheVariants.{Known, New}
-use Rattle.pl_engine.specs.Engine.{AreStanding, HasGoodItems, IsSound, IsTypedRight, is_standing}
-use Rattle.pl_engine.specs.Refreshed.{IsRightPage}
+use Rattle.pl_engine.specs.Engine.{AreStanding, IsSound, IsTypedRight, is_standing}
+use Rattle.pl_marks.specs.Refreshed.{IsRightPage}
 use Rattle.pl_engine.specs.Target.{IsReady, IsTargetOf, WithTarget}
 use Rattle.pl_engine.proofs.GoodRows.{items_of, items_still, standing_of}
 use Rattle.pl_engine.proofs.KnownPage.{IsKnown, has_known, known, only_known}
 use Rattle.pl_base.proofs.ListLaws.{All-from_map, list_any-map, list_any_last, list_any_push}
-use Rattle.pl_engine.proofs.PageWalk.{not_equal}
+use Rattle.pl_marks.proofs.PageWalk.{not_equal}
 
 -- ---- a page that is known
 
@@ -53,15 +53,15 @@ ready_known kept url page is_place h sound target place =
 
 -- ---- a new page
 
-ids_below : (kept : Kept) → IsWellKept kept → All (λ (p : KeptPage). p.page.id.0 < kept.ids.page) kept.pages
+pub ids_below : (kept : Kept) → IsWellKept kept → All (λ (p : KeptPage). p.page.id.0 < kept.ids.page) kept.pages
 ids_below kept h k d within =
     (All-from_map (λ n. (0 < n) × (n < kept.ids.page)) (λ (p : KeptPage). p.page.id.0) kept.pages h.page_ids.given k d
     within).1
 
-visit_below : (ps : List KeptPage) (n m : ℕ) → AllByRecursion (λ (p : KeptPage). p.page.id.0 < n) ps
+pub id_below : (ps : List KeptPage) (n m : ℕ) → AllByRecursion (λ (p : KeptPage). p.page.id.0 < n) ps
     → list_any (λ (p : KeptPage). p.page.id.0 == m) ps ≡ true → m < n
-visit_below [] n m all some = absurd (cc)
-visit_below (p ∷ ps) n m all some = choose (p.page.id.0 == m) refl some (visit_below ps n m all.1)
+id_below [] n m all some = absurd (cc)
+id_below (p ∷ ps) n m all some = choose (p.page.id.0 == m) refl some (id_below ps n m all.1)
   where
     choose : (b : Bool) → (p.page.id.0 == m) ≡ b → (b || list_any (λ (q : KeptPage). q.page.id.0 == m) ps) ≡ true
         → (list_any (λ (q : KeptPage). q.page.id.0 == m) ps ≡ true → m < n) → m < n
@@ -72,7 +72,7 @@ visit_below (p ∷ ps) n m all some = choose (p.page.id.0 == m) refl some (visit
 visits_below : (kept : Kept) → IsWellKept kept → All (λ (v : Visit). v.page.0 < kept.ids.page) kept.visits
 visits_below kept h =
     All-weaker (λ (v : Visit). IsDate v.date × IsTrue (has_page kept v.page)) (λ (v : Visit). v.page.0 < kept.ids.page)
-    (λ v fine. visit_below kept.pages kept.ids.page v.page.0
+    (λ v fine. id_below kept.pages kept.ids.page v.page.0
     (recursion_from_All (λ (p : KeptPage). p.page.id.0 < kept.ids.page) kept.pages (ids_below kept h)) fine.1)
     kept.visits h.visits
 

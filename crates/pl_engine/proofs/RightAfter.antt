@@ -24,12 +24,12 @@ use Rattle.pl_base.specs.Rows.{store_of, visit_at, with_mark, with_visit, next_v
 use Rattle.pl_base.specs.Store.{Page, Store, Visit}
 use Rattle.pl_base.specs.Tables.{bonus_of}
 use Rattle.pl_base.specs.Visits.{latest_first, sample_of, visits_of}
-use Rattle.pl_engine.specs.Refreshed.{AreRightBut, HaveCounts, IsRightPage, Refreshes, is_passing, source_page}
+use Rattle.pl_marks.specs.Refreshed.{AreRightBut, HaveCounts, IsRightPage, Refreshes, is_passing, source_page}
 use Rattle.pl_base.proofs.IdsLaws.{same_page}
 use Rattle.pl_base.proofs.ListLaws.{sum_by-agree, weaker}
 use Rattle.pl_base.proofs.VisitsLaws.{all-latest_first}
-use Rattle.pl_engine.proofs.LookUps.{both, find_push, front, where_passes}
-use Rattle.pl_engine.proofs.VisitWalk.{hidden_by, visits_found}
+use Rattle.pl_marks.proofs.LookUps.{both, find_push, front, where_passes}
+use Rattle.pl_marks.proofs.VisitWalk.{hidden_by, visits_found}
 
 -- ---- what a visit leaves of another
 
@@ -45,7 +45,7 @@ or_end : (b : Bool) → (b || false) ≡ b
 or_end true = refl
 or_end false = refl
 
-any_last : {X : Type 0} (p : X → Bool) (xs : List X) (x : X) → p x ≡ false
+pub any_last : {X : Type 0} (p : X → Bool) (xs : List X) (x : X) → p x ≡ false
     → list_any p (xs ++ x ∷ []) ≡ list_any p xs
 any_last p xs x fails =
     list_any-append p xs (x ∷ []) ∙ ap (λ (b : Bool). list_any p xs || (b || false)) fails ∙ or_end (list_any p xs)

@@ -13,8 +13,8 @@ use Rattle.pl_base.specs.Redirects.{is_redirect}
 use Rattle.pl_base.specs.Rows.{IsWellKept, Kept, KeptPage, has_page, mark_of, page_at, row_of, store_of, url_of}
 use Rattle.pl_base.specs.Rows.{visit_at}
 use Rattle.pl_base.specs.Store.{Page, Visit}
-use Rattle.pl_engine.specs.Refreshed.{AreRightBut, HaveCounts, Refreshes, source_page}
-use Rattle.pl_engine.proofs.LookUps.{found_holds}
+use Rattle.pl_marks.specs.Refreshed.{AreRightBut, HaveCounts, Refreshes, source_page}
+use Rattle.pl_marks.proofs.LookUps.{found_holds}
 use Rattle.pl_engine.proofs.RightAfter.{right_refreshed}
 use Rattle.pl_engine.proofs.KeptMark.{IsMarkAt, count_at, mark_at, one_at, typed_at}
 use Rattle.pl_engine.proofs.VisitRows.{store_same}
@@ -52,7 +52,7 @@ page_there now id from h some = choose (visit_at now id) refl some
 
 -- ---- its mark
 
-place_at : (now : Kept) (page : PageId) (mark : Mark) (is_place : Bool) → IsWellKept now → IsMarkAt now page mark
+pub place_at : (now : Kept) (page : PageId) (mark : Mark) (is_place : Bool) → IsWellKept now → IsMarkAt now page mark
     → Some is_place ≡ option_map is_place_url (url_of now page)
     → All (λ (p : KeptPage). (p.page.id.0 == page.0) ≡ true → is_place ≡ is_place_url p.page.url) now.pages
 place_at now page mark is_place h m told =

@@ -2,7 +2,7 @@
 use Rattle.std.proofs.Common.{◌≡◌, ◌≢◌, ◌∙◌, ◌+◌, ◌==◌, ◌&&◌, ◌||◌, ℕ, All, Bool, true, false, List, []}
 use Rattle.std.proofs.Common.{◌∷◌, Option, Some, None, ap, bytes_eq, find, if◌then◌else◌, map, refl, sym}
 use Rattle.std.specs.List.{AllByRecursion, list_any}
-use Rattle.std.specs.Option.{IsSome, is_none, option_map}
+use Rattle.std.specs.Option.{is_none, option_map}
 use Rattle.std.proofs.lemmas.Bool.{false≢true}
 use Rattle.std.proofs.lemmas.List.Elements.{All-from_recursion, All-weaker}
 use Rattle.std.proofs.lemmas.List.Folds.{list_any_none}
@@ -23,17 +23,6 @@ use Rattle.pl_base.proofs.ListLaws.{list_any-map}
 use Rattle.pl_engine.proofs.LiveAfter.{live_found, live_new}
 
 -- ---- look-ups
-
--- one is found where there is one
-pub found_where : {A B : Type 0} (p : A → Bool) (f : A → B) (xs : List A) (found : Option B) → list_any p xs ≡ true
-    → found ≡ option_map f (find p xs) → IsSome found
-found_where p f [] found some is = absurd (cc)
-found_where p f (x ∷ xs) found some is = choose (p x) some is (found_where p f xs found)
-  where
-    choose : (b : Bool) → (b || list_any p xs) ≡ true → found ≡ option_map f (if b then Some x else find p xs)
-        → (list_any p xs ≡ true → found ≡ option_map f (find p xs) → IsSome found) → IsSome found
-    choose true here is rest = rw is refl
-    choose false here is rest = rest here is
 
 none_passes : (p : Page → Bool) (ps : List KeptPage) → find p (map (λ (q : KeptPage). q.page) ps) ≡ None
     → AllByRecursion (λ (q : KeptPage). p q.page ≡ false) ps

@@ -14,19 +14,19 @@ use Rattle.std.proofs.lemmas.List.Elements.{All-map, recursion_from_All}
 use Rattle.std.proofs.lemmas.Slice.Eq.{bytes_eq-Decides}
 use Rattle.pl_base.specs.declared.id.PageId.{PageId}
 use Rattle.pl_base.specs.Frecency.{frecency_of}
-use Rattle.pl_base.specs.Good.{IsGood, longest_title}
+use Rattle.pl_base.specs.Good.{HasGoodItems, IsGood, longest_title}
 use Rattle.pl_base.specs.Marks.{is_hidden, visit_count}
 use Rattle.pl_base.specs.Rows.{IsWellKept, Kept, KeptPage, store_of, titled, with_title}
 use Rattle.pl_base.specs.Store.{Page, Store}
 use Rattle.pl_base.specs.Title.{cut_title}
 use Rattle.pl_engine.specs.declared.engine.find.Target.TheVariants.{Known}
-use Rattle.pl_engine.specs.Engine.{AreStanding, HasGoodItems, IsSound, IsTypedRight, is_standing}
+use Rattle.pl_engine.specs.Engine.{AreStanding, IsSound, IsTypedRight, is_standing}
 use Rattle.pl_engine.specs.Step.{after_title, find_page, title_page}
 use Rattle.pl_engine.specs.Target.{IsTargetOf}
 use Rattle.pl_engine.proofs.GoodRows.{good_of, items_of, items_still, standing_of}
 use Rattle.pl_engine.proofs.KnownPage.{IsKnown, known, only_known}
-use Rattle.pl_engine.proofs.LookUps.{both}
-use Rattle.pl_engine.proofs.PageWalk.{part}
+use Rattle.pl_marks.proofs.LookUps.{both}
+use Rattle.pl_marks.proofs.PageWalk.{part}
 use Rattle.pl_base.proofs.ListLaws.{list_any-alike, list_any-map}
 
 -- ---- a title that is cut

@@ -22,7 +22,7 @@ use Rattle.pl_engine.specs.declared.engine.find.Target.TheVariants.{Known, New}
 use Rattle.pl_engine.specs.Step.{after_visit, find_page, is_full, source_refusal, visit_refusal}
 use Rattle.pl_engine.specs.Target.{HasRoom, IsTargetOf, WithTarget}
 use Rattle.pl_engine.proofs.LiveAfter.{live_page}
-use Rattle.pl_engine.proofs.LookUps.{found_some}
+use Rattle.pl_marks.proofs.LookUps.{found_some}
 use Rattle.pl_engine.proofs.Targets.{has_origin, slots_known, slots_new}
 use Rattle.pl_engine.proofs.VisitRows.{store-with_page, store_with_page}
 
@@ -82,13 +82,14 @@ has_source limit kept mid url target page transition date source with none =
         ap (list_any (λ (w : Visit). w.id.0 == id.0)) (same_visits kept mid url target page with)
         ∙ found id (visit_at kept id) refl none
 
-below_last : (n last : ℕ) → n ≤ last → eqb n last ≡ false → n < last
+pub below_last : (n last : ℕ) → n ≤ last → eqb n last ≡ false → n < last
 below_last n last le apart = grind (arith, nat_tests)
 
-within_limit : (limit before after : ℕ) → before < after → (ltb limit after && ltb before after) ≡ false → after ≤ limit
+pub within_limit : (limit before after : ℕ) → before < after → (ltb limit after && ltb before after) ≡ false
+    → after ≤ limit
 within_limit limit before after grows full = grind (arith, nat_tests)
 
-grows : (kept : Kept) (url : List ℕ) (target : Target) (transition : Transition) (date : Micros)
+pub grows : (kept : Kept) (url : List ℕ) (target : Target) (transition : Transition) (date : Micros)
     (source : Option VisitId)
     → IsTargetOf kept url target
     → live_slots (store_of kept) < live_slots (after_visit (store_of kept) url transition date source)
@@ -106,7 +107,7 @@ few_slots limit kept url target transition date source of none =
     (live_slots (after_visit (store_of kept) url transition date source))
     (grows kept url target transition date source of) (allowed limit kept url transition date source none).slots
 
-slots_page : (kept : Kept) (url : List ℕ) (origin : Option Slot) (transition : Transition) (date : Micros)
+pub slots_page : (kept : Kept) (url : List ℕ) (origin : Option Slot) (transition : Transition) (date : Micros)
     (source : Option VisitId)
     → IsTargetOf kept url (New origin)
     → live_with_page url kept + 1 ≡ live_slots (after_visit (store_of kept) url transition date source)

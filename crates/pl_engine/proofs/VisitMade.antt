@@ -20,14 +20,15 @@ use Rattle.pl_engine.specs.declared.engine.find.Target.{Target}
 use Rattle.pl_engine.specs.declared.engine.find.Target.TheVariants.{Known, New}
 use Rattle.pl_engine.specs.declared.reply.Reply.{Reply}
 use Rattle.pl_engine.specs.declared.reply.Reply.TheVariants.{Visit as VisitReply}
-use Rattle.pl_engine.specs.Engine.{AreStanding, HasGoodItems, IsSound}
-use Rattle.pl_engine.specs.Refreshed.{AreRightBut, Refreshes, source_page, visited_mark}
+use Rattle.pl_base.specs.Good.{HasGoodItems}
+use Rattle.pl_engine.specs.Engine.{AreStanding, IsSound}
+use Rattle.pl_marks.specs.Refreshed.{AreRightBut, Refreshes, source_page, visited_mark}
 use Rattle.pl_engine.specs.Step.{after_visit, find_page, new_page, page_for, perform, unless_refused}
 use Rattle.pl_engine.specs.Step.{visit_page, visit_refusal, visit_reply, visited_page, visited_store, with_page_for}
 use Rattle.pl_engine.specs.Target.{AddsVisit, IsReady, IsTargetOf, WithTarget}
 use Rattle.pl_engine.proofs.GoodRows.{good_of, items_still}
-use Rattle.pl_engine.proofs.LookUps.{found_holds}
-use Rattle.pl_engine.proofs.PageWalk.{part}
+use Rattle.pl_marks.proofs.LookUps.{found_holds}
+use Rattle.pl_marks.proofs.PageWalk.{part}
 use Rattle.pl_engine.proofs.RightAfter.{right_refreshed, right_visited}
 use Rattle.pl_engine.proofs.Targets.{IsFound, found_page}
 use Rattle.pl_engine.proofs.VisitRows.{grown_store, store_visited, store_with_page}

@@ -75,19 +75,22 @@ standing_after old row mark by_visit stays others typed =
           ∙ eq-eqb row.page.0 p.page.id.0 (ap (λ (i : PageId). i.0) of)))));
     }
 
+-- what holds of the pages in a store holds of the pages of other rows of the same store
+pub pages_alike : (P : Store → Page → Type 0) (old new : Kept) → store_of new ≡ store_of old
+    → All (λ (p : KeptPage). P (store_of old) p.page) old.pages
+    → All (λ (p : KeptPage). P (store_of new) p.page) new.pages
+pages_alike P old new same all =
+    All-from_map (P (store_of new)) (λ (p : KeptPage). p.page) new.pages
+    (subst (λ (s : Store). All (P s) s.pages) (sym same)
+    (All-map (P (store_of old)) (λ (p : KeptPage). p.page) old.pages all))
+
 -- in the same store the same pages stand
 pub standing_alike : (old new : Kept) → store_of new ≡ store_of old → AreStanding old → AreStanding new
 standing_alike old new same v =
-    let Stands : Store → Page → Type 0 = λ (s : Store) (p : Page). IsTrue (is_standing s p.id) in
-    let Typed_right : Store → Page → Type 0 =
-    λ (s : Store) (p : Page). All (λ (w : Visit). w.page ≡ p.id → w.transition ≡ Typed → IsTrue p.typed) s.visits in
     record {
       by_row =
-          All-from_map (Stands (store_of new)) (λ (p : KeptPage). p.page) new.pages
-          (subst (λ (s : Store). All (Stands s) s.pages) (sym same)
-          (All-map (Stands (store_of old)) (λ (p : KeptPage). p.page) old.pages v.by_row));
+          pages_alike (λ (s : Store) (p : Page). IsTrue (is_standing s p.id)) old new same v.by_row;
       typed =
-          All-from_map (Typed_right (store_of new)) (λ (p : KeptPage). p.page) new.pages
-          (subst (λ (s : Store). All (Typed_right s) s.pages) (sym same)
-          (All-map (Typed_right (store_of old)) (λ (p : KeptPage). p.page) old.pages v.typed));
+          pages_alike (λ (s : Store) (p : Page).
+          All (λ (w : Visit). w.page ≡ p.id → w.transition ≡ Typed → IsTrue p.typed) s.visits) old new same v.typed;
     }

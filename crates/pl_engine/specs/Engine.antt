@@ -3,7 +3,7 @@ use Rattle.std.specs.Prelude.{◌≡◌, ◌||◌, Bool, IsTrue}
 use Rattle.std.specs.List.{All}
 use Rattle.pl_base.specs.declared.id.PageId.{PageId}
 use Rattle.pl_base.specs.declared.transition.Transition.TheVariants.{Typed}
-use Rattle.pl_base.specs.Good.{HasRoots, HasTags, IsGood, IsGoodItem, IsTree, is_visited}
+use Rattle.pl_base.specs.Good.{IsGood, is_visited}
 use Rattle.pl_base.specs.Marks.{is_referenced}
 use Rattle.pl_base.specs.Rows.{IsRight, Kept, KeptPage, store_of}
 use Rattle.pl_base.specs.Store.{Store, Visit}
@@ -21,13 +21,6 @@ is_standing store id = is_visited store id || is_referenced store id
 pub record AreStanding (kept : Kept) : Type 0 where
   pub by_row : All (λ (p : KeptPage). IsTrue (is_standing (store_of kept) p.page.id)) kept.pages
   pub typed : All (IsTypedRight kept) kept.pages
-
--- the items are those of a good store
-pub record HasGoodItems (store : Store) : Type 0 where
-  pub items : All (IsGoodItem store) store.items
-  pub roots : HasRoots store
-  pub tree : IsTree store.items
-  pub tags : HasTags store
 
 -- what holds of an engine's rows beside what holds of all rows
 pub record IsSound (kept : Kept) : Type 0 where

@@ -1,8 +1,8 @@
 pub mod Engine
 pub mod Parsed
-pub mod Refreshed
+pub mod Removed
+pub mod Room
 pub mod Run
 pub mod Step
-pub mod TagFolders
 pub mod Target
 pub mod Titled

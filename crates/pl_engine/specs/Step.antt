@@ -2,15 +2,18 @@
 use Rattle.std.specs.Prelude.{◌≡◌, ℕ, ◌+◌, ◌==◌, ◌&&◌, ◌||◌, Bool, true, false, List}
 use Rattle.std.specs.Prelude.{[], ◌∷◌, ◌++◌, map, nat_lt, bytes_eq, unwrap_or}
 use Rattle.std.specs.Prelude.{is_none, Option, Some, None, Ok, Err, if◌then◌else◌}
-use Rattle.std.specs.List.{find}
-use Rattle.std.specs.Option.{option_or}
+use Rattle.std.specs.List.{filter, find}
+use Rattle.std.specs.Option.{is_some, option_and_then, option_map, option_or}
 use Rattle.pl_base.specs.declared.date.Micros.{Micros}
 use Rattle.pl_base.specs.declared.id.IdKind.TheVariants.{Page as PageKind, Visit as VisitKind}
+use Rattle.pl_base.specs.declared.id.IdKind.TheVariants.{Item as ItemKind}
+use Rattle.pl_base.specs.declared.id.ItemId.{ItemId}
 use Rattle.pl_base.specs.declared.id.PageId.{PageId}
 use Rattle.pl_base.specs.declared.id.VisitId.{VisitId}
+use Rattle.pl_base.specs.declared.item.ItemKind.TheVariants.{Bookmark, Folder, Separator}
 use Rattle.pl_base.specs.declared.refusal.Refusal.{Refusal}
 use Rattle.pl_base.specs.declared.refusal.Refusal.TheVariants.{NotRecorded, NoVisit, NoPage}
-use Rattle.pl_base.specs.declared.refusal.Refusal.TheVariants.{Full, NoIds}
+use Rattle.pl_base.specs.declared.refusal.Refusal.TheVariants.{Full, NoIds, DupTag, NoTag}
 use Rattle.pl_base.specs.declared.transition.Transition.{Transition}
 use Rattle.pl_base.specs.Address.{is_unrecorded_url}
 use Rattle.pl_base.specs.Date.{IsDate}
@@ -19,16 +22,36 @@ use Rattle.pl_base.specs.Good.{end_of_ids}
 use Rattle.pl_base.specs.Live.{live_slots}
 use Rattle.pl_base.specs.Marks.{is_hidden, is_typed, last_date_of, visit_count}
 use Rattle.pl_base.specs.Redirects.{visit_by_id}
-use Rattle.pl_base.specs.Store.{Store, Page, Visit}
+use Rattle.pl_base.specs.Store.{Store, Page, Visit, Item, item_id}
 use Rattle.pl_base.specs.Tags.{is_bookmarked, tag_text}
 use Rattle.pl_base.specs.Title.{cut_title}
+use Rattle.pl_base.specs.Tree.{child_items, retitled}
+use Rattle.pl_tree.specs.declared.new_item.NewItem.{NewItem}
+use Rattle.pl_tree.specs.declared.place.Place.{Place}
+use Rattle.pl_tree.specs.declared.tree_change.TreeChange.TheVariants.{Insert, Move, Retitle}
+use Rattle.pl_tree.specs.declared.tree_change.TreeChange.TheVariants.{Remove}
+use Rattle.pl_tree.specs.Changes.{with_moved, with_new, with_removed}
+use Rattle.pl_tree.specs.Refused.{folder_refusal, refusal}
+use Rattle.pl_tree.specs.Tagged.{new_items, tag_entry, tagged_items, untagged_items}
 use Rattle.pl_engine.specs.declared.command.Command.{Command}
 use Rattle.pl_engine.specs.declared.command.Command.TheVariants.{Visit as VisitCommand}
 use Rattle.pl_engine.specs.declared.command.Command.TheVariants.{Title as TitleCommand}
 use Rattle.pl_engine.specs.declared.command.Command.TheVariants.{Page as PageCommand}
+use Rattle.pl_engine.specs.declared.command.Command.TheVariants.{Folder as FolderCommand}
+use Rattle.pl_engine.specs.declared.command.Command.TheVariants.{Bookmark as BookmarkCommand}
+use Rattle.pl_engine.specs.declared.command.Command.TheVariants.{Separator as SeparatorCommand}
+use Rattle.pl_engine.specs.declared.command.Command.TheVariants.{Move as MoveCommand}
+use Rattle.pl_engine.specs.declared.command.Command.TheVariants.{Retitle as RetitleCommand}
+use Rattle.pl_engine.specs.declared.command.Command.TheVariants.{Remove as RemoveCommand}
+use Rattle.pl_engine.specs.declared.command.Command.TheVariants.{List as ListCommand}
+use Rattle.pl_engine.specs.declared.command.Command.TheVariants.{Tag as TagCommand}
+use Rattle.pl_engine.specs.declared.command.Command.TheVariants.{Untag as UntagCommand}
+use Rattle.pl_engine.specs.declared.reply.ListRow.{ListRow}
 use Rattle.pl_engine.specs.declared.reply.Reply.{Reply}
 use Rattle.pl_engine.specs.declared.reply.Reply.TheVariants.{Visit as VisitReply}
 use Rattle.pl_engine.specs.declared.reply.Reply.TheVariants.{Page as PageReply, Done, Refused}
+use Rattle.pl_engine.specs.declared.reply.Reply.TheVariants.{Item as ItemReply, List as ListReply}
+use Rattle.pl_engine.specs.Engine.{is_standing}
 use Rattle.pl_engine.specs.Parsed.{Parsed}
 
 -- ---- a visit
@@ -153,6 +176,139 @@ abbrev pub told_page : Store → Option Page → Reply
 told_page store None = Refused NoPage
 told_page store (Some p) = page_reply store p
 
+-- ---- items
+
+-- a refused command changes nothing
+abbrev pub unless_refused : Option Refusal → Store → Reply × Store → Reply × Store
+unless_refused (Some refusal) store done = (Refused refusal, store)
+unless_refused None store done = done
+
+-- a new folder or separator, with no page
+abbrev pub new_folder : List ℕ → Micros → NewItem
+new_folder title date =
+    record { kind = Folder; title = cut_title title; page = None; date = date }
+
+abbrev pub new_separator : Micros → NewItem
+new_separator date = record { kind = Separator; title = []; page = None; date = date }
+
+-- a new bookmark of a page
+abbrev pub new_bookmark : PageId → List ℕ → Micros → NewItem
+new_bookmark page title date =
+    record { kind = Bookmark; title = cut_title title; page = Some page; date = date }
+
+-- the store with a new item, which has the next id
+abbrev pub after_insert : ItemId → Place → NewItem → Store → Store
+after_insert parent place new store =
+    record store {
+      ids = record store.ids { item = store.ids.item + 1 };
+      items = with_new (item_id store.ids.item) parent place new store.items;
+    }
+
+-- the store with a new bookmark of the URL, and with a page for it
+abbrev pub after_bookmark : Store → ItemId → Place → List ℕ → List ℕ → Micros → Store
+after_bookmark store parent place url title date =
+    after_insert parent place (new_bookmark (page_for store url).id title date)
+    (with_page_for store url)
+
+-- the first cause to refuse a new item, with a new page or not: the parent and the place, the ids,
+-- the slots
+abbrev pub insert_refusal : ℕ → Store → ItemId → Place → Bool → ℕ → Option Refusal
+insert_refusal limit store parent place with_page slots =
+    option_or (refusal store.items (Insert parent place))
+    (if with_page && (store.ids.page == end_of_ids) then Some (NoIds PageKind) else
+    if store.ids.item == end_of_ids then Some (NoIds ItemKind) else
+    if is_full limit (live_slots store) slots then Some (Full slots) else None)
+
+-- the reply tells the item
+abbrev pub insert_step : ℕ → Store → ItemId → Place → Bool → Store → Reply × Store
+insert_step limit store parent place with_page after =
+    unless_refused (insert_refusal limit store parent place with_page (live_slots after)) store
+    (ItemReply (item_id store.ids.item), after)
+
+-- the store where the item stands at a place of that folder
+abbrev pub after_move : ItemId → ItemId → Place → Micros → Store → Store
+after_move item parent place date store =
+    record store { items = with_moved item parent place date store.items }
+
+-- the store where the item has the text as its title
+abbrev pub after_retitle : ItemId → List ℕ → Micros → Store → Store
+after_retitle item text date store =
+    record store { items = retitled item (cut_title text) date store.items }
+
+-- the first cause to refuse a title: the item, the slots
+abbrev pub retitle_refusal : ℕ → Store → ItemId → ℕ → Option Refusal
+retitle_refusal limit store item slots =
+    option_or (refusal store.items (Retitle item))
+    (if is_full limit (live_slots store) slots then Some (Full slots) else None)
+
+-- the store without the pages that have neither a visit nor an item
+abbrev pub without_idle_pages : Store → Store
+without_idle_pages store =
+    record store { pages = filter (λ (p : Page). is_standing store p.id) store.pages }
+
+-- the store without the item and all below it
+abbrev pub after_remove : ItemId → Store → Store
+after_remove item store =
+    without_idle_pages (record store { items = with_removed item store.items })
+
+-- the store where a page has a tag
+abbrev pub tagged_store : PageId → List ℕ → Micros → Store → Store
+tagged_store page name date store =
+    record store {
+      ids = record store.ids { item = store.ids.item + new_items name store.items };
+      items = tagged_items store.ids.item page name date store.items;
+    }
+
+-- the store where the page of the URL has the tag, with a page for it
+abbrev pub after_tag : Store → List ℕ → List ℕ → Micros → Store
+after_tag store url name date =
+    tagged_store (page_for store url).id name date (with_page_for store url)
+
+-- the page, if it is there, has the tag
+abbrev pub is_tagged : Store → Option Page → List ℕ → Bool
+is_tagged store None name = false
+is_tagged store (Some p) name = is_some (tag_entry p.id name store.items)
+
+-- the first cause to refuse a tag: the page has it, the ids of pages and of items, the slots
+abbrev pub tag_refusal : ℕ → Store → List ℕ → List ℕ → ℕ → Option Refusal
+tag_refusal limit store url name slots =
+    if is_tagged store (find_page url store.pages) name then Some DupTag else
+    if is_none (find_page url store.pages) && (store.ids.page == end_of_ids)
+    then Some (NoIds PageKind) else
+    if nat_lt end_of_ids (store.ids.item + new_items name store.items)
+    then Some (NoIds ItemKind) else
+    if is_full limit (live_slots store) slots then Some (Full slots) else None
+
+-- the store where a page has a tag no more
+abbrev pub after_untag : PageId → List ℕ → Store → Store
+after_untag page name store =
+    without_idle_pages (record store { items = untagged_items page name store.items })
+
+-- the first cause to refuse that a tag goes: the page, the tag
+abbrev pub untag_refusal : Store → Option Page → List ℕ → Option Refusal
+untag_refusal store None name = Some NoPage
+untag_refusal store (Some p) name =
+    if is_none (tag_entry p.id name store.items) then Some NoTag else None
+
+-- the URL of a page
+abbrev pub page_url : Store → PageId → Option (List ℕ)
+page_url store id =
+    option_map (λ (p : Page). p.url) (find (λ (p : Page). p.id.0 == id.0) store.pages)
+
+-- what is listed of an item
+abbrev pub list_row : Store → Item → ListRow
+list_row store i =
+    record {
+      kind = i.kind;
+      id = i.id;
+      title = i.title;
+      url = option_and_then (page_url store) i.page;
+    }
+
+-- the children of a folder
+abbrev pub list_reply : Store → ItemId → Reply
+list_reply store id = ListReply (map (list_row store) (child_items store.items id))
+
 -- ---- the step
 
 -- the dates of a command are in range
@@ -160,23 +316,45 @@ abbrev pub HasDates : Command → Type 0
 HasDates (VisitCommand url transition date source) = IsDate date
 HasDates (TitleCommand url text) = Unit {0}
 HasDates (PageCommand url) = Unit {0}
+HasDates (FolderCommand parent place title date) = IsDate date
+HasDates (BookmarkCommand parent place url title date) = IsDate date
+HasDates (SeparatorCommand parent place date) = IsDate date
+HasDates (MoveCommand item parent place date) = IsDate date
+HasDates (RetitleCommand item title date) = IsDate date
+HasDates (RemoveCommand item) = Unit {0}
+HasDates (ListCommand item) = Unit {0}
+HasDates (TagCommand url name date) = IsDate date
+HasDates (UntagCommand url name) = Unit {0}
 
 -- any command may want memory but a visit that is not recorded
 abbrev pub MayWantMemory : Command → Type 0
 MayWantMemory (VisitCommand url transition date source) = is_unrecorded_url url ≡ false
 MayWantMemory (TitleCommand url text) = Unit {0}
 MayWantMemory (PageCommand url) = Unit {0}
+MayWantMemory (FolderCommand parent place title date) = Unit {0}
+MayWantMemory (BookmarkCommand parent place url title date) = Unit {0}
+MayWantMemory (SeparatorCommand parent place date) = Unit {0}
+MayWantMemory (MoveCommand item parent place date) = Unit {0}
+MayWantMemory (RetitleCommand item title date) = Unit {0}
+MayWantMemory (RemoveCommand item) = Unit {0}
+MayWantMemory (ListCommand item) = Unit {0}
+MayWantMemory (TagCommand url name date) = Unit {0}
+MayWantMemory (UntagCommand url name) = Unit {0}
 
 -- a command of a kind that may change the store
 abbrev pub is_change : Command → Bool
 is_change (VisitCommand url transition date source) = true
 is_change (TitleCommand url text) = true
 is_change (PageCommand url) = false
-
--- a refused command changes nothing
-abbrev pub unless_refused : Option Refusal → Store → Reply × Store → Reply × Store
-unless_refused (Some refusal) store done = (Refused refusal, store)
-unless_refused None store done = done
+is_change (FolderCommand parent place title date) = true
+is_change (BookmarkCommand parent place url title date) = true
+is_change (SeparatorCommand parent place date) = true
+is_change (MoveCommand item parent place date) = true
+is_change (RetitleCommand item title date) = true
+is_change (RemoveCommand item) = true
+is_change (ListCommand item) = false
+is_change (TagCommand url name date) = true
+is_change (UntagCommand url name) = true
 
 -- on a store that takes at most so many slots
 abbrev pub perform : ℕ → Store → Command → Reply × Store
@@ -186,6 +364,33 @@ perform limit store (VisitCommand url transition date source) =
 perform limit store (TitleCommand url text) =
     unless_refused (title_refusal limit store url text) store (Done, after_title store url text)
 perform limit store (PageCommand url) = (told_page store (find_page url store.pages), store)
+perform limit store (FolderCommand parent place title date) =
+    insert_step limit store parent place false
+    (after_insert parent place (new_folder title date) store)
+perform limit store (BookmarkCommand parent place url title date) =
+    insert_step limit store parent place (is_none (find_page url store.pages))
+    (after_bookmark store parent place url title date)
+perform limit store (SeparatorCommand parent place date) =
+    insert_step limit store parent place false
+    (after_insert parent place (new_separator date) store)
+perform limit store (MoveCommand item parent place date) =
+    unless_refused (refusal store.items (Move item parent place)) store
+    (Done, after_move item parent place date store)
+perform limit store (RetitleCommand item title date) =
+    unless_refused
+    (retitle_refusal limit store item (live_slots (after_retitle item title date store))) store
+    (Done, after_retitle item title date store)
+perform limit store (RemoveCommand item) =
+    unless_refused (refusal store.items (Remove item)) store (Done, after_remove item store)
+perform limit store (TagCommand url name date) =
+    unless_refused
+    (tag_refusal limit store url name (live_slots (after_tag store url name date))) store
+    (Done, after_tag store url name date)
+perform limit store (UntagCommand url name) =
+    unless_refused (untag_refusal store (find_page url store.pages) name) store
+    (Done, after_untag (page_for store url).id name store)
+perform limit store (ListCommand item) =
+    unless_refused (folder_refusal store.items item) store (list_reply store item, store)
 
 -- the reply to an entry of the script, and the store after it
 abbrev pub step : ℕ → Store → Parsed Command → Reply × Store

@@ -2,25 +2,26 @@
 use Rattle.std.specs.Prelude.{◌≡◌, ◌≤◌, ◌<◌, ◌==◌, ℕ, ℤ, Bool, true, false, IsTrue}
 use Rattle.std.specs.Prelude.{List, [], ◌∷◌, Some, None}
 use Rattle.std.specs.List.{All}
-use Rattle.std.specs.Option.{option_map}
+use Rattle.std.specs.Option.{is_some, option_map}
 use Rattle.std.specs.Result.{IsOkAnd}
 use Rattle.pl_base.specs.declared.id.PageId.{PageId}
 use Rattle.pl_base.specs.declared.row.VisitRow.{VisitRow}
 use Rattle.pl_base.specs.Address.{is_place_url, record_of}
 use Rattle.pl_base.specs.Frecency.{frecency_of}
-use Rattle.pl_base.specs.Good.{end_of_ids}
+use Rattle.pl_base.specs.Good.{HasGoodItems, end_of_ids}
 use Rattle.pl_base.specs.Live.{slot_limit}
 use Rattle.pl_base.specs.Rows.{IsOriginOf, Kept, KeptPage, WithPageIn, has_page, live_with_page}
 use Rattle.pl_base.specs.Rows.{store_of}
-use Rattle.pl_base.specs.Store.{Page, Store}
+use Rattle.pl_base.specs.Store.{Item, Page, Store}
 use Rattle.pl_link.specs.declared.parts.Parts.{Parts}
 use Rattle.pl_link.specs.Parts.{ArePartsOf}
+use Rattle.pl_tree.specs.Tagged.{tag_entry}
 use Rattle.pl_engine.specs.declared.engine.find.Target.{Target}
 use Rattle.pl_engine.specs.declared.engine.find.Target.TheVariants.{Known, New}
 use Rattle.pl_engine.specs.declared.reply.Reply.{Reply}
 use Rattle.pl_engine.specs.declared.reply.Reply.TheVariants.{Visit as VisitReply}
-use Rattle.pl_engine.specs.Engine.{HasGoodItems, IsTypedRight, is_standing}
-use Rattle.pl_engine.specs.Refreshed.{AreRightBut, HaveCounts}
+use Rattle.pl_engine.specs.Engine.{IsTypedRight, is_standing}
+use Rattle.pl_marks.specs.Refreshed.{AreRightBut, HaveCounts}
 use Rattle.pl_engine.specs.Step.{find_page, visited_page, visited_store}
 
 -- the parts are those of the URL
@@ -38,6 +39,11 @@ IsTargetOf kept url (New origin) =
 abbrev pub is_new : Target → Bool
 is_new (Known page) = false
 is_new (New origin) = true
+
+-- the page is known and has the tag
+abbrev pub has_tag : Target → List ℕ → List Item → Bool
+has_tag (Known page) name items = is_some (tag_entry page name items)
+has_tag (New origin) name items = false
 
 -- a new page may still have an id and its slots
 abbrev pub HasRoom : List ℕ → Target → Kept → Type 0

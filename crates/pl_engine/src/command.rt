@@ -1,8 +1,10 @@
 ghost use Rattle.std.specs.Prelude.{◌≡◌};
 ghost use Rattle.pl_engine.specs.Step.{is_change};
 
-use pl_base::{Micros, Transition, Txt, VisitId};
+use pl_base::{ItemId, Micros, Transition, Txt, VisitId};
 use pl_link::Canon;
+use pl_tree::Place;
+use pl_words::TagName;
 
 /// What a line of the script asks for.
 #[derive(Debug, Drop)]
@@ -24,6 +26,59 @@ pub enum Command {
     Page {
         url: Canon,
     },
+    /// A new folder of the bookmark tree.
+    Folder {
+        parent: ItemId,
+        place: Place,
+        title: Txt,
+        date: Micros,
+    },
+    /// A new bookmark of an address, whose page is made where it is missing.
+    Bookmark {
+        parent: ItemId,
+        place: Place,
+        url: Canon,
+        title: Txt,
+        date: Micros,
+    },
+    /// A new separator.
+    Separator {
+        parent: ItemId,
+        place: Place,
+        date: Micros,
+    },
+    /// An item goes to another place.
+    Move {
+        item: ItemId,
+        parent: ItemId,
+        place: Place,
+        date: Micros,
+    },
+    /// A title for an item, which is cut where it is too long.
+    Retitle {
+        item: ItemId,
+        title: Txt,
+        date: Micros,
+    },
+    /// An item goes, with all below it.
+    Remove {
+        item: ItemId,
+    },
+    /// The page of an address gets a tag, and is made where it is missing.
+    Tag {
+        url: Canon,
+        name: TagName,
+        date: Micros,
+    },
+    /// The page of an address loses a tag.
+    Untag {
+        url: Canon,
+        name: TagName,
+    },
+    /// The children of a folder.
+    List {
+        item: ItemId,
+    },
 }
 
 impl Command {
@@ -32,8 +87,17 @@ impl Command {
         ensures { result ≡ is_change self.now }
     {
         match self {
-            Command::Visit { .. } | Command::Title { .. } => true,
-            Command::Page { .. } => false,
+            Command::Visit { .. }
+            | Command::Title { .. }
+            | Command::Folder { .. }
+            | Command::Bookmark { .. }
+            | Command::Separator { .. }
+            | Command::Move { .. }
+            | Command::Retitle { .. }
+            | Command::Remove { .. }
+            | Command::Tag { .. }
+            | Command::Untag { .. } => true,
+            Command::Page { .. } | Command::List { .. } => false,
         }
     }
 }

@@ -1,8 +1,12 @@
+mod bookmark;
+mod change;
 mod find;
-mod mark;
+mod insert;
+mod list;
 mod page;
+mod remove;
 mod slots;
-mod tags;
+mod tag;
 mod title;
 mod visit;
 
@@ -15,7 +19,13 @@ ghost use Rattle.pl_base.specs.Touched.{IsWithin, changed, bytes_before};
 ghost use Rattle.pl_engine.specs.Step as spec;
 
 use crate::command::Command;
+use crate::engine::bookmark::bookmark;
+use crate::engine::change::{move_item, retitle};
+use crate::engine::insert::{folder, separator};
+use crate::engine::list::list;
 use crate::engine::page::page;
+use crate::engine::remove::remove;
+use crate::engine::tag::{tag, untag};
 use crate::engine::title::title;
 use crate::engine::visit::visit;
 use crate::reply::Reply;
@@ -99,6 +109,43 @@ impl<R: Rows + Drop> Engine<R> {
             )?,
             Command::Title { url, text } => title(&mut rows, limit, url, text, steps)?,
             Command::Page { url } => page(alloc, &rows, url, steps)?,
+            Command::Folder {
+                parent,
+                place,
+                title,
+                date,
+            } => folder(
+                alloc, &mut rows, limit, *parent, *place, title, *date, steps,
+            )?,
+            Command::Bookmark {
+                parent,
+                place,
+                url,
+                title,
+                date,
+            } => bookmark(
+                alloc, &mut rows, limit, *parent, *place, url, title, *date, steps,
+            )?,
+            Command::Separator {
+                parent,
+                place,
+                date,
+            } => separator(alloc, &mut rows, limit, *parent, *place, *date, steps)?,
+            Command::Move {
+                item,
+                parent,
+                place,
+                date,
+            } => move_item(&mut rows, *item, *parent, *place, *date, steps),
+            Command::Retitle { item, title, date } => {
+                retitle(&mut rows, limit, *item, title, *date, steps)?
+            }
+            Command::Remove { item } => remove(alloc, &mut rows, *item, steps)?,
+            Command::Tag { url, name, date } => {
+                tag(alloc, &mut rows, limit, url, name, *date, steps)?
+            }
+            Command::Untag { url, name } => untag(alloc, &mut rows, url, name, steps)?,
+            Command::List { item } => list(alloc, &rows, *item, steps)?,
         };
         Ok((Engine { alloc, rows, limit }, reply))
     }

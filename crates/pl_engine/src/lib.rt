@@ -8,4 +8,4 @@ mod reply;
 
 pub use command::Command;
 pub use engine::Engine;
-pub use reply::Reply;
+pub use reply::{ListRow, Reply};

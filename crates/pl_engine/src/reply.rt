@@ -1,4 +1,4 @@
-use pl_base::{Micros, PageId, Refusal, Txt, VisitId};
+use pl_base::{ItemId, ItemKind, Micros, PageId, Refusal, Seq, Txt, VisitId};
 
 /// The answer to a command.
 #[derive(Debug, PartialEq, Eq, Drop)]
@@ -27,5 +27,19 @@ pub enum Reply {
         /// Its tags, in the order of their folds and joined by commas.
         tags: Txt,
     },
+    /// The item that was inserted.
+    Item(ItemId),
+    /// The children of a folder, in order.
+    List(Seq<ListRow>),
     Refused(Refusal),
+}
+
+/// A child of a folder, as it is listed.
+#[derive(Debug, PartialEq, Eq, Drop)]
+pub struct ListRow {
+    pub kind: ItemKind,
+    pub id: ItemId,
+    pub title: Txt,
+    /// The address of a bookmark.
+    pub url: Option<Txt>,
 }

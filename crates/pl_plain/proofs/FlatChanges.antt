@@ -221,7 +221,7 @@ sum_changed {X} q f n (y ∷ ys) x once found =
           rest here,
         )
 
-one_page : (id : PageId) (ps : List KeptPage) → IsStrictlyIncreasing (map (λ (p : KeptPage). p.page.id.0) ps)
+pub one_page : (id : PageId) (ps : List KeptPage) → IsStrictlyIncreasing (map (λ (p : KeptPage). p.page.id.0) ps)
     → AllPairs (λ (p q : KeptPage). (p.page.id.0 == id.0) ≡ true → (q.page.id.0 == id.0) ≡ false) ps
 one_page id ps ascending i j d before within passes =
     ne_eqb (get_or ps j d).page.id.0 id.0

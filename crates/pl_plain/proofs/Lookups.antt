@@ -11,16 +11,9 @@ use Rattle.pl_base.specs.Store.{Item, Visit}
 use Rattle.pl_base.specs.Tree.{has_item, item_at, item_title}
 use Rattle.pl_plain.specs.declared.flat.row.FlatPage.{FlatPage}
 use Rattle.pl_plain.specs.FlatRows.{page_of}
-use Rattle.pl_plain.specs.Latest.{first_of}
-use Rattle.pl_base.proofs.ListLaws.{found_in, list_any-map}
+use Rattle.pl_check.specs.Latest.{first_of}
+use Rattle.pl_base.proofs.ListLaws.{find-map, found_in, list_any-map}
 use Rattle.pl_plain.proofs.OlderVisits.{id_of-first}
-
-pub find-map : {A B : Type 0} (p : B → Bool) (f : A → B) (xs : List A)
-    → find p (map f xs) ≡ option_map f (find (λ x. p (f x)) xs)
-find-map p f [] = refl
-find-map p f (x ∷ xs) =
-    elim (p (f x)) as (λ b. (if b then Some (f x) else find p (map f xs))
-    ≡ option_map f (if b then Some x else find (λ x. p (f x)) xs)) [ true ↦ refl | false ↦ find-map p f xs ]
 
 -- none was found
 pub none-found : {A B : Type 0} (p : B → Bool) (f : A → B) (xs ys : List A) (found : Option (Bor A)) → found ≡ None

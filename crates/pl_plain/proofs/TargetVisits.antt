@@ -19,8 +19,8 @@ use Rattle.pl_base.proofs.ListLaws.{all-filter}
 use Rattle.pl_form.specs.declared.stored.StoredVisit.{StoredVisit}
 use Rattle.pl_form.specs.Stored.{visit_of}
 use Rattle.pl_check.specs.Rows.{stored_visit_ids}
-use Rattle.pl_plain.specs.Targets.{is_other_from, is_redirect_from, target_among, targets_of}
-use Rattle.pl_plain.proofs.Lookups.{find-map}
+use Rattle.pl_check.specs.Targets.{is_other_from, is_redirect_from, target_among, targets_of}
+use Rattle.pl_base.proofs.ListLaws.{find-map}
 use Rattle.pl_base.proofs.Searches.{found_at, none_at, rises}
 
 -- the first of those that pass a test

@@ -1,15 +1,12 @@
 -- The pages of a file's rows, with what the definitions give of them.
-use Rattle.std.specs.Prelude.{◌≡◌, ◌+◌, ◌≤◌, ℕ, Bool, List, length}
+use Rattle.std.specs.Prelude.{◌≡◌, ◌+◌, ◌≤◌, ℕ, List, length}
 use Rattle.std.specs.List.{AllZip, sum_by}
 use Rattle.pl_base.specs.Frecency.{frecency_of}
 use Rattle.pl_base.specs.Good.{IsGood, IsTree}
 use Rattle.pl_base.specs.Live.{chunks, slot_limit}
 use Rattle.pl_base.specs.Marks.{is_hidden, visit_count}
-use Rattle.pl_base.specs.Redirects.{is_redirect_source, source_transition}
 use Rattle.pl_base.specs.Rows.{Kept}
-use Rattle.pl_base.specs.Store.{Item, Visit}
-use Rattle.pl_base.specs.Tables.{bonus_of}
-use Rattle.pl_score.specs.declared.sample.Sampled.{Sampled}
+use Rattle.pl_base.specs.Store.{Item}
 use Rattle.pl_plain.specs.declared.flat.row.FlatPage.{FlatPage}
 use Rattle.pl_form.specs.declared.stored.StoredPage.{StoredPage}
 use Rattle.pl_plain.specs.CheckOrigins.{AreNamed, Key}
@@ -30,16 +27,6 @@ pub record IsAssessed (rows : Stored) (p : StoredPage) (q : FlatPage) : Type 0 w
   pub frecency : q.frecency ≡ frecency_of (stored_store rows) (stored_page p)
   pub count : q.count ≡ visit_count (stored_store rows) p.id
   pub hidden : q.hidden ≡ is_hidden (stored_store rows) (stored_page p)
-
--- what a visit counts, whose page is told to be an item's or not
-abbrev pub told_sample : Stored → Bool → Visit → Sampled
-told_sample rows referenced v =
-    record {
-      date = v.date;
-      bonus =
-          bonus_of v.transition (source_transition (stored_store rows) v)
-          (is_redirect_source (stored_store rows) v) referenced;
-    }
 
 -- what a file's rows give: a good store, and its pages with names of their origins
 pub record IsGiven (rows : Stored) (qs : List FlatPage) (keys : List Key)

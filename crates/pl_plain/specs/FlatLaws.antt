@@ -24,7 +24,7 @@ use Rattle.pl_base.specs.Store.{Item, Page, Store}
 use Rattle.pl_plain.specs.declared.flat.row.FlatPage.{FlatPage}
 use Rattle.pl_form.specs.declared.stored.StoredVisit.{StoredVisit}
 use Rattle.pl_plain.specs.FlatRows.{IsFlat, kept_from, origin_named}
-use Rattle.pl_plain.specs.Targets.{targets_of}
+use Rattle.pl_check.specs.Targets.{targets_of}
 use Rattle.pl_form.specs.Form.{FormRows, StandsFor, form_bytes, kept_rows, store_rows}
 
 -- ---- the rows are well kept

@@ -1,11 +1,12 @@
 -- The parts of a flat store seen as what is kept of a store, and what holds of them.
-use Rattle.std.specs.Prelude.{◌≡◌, ◌≢◌, ◌≤◌, ◌<◌, ◌==◌, ℕ, ℤ, IsTrue}
+use Rattle.std.specs.Prelude.{◌≡◌, ◌≢◌, ◌-◌, ◌≤◌, ◌<◌, ◌==◌, ℕ, ℤ, Bool, false, IsTrue}
 use Rattle.std.specs.Prelude.{List, map, true, if◌then◌else◌}
 use Rattle.std.specs.List.{All, AllPairs, list_any, range_with_len}
 use Rattle.std.specs.Str.{is_utf8}
 use Rattle.pl_base.specs.declared.date.Day.{Day}
 use Rattle.pl_base.specs.declared.id.Ids.{Ids}
 use Rattle.pl_base.specs.declared.id.PageId.{PageId}
+use Rattle.pl_base.specs.declared.id.Slot.{Slot}
 use Rattle.pl_base.specs.declared.row.Mark.{Mark}
 use Rattle.pl_base.specs.Address.{is_store_url}
 use Rattle.pl_base.specs.Date.{IsDate, IsDay}
@@ -59,6 +60,24 @@ with_title_of title p = record p { title = title }
 -- the page with this id has the title
 abbrev pub titled_row : PageId → List ℕ → FlatPage → FlatPage
 titled_row id title p = row_with id (with_title_of title) p
+
+-- a page has this name as that of its origin
+abbrev pub has_name : Slot → List FlatPage → Bool
+has_name name pages = list_any (λ (p : FlatPage). p.origin.0 == name.0) pages
+
+-- what an origin is named once this name is free, unless it is in use: it goes to the last one
+abbrev pub name_left : Bool → ℕ → Slot → Slot → Slot
+name_left true last name origin = origin
+name_left false last name origin = if origin.0 == last then name else origin
+
+-- a page whose origin is named so
+abbrev pub renamed_row : Bool → ℕ → Slot → FlatPage → FlatPage
+renamed_row in_use last name p = record p { origin = name_left in_use last name p.origin }
+
+-- how many names are left of so many
+abbrev pub names_left : Bool → ℕ → ℕ
+names_left true names = names
+names_left false names = names - 1
 
 -- the ids of the pages
 abbrev pub flat_page_ids : List FlatPage → List ℕ

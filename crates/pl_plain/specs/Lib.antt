@@ -5,6 +5,4 @@ pub mod FlatBase
 pub mod FlatLaws
 pub mod FlatRows
 pub mod Images
-pub mod Latest
 pub mod Place
-pub mod Targets

@@ -1,9 +1,7 @@
 // What a file's bytes stand for.
 mod live;
-mod marks;
 mod origins;
 mod pages;
-mod redirects;
 
 ghost use Rattle.std.specs.Prelude.{◌≡◌, ◌↔◌, ℕ, List, length, take, IfOk, IsErrOf};
 ghost use Rattle.pl_base.specs.Rows.{IsRight, store_of};

@@ -1,4 +1,5 @@
 // A store over vectors.
+mod drop;
 mod insert;
 mod items;
 mod mark;

@@ -4,7 +4,6 @@
 mod check;
 mod flat;
 mod slots;
-mod visit;
 
 pub use flat::Flat;
 pub use pl_form::CheckError;

@@ -3,4 +3,6 @@ mod Escapes
 mod FieldLemmas
 mod Numbers
 mod ReplyLines
+mod TagTexts
+mod Words
 mod WorkedScripts

@@ -1,24 +1,29 @@
--- The text of a reply is one line, and its fields are read from it again.
+-- The fields of each line of a reply are read from its text again.
 use Rattle.std.proofs.Common.{◌≡◌, ◌∙◌, ◌<◌, ◌≤◌, ◌+◌, ◌-◌, ◌%◌, ◌/◌, ℕ, Bool, true, false, List, [], ◌∷◌, ◌++◌, ap}
-use Rattle.std.proofs.Common.{arith, eqb, get_or, length, length-append, map, refl, subst, sym, zero, suc}
+use Rattle.std.proofs.Common.{append_assoc, arith, eqb, get_or, length, length-append, map, refl, subst, sym, zero, suc}
 use Rattle.std.proofs.Common.{drop, Option, None, Some, ⊎_elim}
 use Rattle.std.specs.Prelude.{ℤ, pos, negsuc, codes, decimal, if◌then◌else◌, nat_le, nat_lt}
 use Rattle.std.specs.Fmt.{digits, digits_onto, digit_glyph, signed_decimal}
-use Rattle.std.specs.List.{All, join_with_byte, list_all, slice_split}
-use Rattle.std.specs.Str.Lines.{lines, lines_of_parts}
+use Rattle.std.specs.List.{All, flat_map, join_with_byte, list_all, slice_split}
+use Rattle.std.specs.Str.Lines.{lines, lines_of_parts, strip_carriage_return}
 use Rattle.std.proofs.lemmas.Bool.{cases_eq, cases_lt, cond-false, ne_eqb}
 use Rattle.std.proofs.lemmas.Bool.Decides.{nat_tests}
 use Rattle.std.proofs.lemmas.List.{get_or_past}
-use Rattle.std.proofs.lemmas.List.Elements.{All-append, All-cons, All-get_or, All-nil, All-weaker}
+use Rattle.std.proofs.lemmas.List.Elements.{All-append, All-cons, All-get_or, All-head, All-nil, All-tail, All-weaker}
 use Rattle.std.proofs.lemmas.List.Sums.{AllPass-from_list_all}
-use Rattle.std.proofs.lemmas.List.Splits.{slice_split_at, slice_split_none}
+use Rattle.std.proofs.lemmas.List.Splits.{length-slice_split, slice_split_at, slice_split_none}
 use Rattle.pl_base.specs.declared.date.Micros.{Micros}
 use Rattle.pl_base.specs.declared.id.PageId.{PageId}
+use Rattle.pl_base.specs.declared.item.ItemKind.{ItemKind}
+use Rattle.pl_base.specs.declared.item.ItemKind.TheVariants.{Bookmark, Folder, Separator}
 use Rattle.pl_base.specs.Refusal.{refusal_number, refusal_values}
+use Rattle.pl_engine.specs.declared.reply.ListRow.{ListRow}
 use Rattle.pl_engine.specs.declared.reply.Reply.{Reply}
-use Rattle.pl_engine.specs.declared.reply.Reply.TheVariants.{Visit, Done, Page, Refused}
-use Rattle.pl_script.specs.Reply.{IsLineOf, IsReadAgain, TellsTexts}
-use Rattle.pl_script.specs.Reply.{date_text, reply_fields, reply_text, truth_text}
+use Rattle.pl_engine.specs.declared.reply.Reply.TheVariants.{Visit, Done, Page, Item, Refused}
+use Rattle.pl_engine.specs.declared.reply.Reply.TheVariants.{List as ListReply}
+use Rattle.pl_script.specs.Reply.{AreLinesOf, IsReadAgain, IsToldAgain, TellsTexts}
+use Rattle.pl_script.specs.Reply.{date_text, fields_in, kind_word, line_text, more_fields, reply_fields, reply_lines}
+use Rattle.pl_script.specs.Reply.{reply_text, row_fields, told_texts, told_title, told_url, truth_text}
 use Rattle.pl_script.specs.Script.{escape_of, escaped, escaped_as, fields_of, text_of}
 
 -- the byte ends no line
@@ -129,43 +134,85 @@ no_cr line goes i =
     ⊎_elim (λ within. (All-get_or Goes line i 0 within goes).cr)
     (λ past. ap (λ b. eqb b 13) (get_or_past line i 0 past)) (cases_lt i (length line))
 
-one_line : (line : List ℕ) → All Goes line → lines (line ++ 10 ∷ []) ≡ line ∷ []
-one_line line goes =
-    ap lines_of_parts (slice_split_at (λ b. eqb b 10) line 10 []
+-- a line and those behind it
+first_of : (line : List ℕ) (parts : List (List ℕ)) → 0 < length parts
+    → lines_of_parts (line ∷ parts) ≡ strip_carriage_return line ∷ lines_of_parts parts
+first_of line [] some = absurd (omega (arith, some))
+first_of line (part ∷ parts) some = refl
+
+first_line : (line more : List ℕ) → All Goes line → lines (line ++ 10 ∷ more) ≡ line ∷ lines more
+first_line line more goes =
+    let parts = slice_split (λ b. eqb b 10) more in
+    let some = length-slice_split (λ b. eqb b 10) more in
+    ap lines_of_parts (slice_split_at (λ b. eqb b 10) line 10 more
     (All-weaker Goes (λ b. eqb b 10 ≡ false) (λ b go. go.lf) line goes) refl)
-    ∙ ap (λ l. l ∷ []) (cond-false _ _ _ (no_cr line goes (length line - 1)))
+    ∙ first_of line parts (omega (arith, some))
+    ∙ ap (λ l. l ∷ lines_of_parts parts) (cond-false _ _ _ (no_cr line goes (length line - 1)))
 
-line_of : (field : List ℕ) (fields : List (List ℕ)) → Are (field ∷ fields)
-    → IsLineOf (field ∷ fields) (join_with_byte 9 (field ∷ fields) ++ 10 ∷ [])
-line_of field fields are =
-    ap (map (λ line. (fields_of line).left)) (one_line (join_with_byte 9 (field ∷ fields)) (goes_on field fields are))
-    ∙ ap (λ l. l ∷ []) (fields_again field fields are)
+-- each has a field, and the bytes of its fields stay in them
+abbrev AreLines : List (List (List ℕ)) → Type 0
+AreLines [] = Unit {0}
+AreLines ([] ∷ more) = ⊥
+AreLines ((field ∷ fields) ∷ more) = Are (field ∷ fields) × AreLines more
 
-reads_back : (reply : Reply) → IsLineOf (reply_fields reply) (reply_text reply)
-reads_back (Visit id page frecency) =
+lines_again : (all : List (List (List ℕ))) → AreLines all → AreLinesOf all (flat_map line_text all)
+lines_again [] are = refl
+lines_again ([] ∷ more) are = absurd are
+lines_again ((field ∷ fields) ∷ more) are =
+    let line = join_with_byte 9 (field ∷ fields) in
+    let behind = flat_map line_text more in
+    ap fields_in (append_assoc line (10 ∷ []) behind)
+    ∙ ap (map (λ l. (fields_of l).left)) (first_line line behind (goes_on field fields are.0))
+    ∙ ap (λ l. l ∷ fields_in behind) (fields_again field fields are.0)
+    ∙ ap (λ l. (field ∷ fields) ∷ l) (lines_again more are.1)
+
+-- ---- the lines of a reply
+
+of_kind : (kind : ItemKind) → All Stays (kind_word kind)
+of_kind Bookmark = of_word (codes "bookmark") refl
+of_kind Folder = of_word (codes "folder") refl
+of_kind Separator = of_word (codes "separator") refl
+
+of_rows : (rows : List ListRow) → AreLines (map row_fields rows)
+of_rows [] = tt
+of_rows (row ∷ rows) =
+    let texts : Are (map escaped (told_texts row)) =
+    (of_text (told_title row.kind row.title), (of_text (told_url row.kind row.url), tt)) in
+    ((of_kind row.kind, (of_number row.id.0, texts)), of_rows rows)
+
+of_reply : (reply : Reply) → AreLines (reply_lines reply)
+of_reply (Visit id page frecency) =
     let scored : Are (codes "frecency" ∷ signed_decimal frecency ∷ []) =
     (of_word (codes "frecency") refl, (of_signed frecency, tt)) in
-    line_of _ _
-    (of_word (codes "visit") refl, (of_number id.0, (of_word (codes "page") refl, (of_number page.0, scored))))
-reads_back Done = line_of (codes "ok") [] (of_word (codes "ok") refl, tt)
-reads_back (Page id frecency count last typed hidden bookmarked url title tags) =
+    ((of_word (codes "visit") refl, (of_number id.0, (of_word (codes "page") refl, (of_number page.0, scored)))), tt)
+of_reply Done = ((of_word (codes "ok") refl, tt), tt)
+of_reply (Page id frecency count last typed hidden bookmarked url title tags) =
     let texts : Are (escaped url ∷ escaped title ∷ escaped tags ∷ []) =
     (of_text url, (of_text title, (of_text tags, tt))) in
     let marks : Are (truth_text typed ∷ truth_text hidden ∷ truth_text bookmarked
     ∷ escaped url ∷ escaped title ∷ escaped tags ∷ []) =
     (of_truth typed, (of_truth hidden, (of_truth bookmarked, texts))) in
-    line_of (codes "page") _
-    (of_word (codes "page") refl, (of_number id.0, (of_signed frecency, (of_number count, (of_date last, marks)))))
-reads_back (Refused refusal) =
-    line_of (codes "refused") (decimal (refusal_number refusal) ∷ map decimal (refusal_values refusal))
-    (of_word (codes "refused") refl, (of_number (refusal_number refusal), of_numbers (refusal_values refusal)))
+    let numbers : Are (decimal id.0 ∷ signed_decimal frecency ∷ decimal count ∷ date_text last
+    ∷ truth_text typed ∷ truth_text hidden ∷ truth_text bookmarked
+    ∷ escaped url ∷ escaped title ∷ escaped tags ∷ []) =
+    (of_number id.0, (of_signed frecency, (of_number count, (of_date last, marks)))) in
+    ((of_word (codes "page") refl, numbers), tt)
+of_reply (Item id) = ((of_word (codes "item") refl, (of_number id.0, tt)), tt)
+of_reply (ListReply rows) = ((of_word (codes "rows") refl, (of_number (length rows), tt)), of_rows rows)
+of_reply (Refused refusal) =
+    ((of_word (codes "refused") refl, (of_number (refusal_number refusal), of_numbers (refusal_values refusal))), tt)
 
-pub read_again : (reply : Reply) (text : List ℕ) → text ≡ reply_text reply → IsLineOf (reply_fields reply) text
-read_again reply text is = subst (IsLineOf (reply_fields reply)) (sym is) (reads_back reply)
+pub read_again : (reply : Reply) (text : List ℕ) → text ≡ reply_text reply → AreLinesOf (reply_lines reply) text
+read_again reply text is =
+    subst (AreLinesOf (reply_lines reply)) (sym is) (lines_again (reply_lines reply) (of_reply reply))
 
 pub never_empty : (reply : Reply) (text : List ℕ) → text ≡ reply_text reply → 0 < length text
 never_empty reply text is =
-    rw is (omega (arith, length-append (join_with_byte 9 (reply_fields reply)) (10 ∷ [])))
+    rw is (omega (
+      arith,
+      length-append (line_text (reply_fields reply)) (flat_map line_text (more_fields reply)),
+      length-append (join_with_byte 9 (reply_fields reply)) (10 ∷ []),
+    ))
 
 -- the texts of a page's line
 pub tells_texts : (id : PageId) (frecency : ℤ) (count : ℕ) (last : Option Micros) (typed hidden bookmarked : Bool)
@@ -177,3 +224,19 @@ tells_texts id frecency count last typed hidden bookmarked url title tags text i
     let one = read_again (Page id frecency count last typed hidden bookmarked url title tags) text is in
     ap (map (λ fields. map text_of (drop 8 fields))) one
     ∙ rw (u, ti, ta) refl
+
+told_again : (rows : List ListRow) → All IsToldAgain rows
+    → map (λ fields. map text_of (drop 2 fields)) (map row_fields rows)
+    ≡ map (λ row. map (λ told. Some told) (told_texts row)) rows
+told_again [] told = refl
+told_again (row ∷ rows) told =
+    let first = All-head IsToldAgain row rows told in
+    rw (first.title, first.url) (ap (λ more. (Some (told_title row.kind row.title)
+    ∷ Some (told_url row.kind row.url) ∷ []) ∷ more) (told_again rows (All-tail IsToldAgain row rows told)))
+
+-- those of the lines of a list
+pub tells_rows : (rows : List ListRow) (text : List ℕ) → text ≡ reply_text (ListReply rows) → All IsToldAgain rows
+    → TellsTexts (ListReply rows) text
+tells_rows rows text is told =
+    ap (λ all. map (λ fields. map text_of (drop 2 fields)) (drop 1 all)) (read_again (ListReply rows) text is)
+    ∙ told_again rows told

@@ -2,3 +2,4 @@ pub mod Fields
 pub mod LineError
 pub mod Reply
 pub mod Script
+pub mod TagText

@@ -1,14 +1,18 @@
 -- What a reader of lines gives: what the grammar says, but that want of memory is
 -- free where a text is read.
-use Rattle.std.specs.Prelude.{◌≡◌, ◌≤◌, ℕ, List, length, Option, Some, None, Result, Ok, Err, IsOk}
+use Rattle.std.specs.Prelude.{◌≡◌, ◌≤◌, ℕ, List, length, Option, Some, None, Result, Ok, Err}
 use Rattle.pl_base.specs.declared.refusal.Refusal.TheVariants as refusal
 use Rattle.pl_link.specs.declared.canon.CanonError.{CanonError}
 use Rattle.pl_link.specs.declared.canon.CanonError.TheVariants as canon
+use Rattle.pl_words.specs.declared.tag_name.TagError.{TagError}
+use Rattle.pl_words.specs.declared.tag_name.TagError.TheVariants as tag
 use Rattle.pl_engine.specs.declared.command.Command.{Command}
 use Rattle.pl_engine.specs.Parsed.{Parsed}
 use Rattle.pl_script.specs.declared.lines.LineError.{LineError}
 use Rattle.pl_script.specs.declared.lines.LineError.TheVariants.{Refused, NoMemory}
-use Rattle.pl_script.specs.Script.{fields_of, longest_line, next_field, word_of}
+use Rattle.pl_script.specs.declared.word.Word.{Word}
+use Rattle.pl_script.specs.declared.word.Word.TheVariants as word
+use Rattle.pl_script.specs.Script.{Fields, fields_of, longest_line, next_field, word_of}
 
 -- the line is refused so, and want of memory says nothing
 abbrev pub Fails : {A : Type 0} → LineError → Parsed A → Type 0
@@ -33,12 +37,37 @@ ReadsEntry (Ok (Some command)) expected = expected ≡ Some (Ok command)
 ReadsEntry (Err (Refused refusal)) expected = expected ≡ Some (Err refusal)
 ReadsEntry (Err NoMemory) expected = Unit {0}
 
--- the line is not too long, and begins with a word that is known
-pub record HasWord (line : List ℕ) : Type 0 where
+-- the lines with this word have texts
+abbrev pub HasTexts : Word → Type 0
+HasTexts word.Visit = Unit {0}
+HasTexts word.Title = Unit {0}
+HasTexts word.Page = Unit {0}
+HasTexts word.Folder = Unit {0}
+HasTexts word.Bookmark = Unit {0}
+HasTexts word.Separator = ⊥
+HasTexts word.Move = ⊥
+HasTexts word.Retitle = Unit {0}
+HasTexts word.Remove = ⊥
+HasTexts word.Tag = Unit {0}
+HasTexts word.Untag = Unit {0}
+HasTexts word.List = ⊥
+
+-- a word was read, and the lines with it have texts
+abbrev pub ReadsTexts : Parsed (Word × Fields) → Type 0
+ReadsTexts (Ok read) = HasTexts read.0
+ReadsTexts (Err refusal) = ⊥
+
+-- the line is not too long, and begins with a word whose lines have texts
+pub record MayHaveTexts (line : List ℕ) : Type 0 where
   pub short : length line ≤ longest_line
-  pub word : IsOk (next_field word_of (fields_of line))
+  pub word : ReadsTexts (next_field word_of (fields_of line))
 
 -- the error of a line whose address is refused
 abbrev pub BecomesLineError : CanonError → LineError → Type 0
 BecomesLineError canon.BadUrl e = e ≡ Refused refusal.BadUrl
 BecomesLineError canon.NoMemory e = e ≡ NoMemory
+
+-- the error of a line whose text names no tag
+abbrev pub TagBecomesLineError : TagError → LineError → Type 0
+TagBecomesLineError tag.BadTag e = e ≡ Refused refusal.BadTag
+TagBecomesLineError tag.NoMemory e = e ≡ NoMemory

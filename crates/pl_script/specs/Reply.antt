@@ -1,13 +1,17 @@
--- The text of a reply: its fields apart by TAB, and LF.
-use Rattle.std.specs.Prelude.{◌≡◌, ℕ, Bool, true, false, List, [], ◌∷◌, ◌++◌, drop, map}
-use Rattle.std.specs.Prelude.{codes, decimal, Option, None, Some}
+-- The text of a reply: its lines, each with its fields apart by TAB, and LF.
+use Rattle.std.specs.Prelude.{◌≡◌, ℕ, Bool, true, false, List, [], ◌∷◌, ◌++◌, drop, length, map}
+use Rattle.std.specs.Prelude.{codes, decimal, Option, None, Some, unwrap_or}
 use Rattle.std.specs.Fmt.{signed_decimal}
-use Rattle.std.specs.List.{join_with_byte}
+use Rattle.std.specs.List.{flat_map, join_with_byte}
 use Rattle.std.specs.Str.Lines.{lines}
 use Rattle.pl_base.specs.declared.date.Micros.{Micros}
+use Rattle.pl_base.specs.declared.item.ItemKind.{ItemKind}
+use Rattle.pl_base.specs.declared.item.ItemKind.TheVariants.{Bookmark, Folder, Separator}
 use Rattle.pl_base.specs.Refusal.{refusal_number, refusal_values}
+use Rattle.pl_engine.specs.declared.reply.ListRow.{ListRow}
 use Rattle.pl_engine.specs.declared.reply.Reply.{Reply}
-use Rattle.pl_engine.specs.declared.reply.Reply.TheVariants.{Visit, Done, Page, Refused}
+use Rattle.pl_engine.specs.declared.reply.Reply.TheVariants.{Visit, Done, Page, Item, Refused}
+use Rattle.pl_engine.specs.declared.reply.Reply.TheVariants.{List as ListReply}
 use Rattle.pl_script.specs.Script.{escaped, fields_of, text_of}
 
 -- a date, or `-` where there is none
@@ -20,7 +24,33 @@ abbrev pub truth_text : Bool → List ℕ
 truth_text true = codes "1"
 truth_text false = codes "0"
 
--- the fields of a reply
+-- the word of a kind of items
+abbrev pub kind_word : ItemKind → List ℕ
+kind_word Bookmark = codes "bookmark"
+kind_word Folder = codes "folder"
+kind_word Separator = codes "separator"
+
+-- the title that a list tells of an item: of a separator none
+abbrev pub told_title : ItemKind → List ℕ → List ℕ
+told_title Bookmark title = title
+told_title Folder title = title
+told_title Separator title = []
+
+-- the address that it tells: of a bookmark alone
+abbrev pub told_url : ItemKind → Option (List ℕ) → List ℕ
+told_url Bookmark url = unwrap_or url []
+told_url Folder url = []
+told_url Separator url = []
+
+-- both of them
+abbrev pub told_texts : ListRow → List (List ℕ)
+told_texts row = told_title row.kind row.title ∷ told_url row.kind row.url ∷ []
+
+-- the fields of an item that is listed
+abbrev pub row_fields : ListRow → List (List ℕ)
+row_fields row = kind_word row.kind ∷ decimal row.id.0 ∷ map escaped (told_texts row)
+
+-- the fields of the first line of a reply, which of a list says how many items it has
 abbrev pub reply_fields : Reply → List (List ℕ)
 reply_fields (Visit id page frecency) =
     codes "visit" ∷ decimal id.0 ∷ codes "page" ∷ decimal page.0
@@ -30,30 +60,59 @@ reply_fields (Page id frecency count last typed hidden bookmarked url title tags
     codes "page" ∷ decimal id.0 ∷ signed_decimal frecency ∷ decimal count ∷ date_text last
     ∷ truth_text typed ∷ truth_text hidden ∷ truth_text bookmarked
     ∷ escaped url ∷ escaped title ∷ escaped tags ∷ []
+reply_fields (Item id) = codes "item" ∷ decimal id.0 ∷ []
+reply_fields (ListReply rows) = codes "rows" ∷ decimal (length rows) ∷ []
 reply_fields (Refused refusal) =
     codes "refused" ∷ decimal (refusal_number refusal) ∷ map decimal (refusal_values refusal)
 
--- the line of a reply, with its LF
+-- those of the lines behind it: one for each item of a list, and else none
+abbrev pub more_fields : Reply → List (List (List ℕ))
+more_fields (Visit id page frecency) = []
+more_fields Done = []
+more_fields (Page id frecency count last typed hidden bookmarked url title tags) = []
+more_fields (Item id) = []
+more_fields (ListReply rows) = map row_fields rows
+more_fields (Refused refusal) = []
+
+-- the fields of each line of a reply
+abbrev pub reply_lines : Reply → List (List (List ℕ))
+reply_lines reply = reply_fields reply ∷ more_fields reply
+
+-- a line of these fields, with its LF
+abbrev pub line_text : List (List ℕ) → List ℕ
+line_text fields = join_with_byte 9 fields ++ 10 ∷ []
+
+-- the lines of a reply
 abbrev pub reply_text : Reply → List ℕ
-reply_text reply = join_with_byte 9 (reply_fields reply) ++ 10 ∷ []
+reply_text reply = flat_map line_text (reply_lines reply)
 
 -- the fields of each line of a text
 abbrev pub fields_in : List ℕ → List (List (List ℕ))
 fields_in text = map (λ line. (fields_of line).left) (lines text)
 
--- one line, from which these fields are read again
-abbrev pub IsLineOf : List (List ℕ) → List ℕ → Type 0
-IsLineOf fields text = fields_in text ≡ fields ∷ []
+-- as many lines as there are lists of fields, and from each line its fields are read again
+abbrev pub AreLinesOf : List (List (List ℕ)) → List ℕ → Type 0
+AreLinesOf all text = fields_in text ≡ all
 
 -- a text is read again from what is written of it
 abbrev pub IsReadAgain : List ℕ → Type 0
 IsReadAgain text = text_of (escaped text) ≡ Some text
 
--- one line, from whose last fields the texts of the reply are read again
+-- the title and the address that are told of an item are read again
+pub record IsToldAgain (row : ListRow) : Type 0 where
+  pub title : IsReadAgain (told_title row.kind row.title)
+  pub url : IsReadAgain (told_url row.kind row.url)
+
+-- the texts of the reply are read again from the last fields of its line, and those of the items of
+-- a list from the last fields of the lines behind the first, in order
 abbrev pub TellsTexts : Reply → List ℕ → Type 0
 TellsTexts (Visit id page frecency) text = Unit {0}
 TellsTexts Done text = Unit {0}
 TellsTexts (Page id frecency count last typed hidden bookmarked url title tags) text =
     map (λ fields. map text_of (drop 8 fields)) (fields_in text)
     ≡ (Some url ∷ Some title ∷ Some tags ∷ []) ∷ []
+TellsTexts (Item id) text = Unit {0}
+TellsTexts (ListReply rows) text =
+    map (λ fields. map text_of (drop 2 fields)) (drop 1 (fields_in text))
+    ≡ map (λ row. map (λ told. Some told) (told_texts row)) rows
 TellsTexts (Refused refusal) text = Unit {0}

@@ -9,15 +9,23 @@ use Rattle.std.specs.Str.{is_utf8}
 use Rattle.std.specs.Str.Lines.{lines}
 use Rattle.std.specs.Str.Parse.{digits_value}
 use Rattle.pl_base.specs.declared.date.Micros.{Micros}
+use Rattle.pl_base.specs.declared.id.ItemId.{ItemId}
 use Rattle.pl_base.specs.declared.id.VisitId.{VisitId}
 use Rattle.pl_base.specs.declared.refusal.Refusal.TheVariants.{BadUrl, BadLine, BadDate}
 use Rattle.pl_base.specs.declared.transition.Transition.{Transition}
 use Rattle.pl_base.specs.Address.{canon}
 use Rattle.pl_base.specs.Date.{last_date}
 use Rattle.pl_base.specs.Transition.{transition_at}
+use Rattle.pl_tree.specs.declared.place.Place.{Place}
+use Rattle.pl_tree.specs.declared.place.Place.TheVariants.{End, Number}
 use Rattle.pl_engine.specs.declared.command.Command.{Command}
 use Rattle.pl_engine.specs.declared.command.Command.TheVariants.{Visit, Title, Page}
+use Rattle.pl_engine.specs.declared.command.Command.TheVariants.{Folder, Bookmark, Separator}
+use Rattle.pl_engine.specs.declared.command.Command.TheVariants.{Move, Retitle, Remove}
+use Rattle.pl_engine.specs.declared.command.Command.TheVariants.{Tag, Untag}
+use Rattle.pl_engine.specs.declared.command.Command.TheVariants.{List as ListItems}
 use Rattle.pl_engine.specs.Parsed.{Parsed}
+use Rattle.pl_script.specs.TagText.{tag_of}
 use Rattle.pl_script.specs.declared.word.Word.{Word}
 use Rattle.pl_script.specs.declared.word.Word.TheVariants as word
 
@@ -96,16 +104,25 @@ abbrev pub date_of : List ℕ → Option Micros
 date_of field = option_map (λ n. record { 0 = n }) (number_of field)
 
 -- the number, where it is one of 32 bits
-abbrev if_id : ℕ → Option ℕ
-if_id n = if nat_lt n (2 ^ 32) then Some n else None
+abbrev if_32_bits : ℕ → Option ℕ
+if_32_bits n = if nat_lt n (2 ^ 32) then Some n else None
 
--- an id is a number of at most 32 bits
-abbrev pub id_of : List ℕ → Option ℕ
-id_of field = option_and_then if_id (number_of field)
+-- a number of at most 32 bits
+abbrev pub number_32_of : List ℕ → Option ℕ
+number_32_of field = option_and_then if_32_bits (number_of field)
 
--- the id of a visit
+-- the id of a visit is such a number
 abbrev pub visit_id_of : List ℕ → Option VisitId
-visit_id_of field = option_map (λ id. record { 0 = id }) (id_of field)
+visit_id_of field = option_map (λ id. record { 0 = id }) (number_32_of field)
+
+-- and so is that of an item
+abbrev pub item_id_of : List ℕ → Option ItemId
+item_id_of field = option_map (λ id. record { 0 = id }) (number_32_of field)
+
+-- a place in a folder is `end`, or such a number: of the items that come before it
+abbrev pub place_of : List ℕ → Option Place
+place_of field =
+    if bytes_eq field (codes "end") then Some End else option_map Number (number_32_of field)
 
 -- ---- the fields of a line
 
@@ -165,7 +182,11 @@ no_more_fields fields = none_in fields.column fields.left
 -- the words of lines
 abbrev pub words : List (List ℕ × Word)
 words =
-    (codes "visit", word.Visit) ∷ (codes "title", word.Title) ∷ (codes "page", word.Page) ∷ []
+    (codes "visit", word.Visit) ∷ (codes "title", word.Title) ∷ (codes "page", word.Page)
+    ∷ (codes "folder", word.Folder) ∷ (codes "bookmark", word.Bookmark)
+    ∷ (codes "separator", word.Separator) ∷ (codes "move", word.Move)
+    ∷ (codes "retitle", word.Retitle) ∷ (codes "remove", word.Remove)
+    ∷ (codes "tag", word.Tag) ∷ (codes "untag", word.Untag) ∷ (codes "list", word.List) ∷ []
 
 -- the word that a line begins with
 abbrev pub word_of : List ℕ → Option Word
@@ -208,11 +229,111 @@ page_line fields = do
   url ← url_of address.0
   Ok (Page url)
 
+-- `folder`, its parent, a place in it, a title and a date
+abbrev pub folder_line : Fields → Parsed Command
+folder_line fields = do
+  parent ← next_field item_id_of fields
+  place ← next_field place_of parent.1
+  title ← next_field text_of place.1
+  micros ← next_field date_of title.1
+  end ← no_more_fields micros.1
+  date ← in_range micros.0
+  Ok (Folder parent.0 place.0 title.0 date)
+
+-- `bookmark`, its parent, a place in it, an address, a title and a date
+abbrev pub bookmark_line : Fields → Parsed Command
+bookmark_line fields = do
+  parent ← next_field item_id_of fields
+  place ← next_field place_of parent.1
+  address ← next_field text_of place.1
+  title ← next_field text_of address.1
+  micros ← next_field date_of title.1
+  end ← no_more_fields micros.1
+  date ← in_range micros.0
+  url ← url_of address.0
+  Ok (Bookmark parent.0 place.0 url title.0 date)
+
+-- `separator`, its parent, a place in it and a date
+abbrev pub separator_line : Fields → Parsed Command
+separator_line fields = do
+  parent ← next_field item_id_of fields
+  place ← next_field place_of parent.1
+  micros ← next_field date_of place.1
+  end ← no_more_fields micros.1
+  date ← in_range micros.0
+  Ok (Separator parent.0 place.0 date)
+
+-- `move`, an item, the parent that it goes to, a place in it and a date
+abbrev pub move_line : Fields → Parsed Command
+move_line fields = do
+  item ← next_field item_id_of fields
+  parent ← next_field item_id_of item.1
+  place ← next_field place_of parent.1
+  micros ← next_field date_of place.1
+  end ← no_more_fields micros.1
+  date ← in_range micros.0
+  Ok (Move item.0 parent.0 place.0 date)
+
+-- `retitle`, an item, a title and a date
+abbrev pub retitle_line : Fields → Parsed Command
+retitle_line fields = do
+  item ← next_field item_id_of fields
+  title ← next_field text_of item.1
+  micros ← next_field date_of title.1
+  end ← no_more_fields micros.1
+  date ← in_range micros.0
+  Ok (Retitle item.0 title.0 date)
+
+-- `remove` and an item
+abbrev pub remove_line : Fields → Parsed Command
+remove_line fields = do
+  item ← next_field item_id_of fields
+  end ← no_more_fields item.1
+  Ok (Remove item.0)
+
+-- `tag`, an address, a text that names a tag, and a date
+abbrev pub tag_line : Fields → Parsed Command
+tag_line fields = do
+  address ← next_field text_of fields
+  text ← next_field text_of address.1
+  micros ← next_field date_of text.1
+  end ← no_more_fields micros.1
+  date ← in_range micros.0
+  url ← url_of address.0
+  name ← tag_of text.0
+  Ok (Tag url name date)
+
+-- `untag`, an address and a text that names a tag
+abbrev pub untag_line : Fields → Parsed Command
+untag_line fields = do
+  address ← next_field text_of fields
+  text ← next_field text_of address.1
+  end ← no_more_fields text.1
+  url ← url_of address.0
+  name ← tag_of text.0
+  Ok (Untag url name)
+
+-- `list` and an item
+abbrev pub list_line : Fields → Parsed Command
+list_line fields = do
+  item ← next_field item_id_of fields
+  end ← no_more_fields item.1
+  Ok (ListItems item.0)
+
 -- the rest of a line by its word
 abbrev pub line_of : Word → Fields → Parsed Command
 line_of word.Visit fields = visit_line fields
 line_of word.Title fields = title_line fields
 line_of word.Page fields = page_line fields
+line_of word.Folder fields = folder_line fields
+line_of word.Bookmark fields = bookmark_line fields
+line_of word.Separator fields = separator_line fields
+line_of word.Move fields = move_line fields
+line_of word.Retitle fields = retitle_line fields
+line_of word.Remove fields = remove_line fields
+line_of word.Tag fields = tag_line fields
+line_of word.Untag fields = untag_line fields
+line_of word.List fields = list_line fields
 
 -- the bytes of the longest line that is read
 abbrev pub longest_line : ℕ

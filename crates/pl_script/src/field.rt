@@ -7,7 +7,8 @@ ghost use Rattle.std.specs.String.{string_bytes};
 ghost use Rattle.pl_script.specs.Script as spec;
 
 use crate::word::Word;
-use pl_base::{Micros, NoMemory, Transition, Txt, VisitId};
+use pl_base::{ItemId, Micros, NoMemory, Transition, Txt, VisitId};
+use pl_tree::Place;
 use std::alloc::Global;
 
 /// The word of a field, where it begins a line that is known.
@@ -18,6 +19,15 @@ pub fn word(field: &[u8]) -> Option<Word>
         b"visit" => Some(Word::Visit),
         b"title" => Some(Word::Title),
         b"page" => Some(Word::Page),
+        b"folder" => Some(Word::Folder),
+        b"bookmark" => Some(Word::Bookmark),
+        b"separator" => Some(Word::Separator),
+        b"move" => Some(Word::Move),
+        b"retitle" => Some(Word::Retitle),
+        b"remove" => Some(Word::Remove),
+        b"tag" => Some(Word::Tag),
+        b"untag" => Some(Word::Untag),
+        b"list" => Some(Word::List),
         _ => None,
     }
 }
@@ -149,8 +159,8 @@ pub fn date(field: &[u8]) -> Option<Micros>
     Some(Micros(number(field)?))
 }
 
-fn id(field: &[u8]) -> Option<u32>
-    ensures { result ≡ spec.id_of field.now }
+fn number_32(field: &[u8]) -> Option<u32>
+    ensures { result ≡ spec.number_32_of field.now }
 {
     u32::try_from(number(field)?).ok()
 }
@@ -158,5 +168,21 @@ fn id(field: &[u8]) -> Option<u32>
 pub fn visit_id(field: &[u8]) -> Option<VisitId>
     ensures { result ≡ spec.visit_id_of field.now }
 {
-    Some(VisitId(id(field)?))
+    Some(VisitId(number_32(field)?))
+}
+
+pub fn item_id(field: &[u8]) -> Option<ItemId>
+    ensures { result ≡ spec.item_id_of field.now }
+{
+    Some(ItemId(number_32(field)?))
+}
+
+/// A place among the children of a folder, which may have fewer.
+pub fn place(field: &[u8]) -> Option<Place>
+    ensures { result ≡ spec.place_of field.now }
+{
+    match field {
+        b"end" => Some(Place::End),
+        _ => Some(Place::Number(number_32(field)?)),
+    }
 }

@@ -9,7 +9,8 @@ ghost use Rattle.pl_script.specs.Script as spec;
 use crate::field;
 use crate::lines::LineError;
 use crate::word::Word;
-use pl_base::{Micros, Refusal, Transition, Txt, VisitId};
+use pl_base::{ItemId, Micros, Refusal, Transition, Txt, VisitId};
+use pl_tree::Place;
 use std::alloc::Global;
 use std::marker::Model;
 
@@ -110,6 +111,22 @@ impl<'a> Fields<'a> {
     {
         let (column, bytes) = self.next()?;
         formed(field::date(bytes), column)
+    }
+
+    pub fn item_id(&mut self) -> Result<ItemId, LineError>
+        ensures { ReadsInPlace (λ id. (id, self.new)) result
+            (spec.next_field spec.item_id_of self.old) }
+    {
+        let (column, bytes) = self.next()?;
+        formed(field::item_id(bytes), column)
+    }
+
+    pub fn place(&mut self) -> Result<Place, LineError>
+        ensures { ReadsInPlace (λ place. (place, self.new)) result
+            (spec.next_field spec.place_of self.old) }
+    {
+        let (column, bytes) = self.next()?;
+        formed(field::place(bytes), column)
     }
 
     /// The visit that the last field names, which the line may lack.

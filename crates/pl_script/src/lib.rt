@@ -4,8 +4,11 @@
 
 mod field;
 mod fields;
+mod item_lines;
 mod lines;
 mod reply;
+mod rows;
+mod tag_lines;
 mod word;
 
 pub use field::escaped;

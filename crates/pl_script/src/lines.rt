@@ -2,17 +2,22 @@
 ghost use Rattle.std.specs.Prelude.{◌≡◌, IfOk, IfSome, IsErrOf};
 ghost use Rattle.pl_engine.specs.Step.{HasDates};
 ghost use Rattle.pl_base.specs.Date.{IsDate};
-ghost use Rattle.pl_script.specs.LineError.{BecomesLineError, HasWord, ReadsAs, ReadsEntry};
-ghost use Rattle.pl_script.specs.LineError.{ReadsInPlace};
+ghost use Rattle.pl_script.specs.LineError.{BecomesLineError, MayHaveTexts, ReadsAs, ReadsEntry};
+ghost use Rattle.pl_script.specs.LineError.{ReadsInPlace, TagBecomesLineError};
 ghost use Rattle.pl_script.specs.Script as spec;
 ghost use Rattle.pl_script.specs.declared.lines.LineError.TheVariants.{Refused};
 ghost use Rattle.pl_script.specs.declared.lines.LineError.TheVariants.{NoMemory as OutOfMemory};
 
 use crate::fields::{Fields, LONGEST_LINE};
+use crate::item_lines::{
+    bookmark_line, folder_line, list_line, move_line, remove_line, retitle_line, separator_line,
+};
+use crate::tag_lines::{tag_line, untag_line};
 use crate::word::Word;
 use pl_base::{Micros, NoMemory, Refusal};
 use pl_engine::Command;
 use pl_link::{Canon, CanonError};
+use pl_words::TagError;
 use std::alloc::Global;
 use thiserror::Error;
 
@@ -47,13 +52,24 @@ impl From<CanonError> for LineError {
     }
 }
 
+impl From<TagError> for LineError {
+    ghost from_gives = { TagBecomesLineError };
+
+    fn from(error: TagError) -> Self {
+        match error {
+            TagError::BadTag => LineError::Refused(Refusal::BadTag),
+            TagError::NoMemory => LineError::NoMemory,
+        }
+    }
+}
+
 /// The command of a line without its LF, or none where the line is empty or a comment.
 pub fn line(alloc: Global, bytes: &[u8]) -> Result<Option<Command>, LineError>
     ensures entry { ReadsEntry result (spec.entry bytes.now) }
     ensures dates { IfOk result (λ command. IfSome command HasDates) }
 
-    // A line whose first word is not known wants no memory.
-    ensures no_memory { IsErrOf result LineError.NoMemory → HasWord bytes.now }
+    // A line wants memory only for its texts.
+    ensures no_memory { IsErrOf result LineError.NoMemory → MayHaveTexts bytes.now }
 {
     match bytes {
         [] | [b'#', ..] => Ok(None),
@@ -64,7 +80,7 @@ pub fn line(alloc: Global, bytes: &[u8]) -> Result<Option<Command>, LineError>
 fn command_line(alloc: Global, bytes: &[u8]) -> Result<Command, LineError>
     ensures command { ReadsAs (λ command. command) result (spec.command_line bytes.now) }
     ensures dates { IfOk result HasDates }
-    ensures no_memory { IsErrOf result LineError.NoMemory → HasWord bytes.now }
+    ensures no_memory { IsErrOf result LineError.NoMemory → MayHaveTexts bytes.now }
 {
     if bytes.len() > LONGEST_LINE {
         return Err(LineError::Refused(Refusal::BadLine(BEHIND_LONGEST_LINE)));
@@ -74,6 +90,15 @@ fn command_line(alloc: Global, bytes: &[u8]) -> Result<Command, LineError>
         Word::Visit => visit_line(alloc, fields),
         Word::Title => title_line(alloc, fields),
         Word::Page => page_line(alloc, fields),
+        Word::Folder => folder_line(alloc, fields),
+        Word::Bookmark => bookmark_line(alloc, fields),
+        Word::Separator => separator_line(fields),
+        Word::Move => move_line(fields),
+        Word::Retitle => retitle_line(alloc, fields),
+        Word::Remove => remove_line(fields),
+        Word::Tag => tag_line(alloc, fields),
+        Word::Untag => untag_line(alloc, fields),
+        Word::List => list_line(fields),
     }
 }
 
@@ -96,8 +121,8 @@ fn visit_line(alloc: Global, mut fields: Fields<'_>) -> Result<Command, LineErro
     })
 }
 
-// The date, unless it is later than the last one.
-fn in_range(date: Micros) -> Result<Micros, LineError>
+/// The date, unless it is later than the last one.
+pub fn in_range(date: Micros) -> Result<Micros, LineError>
     ensures date { ReadsInPlace (λ date. date) result (spec.in_range date) }
     ensures range { IfOk result IsDate }
 {

@@ -7,14 +7,15 @@ ghost use Rattle.pl_script.specs.Reply as spec;
 ghost use Rattle.pl_script.specs.Script.{escaped as escaped_text};
 
 use crate::field::escaped;
+use crate::rows::list_text;
 use pl_base::{Micros, NoMemory, PageId, Refusal, Txt};
 use pl_engine::Reply;
 use std::alloc::Global;
 
-/// The reply's line, with its LF.
+/// The reply's lines, each with its LF: those of a list are its length and its items.
 pub fn reply_text(alloc: Global, reply: &Reply) -> Result<Txt, NoMemory>
     ensures exact { IfOk result (λ text. text ≡ spec.reply_text reply.now) }
-    ensures reads_back { IfOk result (λ text. spec.IsLineOf (spec.reply_fields reply.now) text) }
+    ensures reads_back { IfOk result (λ text. spec.AreLinesOf (spec.reply_lines reply.now) text) }
     ensures texts { IfOk result (λ text. spec.TellsTexts reply.now text) }
     ensures never_empty { IfOk result (λ text. 0 < length text) }
 {
@@ -45,6 +46,8 @@ pub fn reply_text(alloc: Global, reply: &Reply) -> Result<Txt, NoMemory>
             let texts = texts(alloc, url, title, tags)?;
             Ok(Txt::from(format!(in alloc; "page\t{numbers}\t{marks}\t{texts}\n")?))
         }
+        Reply::Item(id) => Ok(Txt::from(format!(in alloc; "item\t{}\n", id.0)?)),
+        Reply::List(rows) => Ok(Txt::from(list_text(alloc, rows.as_slice())?)),
         Reply::Refused(refusal) => Ok(Txt::from(refusal_text(alloc, refusal)?)),
     }
 }
@@ -106,17 +109,26 @@ fn truth_text(value: bool) -> &'static str
 }
 
 fn refusal_text(alloc: Global, refusal: &Refusal) -> Result<String, NoMemory>
-    ensures { IfOk result (λ text.
-        string_bytes text ≡ spec.reply_text (Reply.Refused refusal.now)) }
+    ensures { IfOk result (λ text. string_bytes text
+        ≡ spec.line_text (spec.reply_fields (Reply.Refused refusal.now))) }
 {
     let number = refusal.number();
     Ok(match refusal {
         Refusal::NoVisit(id) => format!(in alloc; "refused\t{number}\t{}\n", id.0)?,
+        Refusal::NoItem(id) | Refusal::NotAFolder(id) | Refusal::Fixed(id) | Refusal::Inside(id) =>
+            format!(in alloc; "refused\t{number}\t{}\n", id.0)?,
+        Refusal::BadPlace(position, length) => {
+            format!(in alloc; "refused\t{number}\t{position}\t{length}\n")?
+        }
         Refusal::NoIds(kind) => format!(in alloc; "refused\t{number}\t{}\n", kind.number())?,
         Refusal::Full(slots) => format!(in alloc; "refused\t{number}\t{slots}\n")?,
         Refusal::BadLine(column) => format!(in alloc; "refused\t{number}\t{column}\n")?,
-        Refusal::BadUrl | Refusal::NotRecorded | Refusal::NoPage | Refusal::BadDate => {
-            format!(in alloc; "refused\t{number}\n")?
-        }
+        Refusal::BadUrl
+        | Refusal::NotRecorded
+        | Refusal::NoPage
+        | Refusal::DupTag
+        | Refusal::BadDate
+        | Refusal::BadTag
+        | Refusal::NoTag => format!(in alloc; "refused\t{number}\n")?,
     })
 }

@@ -4,4 +4,13 @@ pub enum Word {
     Visit,
     Title,
     Page,
+    Folder,
+    Bookmark,
+    Separator,
+    Move,
+    Retitle,
+    Remove,
+    Tag,
+    Untag,
+    List,
 }

@@ -1,3 +1,4 @@
+mod AnswerCounts
 mod AnswerLemmas
 mod EndingLemmas
 mod EntryLemmas

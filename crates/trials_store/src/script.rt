@@ -2,7 +2,7 @@
 // written as. In the tables `https://a.example/` has 18 bytes, so behind `visit` and a TAB the
 // transition stands at column 26, the date at 28, and behind a date of one digit the source at 30;
 // behind `title` the text at 26.
-use pl_base::{IdKind, Micros, NoMemory, PageId, Refusal, Transition, Txt, VisitId};
+use pl_base::{IdKind, ItemId, Micros, NoMemory, PageId, Refusal, Transition, Txt, VisitId};
 use pl_engine::{Command, Reply};
 use pl_script::{LineError, escaped, line, reply_text};
 use std::alloc::Global;
@@ -253,8 +253,14 @@ const REFUSALS: &[(Refusal, &str)] = &[
     (Refusal::NotRecorded, "refused\t2\n"),
     (Refusal::NoVisit(VisitId(9)), "refused\t3\t9\n"),
     (Refusal::NoPage, "refused\t4\n"),
+    (Refusal::NoItem(ItemId(9)), "refused\t5\t9\n"),
+    (Refusal::NotAFolder(ItemId(9)), "refused\t6\t9\n"),
+    (Refusal::Fixed(ItemId(4)), "refused\t7\t4\n"),
+    (Refusal::BadPlace(9, 3), "refused\t8\t9\t3\n"),
+    (Refusal::Inside(ItemId(7)), "refused\t9\t7\n"),
     (Refusal::Full(10), "refused\t12\t10\n"),
     (Refusal::NoIds(IdKind::Visit), "refused\t13\t2\n"),
+    (Refusal::NoIds(IdKind::Item), "refused\t13\t3\n"),
     (Refusal::BadLine(262_145), "refused\t14\t262145\n"),
     (Refusal::BadDate, "refused\t16\n"),
 ];

@@ -100,13 +100,18 @@ fn expect_no_page_ids<L: Ledger>(
 
 // A new store takes 6 slots. The visit adds an origin, a page, a slot for its URL and itself.
 #[test]
-fn a_store_in_memory_answers(rt: HostRuntime) -> Result<(), Fail> {
+fn a_store_in_memory_has_a_limit(rt: HostRuntime) -> Result<(), Fail> {
     let alloc = rt.alloc();
-    let full = Memory::opening(alloc, 8)?;
-    let (_, reply) = full.step(&first(alloc)?)?;
+    let (_, reply) = Memory::opening(alloc, 8)?.step(&first(alloc)?)?;
     assert_eq!(rt; reply, Reply::Refused(Refusal::Full(10)));
     let (_, reply) = Memory::opening(alloc, 10)?.step(&first(alloc)?)?;
     assert_eq!(rt; reply, FIRST_REPLY);
+    Ok(())
+}
+
+#[test]
+fn a_store_in_memory_answers(rt: HostRuntime) -> Result<(), Fail> {
+    let alloc = rt.alloc();
     let memory = Memory::opening(alloc, SLOT_LIMIT)?;
     let (memory, reply) = memory.step(&first(alloc)?)?;
     assert_eq!(rt; reply, FIRST_REPLY);

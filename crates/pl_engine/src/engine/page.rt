@@ -6,10 +6,10 @@ ghost use Rattle.pl_engine.specs.Engine.{IsSound};
 ghost use Rattle.pl_engine.specs.Step as spec;
 
 use crate::engine::find::find_page;
-use crate::engine::tags::{is_bookmarked, tag_text};
 use crate::reply::Reply;
 use pl_base::{Micros, NoMemory, PageId, Refusal, Rows, Steps};
 use pl_link::Canon;
+use pl_marks::{is_bookmarked, tag_text};
 use std::alloc::Global;
 use std::sync::ledger::Ledger;
 

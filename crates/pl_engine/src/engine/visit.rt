@@ -10,13 +10,12 @@ ghost use Rattle.pl_base.specs.Live as live;
 ghost use Rattle.pl_base.specs.Live.{live_slots, slot_limit};
 ghost use Rattle.pl_base.specs.Rows.{has_visit, store_of};
 ghost use Rattle.pl_engine.specs.Engine.{IsSound};
-ghost use Rattle.pl_engine.specs.Refreshed.{AreRightBut, HaveCounts, source_page};
+ghost use Rattle.pl_marks.specs.Refreshed.{AreRightBut, HaveCounts, source_page};
 ghost use Rattle.pl_engine.specs.Step as spec;
 ghost use Rattle.pl_engine.specs.Target.{AddsVisit, HasRoom, IsReady, IsTargetOf, WithTarget};
 
 use crate::command::Command;
 use crate::engine::find::{Target, find_target, is_place};
-use crate::engine::mark::{refresh, visited_mark};
 use crate::engine::slots::chunks;
 use crate::reply::Reply;
 use pl_base::{
@@ -24,6 +23,7 @@ use pl_base::{
     VisitRow,
 };
 use pl_link::{Canon, split};
+use pl_marks::{refresh, visited_mark};
 use std::alloc::Global;
 use std::sync::ledger::Ledger;
 
@@ -35,8 +35,8 @@ fn new_slots(url: &Canon, origin: Option<Slot>) -> u64
     2 + chunks(url.text()) + u64::from(origin.is_none())
 }
 
-// How many slots the store takes after a visit to the URL.
-fn slots_after<R: Rows, L: Ledger>(
+/// How many slots the store takes after a visit to the URL.
+pub fn slots_after<R: Rows, L: Ledger>(
     rows: &R,
     url: &Canon,
     target: Target,
@@ -47,6 +47,7 @@ fn slots_after<R: Rows, L: Ledger>(
         → result ≡ live_slots
         (spec.after_visit (store_of (R.kept rows.now)) url.now transition date source) }
     ensures grows { live_slots (store_of (R.kept rows.now)) < result }
+    ensures most { result ≤ live_slots (store_of (R.kept rows.now)) + 550 }
 {
     let live = rows.live(steps);
     match target {
@@ -114,8 +115,8 @@ fn refusal<R: Rows, L: Ledger>(
     source_refusal(rows, source, steps).or_else(|| room_refusal(rows, limit, url, target, steps))
 }
 
-// The known page, or a new one with the URL.
-fn page_for<R: Rows, L: Ledger>(
+/// The known page, or a new one with the URL.
+pub fn page_for<R: Rows, L: Ledger>(
     rows: &mut R,
     url: &Canon,
     target: Target,

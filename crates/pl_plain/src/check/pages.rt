@@ -13,12 +13,11 @@ ghost use Rattle.pl_plain.specs.Flat.{IsBase, bytes_of, kept_of};
 ghost use Rattle.pl_form.specs.Form.{filled_pages};
 ghost use Rattle.pl_form.specs.Stored.{AreStored, stored_bytes};
 
-use crate::check::marks::mark;
 use crate::check::origins::Origins;
 use crate::flat::Flat;
 use crate::flat::row::FlatPage;
 use pl_base::{Slot, Txt};
-use pl_check::References;
+use pl_check::{References, mark};
 use pl_form::{CheckError, StoredPage, StoredRows};
 use pl_items::Items;
 use pl_link::split;

@@ -1,6 +1,6 @@
-ghost use Rattle.std.specs.Prelude.{◌≡◌};
+ghost use Rattle.std.specs.Prelude.{◌≡◌, false};
 ghost use Rattle.pl_base.specs.Rows.{mark_of};
-ghost use Rattle.pl_plain.specs.FlatRows.{page_of, with_mark_of};
+ghost use Rattle.pl_plain.specs.FlatRows.{page_of, renamed_row, with_mark_of};
 
 use pl_base::{Mark, PageId, Slot, Txt};
 
@@ -27,6 +27,15 @@ impl FlatPage {
         self.count = mark.count;
         self.typed = mark.typed;
         self.hidden = mark.hidden;
+    }
+
+    /// An origin that has the last name has this name from then on.
+    pub fn rename(&mut self, last: u32, name: Slot)
+        ensures { self.new ≡ renamed_row false last name self.old }
+    {
+        if self.origin.0 == last {
+            self.origin = name;
+        }
     }
 
     pub fn mark(&self) -> Mark

@@ -1,12 +1,13 @@
+use crate::Flat;
 use crate::flat::mark::mark_page;
 use crate::flat::search::{behind, find_page, find_visit, latest_visit};
 use crate::flat::targets::{first_target, next_target};
 use crate::flat::touched::whole_change;
-use crate::{Flat, visit};
 use pl_base::{
     Day, Ids, ItemId, ItemRow, Mark, Micros, NoMemory, PageId, Rows, Slot, Steps, Touched, Txt,
     VisitId, VisitRow,
 };
+use pl_check::visit_row;
 use pl_form::StoredVisit;
 use std::sync::ledger::Ledger;
 
@@ -15,7 +16,7 @@ impl Rows for Flat {
     ghost use Rattle.pl_plain.specs.Flat.{kept_of, bytes_of, IsBase};
     ghost use Rattle.pl_plain.specs.FlatBase.{based};
     ghost use Rattle.pl_plain.specs.FlatLaws as laws;
-    ghost use Rattle.pl_plain.specs.Targets.{targets_of};
+    ghost use Rattle.pl_check.specs.Targets.{targets_of};
     ghost use Rattle.pl_form.specs.Form.{StandsFor};
 
     ghost kept = { kept_of };
@@ -84,6 +85,10 @@ impl Rows for Flat {
         }
     }
 
+    fn remove_page<L: Ledger>(&mut self, page: PageId, steps: &mut Steps<L>) {
+        self.drop_page(page);
+    }
+
     fn set_title<L: Ledger>(
         &mut self,
         page: PageId,
@@ -100,7 +105,7 @@ impl Rows for Flat {
 
     fn visit_at<L: Ledger>(&self, visit: VisitId, steps: &mut Steps<L>) -> Option<VisitRow> {
         let visit = find_visit(&self.visits, visit)?;
-        Some(visit::row(visit))
+        Some(visit_row(visit))
     }
 
     fn latest<L: Ledger>(&self, page: PageId, steps: &mut Steps<L>) -> Option<VisitId> {

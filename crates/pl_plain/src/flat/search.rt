@@ -7,11 +7,11 @@ ghost use Rattle.pl_form.specs.Stored.{visit_of};
 ghost use Rattle.pl_plain.specs.declared.flat.row.FlatPage.{FlatPage};
 ghost use Rattle.pl_check.specs.Rows.{stored_visit_ids};
 ghost use Rattle.pl_plain.specs.FlatRows.{flat_page_ids};
-ghost use Rattle.pl_plain.specs.Latest.{first_of, is_within};
+ghost use Rattle.pl_check.specs.Latest.{first_of, is_within};
 
 use crate::flat::row::FlatPage;
-use crate::visit::{is_within, later_of};
 use pl_base::{PageId, VisitId};
+use pl_check::{is_within, later_of};
 use pl_form::StoredVisit;
 
 /// Where the page with this id stands.

@@ -126,3 +126,53 @@ fn counts_bookmarks_and_tags(rt: HostRuntime) -> Result<(), Fail> {
     );
     Ok(())
 }
+
+// What is tagged stays as it is, and can be listed; the last bookmark of a page that was typed goes
+// with it, and one of a page that has tags does not.
+const CHANGED: &[u8] = b"list\t4\nlist\t9\n\
+    retitle\t9\tBlue\t0\n\
+    retitle\t11\tA\t0\n\
+    remove\t10\n\
+    remove\t13\n\
+    move\t12\t2\tend\t0\n\
+    move\t9\t2\tend\t0\n\
+    move\t7\t9\tend\t0\n\
+    folder\t9\t9\tF\t0\n\
+    bookmark\t10\tend\thttps://c.example/\tC\t0\n\
+    separator\t11\tend\t0\n\
+    remove\t8\n\
+    page\thttps://c.example/\n\
+    remove\t7\n\
+    page\thttps://a.example/\n";
+
+const ANSWERED: &[u8] = b"rows\t2\nfolder\t10\tblue\t\nfolder\t9\tRed\t\n\
+    rows\t2\nbookmark\t11\t\thttps://a.example/\nbookmark\t12\t\thttps://b.example/\n\
+    refused\t7\t9\n\
+    refused\t7\t11\n\
+    refused\t7\t10\n\
+    refused\t7\t13\n\
+    refused\t7\t12\n\
+    refused\t7\t9\n\
+    refused\t7\t9\n\
+    refused\t7\t9\n\
+    refused\t7\t10\n\
+    refused\t6\t11\n\
+    ok\n\
+    refused\t4\n\
+    ok\n\
+    page\t1\t175\t1\t0\t0\t0\t0\thttps://a.example/\t\tblue,Red\n";
+
+#[test]
+fn keeps_tags_as_they_are(rt: HostRuntime) -> Result<(), Fail> {
+    let alloc = rt.alloc();
+    let bytes = file(alloc)?;
+    let mut desk = MemDesk::holding(alloc, &bytes, &[])?;
+    let status = run_on(alloc, CHANGED, &mut desk);
+    assert_eq!(rt; status, Status::Done);
+    assert_eq!(rt; desk.said(), ANSWERED);
+    let mut again = MemDesk::holding(alloc, desk.bytes(), &[])?;
+    let status = run_on(alloc, b"page\thttps://c.example/\nlist\t2\n", &mut again);
+    assert_eq!(rt; status, Status::Done);
+    assert_eq!(rt; again.said(), b"refused\t4\nrows\t0\n".as_slice());
+    Ok(())
+}

@@ -196,6 +196,45 @@ const ROWS: &[(&[u8], &[u8])] = &[
         b"visit\thttps://a.example/\t4\t0\nvisit\thttps://a.example/\t8\t0\n",
         b"visit\t1\tpage\t1\tfrecency\t0\nvisit\t2\tpage\t1\tfrecency\t0\n",
     ),
+    // A bookmark adds 75 to what a visit counts.
+    (
+        b"bookmark\t2\tend\thttps://a.example/\tA\t0\nvisit\thttps://a.example/\t2\t0\n",
+        b"item\t7\nvisit\t1\tpage\t1\tfrecency\t2075\n",
+    ),
+    // Folders within folders, and a separator that moves.
+    (
+        b"folder\t2\tend\tF\t0\n\
+          folder\t7\tend\tG\t0\n\
+          folder\t8\tend\tH\t0\n\
+          move\t7\t9\tend\t0\n\
+          separator\t7\t1\t0\n\
+          separator\t7\t3\t0\n\
+          move\t10\t7\t2\t0\n\
+          move\t10\t7\t0\t0\n\
+          retitle\t8\tK\t0\n\
+          list\t7\n\
+          remove\t8\n\
+          list\t7\n",
+        b"item\t7\n\
+          item\t8\n\
+          item\t9\n\
+          refused\t9\t7\n\
+          item\t10\n\
+          refused\t8\t3\t2\n\
+          refused\t8\t2\t1\n\
+          ok\n\
+          ok\n\
+          rows\t2\nseparator\t10\t\t\nfolder\t8\tK\t\n\
+          ok\n\
+          rows\t1\nseparator\t10\t\t\n",
+    ),
+    // A bookmark of an address whose visits are not recorded.
+    (
+        b"visit\tabout:blank\t1\t0\n\
+          bookmark\t5\t0\tjavascript:void(0)\tJ\t0\n\
+          page\tjavascript:void(0)\n",
+        b"refused\t2\nitem\t7\npage\t1\t140\t0\t-\t0\t0\t1\tjavascript:void(0)\t\t\n",
+    ),
 ];
 
 #[test]

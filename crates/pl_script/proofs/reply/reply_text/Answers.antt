@@ -1,15 +1,24 @@
-use Rattle.std.proofs.Common.{◌≡◌, ◌∙◌, ◌++◌, ◌∷◌, ℕ, List, [], ap, append_assoc, refl, rules, w64}
-use Rattle.std.specs.List.{join_with_byte}
+use Rattle.std.proofs.Common.{◌≡◌, ◌∙◌, ◌++◌, ◌∷◌, ℕ, List, [], ap, append-nil, append_assoc, refl, rules, subst, sym}
+use Rattle.std.proofs.Common.{w64}
+use Rattle.std.specs.List.{All, join_with_byte}
 use Rattle.std.specs.Prelude.{codes, decimal}
 use Rattle.std.specs.Fmt.{signed_decimal}
 use Rattle.std.proofs.lemmas.Int.{to_z-of_z}
-use Rattle.pl_script.specs.Reply.{date_text, reply_text}
-use Rattle.pl_script.proofs.ReplyLines.{never_empty, read_again, tells_texts}
+use Rattle.pl_engine.specs.declared.reply.Reply.TheVariants.{Visit, Item, List as ListReply, Refused}
+use Rattle.pl_script.specs.Reply.{IsToldAgain, date_text, line_text, reply_fields, reply_text}
+use Rattle.pl_script.proofs.ReplyLines.{never_empty, read_again, tells_rows, tells_texts}
 use Rattle.pl_script.proofs.reply.reply_text.Goals as goal
+
+-- a text of one line
+alone : (fields : List (List ℕ)) (text : List ℕ) → text ≡ line_text fields → text ≡ line_text fields ++ []
+alone fields text is = is ∙ sym (append-nil (line_text fields))
 
 pub returns-in_ok-format-in-Visit : goal.returns-in_ok-format-in-Visit
 returns-in_ok-format-in-Visit c =
-    let exact = c.from.ensures ∙ simp (c.in-Visit.is, append_assoc) (c.in_ok-format-in-Visit.ensures.ok) in
+    let exact : c.from.result ≡ reply_text c.args.reply.now =
+    rw c.in-Visit.is
+    (alone (reply_fields (Visit c.in-Visit.visit c.in-Visit.page c.in-Visit.frecency)) c.from.result
+    (c.from.ensures ∙ simp append_assoc (c.in_ok-format-in-Visit.ensures.ok))) in
     record {
       exact = exact;
       reads_back = read_again c.args.reply.now c.from.result exact;
@@ -22,9 +31,10 @@ joined : (a b c d e f g h i j text : List ℕ) (numbers marks texts : List ℕ)
     → numbers ≡ join_with_byte 9 (a ∷ b ∷ c ∷ d ∷ []) → marks ≡ join_with_byte 9 (e ∷ f ∷ g ∷ [])
     → texts ≡ join_with_byte 9 (h ∷ i ∷ j ∷ [])
     → text ≡ codes "page\t" ++ (numbers ++ (codes "\t" ++ (marks ++ (codes "\t" ++ (texts ++ codes "\n")))))
-    → text ≡ join_with_byte 9 (codes "page" ∷ a ∷ b ∷ c ∷ d ∷ e ∷ f ∷ g ∷ h ∷ i ∷ j ∷ []) ++ 10 ∷ []
+    → text ≡ line_text (codes "page" ∷ a ∷ b ∷ c ∷ d ∷ e ∷ f ∷ g ∷ h ∷ i ∷ j ∷ []) ++ []
 joined a b c d e f g h i j text numbers marks texts n m t written =
-    written ∙ rw (n, m, t) (simp append_assoc refl)
+    alone (codes "page" ∷ a ∷ b ∷ c ∷ d ∷ e ∷ f ∷ g ∷ h ∷ i ∷ j ∷ []) text
+    (written ∙ rw (n, m, t) (simp append_assoc refl))
 
 pub returns-in_ok-format-in-Page : goal.returns-in_ok-format-in-Page
 returns-in_ok-format-in-Page c =
@@ -50,8 +60,43 @@ returns-in_ok-format-in-Page c =
       never_empty = never_empty c.args.reply.now c.from-in-Page.result exact;
     }
 
-pub returns-in_ok-refusal_text-in-Refused-clause-reads_back
-    : goal.returns-in_ok-refusal_text-in-Refused-clause-reads_back
-returns-in_ok-refusal_text-in-Refused-clause-reads_back c =
-    read_again c.args.reply.now c.from-in-Refused.result
-    (c.from-in-Refused.ensures ∙ rw c.in-Refused.is (c.in_ok-refusal_text-in-Refused.ensures))
+pub returns-in_ok-format-in-Item : goal.returns-in_ok-format-in-Item
+returns-in_ok-format-in-Item c =
+    let exact : c.from-in-Item.result ≡ reply_text c.args.reply.now =
+    rw c.in-Item.is
+    (alone (reply_fields (Item c.in-Item.id)) c.from-in-Item.result
+    (c.from-in-Item.ensures ∙ simp append_assoc (c.in_ok-format-in-Item.ensures.ok))) in
+    record {
+      exact = exact;
+      reads_back = read_again c.args.reply.now c.from-in-Item.result exact;
+      texts = rw c.in-Item.is tt;
+      never_empty = never_empty c.args.reply.now c.from-in-Item.result exact;
+    }
+
+pub returns-in_ok-list_text-in-List : goal.returns-in_ok-list_text-in-List
+returns-in_ok-list_text-in-List c =
+    let rows = c.in-List.rows in
+    let lines : c.from-in-List.result ≡ reply_text (ListReply rows) =
+    c.from-in-List.ensures ∙ c.in_ok-list_text-in-List.ensures.exact
+    ∙ ap (λ l. reply_text (ListReply l)) c.as_slice.ensures in
+    let told = subst (All IsToldAgain) c.as_slice.ensures c.in_ok-list_text-in-List.ensures.read_again in
+    let exact : c.from-in-List.result ≡ reply_text c.args.reply.now = rw c.in-List.is lines in
+    record {
+      exact = exact;
+      reads_back = read_again c.args.reply.now c.from-in-List.result exact;
+      texts = rw c.in-List.is (tells_rows rows c.from-in-List.result lines told);
+      never_empty = never_empty c.args.reply.now c.from-in-List.result exact;
+    }
+
+pub returns-in_ok-refusal_text-in-Refused : goal.returns-in_ok-refusal_text-in-Refused
+returns-in_ok-refusal_text-in-Refused c =
+    let exact : c.from-in-Refused.result ≡ reply_text c.args.reply.now =
+    rw c.in-Refused.is
+    (alone (reply_fields (Refused c.in-Refused.refusal)) c.from-in-Refused.result
+    (c.from-in-Refused.ensures ∙ c.in_ok-refusal_text-in-Refused.ensures)) in
+    record {
+      exact = exact;
+      reads_back = read_again c.args.reply.now c.from-in-Refused.result exact;
+      texts = rw c.in-Refused.is tt;
+      never_empty = never_empty c.args.reply.now c.from-in-Refused.result exact;
+    }

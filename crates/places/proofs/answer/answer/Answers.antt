@@ -6,6 +6,7 @@ use Rattle.pl_engine.specs.Run.{after}
 use Rattle.pl_store.specs.Keeper.{LeavesEither, is_file, keeper_limit, ready_store, keeper_store}
 use Rattle.pl_store.specs.KeeperLaws.{kept_keeps, still_keeps, still_kept}
 use Rattle.places.specs.Lines.{entries_in}
+use Rattle.places.proofs.AnswerCounts.{leaves_self, rose_at, rose_from, stood}
 use Rattle.places.proofs.AnswerLemmas.{after_command, committing, keeps_as, keeps_refused, performing, refusing}
 use Rattle.places.proofs.AnswerLemmas.{text_of_command, unanswered}
 use Rattle.places.proofs.answer.answer.Goals as goal
@@ -180,3 +181,36 @@ pub returns-clause-alone : goal.returns-clause-alone
 returns-clause-alone g c memory = let desk = g.D.Desk in
     subst (λ (d : g.row.D.Denot). LeavesFile desk d c.say_all.new.desk)
     (c.commit.ensures.alone c.args.keeper c.in_ok-ready.ensures.from memory) c.say_all.ensures.file
+
+-- the counts of faults, and the file of a store in memory
+pub returns-in_err-next-clause-alone : goal.returns-in_err-next-clause-alone
+returns-in_err-next-clause-alone g c memory = let desk = g.D.Desk in
+    subst (λ (d : g.row.D.Denot). LeavesFile desk d c.commit.new.desk)
+    (c.commit.ensures.alone c.args.keeper c.in_ok-ready.ensures.from memory) (leaves_self desk c.commit.new.desk)
+
+pub returns-in_err-next-clause-device_counted : goal.returns-in_err-next-clause-device_counted
+returns-in_err-next-clause-device_counted g c = let desk = g.D.Desk in
+    let p = err_from_is_err_and c.from_residual-in_err-next.result c.from_residual-in_err-next.ensures.1 in
+    rw (p.1, p.2) (rose_at (desk.device_faults c.args.desk.now) (desk.device_faults c.commit.new.desk) refl
+    c.in_err-next.ensures.counted.0 c.in_err-next.ensures.counted.1)
+
+pub returns-in-Ok-clause-says_counted : goal.returns-in-Ok-clause-says_counted
+returns-in-Ok-clause-says_counted g c = let desk = g.D.Desk in
+    stood (desk.line_faults c.args.desk.now) (desk.line_faults c.say_all.new.desk) (λ same. absurd (cc))
+    (c.in-Ok.ensures.counted ∙ c.commit.ensures.line.faults)
+
+pub returns-in-Ok-clause-device_counted : goal.returns-in-Ok-clause-device_counted
+returns-in-Ok-clause-device_counted g c = let desk = g.D.Desk in
+    stood (desk.device_faults c.args.desk.now) (desk.device_faults c.say_all.new.desk) (λ same. absurd (cc))
+    (c.say_all.ensures.file.faults ∙ c.in_ok-next.ensures.counted)
+
+pub returns-clause-says_counted : goal.returns-clause-says_counted
+returns-clause-says_counted g c = let desk = g.D.Desk in
+    rose_from (desk.line_faults c.args.desk.now) (desk.line_faults c.commit.new.desk)
+    (desk.line_faults c.say_all.new.desk) refl c.commit.ensures.line.faults c.in-Err.ensures.counted.0
+    c.in-Err.ensures.counted.1
+
+pub returns-clause-device_counted : goal.returns-clause-device_counted
+returns-clause-device_counted g c = let desk = g.D.Desk in
+    stood (desk.device_faults c.args.desk.now) (desk.device_faults c.say_all.new.desk) (λ same. absurd (cc))
+    (c.say_all.ensures.file.faults ∙ c.in_ok-next.ensures.counted)

@@ -1,7 +1,18 @@
+use Rattle.std.proofs.Common.{◌≡◌, ap}
+use Rattle.pl_base.specs.Rows.{store_of}
+use Rattle.pl_base.specs.Store.{Store}
+use Rattle.pl_engine.specs.declared.reply.Reply.{Reply}
 use Rattle.pl_engine.specs.Engine.{IsSound}
+use Rattle.pl_engine.specs.Step.{perform}
 use Rattle.pl_engine.proofs.engine.Engine.apply.Given.{Over}
 use Rattle.pl_engine.proofs.engine.Engine.apply.Goals.{Joined-command, in-Visit+in_ok-reply-in-Visit}
 use Rattle.pl_engine.proofs.engine.Engine.apply.Goals.{in-Title+in_ok-reply-in-Title, in-Page+in_ok-reply-in-Page}
+use Rattle.pl_engine.proofs.engine.Engine.apply.Goals.{in-Folder+in_ok-reply-in-Folder, in-Move}
+use Rattle.pl_engine.proofs.engine.Engine.apply.Goals.{in-Bookmark+in_ok-reply-in-Bookmark}
+use Rattle.pl_engine.proofs.engine.Engine.apply.Goals.{in-Separator+in_ok-reply-in-Separator}
+use Rattle.pl_engine.proofs.engine.Engine.apply.Goals.{in-Retitle+in_ok-reply-in-Retitle}
+use Rattle.pl_engine.proofs.engine.Engine.apply.Goals.{in-Tag+in_ok-reply-in-Tag, in-Untag+in_ok-reply-in-Untag}
+use Rattle.pl_engine.proofs.engine.Engine.apply.Goals.{in-Remove+in_ok-reply-in-Remove, in-List+in_ok-reply-in-List}
 use Rattle.pl_engine.proofs.engine.Engine.apply.Goals as goal
 
 -- whichever command it is
@@ -14,6 +25,50 @@ sound g c =
         good = c.args.self.good;
         right = c.args.self.right;
       })
+      | in-Folder+in_ok-reply-in-Folder w ↦ rw w.rows-is w.in_ok-reply-in-Folder.ensures.sound
+      | in-Bookmark+in_ok-reply-in-Bookmark w ↦ rw w.rows-is w.in_ok-reply-in-Bookmark.ensures.sound
+      | in-Separator+in_ok-reply-in-Separator w ↦ rw w.rows-is w.in_ok-reply-in-Separator.ensures.sound
+      | in-Move w ↦ rw w.rows-is w.move_item-reply.ensures.sound
+      | in-Retitle+in_ok-reply-in-Retitle w ↦ rw w.rows-is w.in_ok-reply-in-Retitle.ensures.sound
+      | in-Tag+in_ok-reply-in-Tag w ↦ rw w.rows-is w.in_ok-reply-in-Tag.ensures.sound
+      | in-Untag+in_ok-reply-in-Untag w ↦ rw w.rows-is w.in_ok-reply-in-Untag.ensures.sound
+      | in-Remove+in_ok-reply-in-Remove w ↦ rw w.rows-is w.in_ok-reply-in-Remove.ensures.sound
+      | in-List+in_ok-reply-in-List w ↦ rw w.rows-is (record {
+        good = c.args.self.good;
+        right = c.args.self.right;
+      })
+    ]
+
+-- the step is that of the machine
+step : (g : Over) (c : Joined-command g)
+    → ◌≡◌ {A = Reply × Store} (c.match-command.reply, store_of (g.R.Rows.kept c.match-command.rows))
+    (perform c.args.self.limit (store_of (g.R.Rows.kept c.args.self.rows)) c.args.command.now)
+step g c =
+    elim c.match-command.branch [
+      | in-Visit+in_ok-reply-in-Visit w ↦ rw (w.rows-is, w.reply-is, w.in-Visit.is)
+          w.in_ok-reply-in-Visit.ensures.step
+      | in-Title+in_ok-reply-in-Title w ↦ rw (w.rows-is, w.reply-is, w.in-Title.is)
+          w.in_ok-reply-in-Title.ensures.step
+      | in-Page+in_ok-reply-in-Page w ↦ rw (w.rows-is, w.reply-is, w.in-Page.is)
+          (ap (λ (r : Reply). (r, store_of (g.R.Rows.kept c.args.self.rows))) w.in_ok-reply-in-Page.ensures)
+      | in-Folder+in_ok-reply-in-Folder w ↦ rw (w.rows-is, w.reply-is, w.in-Folder.is)
+          w.in_ok-reply-in-Folder.ensures.step
+      | in-Bookmark+in_ok-reply-in-Bookmark w ↦ rw (w.rows-is, w.reply-is, w.in-Bookmark.is)
+          w.in_ok-reply-in-Bookmark.ensures.step
+      | in-Separator+in_ok-reply-in-Separator w ↦ rw (w.rows-is, w.reply-is, w.in-Separator.is)
+          w.in_ok-reply-in-Separator.ensures.step
+      | in-Move w ↦ rw (w.rows-is, w.reply-is, w.in-Move.is)
+          (w.move_item-reply.ensures.step c.args.self.limit)
+      | in-Retitle+in_ok-reply-in-Retitle w ↦ rw (w.rows-is, w.reply-is, w.in-Retitle.is)
+          w.in_ok-reply-in-Retitle.ensures.step
+      | in-Tag+in_ok-reply-in-Tag w ↦ rw (w.rows-is, w.reply-is, w.in-Tag.is)
+          w.in_ok-reply-in-Tag.ensures.step
+      | in-Untag+in_ok-reply-in-Untag w ↦ rw (w.rows-is, w.reply-is, w.in-Untag.is)
+          (w.in_ok-reply-in-Untag.ensures.step c.args.self.limit)
+      | in-Remove+in_ok-reply-in-Remove w ↦ rw (w.rows-is, w.reply-is, w.in-Remove.is)
+          (w.in_ok-reply-in-Remove.ensures.step c.args.self.limit)
+      | in-List+in_ok-reply-in-List w ↦ rw (w.rows-is, w.reply-is, w.in-List.is)
+          (w.in_ok-reply-in-List.ensures c.args.self.limit)
     ]
 
 pub invariant_of-result : goal.invariant_of-result
@@ -25,3 +80,6 @@ pub returns-clause-stands : goal.returns-clause-stands
 returns-clause-stands g c =
     let s : IsSound (g.R.Rows.kept c.match-command.rows) = sound g c.before in
     g.met.R.Rows.stands c.match-command.rows s.good s.right
+
+pub returns-clause-step : goal.returns-clause-step
+returns-clause-step g c = step g c.before

@@ -2,8 +2,8 @@ use Rattle.std.proofs.Common.{◌≡◌, ◌∙◌, Some, ap, false, sym}
 use Rattle.std.proofs.lemmas.List.Elements.{All-from_recursion}
 use Rattle.pl_base.specs.Address.{same_origin}
 use Rattle.pl_base.specs.Rows.{KeptPage}
-use Rattle.pl_engine.proofs.PageWalk.{has_here, origin_found, stands, walk_ends}
-use Rattle.pl_engine.proofs.PageWalk.{walk_goes_on, walk_nears, walk_starts, walks_on}
+use Rattle.pl_marks.proofs.PageWalk.{has_here, origin_found, stands, walk_ends}
+use Rattle.pl_marks.proofs.PageWalk.{walk_goes_on, walk_nears, walk_starts, walks_on}
 use Rattle.pl_engine.proofs.engine.find.find_origin.Goals as goal
 
 pub loop-next-init : goal.loop-next-init

@@ -1,7 +1,7 @@
 use Rattle.std.proofs.Common.{ℕ, List, false}
 use Rattle.pl_base.specs.Address.{same_origin}
 use Rattle.pl_engine.specs.Target.{HasParts}
-use Rattle.pl_engine.proofs.PageWalk.{Walk, left}
+use Rattle.pl_marks.proofs.PageWalk.{Walk, left}
 use Rattle.pl_engine.proofs.engine.find.find_origin.Given as goal
 
 abbrev pub invariant-loop-next : goal.invariant-loop-next

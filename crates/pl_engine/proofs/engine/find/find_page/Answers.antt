@@ -1,7 +1,7 @@
 use Rattle.std.proofs.Common.{◌∙◌, List, Some, ap, bytes_eq, ℕ, sym}
 use Rattle.std.specs.Option.{option_map}
 use Rattle.pl_base.specs.Store.{Page}
-use Rattle.pl_engine.proofs.PageWalk.{found_here, none_found, stands, walk_ends, walk_goes_on, walk_nears, walk_starts}
+use Rattle.pl_marks.proofs.PageWalk.{found_here, none_found, stands, walk_ends, walk_goes_on, walk_nears, walk_starts}
 use Rattle.pl_engine.proofs.engine.find.find_page.Goals as goal
 
 pub loop-next-init : goal.loop-next-init

@@ -1,5 +1,5 @@
 use Rattle.std.proofs.Common.{ℕ, List, bytes_eq}
-use Rattle.pl_engine.proofs.PageWalk.{Walk, left}
+use Rattle.pl_marks.proofs.PageWalk.{Walk, left}
 use Rattle.pl_engine.proofs.engine.find.find_page.Given as goal
 
 abbrev pub invariant-loop-next : goal.invariant-loop-next

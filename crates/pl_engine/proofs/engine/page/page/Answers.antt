@@ -4,7 +4,7 @@ use Rattle.pl_base.specs.Rows.{KeptPage, mark_of}
 use Rattle.pl_engine.specs.declared.reply.Reply.TheVariants.{Page as PageReply}
 use Rattle.pl_engine.proofs.KnownPage.{has_target}
 use Rattle.pl_engine.proofs.PageTold.{told}
-use Rattle.pl_engine.proofs.Targets.{found_where}
+use Rattle.pl_marks.proofs.LookUps.{found_where}
 use Rattle.pl_engine.proofs.Titled.{target_by}
 use Rattle.pl_engine.proofs.engine.page.page.Goals as goal
 

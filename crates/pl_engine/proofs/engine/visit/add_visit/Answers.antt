@@ -4,10 +4,10 @@ use Rattle.pl_base.specs.declared.row.VisitRow.{VisitRow}
 use Rattle.pl_base.specs.Marks.{visit_count}
 use Rattle.pl_base.specs.Rows.{Kept, KeptPage, has_page, mark_of, store_of, with_visit}
 use Rattle.pl_engine.specs.declared.reply.Reply.TheVariants.{Visit as VisitReply}
-use Rattle.pl_engine.specs.Refreshed.{Refreshes}
+use Rattle.pl_marks.specs.Refreshed.{Refreshes}
 use Rattle.pl_engine.specs.Target.{AddsVisit}
 use Rattle.pl_engine.proofs.RightAfter.{counts_refreshed, counts_visited}
-use Rattle.pl_engine.proofs.Targets.{found_where}
+use Rattle.pl_marks.proofs.LookUps.{found_where}
 use Rattle.pl_engine.proofs.KeptMark.{count_told, few_counted, mark_made}
 use Rattle.pl_engine.proofs.VisitMade.{added_after, afresh_made, right_still, sound_after}
 use Rattle.pl_engine.proofs.engine.visit.add_visit.Goals as goal

@@ -3,7 +3,7 @@ use Rattle.pl_base.specs.Rows.{KeptPage, has_visit, mark_of, row_of}
 use Rattle.pl_base.specs.Store.{Visit}
 use Rattle.pl_engine.proofs.KeptMark.{count_at, mark_at}
 use Rattle.pl_engine.proofs.SourcePage.{page_there, source_right, source_store}
-use Rattle.pl_engine.proofs.Targets.{found_where}
+use Rattle.pl_marks.proofs.LookUps.{found_where}
 use Rattle.pl_engine.proofs.engine.visit.refresh_source.Goals as goal
 
 pub unwrap-requires : goal.unwrap-requires

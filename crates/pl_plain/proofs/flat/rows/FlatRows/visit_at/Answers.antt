@@ -19,7 +19,7 @@ returns-in_err-visit-clause-row g c =
 
 pub returns-clause-row : goal.returns-clause-row
 returns-clause-row g c =
-    ap (λ row. Some row) c.row.ensures
+    ap (λ row. Some row) c.visit_row.ensures
     ∙ found-some (λ (v : Visit). v.id.0 == c.args.visit.0) visit_of row_of c.args.self.now.visits.items
     c.deref.result.now c.find_visit.result c.in_ok-visit.visit c.in_ok-visit.was c.find_visit.ensures
     c.deref.ensures.value

@@ -1,0 +1,187 @@
+// A new folder or separator, and what any new item waits for.
+ghost use Rattle.std.specs.Prelude.{◌≡◌, ◌≢◌, ◌≤◌, ◌<◌, ◌+◌, ◌↔◌, ℕ, List, None, false, true};
+ghost use Rattle.std.specs.Prelude.{length, IfOk, IfSome, IsSome, OnOk};
+ghost use Rattle.pl_base.specs.Date.{IsDate};
+ghost use Rattle.pl_base.specs.Good.{HasGoodItems, longest_title};
+ghost use Rattle.pl_base.specs.Live as live;
+ghost use Rattle.pl_base.specs.Live.{live_slots, slot_limit};
+ghost use Rattle.pl_base.specs.Rows.{has_page, store_of};
+ghost use Rattle.pl_tree.specs.Changes.{with_inserted};
+ghost use Rattle.pl_tree.specs.Refused.{insert_refusal};
+ghost use Rattle.pl_engine.specs.Engine.{IsSound};
+ghost use Rattle.pl_engine.specs.Room.{item_room, plain_item};
+ghost use Rattle.pl_engine.specs.Step as spec;
+
+use crate::command::Command;
+use crate::engine::slots::{chunks, is_full};
+use crate::reply::Reply;
+use pl_base::{
+    IdKind, Ids, ItemId, ItemKind, Micros, NoMemory, Refusal, Rows, Steps, Txt, cut_title,
+};
+use pl_tree::{NewItem, Place, TreeChange, TreeError};
+use std::alloc::Global;
+use std::sync::ledger::Ledger;
+
+/// There have to be ids for a new item and its page, where that is new too, and slots for all that
+/// the store holds then.
+pub fn room_refusal<R: Rows, L: Ledger>(
+    rows: &R,
+    limit: u32,
+    with_page: bool,
+    slots: u64,
+    steps: &mut Steps<L>,
+) -> Option<Refusal>
+    ensures { result ≡ item_room limit (store_of (R.kept rows.now)) with_page slots }
+{
+    let ids = rows.ids(steps);
+    if with_page && ids.page == Ids::END {
+        Some(Refusal::NoIds(IdKind::Page))
+    } else if ids.item == Ids::END {
+        Some(Refusal::NoIds(IdKind::Item))
+    } else if is_full(limit, rows.live(steps), slots) {
+        Some(Refusal::Full(slots))
+    } else {
+        None
+    }
+}
+
+/// A new item with the next id, which nothing refuses.
+pub fn insert_item<R: Rows, L: Ledger>(
+    rows: &mut R,
+    parent: ItemId,
+    place: Place,
+    item: &NewItem,
+    steps: &mut Steps<L>,
+) -> Result<ItemId, NoMemory>
+    requires good { HasGoodItems (store_of (R.kept rows.old)) }
+    requires page { IfSome item.now.page (λ id. has_page (R.kept rows.old) id ≡ true) }
+    requires bookmark { IsSome item.now.page ↔ (item.now.kind ≡ ItemKind.Bookmark) }
+    requires title { length item.now.title ≤ longest_title }
+    requires date { IsDate item.now.date }
+    requires live { live_slots (store_of (R.kept rows.old)) + 1 + live.chunks item.now.title
+        ≤ slot_limit }
+    requires allowed { insert_refusal parent place (R.kept rows.old) ≡ None }
+    ensures item { IfOk result (λ id. id.0 ≡ (R.kept rows.old).ids.item) }
+    ensures kept { OnOk result (R.kept rows.new
+        ≡ with_inserted parent place item.now (R.kept rows.old)) }
+    ensures good { OnOk result (HasGoodItems (store_of (R.kept rows.new))) }
+    ensures base { OnOk result ((bytes : List ℕ) → R.base rows.old bytes → R.base rows.new bytes) }
+{
+    match pl_tree::insert(rows, parent, place, item, steps) {
+        Ok(id) => Ok(id),
+        Err(TreeError::NoMemory) => Err(NoMemory),
+        Err(TreeError::Refused(_)) => unreachable!(),
+    }
+}
+
+// A new item with no page.
+fn insert_plain<R: Rows, L: Ledger>(
+    alloc: Global,
+    rows: &mut R,
+    limit: u32,
+    parent: ItemId,
+    place: Place,
+    kind: ItemKind,
+    title: &str,
+    date: Micros,
+    steps: &mut Steps<L>,
+) -> Result<Reply, NoMemory>
+    requires kind { kind ≢ ItemKind.Bookmark }
+    requires title { length title.now ≤ longest_title }
+    requires date { IsDate date }
+    requires sound { IsSound (R.kept rows.old) }
+    requires most { limit ≤ slot_limit }
+    ensures step { IfOk result (λ reply. (reply, store_of (R.kept rows.new))
+        ≡ spec.insert_step limit (store_of (R.kept rows.old)) parent place false
+        (spec.after_insert parent place (plain_item kind title.now date)
+        (store_of (R.kept rows.old)))) }
+    ensures refused { IfOk result (λ reply. (refusal : Refusal)
+        → reply ≡ Reply.Refused refusal → rows.new ≡ rows.old) }
+    ensures base { OnOk result ((bytes : List ℕ) → R.base rows.old bytes → R.base rows.new bytes) }
+    ensures sound { OnOk result (IsSound (R.kept rows.new)) }
+{
+    let change = TreeChange::Insert { parent, place };
+    if let Some(refusal) = pl_tree::refused(rows, &change, steps) {
+        return Ok(Reply::Refused(refusal));
+    }
+    let slots = rows.live(steps) + 1 + chunks(title);
+    if let Some(refusal) = room_refusal(rows, limit, false, slots, steps) {
+        return Ok(Reply::Refused(refusal));
+    }
+    let item = NewItem {
+        kind,
+        title: Txt::copied(alloc, title)?,
+        page: None,
+        date,
+    };
+    let id = insert_item(rows, parent, place, &item, steps)?;
+    Ok(Reply::Item(id))
+}
+
+/// A new folder on rows that may take so many slots.
+pub fn folder<R: Rows, L: Ledger>(
+    alloc: Global,
+    rows: &mut R,
+    limit: u32,
+    parent: ItemId,
+    place: Place,
+    title: &Txt,
+    date: Micros,
+    steps: &mut Steps<L>,
+) -> Result<Reply, NoMemory>
+    requires date { IsDate date }
+    requires sound { IsSound (R.kept rows.old) }
+    requires most { limit ≤ slot_limit }
+    ensures step { IfOk result (λ reply. (reply, store_of (R.kept rows.new)) ≡ spec.perform limit
+        (store_of (R.kept rows.old)) (Command.Folder parent place title.now date)) }
+    ensures refused { IfOk result (λ reply. (refusal : Refusal)
+        → reply ≡ Reply.Refused refusal → rows.new ≡ rows.old) }
+    ensures base { OnOk result ((bytes : List ℕ) → R.base rows.old bytes → R.base rows.new bytes) }
+    ensures sound { OnOk result (IsSound (R.kept rows.new)) }
+{
+    let text = cut_title(title.as_str());
+    insert_plain(
+        alloc,
+        rows,
+        limit,
+        parent,
+        place,
+        ItemKind::Folder,
+        text,
+        date,
+        steps,
+    )
+}
+
+/// A new separator on rows that may take so many slots.
+pub fn separator<R: Rows, L: Ledger>(
+    alloc: Global,
+    rows: &mut R,
+    limit: u32,
+    parent: ItemId,
+    place: Place,
+    date: Micros,
+    steps: &mut Steps<L>,
+) -> Result<Reply, NoMemory>
+    requires date { IsDate date }
+    requires sound { IsSound (R.kept rows.old) }
+    requires most { limit ≤ slot_limit }
+    ensures step { IfOk result (λ reply. (reply, store_of (R.kept rows.new)) ≡ spec.perform limit
+        (store_of (R.kept rows.old)) (Command.Separator parent place date)) }
+    ensures refused { IfOk result (λ reply. (refusal : Refusal)
+        → reply ≡ Reply.Refused refusal → rows.new ≡ rows.old) }
+    ensures base { OnOk result ((bytes : List ℕ) → R.base rows.old bytes → R.base rows.new bytes) }
+    ensures sound { OnOk result (IsSound (R.kept rows.new)) }
+{
+    insert_plain(
+        alloc,
+        rows,
+        limit,
+        parent,
+        place,
+        ItemKind::Separator,
+        "",
+        date,
+        steps,
+    )
+}

@@ -1,0 +1,215 @@
+// Tags that the page of a URL gets and loses.
+ghost use Rattle.std.specs.Prelude.{◌≡◌, ◌≤◌, ◌+◌, ℕ, List, None, Some, true, if◌then◌else◌};
+ghost use Rattle.std.specs.Prelude.{IfOk, OnOk};
+ghost use Rattle.pl_base.specs.Date.{IsDate};
+ghost use Rattle.pl_base.specs.Good.{HasGoodItems};
+ghost use Rattle.pl_base.specs.Live as live;
+ghost use Rattle.pl_base.specs.Live.{live_slots, slot_limit};
+ghost use Rattle.pl_base.specs.Rows.{has_page, store_of};
+ghost use Rattle.pl_tree.specs.Refused as refused;
+ghost use Rattle.pl_tree.specs.Tagged as tagged;
+ghost use Rattle.pl_engine.specs.Engine.{IsSound};
+ghost use Rattle.pl_engine.specs.Room.{tag_room};
+ghost use Rattle.pl_engine.specs.Step as spec;
+ghost use Rattle.pl_engine.specs.Target.{IsReady, IsTargetOf, has_tag};
+
+use crate::command::Command;
+use crate::engine::find::{Target, find_page, find_target};
+use crate::engine::remove::settle_all;
+use crate::engine::slots::{chunks, is_full};
+use crate::engine::visit::{page_for, slots_after};
+use crate::reply::Reply;
+use pl_base::{IdKind, Ids, Micros, NoMemory, PageId, Refusal, Rows, Steps};
+use pl_link::{Canon, split};
+use pl_marks::refresh;
+use pl_tree::{TreeError, tag_entry, tag_folder};
+use pl_words::TagName;
+use std::alloc::Global;
+use std::sync::ledger::Ledger;
+
+// Whether the page is known and has the tag.
+fn is_tagged<R: Rows, L: Ledger>(
+    alloc: Global,
+    rows: &R,
+    target: Target,
+    name: &TagName,
+    steps: &mut Steps<L>,
+) -> Result<bool, NoMemory>
+    requires good { HasGoodItems (store_of (R.kept rows.now)) }
+    ensures { IfOk result (λ has. has ≡ has_tag target name.now (R.kept rows.now).items) }
+{
+    let Target::Known(page) = target else {
+        return Ok(false);
+    };
+    let entry = tag_entry(alloc, rows, page, name, steps)?;
+    Ok(entry.is_some())
+}
+
+// The slots of a folder for the tag, where it is new.
+fn folder_slots(name: &TagName, is_new: bool) -> u64
+    ensures slots { result ≡ (if is_new then 1 + live.chunks name.now else 0) }
+    ensures few { result ≤ 2 }
+{
+    if is_new { 1 + chunks(name.text()) } else { 0 }
+}
+
+// There have to be ids for an entry, and for its page and its folder where they are new, and slots
+// for all that the store holds then.
+fn room_refusal<R: Rows, L: Ledger>(
+    rows: &R,
+    limit: u32,
+    with_page: bool,
+    with_folder: bool,
+    slots: u64,
+    steps: &mut Steps<L>,
+) -> Option<Refusal>
+    ensures { result ≡ tag_room limit (store_of (R.kept rows.now)) with_page with_folder slots }
+{
+    let ids = rows.ids(steps);
+    let items = 1 + u32::from(with_folder);
+    if with_page && ids.page == Ids::END {
+        Some(Refusal::NoIds(IdKind::Page))
+    } else if Ids::END - ids.item < items {
+        Some(Refusal::NoIds(IdKind::Item))
+    } else if is_full(limit, rows.live(steps), slots) {
+        Some(Refusal::Full(slots))
+    } else {
+        None
+    }
+}
+
+// Why the page of the URL may not get the tag.
+fn tag_refusal<R: Rows, L: Ledger>(
+    alloc: Global,
+    rows: &R,
+    limit: u32,
+    url: &Canon,
+    target: Target,
+    name: &TagName,
+    steps: &mut Steps<L>,
+) -> Result<Option<Refusal>, NoMemory>
+    requires good { HasGoodItems (store_of (R.kept rows.now)) }
+    requires target { IsTargetOf (R.kept rows.now) url.now target }
+    ensures { IfOk result (λ refusal. (date : Micros) → refusal
+        ≡ spec.tag_refusal limit (store_of (R.kept rows.now)) url.now name.now (live_slots
+        (spec.after_tag (store_of (R.kept rows.now)) url.now name.now date))) }
+{
+    if is_tagged(alloc, rows, target, name, steps)? {
+        return Ok(Some(Refusal::DupTag));
+    }
+    let with_folder = tag_folder(alloc, rows, name, steps)?.is_none();
+    // The entry takes as many slots as a visit.
+    let slots = slots_after(rows, url, target, steps) + folder_slots(name, with_folder);
+    Ok(room_refusal(rows, limit, target.is_new(), with_folder, slots, steps))
+}
+
+// The page gets the tag, which nothing refuses.
+fn give_tag<R: Rows, L: Ledger>(
+    alloc: Global,
+    rows: &mut R,
+    page: PageId,
+    name: &TagName,
+    date: Micros,
+    steps: &mut Steps<L>,
+) -> Result<(), NoMemory>
+    requires good { HasGoodItems (store_of (R.kept rows.old)) }
+    requires page { has_page (R.kept rows.old) page ≡ true }
+    requires date { IsDate date }
+    requires live { live_slots (store_of
+        (tagged.with_tagged page name.now date (R.kept rows.old))) ≤ slot_limit }
+    requires allowed { refused.tag_refusal page name.now (R.kept rows.old) ≡ None }
+    ensures kept { OnOk result (R.kept rows.new
+        ≡ tagged.with_tagged page name.now date (R.kept rows.old)) }
+    ensures good { OnOk result (HasGoodItems (store_of (R.kept rows.new))) }
+    ensures base { OnOk result ((bytes : List ℕ) → R.base rows.old bytes → R.base rows.new bytes) }
+{
+    match pl_tree::tag(alloc, rows, page, name, date, steps) {
+        Ok(()) => Ok(()),
+        Err(TreeError::NoMemory) => Err(NoMemory),
+        Err(TreeError::Refused(_)) => unreachable!(),
+    }
+}
+
+// The page gets the tag, and what is computed of it is computed afresh.
+fn add_tag<R: Rows, L: Ledger>(
+    alloc: Global,
+    rows: &mut R,
+    page: PageId,
+    name: &TagName,
+    date: Micros,
+    is_place: bool,
+    steps: &mut Steps<L>,
+) -> Result<(), NoMemory>
+    requires ready { IsReady page is_place (R.kept rows.old) }
+    requires date { IsDate date }
+    requires live { live_slots (store_of
+        (tagged.with_tagged page name.now date (R.kept rows.old))) ≤ slot_limit }
+    requires allowed { refused.tag_refusal page name.now (R.kept rows.old) ≡ None }
+    ensures store { OnOk result (store_of (R.kept rows.new)
+        ≡ spec.tagged_store page name.now date (store_of (R.kept rows.old))) }
+    ensures sound { OnOk result (IsSound (R.kept rows.new)) }
+    ensures base { OnOk result ((bytes : List ℕ) → R.base rows.old bytes → R.base rows.new bytes) }
+{
+    give_tag(alloc, rows, page, name, date, steps)?;
+    let mark = rows.page_at(page, steps).unwrap();
+    refresh(alloc, rows, page, mark, is_place, steps)?;
+    Ok(())
+}
+
+/// The page of the URL gets the tag, on rows that may take so many slots.
+pub fn tag<R: Rows, L: Ledger>(
+    alloc: Global,
+    rows: &mut R,
+    limit: u32,
+    url: &Canon,
+    name: &TagName,
+    date: Micros,
+    steps: &mut Steps<L>,
+) -> Result<Reply, NoMemory>
+    requires date { IsDate date }
+    requires sound { IsSound (R.kept rows.old) }
+    requires most { limit ≤ slot_limit }
+    ensures step { IfOk result (λ reply. (reply, store_of (R.kept rows.new)) ≡ spec.perform limit
+        (store_of (R.kept rows.old)) (Command.Tag url.now name.now date)) }
+    ensures refused { IfOk result (λ reply. (refusal : Refusal)
+        → reply ≡ Reply.Refused refusal → rows.new ≡ rows.old) }
+    ensures base { OnOk result ((bytes : List ℕ) → R.base rows.old bytes → R.base rows.new bytes) }
+    ensures sound { OnOk result (IsSound (R.kept rows.new)) }
+{
+    let parts = split(alloc, url)?;
+    let target = find_target(alloc, rows, url, &parts, steps)?;
+    if let Some(refusal) = tag_refusal(alloc, rows, limit, url, target, name, steps)? {
+        return Ok(Reply::Refused(refusal));
+    }
+    let page = page_for(rows, url, target, steps)?;
+    add_tag(alloc, rows, page, name, date, parts.is_place, steps)?;
+    Ok(Reply::Done)
+}
+
+/// The page of the URL loses the tag. A page that has neither a visit nor an item then goes too.
+pub fn untag<R: Rows, L: Ledger>(
+    alloc: Global,
+    rows: &mut R,
+    url: &Canon,
+    name: &TagName,
+    steps: &mut Steps<L>,
+) -> Result<Reply, NoMemory>
+    requires sound { IsSound (R.kept rows.old) }
+    ensures step { IfOk result (λ reply. (limit : ℕ) → (reply, store_of (R.kept rows.new))
+        ≡ spec.perform limit (store_of (R.kept rows.old)) (Command.Untag url.now name.now)) }
+    ensures refused { IfOk result (λ reply. (refusal : Refusal)
+        → reply ≡ Reply.Refused refusal → rows.new ≡ rows.old) }
+    ensures base { OnOk result ((bytes : List ℕ) → R.base rows.old bytes → R.base rows.new bytes) }
+    ensures sound { OnOk result (IsSound (R.kept rows.new)) }
+{
+    let Some(page) = find_page(rows, url.text(), steps)? else {
+        return Ok(Reply::Refused(Refusal::NoPage));
+    };
+    match pl_tree::untag(alloc, rows, page, name, steps) {
+        Ok(()) => {}
+        Err(TreeError::Refused(refusal)) => return Ok(Reply::Refused(refusal)),
+        Err(TreeError::NoMemory) => return Err(NoMemory),
+    }
+    settle_all(alloc, rows, &[page], steps)?;
+    Ok(Reply::Done)
+}

@@ -1,0 +1,16 @@
+use Rattle.pl_marks.proofs.ItemWalk.{ItemWalk, left}
+use Rattle.pl_marks.proofs.PageTags.{tags_with}
+use Rattle.pl_marks.proofs.TagEntries.{AreOfTags, Ascending}
+use Rattle.pl_marks.proofs.TagTree.{HaveTags}
+use Rattle.pl_marks.proofs.tags.tag_text.Given as goal
+
+abbrev pub invariant-loop-next : goal.invariant-loop-next
+invariant-loop-next g l =
+    record {
+      ascend : Ascending l.tags.entries;
+      of_tags : AreOfTags (tags_with (g.R.Rows.kept l.rows) l.fn.page) l.tags.entries;
+      walk : ItemWalk (g.R.Rows.kept l.rows) l.fn.page (HaveTags (g.R.Rows.kept l.rows).items l.tags.entries) l.next;
+    }
+
+abbrev pub decreases-loop-next : goal.decreases-loop-next
+decreases-loop-next g l = left (g.R.Rows.kept l.rows) l.fn.page l.next

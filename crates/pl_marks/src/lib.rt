@@ -1,0 +1,8 @@
+//! What is computed of a page by its visits and its items: its frecency, its two marks and its tags.
+#![tactic(auto)]
+
+mod mark;
+mod tags;
+
+pub use mark::{refresh, visited_mark};
+pub use tags::{is_bookmarked, tag_text};

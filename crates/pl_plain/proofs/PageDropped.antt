@@ -1,0 +1,559 @@
+-- The rows stay well kept where a page goes, and its origin with its last page.
+use Rattle.std.proofs.Common.{◌≡◌, ◌≢◌, ◌+◌, ◌-◌, ◌<◌, ◌≤◌, ◌==◌, ◌||◌, ◌++◌, ◌∙◌, ℕ, All, Bool, true, false}
+use Rattle.std.proofs.Common.{IsTrue, List, [], ◌∷◌, Some, ap, arith, eq-eqb, filter, find, get_or}
+use Rattle.std.proofs.Common.{if◌then◌else◌, length, map, not, refl, subst, suc, sym}
+use Rattle.std.specs.List.{AllPairs, list_any, sum_by}
+use Rattle.std.specs.Str.{is_utf8}
+use Rattle.std.proofs.lemmas.Bool.{eqb-true, false≢true, false_from_ne_true, ne_eqb}
+use Rattle.std.proofs.lemmas.List.{length-append, length-map, map-append}
+use Rattle.std.proofs.lemmas.List.Elements.{All-filter, All-head, All-map, All-tail}
+use Rattle.std.proofs.lemmas.List.Folds.{Any-from_list_any, list_any-append, list_any-from_Any, list_any_at}
+use Rattle.std.proofs.lemmas.List.Kept.{AllPairs-filter, IsStrictlyIncreasing-filter}
+use Rattle.std.proofs.lemmas.List.Sums.{sum_by-append, sum_by-cons}
+use Rattle.pl_base.specs.declared.id.PageId.{PageId}
+use Rattle.pl_base.specs.declared.id.Slot.{Slot}
+use Rattle.pl_base.specs.Address.{is_store_url, same_origin}
+use Rattle.pl_base.specs.Good.{AreIds, IsTitle, is_visited}
+use Rattle.pl_base.specs.Live.{chunks, live_slots, origin_count}
+use Rattle.pl_base.specs.Rows.{AreAlike, Kept, KeptOrigin, KeptPage, WithoutPage, has_page, other_pages, page_at}
+use Rattle.pl_base.specs.Rows.{store_of, unnamed}
+use Rattle.pl_base.specs.Store.{Visit}
+use Rattle.pl_base.proofs.ItemLaws.{map-filter}
+use Rattle.pl_base.proofs.ListLaws.{AllPairs-map, list_any-map, map-map, sum_by-map}
+use Rattle.pl_base.proofs.OriginLaws.{same_origin-self}
+use Rattle.pl_plain.specs.declared.flat.row.FlatPage.{FlatPage}
+use Rattle.pl_plain.specs.FlatRows.{IsFlat, has_name, name_left, names_left, page_of, renamed_row}
+use Rattle.pl_plain.proofs.FlatChanges.{one_page, slots_of}
+use Rattle.pl_plain.proofs.OriginsLeft.{is_new, origins_without, true_both}
+
+-- ---- the pages but one
+
+-- a page stands once among these, and those are the others
+pub record IsSplit (pages others : List KeptPage) (p : KeptPage) : Type 0 where
+  pub front : List KeptPage
+  pub back : List KeptPage
+  pub whole : pages ≡ front ++ p ∷ back
+  pub rest : others ≡ front ++ back
+
+all_pass : {X : Type 0} (q : X → Bool) (xs : List X) → All (λ x. q x ≡ false) xs → filter (λ x. not (q x)) xs ≡ xs
+all_pass q [] none = refl
+all_pass q (x ∷ xs) none =
+    rw (All-head (λ y. q y ≡ false) x xs none, all_pass q xs (All-tail (λ y. q y ≡ false) x xs none)) refl
+
+split : (id : PageId) (ps : List KeptPage) (p : KeptPage)
+    → AllPairs (λ (a b : KeptPage). (a.page.id.0 == id.0) ≡ true → (b.page.id.0 == id.0) ≡ false) ps
+    → find (λ (q : KeptPage). q.page.id.0 == id.0) ps ≡ Some p → IsSplit ps (other_pages id ps) p
+split id [] p once found = absurd (cc)
+split id (y ∷ ys) p once found =
+    choose (y.page.id.0 == id.0) refl found
+    (split id ys p (λ i j d before within. once (suc i) (suc j) d (omega arith) (omega arith)))
+  where
+    choose : (b : Bool) → (y.page.id.0 == id.0) ≡ b
+        → (if b then Some y else find (λ (q : KeptPage). q.page.id.0 == id.0) ys) ≡ Some p
+        → (find (λ (q : KeptPage). q.page.id.0 == id.0) ys ≡ Some p → IsSplit ys (other_pages id ys) p)
+        → IsSplit (y ∷ ys) (if not b then y ∷ other_pages id ys else other_pages id ys) p
+    choose true passes here rest =
+        let same : y ≡ p = cc in
+        record {
+          front = [];
+          back = ys;
+          whole = ap (λ (q : KeptPage). q ∷ ys) same;
+          rest =
+              all_pass (λ (q : KeptPage). q.page.id.0 == id.0) ys
+              (λ k d within. once 0 (suc k) d (omega arith) (omega arith) passes);
+        }
+    choose false fails here rest =
+        let s = rest here in
+        record {
+          front = y ∷ s.front;
+          back = s.back;
+          whole = ap (λ (qs : List KeptPage). y ∷ qs) s.whole;
+          rest = ap (λ (qs : List KeptPage). y ∷ qs) s.rest;
+        }
+
+any_split : (t : KeptPage → Bool) (ps others : List KeptPage) (p : KeptPage) → IsSplit ps others p
+    → list_any t ps ≡ (t p || list_any t others)
+any_split t ps others p s =
+    ap (list_any t) s.whole ∙ list_any-append t s.front (p ∷ s.back)
+    ∙ turned (list_any t s.front) (t p) (list_any t s.back)
+    ∙ ap (λ b. t p || b) (sym (ap (list_any t) s.rest ∙ list_any-append t s.front s.back))
+  where
+    turned : (a b c : Bool) → (a || (b || c)) ≡ (b || (a || c))
+    turned true true c = refl
+    turned true false c = refl
+    turned false true c = refl
+    turned false false c = refl
+
+length_split : (ps others : List KeptPage) (p : KeptPage) → IsSplit ps others p → length ps ≡ 1 + length others
+length_split ps others p s =
+    omega (
+      arith,
+      ap length s.whole,
+      ap length s.rest,
+      length-append s.front (p ∷ s.back),
+      length-append s.front s.back,
+    )
+
+sum_split : (n : KeptPage → ℕ) (ps others : List KeptPage) (p : KeptPage) → IsSplit ps others p
+    → sum_by n ps ≡ n p + sum_by n others
+sum_split n ps others p s =
+    omega (
+      arith,
+      ap (sum_by n) s.whole,
+      ap (sum_by n) s.rest,
+      sum_by-append n s.front (p ∷ s.back),
+      sum_by-append n s.front s.back,
+      sum_by-cons n p s.back,
+    )
+
+-- the URLs of pages
+abbrev urls : List KeptPage → List (List ℕ)
+urls ps = map (λ (p : KeptPage). p.page.url) ps
+
+count_split : (ps others : List KeptPage) (p : KeptPage) → IsSplit ps others p
+    → same_origin p.page.url p.page.url ≡ true
+    → origin_count (urls ps)
+    ≡ origin_count (urls others) + is_new (list_any (λ (q : KeptPage). same_origin p.page.url q.page.url) others)
+count_split ps others p s own =
+    let rest : urls others ≡ urls s.front ++ urls s.back =
+    ap urls s.rest ∙ map-append (λ (q : KeptPage). q.page.url) s.front s.back in
+    omega (
+      arith,
+      ap (λ (qs : List KeptPage). origin_count (urls qs)) s.whole,
+      ap origin_count (map-append (λ (q : KeptPage). q.page.url) s.front (p ∷ s.back)),
+      origins_without (urls s.front) (urls s.back) p.page.url own,
+      ap origin_count rest,
+      ap (λ us. is_new (list_any (same_origin p.page.url) us)) rest,
+      ap is_new (list_any-map (same_origin p.page.url) (λ (q : KeptPage). q.page.url) others),
+    )
+
+-- ---- names
+
+-- a page whose origin is named as is left
+abbrev pub renamed : Bool → ℕ → Slot → KeptPage → KeptPage
+renamed in_use last name p = record p { origin = name_left in_use last name p.origin }
+
+-- no page of these has the name
+abbrev IsFree : Slot → List KeptPage → Type 0
+IsFree name ps = All (λ (q : KeptPage). q.origin.0 ≢ name.0) ps
+
+-- the names of origins lie in range
+abbrev AreWithin : ℕ → List KeptPage → Type 0
+AreWithin origins ps = All (λ (p : KeptPage). (0 < p.origin.0) × (p.origin.0 ≤ origins)) ps
+
+left_within : (name origin : Slot) (last : ℕ) → 0 < name.0 → name.0 ≤ last → origin.0 ≢ name.0
+    → (0 < origin.0) × (origin.0 ≤ last)
+    → (0 < (name_left false last name origin).0) × ((name_left false last name origin).0 ≤ last - 1)
+left_within name origin last some within apart bounds = choose (origin.0 == last) refl
+  where
+    choose : (b : Bool) → (origin.0 == last) ≡ b
+        → (0 < (if b then name else origin).0) × ((if b then name else origin).0 ≤ last - 1)
+    choose true is =
+        let number : origin.0 ≡ last = eqb-true origin.0 last is in
+        let other : name.0 ≢ last = λ same. apart (number ∙ sym same) in
+        (some, omega (arith, within, other))
+    choose false is =
+        let other : origin.0 ≢ last = λ same. false≢true (sym is ∙ eq-eqb origin.0 last same) in
+        (bounds.0, omega (arith, bounds.1, other))
+
+same_slot : (a b : Slot) → a.0 ≡ b.0 → a ≡ b
+same_slot a b same = ap (λ n. record { 0 = n }) same
+
+left_apart : (name a b : Slot) (last : ℕ) → a.0 ≢ name.0 → b.0 ≢ name.0
+    → name_left false last name a ≡ name_left false last name b → a ≡ b
+left_apart name a b last a_apart b_apart = choose (a.0 == last) (b.0 == last) refl refl
+  where
+    choose : (x y : Bool) → (a.0 == last) ≡ x → (b.0 == last) ≡ y
+        → (if x then name else a) ≡ (if y then name else b) → a ≡ b
+    choose true true at_a at_b same = same_slot a b (eqb-true a.0 last at_a ∙ sym (eqb-true b.0 last at_b))
+    choose true false at_a at_b same = absurd (b_apart (ap (λ (s : Slot). s.0) (sym same)))
+    choose false true at_a at_b same = absurd (a_apart (ap (λ (s : Slot). s.0) same))
+    choose false false at_a at_b same = same
+
+-- the name is in use among these pages
+abbrev pub in_use : Slot → List KeptPage → Bool
+in_use name ps = list_any (λ (q : KeptPage). q.origin.0 == name.0) ps
+
+free : (name : Slot) (ps : List KeptPage) → in_use name ps ≡ false → IsFree name ps
+free name ps none k d within same =
+    false≢true (sym none
+    ∙ list_any_at (λ (q : KeptPage). q.origin.0 == name.0) ps k d within
+    (eq-eqb (get_or ps k d).origin.0 name.0 same))
+
+-- a page of these passes one test where it passes another
+any_where : (s t : KeptPage → Bool) (ps : List KeptPage) → All (λ (q : KeptPage). s q ≡ true → t q ≡ true) ps
+    → list_any s ps ≡ true → list_any t ps ≡ true
+any_where s t ps so some =
+    let at = Any-from_list_any s ps some in
+    list_any-from_Any t ps (
+      at.0,
+      at.1,
+      at.2,
+      at.3,
+      subst (λ (q : KeptPage). s q ≡ true → t q ≡ true) at.3 (so at.0 at.1 at.2) at.4,
+    )
+
+found_holds : {X : Type 0} (t : X → Bool) (P : X → Type 0) (xs : List X) (x : X) → find t xs ≡ Some x → All P xs → P x
+found_holds t P [] x found all = absurd (cc)
+found_holds t P (y ∷ ys) x found all =
+    choose (t y) found (λ rest. found_holds t P ys x rest (All-tail P y ys all))
+  where
+    choose : (b : Bool) → (if b then Some y else find t ys) ≡ Some x → (find t ys ≡ Some x → P x) → P x
+    choose true here rest = let same : y ≡ x = cc in subst P same (All-head P y ys all)
+    choose false here rest = rest here
+
+found_passes : {X : Type 0} (t : X → Bool) (xs : List X) (x : X) → find t xs ≡ Some x → t x ≡ true
+found_passes t [] x found = absurd (cc)
+found_passes t (y ∷ ys) x found = choose (t y) refl found (found_passes t ys x)
+  where
+    choose : (b : Bool) → t y ≡ b → (if b then Some y else find t ys) ≡ Some x → (find t ys ≡ Some x → t x ≡ true)
+        → t x ≡ true
+    choose true is here rest = let same : y ≡ x = cc in ap t (sym same) ∙ is
+    choose false is here rest = rest here
+
+none_at : {X : Type 0} (t : X → Bool) (xs : List X) → list_any t xs ≡ false → All (λ x. t x ≡ false) xs
+none_at t xs none k d within =
+    false_from_ne_true (t (get_or xs k d))
+    (λ passes. false≢true (sym none ∙ list_any_at t xs k d within passes))
+
+-- ---- what is left
+
+-- what holds of the pages that are left and of their names
+record IsLeft (origins : ℕ) (p : KeptPage) (used : Bool) (rest : List KeptPage) : Type 0 where
+  within : All (λ (q : KeptPage). (0 < (name_left used origins p.origin q.origin).0)
+      × ((name_left used origins p.origin q.origin).0 ≤ names_left used origins)) rest
+  named : (n : ℕ) → 0 < n → n ≤ names_left used origins
+      → list_any (λ (q : KeptPage). (name_left used origins p.origin q.origin).0 == n) rest ≡ true
+  apart : All (λ (q : KeptPage). All (λ (r : KeptPage).
+      name_left used origins p.origin q.origin ≡ name_left used origins p.origin r.origin → q.origin ≡ r.origin)
+      rest) rest
+
+-- what was known of the names
+record WereNamed (origins : ℕ) (p : KeptPage) (rest : List KeptPage) : Type 0 where
+  own : (0 < p.origin.0) × (p.origin.0 ≤ origins)
+  within : AreWithin origins rest
+  named : (n : ℕ) → 0 < n → n ≤ origins
+      → ((p.origin.0 == n) || list_any (λ (q : KeptPage). q.origin.0 == n) rest) ≡ true
+
+other_of : (a b : Bool) → a ≡ false → (a || b) ≡ true → b ≡ true
+other_of true b none some = absurd (false≢true (sym none))
+other_of false b none some = some
+
+left : (origins : ℕ) (p : KeptPage) (rest : List KeptPage) (used : Bool) → in_use p.origin rest ≡ used
+    → WereNamed origins p rest → IsLeft origins p used rest
+left origins p rest true is were =
+    record {
+      within = were.within;
+      named = λ n some few. choose n some few (p.origin.0 == n) refl;
+      apart = λ k d within j e inside same. same;
+    }
+  where
+    choose : (n : ℕ) → 0 < n → n ≤ origins → (b : Bool) → (p.origin.0 == n) ≡ b
+        → list_any (λ (q : KeptPage). q.origin.0 == n) rest ≡ true
+    choose n some few true own =
+        subst (λ m. list_any (λ (q : KeptPage). q.origin.0 == m) rest ≡ true) (eqb-true p.origin.0 n own) is
+    choose n some few false other =
+        other_of (p.origin.0 == n) (list_any (λ (q : KeptPage). q.origin.0 == n) rest) other (were.named n some few)
+left origins p rest false is were =
+    let none : IsFree p.origin rest = free p.origin rest is in
+    record {
+      within =
+          λ k d within.
+          left_within p.origin (get_or rest k d).origin origins were.own.0 were.own.1 (none k d within)
+          (were.within k d within);
+      named = λ n some few. choose n some few (p.origin.0 == n) refl;
+      apart =
+          λ k d within j e inside.
+          left_apart p.origin (get_or rest k d).origin (get_or rest j e).origin origins (none k d within)
+          (none j e inside);
+    }
+  where
+    taken : (q : KeptPage) → (q.origin.0 == origins) ≡ true → (name_left false origins p.origin q.origin).0 ≡ p.origin.0
+    taken q last = ap (λ b. (if b then p.origin else q.origin).0) last
+
+    kept_name : (q : KeptPage) → (q.origin.0 == origins) ≡ false
+        → (name_left false origins p.origin q.origin).0 ≡ q.origin.0
+    kept_name q other = ap (λ b. (if b then p.origin else q.origin).0) other
+
+    choose : (n : ℕ) → 0 < n → n ≤ origins - 1 → (b : Bool) → (p.origin.0 == n) ≡ b
+        → list_any (λ (q : KeptPage). (name_left false origins p.origin q.origin).0 == n) rest ≡ true
+    choose n some few true own =
+        let number : p.origin.0 ≡ n = eqb-true p.origin.0 n own in
+        any_where (λ (q : KeptPage). q.origin.0 == origins)
+        (λ (q : KeptPage). (name_left false origins p.origin q.origin).0 == n) rest
+        (λ k d within last.
+        eq-eqb (name_left false origins p.origin (get_or rest k d).origin).0 n
+        (taken (get_or rest k d) last ∙ number))
+        (other_of (p.origin.0 == origins) (list_any (λ (q : KeptPage). q.origin.0 == origins) rest)
+        (ne_eqb p.origin.0 origins (λ same. omega (arith, number, few, some)))
+        (were.named origins (omega (arith, some, few)) (omega arith)))
+    choose n some few false other =
+        any_where (λ (q : KeptPage). q.origin.0 == n)
+        (λ (q : KeptPage). (name_left false origins p.origin q.origin).0 == n) rest
+        (λ k d within here.
+        let q : KeptPage = get_or rest k d in
+        let number : q.origin.0 ≡ n = eqb-true q.origin.0 n here in
+        eq-eqb (name_left false origins p.origin q.origin).0 n
+        (kept_name q (ne_eqb q.origin.0 origins (λ same. omega (arith, number, few, some))) ∙ number))
+        (other_of (p.origin.0 == n) (list_any (λ (q : KeptPage). q.origin.0 == n) rest) other
+        (were.named n some (omega (arith, few))))
+
+-- ---- the rows without the page
+
+-- the rows without a page, whose origin's name goes to the last one where no other page has it
+abbrev pub dropped : PageId → Bool → ℕ → Slot → List KeptOrigin → Kept → Kept
+dropped id used origins name named kept =
+    record kept {
+      pages = map (renamed used origins name) (other_pages id kept.pages);
+      origins = named;
+    }
+
+-- the slots that go with a page
+abbrev pub slots_of_page : KeptPage → ℕ
+slots_of_page p = 1 + chunks p.page.url + chunks p.page.title
+
+one_of : (kept : Kept) (origins live : ℕ) (id : PageId) (p : KeptPage) → IsFlat kept origins live
+    → page_at kept id ≡ Some p → IsSplit kept.pages (other_pages id kept.pages) p
+one_of kept origins live id p h found = split id kept.pages p (one_page id kept.pages h.page_ids.ascending) found
+
+-- what holds of each page holds of this one
+holds_of : (P : KeptPage → Type 0) (kept : Kept) (id : PageId) (p : KeptPage) → page_at kept id ≡ Some p
+    → All P kept.pages → P p
+holds_of P kept id p found all = found_holds (λ (q : KeptPage). q.page.id.0 == id.0) P kept.pages p found all
+
+were : (kept : Kept) (origins live : ℕ) (id : PageId) (p : KeptPage) → IsFlat kept origins live
+    → page_at kept id ≡ Some p → WereNamed origins p (other_pages id kept.pages)
+were kept origins live id p h found =
+    record {
+      own =
+          holds_of (λ (q : KeptPage). (0 < q.origin.0) × (q.origin.0 ≤ origins)) kept id p found h.named;
+      within =
+          All-filter (λ (q : KeptPage). not (q.page.id.0 == id.0))
+          (λ (q : KeptPage). (0 < q.origin.0) × (q.origin.0 ≤ origins)) kept.pages h.named;
+      named =
+          λ n some few.
+          sym (any_split (λ (q : KeptPage). q.origin.0 == n) kept.pages (other_pages id kept.pages) p
+          (one_of kept origins live id p h found)) ∙ h.used n some few;
+    }
+
+-- another page has the name where another has the origin
+used_where : (kept : Kept) (origins live : ℕ) (id : PageId) (p : KeptPage) → IsFlat kept origins live
+    → page_at kept id ≡ Some p → in_use p.origin (other_pages id kept.pages)
+    ≡ list_any (λ (q : KeptPage). same_origin p.page.url q.page.url) (other_pages id kept.pages)
+used_where kept origins live id p h found =
+    let rest : List KeptPage = other_pages id kept.pages in
+    let all : All (AreAlike p) rest =
+    All-filter (λ (q : KeptPage). not (q.page.id.0 == id.0)) (AreAlike p) kept.pages
+    (holds_of (λ (q : KeptPage). All (AreAlike q) kept.pages) kept id p found h.same) in
+    true_both (in_use p.origin rest)
+    (list_any (λ (q : KeptPage). same_origin p.page.url q.page.url) rest)
+    (any_where (λ (q : KeptPage). q.origin.0 == p.origin.0)
+    (λ (q : KeptPage). same_origin p.page.url q.page.url) rest
+    (λ k d within named. (all k d within).0
+    (same_slot p.origin (get_or rest k d).origin (sym (eqb-true (get_or rest k d).origin.0 p.origin.0 named)))))
+    (any_where (λ (q : KeptPage). same_origin p.page.url q.page.url)
+    (λ (q : KeptPage). q.origin.0 == p.origin.0) rest
+    (λ k d within same. eq-eqb (get_or rest k d).origin.0 p.origin.0
+    (ap (λ (s : Slot). s.0) (sym ((all k d within).1 same)))))
+
+left_count : (b : Bool) (n m : ℕ) → n ≡ m + is_new b → names_left b n ≡ m
+left_count true n m is = omega (arith, is)
+left_count false n m is = omega (arith, is)
+
+-- the names that are left are as many as the origins of the pages that are left
+counted : (kept : Kept) (origins live : ℕ) (id : PageId) (p : KeptPage) → IsFlat kept origins live
+    → page_at kept id ≡ Some p → names_left (in_use p.origin (other_pages id kept.pages)) origins
+    ≡ origin_count (urls (other_pages id kept.pages))
+counted kept origins live id p h found =
+    let rest : List KeptPage = other_pages id kept.pages in
+    left_count (in_use p.origin rest) origins (origin_count (urls rest))
+    (h.counted
+    ∙ count_split kept.pages rest p (one_of kept origins live id p h found)
+    (same_origin-self p.page.url (holds_of (λ (q : KeptPage). IsTrue (is_store_url q.page.url)) kept id p found h.urls))
+    ∙ ap (λ b. origin_count (urls rest) + is_new b) (sym (used_where kept origins live id p h found)))
+
+-- the slots of the rows, and those without the page
+pub slots_dropped : (kept : Kept) (origins live : ℕ) (id : PageId) (p : KeptPage) (named : List KeptOrigin)
+    → IsFlat kept origins live → page_at kept id ≡ Some p
+    → let used = in_use p.origin (other_pages id kept.pages) in
+    live ≡ live_slots (store_of (dropped id used origins p.origin named kept))
+    + (slots_of_page p + (origins - names_left used origins))
+slots_dropped kept origins live id p named h found =
+    let rest : List KeptPage = other_pages id kept.pages in
+    let used : Bool = in_use p.origin rest in
+    let f : KeptPage → KeptPage = renamed used origins p.origin in
+    let s = one_of kept origins live id p h found in
+    omega (
+      arith,
+      h.filled,
+      slots_of kept,
+      slots_of (dropped id used origins p.origin named kept),
+      h.counted,
+      counted kept origins live id p h found,
+      ap origin_count (map-map (λ (q : KeptPage). q.page.url) f rest),
+      length-map rest f,
+      length_split kept.pages rest p s,
+      sum_by-map (λ (q : KeptPage). chunks q.page.url + chunks q.page.title) f rest,
+      sum_split (λ (q : KeptPage). chunks q.page.url + chunks q.page.title) kept.pages rest p s,
+      names_few used origins,
+    )
+  where
+    names_few : (b : Bool) (n : ℕ) → names_left b n ≤ n
+    names_few true n = omega arith
+    names_few false n = omega arith
+
+pub IsFlat-dropped : (kept : Kept) (origins live : ℕ) (id : PageId) (p : KeptPage) (named : List KeptOrigin)
+    → IsFlat kept origins live → page_at kept id ≡ Some p → is_visited (store_of kept) id ≡ false
+    → let used = in_use p.origin (other_pages id kept.pages) in
+    IsFlat (dropped id used origins p.origin named kept) (names_left used origins)
+    (live - (slots_of_page p + (origins - names_left used origins)))
+IsFlat-dropped kept origins live id p named h found unvisited =
+    let others : KeptPage → Bool = λ (q : KeptPage). not (q.page.id.0 == id.0) in
+    let rest : List KeptPage = other_pages id kept.pages in
+    let used : Bool = in_use p.origin rest in
+    let f : KeptPage → KeptPage = renamed used origins p.origin in
+    let whole : Kept = dropped id used origins p.origin named kept in
+    let at : IsLeft origins p used rest = left origins p rest used refl (were kept origins live id p h found) in
+    let slots = slots_dropped kept origins live id p named h found in
+    let ids : map (λ (q : KeptPage). q.page.id.0) (map f rest)
+    ≡ filter (λ n. not (n == id.0)) (map (λ (q : KeptPage). q.page.id.0) kept.pages) =
+    map-map (λ (q : KeptPage). q.page.id.0) f rest
+    ∙ map-filter (λ (q : KeptPage). q.page.id.0) (λ n. not (n == id.0)) kept.pages in
+    let each : (P : KeptPage → Type 0) → All P kept.pages → All P rest =
+    λ P all. All-filter others P kept.pages all in
+    record {
+      day = h.day;
+      page_ids = subst (AreIds 1 kept.ids.page) (sym ids) (record {
+        ascending =
+            IsStrictlyIncreasing-filter (λ n. not (n == id.0)) (map (λ (q : KeptPage). q.page.id.0) kept.pages)
+            h.page_ids.ascending;
+        given =
+            All-filter (λ n. not (n == id.0)) (λ n. (0 < n) × (n < kept.ids.page))
+            (map (λ (q : KeptPage). q.page.id.0) kept.pages) h.page_ids.given;
+        next_first = h.page_ids.next_first;
+        next_last = h.page_ids.next_last;
+      });
+      visit_ids = h.visit_ids;
+      item_ids = h.item_ids;
+      item_titles = h.item_titles;
+      urls =
+          All-map (λ (q : KeptPage). IsTrue (is_store_url q.page.url)) f rest
+          (each (λ (q : KeptPage). IsTrue (is_store_url q.page.url)) h.urls);
+      texts =
+          All-map (λ (q : KeptPage). IsTrue (is_utf8 q.page.url)) f rest
+          (each (λ (q : KeptPage). IsTrue (is_utf8 q.page.url)) h.texts);
+      distinct_urls =
+          AllPairs-map (λ (q r : KeptPage). q.page.url ≢ r.page.url) f rest
+          (AllPairs-filter (λ (q r : KeptPage). q.page.url ≢ r.page.url) others kept.pages h.distinct_urls);
+      titles =
+          All-map (λ (q : KeptPage). IsTitle q.page.title) f rest
+          (each (λ (q : KeptPage). IsTitle q.page.title) h.titles);
+      visits =
+          λ k d within. (
+            (h.visits k d within).0,
+            list_any-map (λ (q : KeptPage). q.page.id.0 == (get_or kept.visits k d).page.0) f rest
+                ∙ still (get_or kept.visits k d) (visited_not k d within) (h.visits k d within).1,
+          );
+      sources = h.sources;
+      named =
+          All-map (λ (q : KeptPage). (0 < q.origin.0) × (q.origin.0 ≤ names_left used origins)) f rest at.within;
+      used = λ n some few. list_any-map (λ (q : KeptPage). q.origin.0 == n) f rest ∙ at.named n some few;
+      same =
+          All-map (λ (q : KeptPage). All (AreAlike q) (map f rest)) f rest
+          (λ k d within.
+          All-map (AreAlike (f (get_or rest k d))) f rest
+          (λ j e inside. alike (get_or rest k d) (get_or rest j e) (at.apart k d within j e inside)
+          (each (AreAlike (get_or rest k d))
+          (each (λ (q : KeptPage). All (AreAlike q) kept.pages) h.same k d within) j e inside)));
+      counted =
+          counted kept origins live id p h found
+          ∙ ap origin_count (sym (map-map (λ (q : KeptPage). q.page.url) f rest));
+      filled = omega (arith, slots);
+      few = omega (arith, h.few);
+    }
+  where
+    rest : List KeptPage
+    rest = other_pages id kept.pages
+
+    used : Bool
+    used = in_use p.origin rest
+
+    alike : (q r : KeptPage)
+        → (name_left used origins p.origin q.origin ≡ name_left used origins p.origin r.origin → q.origin ≡ r.origin)
+        → AreAlike q r → AreAlike (renamed used origins p.origin q) (renamed used origins p.origin r)
+    alike q r apart before = (
+      λ same. before.0 (apart same),
+      λ same. ap (name_left used origins p.origin) (before.1 same),
+    )
+
+    visited_not : (k : ℕ) (d : Visit) → k < length kept.visits → ((get_or kept.visits k d).page.0 == id.0) ≡ false
+    visited_not k d within =
+        none_at (λ (v : Visit). v.page.0 == id.0) kept.visits unvisited k d within
+
+    still : (v : Visit) → (v.page.0 == id.0) ≡ false → has_page kept v.page ≡ true
+        → list_any (λ (q : KeptPage). q.page.id.0 == v.page.0) rest ≡ true
+    still v other there =
+        other_of (p.page.id.0 == v.page.0) (list_any (λ (q : KeptPage). q.page.id.0 == v.page.0) rest)
+        (ne_eqb p.page.id.0 v.page.0
+        (λ same.
+        false≢true (sym other ∙ eq-eqb v.page.0 id.0
+        (sym same ∙ eqb-true p.page.id.0 id.0 (found_passes (λ (q : KeptPage). q.page.id.0 == id.0) kept.pages p found)))))
+        (sym (any_split (λ (q : KeptPage). q.page.id.0 == v.page.0) kept.pages rest p
+        (one_of kept origins live id p h found)) ∙ there)
+
+-- a page that is there has a name for its origin
+pub some_name : (kept : Kept) (origins live : ℕ) (id : PageId) (p : KeptPage) → IsFlat kept origins live
+    → page_at kept id ≡ Some p → 1 ≤ origins
+some_name kept origins live id p h found =
+    let own = holds_of (λ (q : KeptPage). (0 < q.origin.0) × (q.origin.0 ≤ origins)) kept id p found h.named in
+    omega (arith, own.0, own.1)
+
+-- ---- over rows
+
+pub pages_dropped : (id : PageId) (ps : List FlatPage)
+    → map page_of (filter (λ (p : FlatPage). not (p.id.0 == id.0)) ps) ≡ other_pages id (map page_of ps)
+pages_dropped id [] = refl
+pages_dropped id (p ∷ ps) = choose (p.id.0 == id.0) (pages_dropped id ps)
+  where
+    choose : (b : Bool)
+        → map page_of (filter (λ (p : FlatPage). not (p.id.0 == id.0)) ps) ≡ other_pages id (map page_of ps)
+        → map page_of (if not b then p ∷ filter (λ (p : FlatPage). not (p.id.0 == id.0)) ps
+        else filter (λ (p : FlatPage). not (p.id.0 == id.0)) ps)
+        ≡ (if not b then page_of p ∷ other_pages id (map page_of ps) else other_pages id (map page_of ps))
+    choose true rest = rest
+    choose false rest = ap (λ (qs : List KeptPage). page_of p ∷ qs) rest
+
+-- the rows that are left, seen as what is kept
+pub rows_dropped : (id : PageId) (name : Slot) (last : ℕ) (ps left new : List FlatPage)
+    → left ≡ filter (λ (p : FlatPage). not (p.id.0 == id.0)) ps
+    → new ≡ map (renamed_row (has_name name left) last name) left
+    → map page_of new
+    ≡ map (renamed (in_use name (other_pages id (map page_of ps))) last name) (other_pages id (map page_of ps))
+rows_dropped id name last ps left new is renamed_is =
+    let others : map page_of left ≡ other_pages id (map page_of ps) = ap (map page_of) is ∙ pages_dropped id ps in
+    let used : has_name name left ≡ in_use name (other_pages id (map page_of ps)) =
+    sym (list_any-map (λ (q : KeptPage). q.origin.0 == name.0) page_of left) ∙ ap (in_use name) others in
+    ap (map page_of) renamed_is
+    ∙ map-map page_of (renamed_row (has_name name left) last name) left
+    ∙ sym (map-map (renamed (has_name name left) last name) page_of left)
+    ∙ ap (λ b. map (renamed b last name) (map page_of left)) used
+    ∙ ap (map (renamed (in_use name (other_pages id (map page_of ps))) last name)) others
+
+pub used_dropped : (id : PageId) (name : Slot) (ps left : List FlatPage)
+    → left ≡ filter (λ (p : FlatPage). not (p.id.0 == id.0)) ps
+    → has_name name left ≡ in_use name (other_pages id (map page_of ps))
+used_dropped id name ps left is =
+    sym (list_any-map (λ (q : KeptPage). q.origin.0 == name.0) page_of left)
+    ∙ ap (in_use name) (ap (map page_of) is ∙ pages_dropped id ps)
+
+-- but for their names the pages are the others
+pub without_dropped : (id : PageId) (used : Bool) (last : ℕ) (name : Slot) (named : List KeptOrigin) (kept : Kept)
+    → WithoutPage id kept (dropped id used last name named kept)
+without_dropped id used last name named kept =
+    record {
+      day = refl;
+      ids = refl;
+      pages = map-map unnamed (renamed used last name) (other_pages id kept.pages);
+      visits = refl;
+      items = refl;
+    }

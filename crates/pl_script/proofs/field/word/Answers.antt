@@ -1,0 +1,34 @@
+use Rattle.std.proofs.Common.{rules}
+use Rattle.std.specs.Prelude.{codes}
+use Rattle.pl_script.proofs.Words.{EndsIn, is_word}
+use Rattle.pl_script.proofs.field.word.Goals as goal
+
+pub returns-in-folder : goal.returns-in-folder
+returns-in-folder c =
+    let ends : EndsIn c.args.field.now 0 (codes "folder") = search rules in
+    is_word c.args.field.now (codes "folder") ends
+
+pub returns-in-remove : goal.returns-in-remove
+returns-in-remove c =
+    let ends : EndsIn c.args.field.now 0 (codes "remove") = search rules in
+    is_word c.args.field.now (codes "remove") ends
+
+pub returns-in-retitle : goal.returns-in-retitle
+returns-in-retitle c =
+    let ends : EndsIn c.args.field.now 0 (codes "retitle") = search rules in
+    is_word c.args.field.now (codes "retitle") ends
+
+pub returns-in-bookmark : goal.returns-in-bookmark
+returns-in-bookmark c =
+    let ends : EndsIn c.args.field.now 0 (codes "bookmark") = search rules in
+    is_word c.args.field.now (codes "bookmark") ends
+
+pub returns-in-separator : goal.returns-in-separator
+returns-in-separator c =
+    let ends : EndsIn c.args.field.now 0 (codes "separator") = search rules in
+    is_word c.args.field.now (codes "separator") ends
+
+pub returns-in-untag : goal.returns-in-untag
+returns-in-untag c =
+    let ends : EndsIn c.args.field.now 0 (codes "untag") = search rules in
+    is_word c.args.field.now (codes "untag") ends

@@ -1,0 +1,43 @@
+mod Allowed
+mod Among
+pub mod AncestorLaws
+mod Causes
+mod ChildLists
+mod ChildWalk
+mod EntryRemoved
+pub mod GoodChanges
+mod GoodEntered
+mod GoodInserted
+mod GoodMoved
+mod GoodRemoved
+mod GoodRetitled
+mod GoodRows
+pub mod GoodTagged
+mod InsertedChildren
+mod InsertedRows
+mod Insides
+mod KeptItems
+mod KeptRoots
+mod KeptTags
+mod LookedUp
+mod MappedItems
+pub mod OneParent
+mod PageOrder
+mod PutPlaces
+mod RefusalSteps
+mod Remaining
+mod RemovalSteps
+mod RemovedChildren
+mod RemovedRows
+mod RootItems
+mod TagItems
+mod TagRows
+mod TagSteps
+mod TagWalks
+mod TaggedRows
+mod TreeLaws
+mod TreeRows
+mod TwoInserted
+mod UntagSteps
+mod UntaggedRows
+mod WorkedTrees

@@ -1,0 +1,6 @@
+pub mod Ancestors
+pub mod Changes
+pub mod LostPages
+pub mod Places
+pub mod Refused
+pub mod Tagged

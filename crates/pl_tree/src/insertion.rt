@@ -1,0 +1,55 @@
+// A new item.
+ghost use Rattle.std.specs.Prelude.{◌≡◌, ◌≤◌, ◌+◌, ◌↔◌, ℕ, List, Err, None, Some, true};
+ghost use Rattle.std.specs.Prelude.{length, IfOk, IfSome, IsSome, OnOk};
+ghost use Rattle.pl_base.specs.Date.{IsDate};
+ghost use Rattle.pl_base.specs.Good.{HasGoodItems, longest_title};
+ghost use Rattle.pl_base.specs.Live.{chunks, live_slots, slot_limit};
+ghost use Rattle.pl_base.specs.Rows.{has_page, store_of};
+ghost use Rattle.pl_tree.specs.Changes.{with_inserted};
+ghost use Rattle.pl_tree.specs.Refused.{insert_refusal};
+
+use crate::refusals::may_insert;
+use crate::{NewItem, Place, TreeError};
+use pl_base::{IdKind, Ids, ItemId, ItemKind, ItemRow, Refusal, Rows, Steps};
+use std::sync::ledger::Ledger;
+
+/// A new item with the next id, at a place among the children of a folder.
+///
+/// Refused are a parent that is not there, is no folder or takes no items, a position past the end
+/// of its list, and an id that is never given, in this order.
+pub fn insert<R: Rows, L: Ledger>(
+    rows: &mut R,
+    parent: ItemId,
+    place: Place,
+    item: &NewItem,
+    steps: &mut Steps<L>,
+) -> Result<ItemId, TreeError>
+    requires good { HasGoodItems (store_of (R.kept rows.old)) }
+    requires page { IfSome item.now.page (λ id. has_page (R.kept rows.old) id ≡ true) }
+    requires bookmark { IsSome item.now.page ↔ (item.now.kind ≡ ItemKind.Bookmark) }
+    requires title { length item.now.title ≤ longest_title }
+    requires date { IsDate item.now.date }
+    requires live { live_slots (store_of (R.kept rows.old)) + 1 + chunks item.now.title
+        ≤ slot_limit }
+    ensures item { IfOk result (λ id. id.0 ≡ (R.kept rows.old).ids.item) }
+    ensures allowed { IfOk result (λ id. insert_refusal parent place (R.kept rows.old) ≡ None) }
+    ensures kept { OnOk result (R.kept rows.new
+        ≡ with_inserted parent place item.now (R.kept rows.old)) }
+    ensures refused { (refusal : Refusal) → result ≡ Err (TreeError.Refused refusal)
+        → (insert_refusal parent place (R.kept rows.old) ≡ Some refusal) × (rows.new ≡ rows.old) }
+    ensures good { OnOk result (HasGoodItems (store_of (R.kept rows.new))) }
+    ensures base { OnOk result ((bytes : List ℕ) → R.base rows.old bytes → R.base rows.new bytes) }
+{
+    let after = may_insert(rows, parent, place, steps)?;
+    if rows.ids(steps).item == Ids::END {
+        return Err(TreeError::Refused(Refusal::NoIds(IdKind::Item)));
+    }
+    let row = ItemRow {
+        kind: item.kind,
+        parent: Some(parent),
+        page: item.page,
+        added: item.date,
+        modified: item.date,
+    };
+    Ok(rows.insert_item(&row, item.title.as_str(), after, steps)?)
+}

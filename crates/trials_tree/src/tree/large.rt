@@ -1,0 +1,111 @@
+// A folder that is 5,000 deep, and one with 5,000 children.
+ghost use Rattle.std.specs.Prelude.{IfOk};
+ghost use Rattle.pl_engine.specs.Step.{HasDates};
+
+use super::talked;
+use pl_base::{ItemId, Micros, Txt};
+use pl_engine::{Command, Reply};
+use pl_link::Canon;
+use pl_store::{Memory, SLOT_LIMIT};
+use pl_tree::Place;
+use std::alloc::Global;
+use std::process::Abort;
+use std::test::Fail;
+
+// The last of 5,000 items, the first of which is item 7.
+const LAST: u32 = 5_006;
+
+fn folder(alloc: Global, parent: u32) -> Result<Command, Fail>
+    ensures { IfOk result HasDates }
+{
+    let title = Txt::copied(alloc, "")?;
+    Ok(Command::Folder {
+        parent: ItemId(parent),
+        place: Place::End,
+        title,
+        date: Micros(0),
+    })
+}
+
+// The store with a new item, which has this id.
+fn with_item(rt: &impl Abort, memory: Memory, command: &Command, id: u32) -> Result<Memory, Fail>
+    requires { HasDates command.now }
+{
+    let (memory, reply) = memory.step(command)?;
+    assert!(rt; reply == Reply::Item(ItemId(id)));
+    Ok(memory)
+}
+
+// Each folder holds the next one.
+fn deep(rt: &impl Abort, alloc: Global) -> Result<Memory, Fail> {
+    let memory = Memory::opening(alloc, SLOT_LIMIT)?;
+    let mut memory = with_item(rt, memory, &folder(alloc, 2)?, 7)?;
+    for id in 8..=LAST {
+        memory = with_item(rt, memory, &folder(alloc, id - 1)?, id)?;
+    }
+    Ok(memory)
+}
+
+// Folder 7 holds bookmarks of one page.
+fn wide(rt: &impl Abort, alloc: Global) -> Result<Memory, Fail> {
+    let memory = Memory::opening(alloc, SLOT_LIMIT)?;
+    let mut memory = with_item(rt, memory, &folder(alloc, 2)?, 7)?;
+    for id in 8..=LAST {
+        memory = with_bookmark(rt, alloc, memory, id)?;
+    }
+    Ok(memory)
+}
+
+fn with_bookmark(rt: &impl Abort, alloc: Global, memory: Memory, id: u32) -> Result<Memory, Fail> {
+    let command = bookmark(alloc)?;
+    with_item(rt, memory, &command, id)
+}
+
+fn bookmark(alloc: Global) -> Result<Command, Fail>
+    ensures { IfOk result HasDates }
+{
+    let url = Canon::read(alloc, "https://a.example/")?;
+    let title = Txt::copied(alloc, "A")?;
+    Ok(Command::Bookmark {
+        parent: ItemId(7),
+        place: Place::Number(0),
+        url,
+        title,
+        date: Micros(0),
+    })
+}
+
+// Inside is told from the bottom, and all goes at once.
+const DEEP: &[(&[u8], &str)] = &[
+    (b"move\t7\t5006\tend\t0", "refused\t9\t7\n"),
+    (b"remove\t7", "ok\n"),
+    (b"list\t5006", "refused\t5\t5006\n"),
+    (b"list\t8", "refused\t5\t8\n"),
+    (b"list\t2", "rows\t0\n"),
+    (b"folder\t2\t0\tF\t0", "item\t5007\n"),
+];
+
+#[test]
+fn removes_a_deep_folder(rt: HostRuntime) -> Result<(), Fail> {
+    let memory = deep(&rt, rt.alloc())?;
+    let _ = talked(&rt, rt.alloc(), memory, DEEP)?;
+    Ok(())
+}
+
+const WIDE: &[(&[u8], &str)] = &[
+    (
+        b"page\thttps://a.example/",
+        "page\t1\t140\t0\t-\t0\t0\t1\thttps://a.example/\t\t\n",
+    ),
+    (b"remove\t7", "ok\n"),
+    (b"list\t5006", "refused\t5\t5006\n"),
+    (b"page\thttps://a.example/", "refused\t4\n"),
+    (b"list\t2", "rows\t0\n"),
+];
+
+#[test]
+fn removes_a_wide_folder(rt: HostRuntime) -> Result<(), Fail> {
+    let memory = wide(&rt, rt.alloc())?;
+    let _ = talked(&rt, rt.alloc(), memory, WIDE)?;
+    Ok(())
+}
