@@ -1,5 +1,6 @@
 pub mod Address
 pub mod Date
+pub mod Expiration
 pub mod Fold
 pub mod Frecency
 pub mod Good
@@ -8,6 +9,7 @@ pub mod Live
 pub mod Marks
 pub mod Redirects
 pub mod Refusal
+pub mod Removal
 pub mod Rows
 pub mod Store
 pub mod Tables
@@ -16,4 +18,5 @@ pub mod Title
 pub mod Touched
 pub mod Transition
 pub mod Tree
+pub mod Visiting
 pub mod Visits

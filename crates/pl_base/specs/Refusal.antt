@@ -5,7 +5,7 @@ use Rattle.pl_base.specs.declared.id.IdKind.TheVariants.{Page, Visit, Item}
 use Rattle.pl_base.specs.declared.refusal.Refusal.{Refusal}
 use Rattle.pl_base.specs.declared.refusal.Refusal.TheVariants.{BadUrl, NotRecorded, NoVisit, NoPage}
 use Rattle.pl_base.specs.declared.refusal.Refusal.TheVariants.{NoItem, NotAFolder, Fixed}
-use Rattle.pl_base.specs.declared.refusal.Refusal.TheVariants.{BadPlace, Inside}
+use Rattle.pl_base.specs.declared.refusal.Refusal.TheVariants.{BadPlace, Inside, DayBack}
 use Rattle.pl_base.specs.declared.refusal.Refusal.TheVariants.{Full, NoIds, BadLine, BadDate}
 use Rattle.pl_base.specs.declared.refusal.Refusal.TheVariants.{DupTag, BadTag, NoTag}
 
@@ -20,6 +20,7 @@ refusal_number (NotAFolder id) = 6
 refusal_number (Fixed id) = 7
 refusal_number (BadPlace position length) = 8
 refusal_number (Inside id) = 9
+refusal_number (DayBack kept) = 10
 refusal_number (Full slots) = 12
 refusal_number (NoIds kind) = 13
 refusal_number (BadLine column) = 14
@@ -45,6 +46,7 @@ refusal_values (NotAFolder id) = id.0 ∷ []
 refusal_values (Fixed id) = id.0 ∷ []
 refusal_values (BadPlace position length) = position ∷ length ∷ []
 refusal_values (Inside id) = id.0 ∷ []
+refusal_values (DayBack kept) = kept.0 ∷ []
 refusal_values (Full slots) = slots ∷ []
 refusal_values (NoIds kind) = id_kind_number kind ∷ []
 refusal_values (BadLine column) = column ∷ []

@@ -22,6 +22,7 @@ use Rattle.pl_base.specs.Good.{AreIds, IsTitle}
 use Rattle.pl_base.specs.Live.{live_slots, slot_limit}
 use Rattle.pl_base.specs.Marks.{is_hidden, visit_count}
 use Rattle.pl_base.specs.Redirects.{others_from, redirects_from}
+use Rattle.pl_base.specs.Removal.{visits_left}
 use Rattle.pl_base.specs.Store.{Store, Page, Visit, Item, item_id, roots}
 use Rattle.pl_base.specs.Tree.{inserted, retitled}
 use Rattle.pl_base.specs.Visits.{latest_first, visits_of}
@@ -212,6 +213,10 @@ with_visit row kept =
       ids = record kept.ids { visit = kept.ids.visit + 1 };
       visits = kept.visits ++ next_visit row kept ∷ [];
     }
+
+-- the rows without the visit with this id, from which no visit came from then on
+abbrev pub without_visit : VisitId → Kept → Kept
+without_visit id kept = record kept { visits = visits_left (id ∷ []) kept.visits }
 
 -- the page with this mark
 abbrev pub marked : Mark → KeptPage → KeptPage

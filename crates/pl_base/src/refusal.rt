@@ -1,7 +1,7 @@
 ghost use Rattle.std.specs.Prelude.{◌≡◌};
 ghost use Rattle.pl_base.specs.Refusal.{refusal_number};
 
-use crate::{IdKind, ItemId, VisitId};
+use crate::{Day, IdKind, ItemId, VisitId};
 use thiserror::Error;
 
 /// Why a command was refused. A refused command changes nothing.
@@ -34,6 +34,9 @@ pub enum Refusal {
     /// The item would be moved into itself or below itself.
     #[error("the item would lie in itself")]
     Inside(ItemId),
+    /// The day is before the store's, which is this one.
+    #[error("the store's day is {}", .0.0)]
+    DayBack(Day),
     /// The store would take so many slots of 128 bytes, which is more than it may.
     #[error("the store would take {0} slots")]
     Full(u64),
@@ -72,6 +75,7 @@ impl Refusal {
             Refusal::Fixed(_) => 7,
             Refusal::BadPlace(_, _) => 8,
             Refusal::Inside(_) => 9,
+            Refusal::DayBack(_) => 10,
             Refusal::Full(_) => 12,
             Refusal::NoIds(_) => 13,
             Refusal::BadLine(_) => 14,

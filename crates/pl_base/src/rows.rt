@@ -15,6 +15,7 @@ ghost use Rattle.pl_base.specs.Rows.{origin_of, IsOriginOf, WithPageIn, with_day
 ghost use Rattle.pl_base.specs.Rows.{with_visit, live_with_page, most_reads, title_of, with_title};
 ghost use Rattle.pl_base.specs.Rows.{live_with_title, AreTargets, target_behind, WithoutPage};
 ghost use Rattle.pl_base.specs.Rows.{live_with_item, live_with_item_title, with_item, with_items};
+ghost use Rattle.pl_base.specs.Rows.{without_visit};
 ghost use Rattle.pl_base.specs.Store.{Store, Visit};
 ghost use Rattle.pl_base.specs.Touched.{changed, bytes_before, IsWithin};
 ghost use Rattle.pl_base.specs.Tree.{children_of, first_item, has_item, item_at, item_row};
@@ -179,6 +180,13 @@ pub trait Rows {
         ensures visit { IfOk result (λ visit. visit.0 ≡ (kept self.old).ids.visit) }
         ensures kept { OnOk result (kept self.new ≡ with_visit row.now (kept self.old)) }
         ensures base { OnOk result ((bytes : List ℕ) → base self.old bytes → base self.new bytes) };
+
+    /// The visit goes, and the visits that came from it came from none from then on. No memory is
+    /// taken.
+    fn remove_visit<L: Ledger>(&mut self, visit: VisitId, steps: &mut Steps<L>)
+        requires { has_visit (kept self.old) visit ≡ true }
+        ensures kept { kept self.new ≡ without_visit visit (kept self.old) }
+        ensures base { (bytes : List ℕ) → base self.old bytes → base self.new bytes };
 
     fn item_at<L: Ledger>(&self, item: ItemId, steps: &mut Steps<L>) -> Option<ItemRow>
         ensures row { result ≡ option_map (item_row (kept self.now).items)

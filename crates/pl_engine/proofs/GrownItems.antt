@@ -17,16 +17,17 @@ use Rattle.pl_base.proofs.ListLaws.{list_any_last}
 use Rattle.pl_tree.specs.declared.new_item.NewItem.{NewItem}
 use Rattle.pl_tree.specs.declared.place.Place.{Place}
 use Rattle.pl_tree.specs.Changes.{item_of, with_child, with_new}
-use Rattle.pl_engine.specs.Engine.{AreStanding, IsSound, is_standing}
+use Rattle.pl_history.specs.Sound.{AreStanding, IsSound}
+use Rattle.pl_base.specs.Removal.{is_standing}
 use Rattle.pl_engine.specs.Target.{IsReady}
 use Rattle.pl_marks.specs.Refreshed.{AreRightBut, HaveCounts, Refreshes}
-use Rattle.pl_engine.proofs.GoodRows.{good_of}
+use Rattle.pl_history.proofs.GoodRows.{good_of}
 use Rattle.pl_engine.proofs.ItemMarks.{has_reference, right_alike, with_tree}
 use Rattle.pl_engine.proofs.ItemStep.{reference_inserted}
-use Rattle.pl_engine.proofs.KeptMark.{count_at, mark_at}
-use Rattle.pl_engine.proofs.RightAfter.{other_way, right_refreshed}
-use Rattle.pl_engine.proofs.SourcePage.{source_store}
-use Rattle.pl_engine.proofs.VisitedPages.{standing_alike}
+use Rattle.pl_history.proofs.KeptMark.{count_at, mark_at}
+use Rattle.pl_history.proofs.RightAfter.{other_way, right_refreshed}
+use Rattle.pl_history.proofs.SourcePage.{source_store}
+use Rattle.pl_history.proofs.VisitedPages.{standing_alike}
 
 -- an item has the page, and each other page has one or not as before
 pub record Adds (page : PageId) (old new : List Item) : Type 0 where

@@ -19,13 +19,13 @@ use Rattle.pl_base.specs.Tree.{is_page, leaving, with_changed}
 use Rattle.pl_base.specs.Visits.{latest_first, sample_of, visits_of}
 use Rattle.pl_tree.specs.declared.place.Place.{Place}
 use Rattle.pl_tree.specs.Changes.{put, taken_out, with_child, with_moved}
-use Rattle.pl_engine.specs.Engine.{AreStanding, IsSound}
+use Rattle.pl_history.specs.Sound.{AreStanding, IsSound}
 use Rattle.pl_marks.specs.Refreshed.{AreRightBut}
 use Rattle.pl_base.proofs.IdsLaws.{same_page}
 use Rattle.pl_base.proofs.ListLaws.{list_any-alike, list_any-map, sum_by-agree}
 use Rattle.pl_base.proofs.VisitsLaws.{all-latest_first}
 use Rattle.pl_marks.proofs.LookUps.{where_passes}
-use Rattle.pl_engine.proofs.GoodRows.{good_of, standing_of}
+use Rattle.pl_history.proofs.GoodRows.{good_of, standing_of}
 
 -- an item among these has the page
 abbrev pub has_reference : List Item → PageId → Bool

@@ -20,12 +20,12 @@ use Rattle.pl_tree.specs.Changes.{item_of, put, with_child, with_inserted, with_
 use Rattle.pl_tree.specs.Refused.{refusal}
 use Rattle.pl_engine.specs.declared.reply.Reply.{Reply}
 use Rattle.pl_engine.specs.declared.reply.Reply.TheVariants.{Item as ItemReply, Refused}
-use Rattle.pl_engine.specs.Engine.{IsSound}
+use Rattle.pl_history.specs.Sound.{IsSound}
 use Rattle.pl_engine.specs.Room.{item_room}
 use Rattle.pl_engine.specs.Step.{after_insert, insert_step, unless_refused}
 use Rattle.pl_base.proofs.ListLaws.{sum_by-agree, sum_by-map}
 use Rattle.pl_engine.proofs.ItemMarks.{has_reference, reference_changed, sound_alike}
-use Rattle.pl_engine.proofs.RightAfter.{any_last}
+use Rattle.pl_history.proofs.RightAfter.{any_last}
 
 -- ---- slots
 

@@ -18,7 +18,7 @@ use Rattle.pl_tree.specs.Refused.{refusal}
 use Rattle.pl_engine.specs.declared.command.Command.TheVariants.{Retitle as RetitleCommand}
 use Rattle.pl_engine.specs.declared.reply.Reply.{Reply}
 use Rattle.pl_engine.specs.declared.reply.Reply.TheVariants.{Done, Refused}
-use Rattle.pl_engine.specs.Engine.{IsSound}
+use Rattle.pl_history.specs.Sound.{IsSound}
 use Rattle.pl_engine.specs.Step.{after_retitle, is_full, perform}
 use Rattle.pl_base.proofs.ItemLaws.{once}
 use Rattle.pl_engine.proofs.ItemMarks.{reference_changed, sound_alike}

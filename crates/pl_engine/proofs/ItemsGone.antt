@@ -5,9 +5,9 @@ use Rattle.pl_base.specs.declared.id.PageId.{PageId}
 use Rattle.pl_base.specs.Good.{HasGoodItems, is_visited}
 use Rattle.pl_base.specs.Rows.{Kept, has_page, store_of, with_items}
 use Rattle.pl_base.specs.Store.{Item}
-use Rattle.pl_engine.specs.Engine.{AreStanding, IsSound}
-use Rattle.pl_engine.specs.Removed.{AreSettledBut}
-use Rattle.pl_engine.proofs.GoodRows.{standing_of}
+use Rattle.pl_history.specs.Sound.{AreStanding, IsSound}
+use Rattle.pl_history.specs.Settled.{AreSettledBut}
+use Rattle.pl_history.proofs.GoodRows.{standing_of}
 use Rattle.pl_engine.proofs.ItemMarks.{has_reference, right_alike}
 
 pub settled_with : (old : Kept) (items : List Item) (lost : List PageId) → IsSound old

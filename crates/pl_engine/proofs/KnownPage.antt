@@ -9,9 +9,9 @@ use Rattle.std.proofs.lemmas.Slice.Eq.{bytes_eq-Decides}
 use Rattle.pl_base.specs.declared.id.PageId.{PageId}
 use Rattle.pl_base.specs.Rows.{IsWellKept, Kept, KeptPage, has_page, store_of}
 use Rattle.pl_base.specs.Store.{Page}
-use Rattle.pl_engine.specs.declared.engine.find.Target.TheVariants.{Known}
-use Rattle.pl_engine.specs.Step.{find_page}
-use Rattle.pl_engine.specs.Target.{IsTargetOf}
+use Rattle.pl_history.specs.declared.find.Target.TheVariants.{Known}
+use Rattle.pl_base.specs.Visiting.{find_page}
+use Rattle.pl_history.specs.Target.{IsTargetOf}
 use Rattle.pl_base.proofs.ListLaws.{weaker}
 use Rattle.pl_marks.proofs.PageWalk.{Ascend, ascend, part, there}
 use Rattle.pl_engine.proofs.Targets.{IsFound, found_page}

@@ -13,9 +13,9 @@ use Rattle.pl_base.specs.Live.{chunks, live_slots, new_origins, origin_count}
 use Rattle.pl_base.specs.Rows.{Kept, KeptPage, live_with_page, store_of}
 use Rattle.pl_base.specs.Store.{Page, Store, Visit}
 use Rattle.pl_base.proofs.OriginLaws.{new_origins-append, same_origin-sym}
-use Rattle.pl_engine.specs.Step.{after_visit, find_page, new_page, visit_page, visited_page, visited_store, new_visit}
+use Rattle.pl_base.specs.Visiting.{after_visit, find_page, new_page, visit_page, visited_page, visited_store, new_visit}
 use Rattle.pl_base.proofs.ListLaws.{list_any-alike, list_any-map, sum_by-agree, sum_by-map}
-use Rattle.pl_engine.proofs.VisitRows.{store-with_page, visited_at, grown_store}
+use Rattle.pl_history.proofs.VisitRows.{store-with_page, visited_at, grown_store}
 
 -- ---- a visit
 

@@ -19,9 +19,9 @@ use Rattle.pl_base.proofs.ListLaws.{AllPairs-from_map, list_any-alike, list_any-
 use Rattle.pl_tree.specs.Ancestors.{lies_in}
 use Rattle.pl_tree.specs.Changes.{loses_item, with_removed}
 use Rattle.pl_marks.proofs.LookUps.{none_pass}
-use Rattle.pl_engine.specs.Engine.{IsSound}
-use Rattle.pl_engine.specs.Removed.{AreSettledBut}
-use Rattle.pl_engine.proofs.Dropped.{any_left}
+use Rattle.pl_history.specs.Sound.{IsSound}
+use Rattle.pl_history.specs.Settled.{AreSettledBut}
+use Rattle.pl_history.proofs.Dropped.{any_left}
 use Rattle.pl_engine.proofs.ItemMarks.{has_reference}
 use Rattle.pl_engine.proofs.ItemsGone.{settled_with}
 

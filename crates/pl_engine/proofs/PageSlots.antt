@@ -11,10 +11,11 @@ use Rattle.pl_base.specs.Good.{end_of_ids}
 use Rattle.pl_base.specs.Live.{live_slots, slot_limit}
 use Rattle.pl_base.specs.Rows.{IsWellKept, Kept, store_of}
 use Rattle.pl_base.specs.Store.{Page}
-use Rattle.pl_engine.specs.declared.engine.find.Target.{Target}
-use Rattle.pl_engine.specs.declared.engine.find.Target.TheVariants.{Known, New}
-use Rattle.pl_engine.specs.Step.{after_visit, find_page, is_full, page_for, with_page_for}
-use Rattle.pl_engine.specs.Target.{HasRoom, IsTargetOf, WithTarget, is_new}
+use Rattle.pl_history.specs.declared.find.Target.{Target}
+use Rattle.pl_history.specs.declared.find.Target.TheVariants.{Known, New}
+use Rattle.pl_base.specs.Visiting.{after_visit, find_page, page_for, with_page_for}
+use Rattle.pl_engine.specs.Step.{is_full}
+use Rattle.pl_history.specs.Target.{HasRoom, IsTargetOf, WithTarget, is_new}
 use Rattle.pl_engine.proofs.LiveAfter.{live_visited}
 use Rattle.pl_engine.proofs.Targets.{found_page}
 use Rattle.pl_engine.proofs.VisitAllowed.{below_last, slots_page, within_limit}

@@ -15,11 +15,12 @@ use Rattle.pl_base.specs.Rows.{IsRight, IsWellKept, Kept, KeptPage, first_id, ma
 use Rattle.pl_base.specs.Rows.{row_of, store_of, title_of, url_of, visit_at}
 use Rattle.pl_base.specs.Store.{Page, Store, Visit}
 use Rattle.pl_base.specs.Tags.{is_bookmarked, tag_text}
-use Rattle.pl_engine.specs.declared.engine.find.Target.TheVariants.{Known}
+use Rattle.pl_history.specs.declared.find.Target.TheVariants.{Known}
 use Rattle.pl_engine.specs.declared.reply.Reply.{Reply}
 use Rattle.pl_engine.specs.declared.reply.Reply.TheVariants.{Page as PageReply}
-use Rattle.pl_engine.specs.Step.{find_page, told_page}
-use Rattle.pl_engine.specs.Target.{IsTargetOf}
+use Rattle.pl_base.specs.Visiting.{find_page}
+use Rattle.pl_engine.specs.Step.{told_page}
+use Rattle.pl_history.specs.Target.{IsTargetOf}
 use Rattle.pl_engine.proofs.KnownPage.{IsKnown, known}
 use Rattle.pl_marks.proofs.LookUps.{found_holds}
 use Rattle.pl_marks.proofs.PageWalk.{found_at}

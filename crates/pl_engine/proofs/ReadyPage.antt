@@ -14,12 +14,14 @@ use Rattle.pl_base.specs.Marks.{is_counted, visit_count}
 use Rattle.pl_base.specs.Rows.{IsWellKept, Kept, KeptPage, WithPageIn, has_page}
 use Rattle.pl_base.specs.Rows.{store_of, with_origin, with_new_page, next_page}
 use Rattle.pl_base.specs.Store.{Page, Store, Visit}
-use Rattle.pl_engine.specs.declared.engine.find.Target.{Target}
-use Rattle.pl_engine.specs.declared.engine.find.Target.TheVariants.{Known, New}
-use Rattle.pl_engine.specs.Engine.{AreStanding, IsSound, IsTypedRight, is_standing}
+use Rattle.pl_history.specs.declared.find.Target.{Target}
+use Rattle.pl_history.specs.declared.find.Target.TheVariants.{Known, New}
+use Rattle.pl_history.specs.Sound.{AreStanding, IsSound, IsTypedRight}
+use Rattle.pl_base.specs.Removal.{is_standing}
 use Rattle.pl_marks.specs.Refreshed.{IsRightPage}
-use Rattle.pl_engine.specs.Target.{IsReady, IsTargetOf, WithTarget}
-use Rattle.pl_engine.proofs.GoodRows.{items_of, items_still, standing_of}
+use Rattle.pl_engine.specs.Target.{IsReady}
+use Rattle.pl_history.specs.Target.{IsTargetOf, WithTarget}
+use Rattle.pl_history.proofs.GoodRows.{items_of, items_still, standing_of}
 use Rattle.pl_engine.proofs.KnownPage.{IsKnown, has_known, known, only_known}
 use Rattle.pl_base.proofs.ListLaws.{All-from_map, list_any-map, list_any_last, list_any_push}
 use Rattle.pl_marks.proofs.PageWalk.{not_equal}

@@ -18,14 +18,17 @@ use Rattle.pl_base.specs.Store.{Item, Page, Store}
 use Rattle.pl_tree.specs.Refused as tree
 use Rattle.pl_tree.specs.Tagged.{new_items, tag_entry, tag_named, with_tagged}
 use Rattle.pl_engine.specs.declared.command.Command.TheVariants.{Tag as TagCommand}
-use Rattle.pl_engine.specs.declared.engine.find.Target.{Target}
-use Rattle.pl_engine.specs.declared.engine.find.Target.TheVariants.{Known, New}
+use Rattle.pl_history.specs.declared.find.Target.{Target}
+use Rattle.pl_history.specs.declared.find.Target.TheVariants.{Known, New}
 use Rattle.pl_engine.specs.declared.reply.Reply.{Reply}
 use Rattle.pl_engine.specs.declared.reply.Reply.TheVariants.{Done}
 use Rattle.pl_engine.specs.Room.{tag_room}
-use Rattle.pl_engine.specs.Step.{after_tag, after_visit, find_page, is_full, is_tagged, page_for, perform}
-use Rattle.pl_engine.specs.Step.{tag_refusal, tagged_store, unless_refused, with_page_for}
-use Rattle.pl_engine.specs.Target.{HasRoom, IsTargetOf, WithTarget, has_tag, is_new}
+use Rattle.pl_engine.specs.Step.{after_tag, is_full, is_tagged, perform}
+use Rattle.pl_base.specs.Visiting.{after_visit, find_page, page_for}
+use Rattle.pl_engine.specs.Step.{tag_refusal, tagged_store, unless_refused}
+use Rattle.pl_base.specs.Visiting.{with_page_for}
+use Rattle.pl_history.specs.Target.{HasRoom, IsTargetOf, WithTarget, is_new}
+use Rattle.pl_engine.specs.Target.{has_tag}
 use Rattle.pl_engine.proofs.FreshPage.{no_entry}
 use Rattle.pl_engine.proofs.LiveAfter.{live_visited}
 use Rattle.pl_engine.proofs.PageSlots.{AreSlots, few_slots, new_is, next_item, page_room, visit_slots}
@@ -33,7 +36,7 @@ use Rattle.pl_engine.proofs.TagMade.{folder_slots, live_tagged}
 use Rattle.pl_engine.proofs.Targets.{IsFound, found_page}
 use Rattle.pl_engine.proofs.VisitAllowed.{grows}
 use Rattle.pl_engine.proofs.VisitMade.{target_page, target_store}
-use Rattle.pl_engine.proofs.VisitRows.{grown_store}
+use Rattle.pl_history.proofs.VisitRows.{grown_store}
 
 -- ---- slots
 

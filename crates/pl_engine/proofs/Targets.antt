@@ -16,9 +16,9 @@ use Rattle.pl_base.specs.Address.{same_origin}
 use Rattle.pl_base.specs.Live.{chunks, live_slots}
 use Rattle.pl_base.specs.Rows.{IsOriginOf, Kept, KeptPage, store_of}
 use Rattle.pl_base.specs.Store.{Page}
-use Rattle.pl_engine.specs.declared.engine.find.Target.TheVariants.{Known, New}
-use Rattle.pl_engine.specs.Step.{after_visit, find_page}
-use Rattle.pl_engine.specs.Target.{IsTargetOf}
+use Rattle.pl_history.specs.declared.find.Target.TheVariants.{Known, New}
+use Rattle.pl_base.specs.Visiting.{after_visit, find_page}
+use Rattle.pl_history.specs.Target.{IsTargetOf}
 use Rattle.pl_base.proofs.ListLaws.{list_any-map}
 use Rattle.pl_engine.proofs.LiveAfter.{live_found, live_new}
 

@@ -19,11 +19,13 @@ use Rattle.pl_base.specs.Marks.{is_hidden, visit_count}
 use Rattle.pl_base.specs.Rows.{IsWellKept, Kept, KeptPage, store_of, titled, with_title}
 use Rattle.pl_base.specs.Store.{Page, Store}
 use Rattle.pl_base.specs.Title.{cut_title}
-use Rattle.pl_engine.specs.declared.engine.find.Target.TheVariants.{Known}
-use Rattle.pl_engine.specs.Engine.{AreStanding, IsSound, IsTypedRight, is_standing}
-use Rattle.pl_engine.specs.Step.{after_title, find_page, title_page}
-use Rattle.pl_engine.specs.Target.{IsTargetOf}
-use Rattle.pl_engine.proofs.GoodRows.{good_of, items_of, items_still, standing_of}
+use Rattle.pl_history.specs.declared.find.Target.TheVariants.{Known}
+use Rattle.pl_history.specs.Sound.{AreStanding, IsSound, IsTypedRight}
+use Rattle.pl_base.specs.Removal.{is_standing}
+use Rattle.pl_engine.specs.Step.{after_title, title_page}
+use Rattle.pl_base.specs.Visiting.{find_page}
+use Rattle.pl_history.specs.Target.{IsTargetOf}
+use Rattle.pl_history.proofs.GoodRows.{good_of, items_of, items_still, standing_of}
 use Rattle.pl_engine.proofs.KnownPage.{IsKnown, known, only_known}
 use Rattle.pl_marks.proofs.LookUps.{both}
 use Rattle.pl_marks.proofs.PageWalk.{part}

@@ -19,14 +19,14 @@ use Rattle.pl_base.specs.Tree.{child_items, children_of, is_page, item_at, leavi
 use Rattle.pl_base.proofs.ListLaws.{all-filter, list_any-map, weaker}
 use Rattle.pl_tree.specs.Tagged.{entry_in, tag_named, untagged_items, without_entry, without_unused}
 use Rattle.pl_marks.proofs.LookUps.{Apart, apart_ascending, found_holds, found_one, found_passes}
-use Rattle.pl_engine.specs.Engine.{IsSound}
-use Rattle.pl_engine.specs.Removed.{AreSettledBut}
+use Rattle.pl_history.specs.Sound.{IsSound}
+use Rattle.pl_history.specs.Settled.{AreSettledBut}
 use Rattle.pl_engine.proofs.ChildItems.{children_hold, children_too}
-use Rattle.pl_engine.proofs.Dropped.{any_left, not_both}
-use Rattle.pl_engine.proofs.GoodRows.{items_of}
+use Rattle.pl_history.proofs.Dropped.{any_left, not_both}
+use Rattle.pl_history.proofs.GoodRows.{items_of}
 use Rattle.pl_engine.proofs.ItemMarks.{has_reference}
 use Rattle.pl_engine.proofs.ItemsGone.{settled_with}
-use Rattle.pl_engine.proofs.RightAfter.{other_way}
+use Rattle.pl_history.proofs.RightAfter.{other_way}
 
 -- ---- an item that goes
 

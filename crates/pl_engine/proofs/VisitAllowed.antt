@@ -17,14 +17,15 @@ use Rattle.pl_base.specs.Good.{end_of_ids}
 use Rattle.pl_base.specs.Live.{live_slots, slot_limit}
 use Rattle.pl_base.specs.Rows.{IsWellKept, Kept, has_visit, live_with_page, store_of, visit_at}
 use Rattle.pl_base.specs.Store.{Page, Store, Visit}
-use Rattle.pl_engine.specs.declared.engine.find.Target.{Target}
-use Rattle.pl_engine.specs.declared.engine.find.Target.TheVariants.{Known, New}
-use Rattle.pl_engine.specs.Step.{after_visit, find_page, is_full, source_refusal, visit_refusal}
-use Rattle.pl_engine.specs.Target.{HasRoom, IsTargetOf, WithTarget}
+use Rattle.pl_history.specs.declared.find.Target.{Target}
+use Rattle.pl_history.specs.declared.find.Target.TheVariants.{Known, New}
+use Rattle.pl_base.specs.Visiting.{after_visit, find_page}
+use Rattle.pl_engine.specs.Step.{is_full, source_refusal, visit_refusal}
+use Rattle.pl_history.specs.Target.{HasRoom, IsTargetOf, WithTarget}
 use Rattle.pl_engine.proofs.LiveAfter.{live_page}
 use Rattle.pl_marks.proofs.LookUps.{found_some}
 use Rattle.pl_engine.proofs.Targets.{has_origin, slots_known, slots_new}
-use Rattle.pl_engine.proofs.VisitRows.{store-with_page, store_with_page}
+use Rattle.pl_history.proofs.VisitRows.{store-with_page, store_with_page}
 
 -- ---- no cause to refuse it
 

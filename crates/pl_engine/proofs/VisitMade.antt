@@ -16,24 +16,27 @@ use Rattle.pl_base.specs.Rows.{IsWellKept, Kept, KeptPage}
 use Rattle.pl_base.specs.Rows.{mark_of, page_at, store_of, with_mark, with_visit}
 use Rattle.pl_base.specs.Store.{Page, Store}
 use Rattle.pl_engine.specs.declared.command.Command.TheVariants.{Visit as VisitCommand}
-use Rattle.pl_engine.specs.declared.engine.find.Target.{Target}
-use Rattle.pl_engine.specs.declared.engine.find.Target.TheVariants.{Known, New}
+use Rattle.pl_history.specs.declared.find.Target.{Target}
+use Rattle.pl_history.specs.declared.find.Target.TheVariants.{Known, New}
 use Rattle.pl_engine.specs.declared.reply.Reply.{Reply}
 use Rattle.pl_engine.specs.declared.reply.Reply.TheVariants.{Visit as VisitReply}
 use Rattle.pl_base.specs.Good.{HasGoodItems}
-use Rattle.pl_engine.specs.Engine.{AreStanding, IsSound}
+use Rattle.pl_history.specs.Sound.{AreStanding, IsSound}
 use Rattle.pl_marks.specs.Refreshed.{AreRightBut, Refreshes, source_page, visited_mark}
-use Rattle.pl_engine.specs.Step.{after_visit, find_page, new_page, page_for, perform, unless_refused}
-use Rattle.pl_engine.specs.Step.{visit_page, visit_refusal, visit_reply, visited_page, visited_store, with_page_for}
-use Rattle.pl_engine.specs.Target.{AddsVisit, IsReady, IsTargetOf, WithTarget}
-use Rattle.pl_engine.proofs.GoodRows.{good_of, items_still}
+use Rattle.pl_base.specs.Visiting.{after_visit, find_page, new_page, page_for}
+use Rattle.pl_engine.specs.Step.{perform, unless_refused}
+use Rattle.pl_base.specs.Visiting.{visit_page, visited_page, visited_store, with_page_for}
+use Rattle.pl_engine.specs.Step.{visit_refusal, visit_reply}
+use Rattle.pl_engine.specs.Target.{AddsVisit, IsReady}
+use Rattle.pl_history.specs.Target.{IsTargetOf, WithTarget}
+use Rattle.pl_history.proofs.GoodRows.{good_of, items_still}
 use Rattle.pl_marks.proofs.LookUps.{found_holds}
 use Rattle.pl_marks.proofs.PageWalk.{part}
-use Rattle.pl_engine.proofs.RightAfter.{right_refreshed, right_visited}
+use Rattle.pl_history.proofs.RightAfter.{right_refreshed, right_visited}
 use Rattle.pl_engine.proofs.Targets.{IsFound, found_page}
-use Rattle.pl_engine.proofs.VisitRows.{grown_store, store_visited, store_with_page}
-use Rattle.pl_engine.proofs.KeptMark.{IsMarkAt, count_told, mark_made, typed_at}
-use Rattle.pl_engine.proofs.VisitedPages.{standing_after, standing_alike, typed_by, typed_still}
+use Rattle.pl_history.proofs.VisitRows.{grown_store, store_visited, store_with_page}
+use Rattle.pl_history.proofs.KeptMark.{IsMarkAt, count_told, mark_made, typed_at}
+use Rattle.pl_history.proofs.VisitedPages.{standing_after, standing_alike, typed_by, typed_still}
 use Rattle.pl_base.proofs.ListLaws.{list_any-alike, list_any-map}
 
 -- ---- the rows with the visit, and its page afresh

@@ -1,6 +1,4 @@
-pub mod Engine
 pub mod Parsed
-pub mod Removed
 pub mod Room
 pub mod Run
 pub mod Step

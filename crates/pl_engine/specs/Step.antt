@@ -24,8 +24,10 @@ use Rattle.pl_base.specs.Marks.{is_hidden, is_typed, last_date_of, visit_count}
 use Rattle.pl_base.specs.Redirects.{visit_by_id}
 use Rattle.pl_base.specs.Store.{Store, Page, Visit, Item, item_id}
 use Rattle.pl_base.specs.Tags.{is_bookmarked, tag_text}
+use Rattle.pl_base.specs.Removal.{without_idle_pages}
 use Rattle.pl_base.specs.Title.{cut_title}
 use Rattle.pl_base.specs.Tree.{child_items, retitled}
+use Rattle.pl_base.specs.Visiting.{after_visit, find_page, page_for, visited_page, with_page_for}
 use Rattle.pl_tree.specs.declared.new_item.NewItem.{NewItem}
 use Rattle.pl_tree.specs.declared.place.Place.{Place}
 use Rattle.pl_tree.specs.declared.tree_change.TreeChange.TheVariants.{Insert, Move, Retitle}
@@ -51,66 +53,10 @@ use Rattle.pl_engine.specs.declared.reply.Reply.{Reply}
 use Rattle.pl_engine.specs.declared.reply.Reply.TheVariants.{Visit as VisitReply}
 use Rattle.pl_engine.specs.declared.reply.Reply.TheVariants.{Page as PageReply, Done, Refused}
 use Rattle.pl_engine.specs.declared.reply.Reply.TheVariants.{Item as ItemReply, List as ListReply}
-use Rattle.pl_engine.specs.Engine.{is_standing}
+use Rattle.pl_base.specs.Removal.{is_standing}
 use Rattle.pl_engine.specs.Parsed.{Parsed}
 
 -- ---- a visit
-
--- the page with the URL
-abbrev pub find_page : List ℕ → List Page → Option Page
-find_page url pages = find (λ (p : Page). bytes_eq p.url url) pages
-
--- a page of the URL with the next id
-abbrev pub new_page : Store → List ℕ → Page
-new_page store url =
-    record { id = record { 0 = store.ids.page }; url = url; title = []; typed = false }
-
--- the page that a visit to the URL goes to: the one with the URL, or a new one
-abbrev pub page_for : Store → List ℕ → Page
-page_for store url = unwrap_or (find_page url store.pages) (new_page store url)
-
--- the store with that page, a new one at the end of the pages
-abbrev pub with_page_for : Store → List ℕ → Store
-with_page_for store url =
-    if is_none (find_page url store.pages)
-    then record store {
-      pages = store.pages ++ new_page store url ∷ [];
-      ids = record store.ids { page = store.ids.page + 1 };
-    }
-    else store
-
--- a page after a visit to it: from a typed visit on it is typed
-abbrev pub visited_page : Transition → Page → Page
-visited_page transition p = record p { typed = p.typed || is_typed transition }
-
--- the same of the page with this id
-abbrev pub visit_page : PageId → Transition → Page → Page
-visit_page id transition p = if p.id.0 == id.0 then visited_page transition p else p
-
--- a visit with the next id
-abbrev pub new_visit : Store → PageId → Transition → Micros → Option VisitId → Visit
-new_visit store page transition date source =
-    record {
-      id = record { 0 = store.ids.visit };
-      page = page;
-      date = date;
-      transition = transition;
-      source = source;
-    }
-
--- the store with that visit, at the end of the visits
-abbrev pub visited_store : PageId → Transition → Micros → Option VisitId → Store → Store
-visited_store page transition date source store =
-    record store {
-      ids = record store.ids { visit = store.ids.visit + 1 };
-      pages = map (visit_page page transition) store.pages;
-      visits = store.visits ++ new_visit store page transition date source ∷ [];
-    }
-
--- the store after a visit to the URL
-abbrev pub after_visit : Store → List ℕ → Transition → Micros → Option VisitId → Store
-after_visit store url transition date source =
-    visited_store (page_for store url).id transition date source (with_page_for store url)
 
 -- a store of so many slots after so many before takes more than it may
 abbrev pub is_full : ℕ → ℕ → ℕ → Bool
@@ -240,11 +186,6 @@ abbrev pub retitle_refusal : ℕ → Store → ItemId → ℕ → Option Refusal
 retitle_refusal limit store item slots =
     option_or (refusal store.items (Retitle item))
     (if is_full limit (live_slots store) slots then Some (Full slots) else None)
-
--- the store without the pages that have neither a visit nor an item
-abbrev pub without_idle_pages : Store → Store
-without_idle_pages store =
-    record store { pages = filter (λ (p : Page). is_standing store p.id) store.pages }
 
 -- the store without the item and all below it
 abbrev pub after_remove : ItemId → Store → Store

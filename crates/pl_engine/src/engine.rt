@@ -1,6 +1,5 @@
 mod bookmark;
 mod change;
-mod find;
 mod insert;
 mod list;
 mod page;

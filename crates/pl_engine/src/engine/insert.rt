@@ -8,7 +8,7 @@ ghost use Rattle.pl_base.specs.Live.{live_slots, slot_limit};
 ghost use Rattle.pl_base.specs.Rows.{has_page, store_of};
 ghost use Rattle.pl_tree.specs.Changes.{with_inserted};
 ghost use Rattle.pl_tree.specs.Refused.{insert_refusal};
-ghost use Rattle.pl_engine.specs.Engine.{IsSound};
+ghost use Rattle.pl_history.specs.Sound.{IsSound};
 ghost use Rattle.pl_engine.specs.Room.{item_room, plain_item};
 ghost use Rattle.pl_engine.specs.Step as spec;
 

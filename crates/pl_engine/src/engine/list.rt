@@ -4,7 +4,7 @@ ghost use Rattle.std.specs.Option.{option_and_then, option_map};
 ghost use Rattle.pl_base.specs.Good.{IsGood};
 ghost use Rattle.pl_base.specs.Rows.{has_page, store_of};
 ghost use Rattle.pl_base.specs.Tree.{has_item, item_at};
-ghost use Rattle.pl_engine.specs.Engine.{IsSound};
+ghost use Rattle.pl_history.specs.Sound.{IsSound};
 ghost use Rattle.pl_engine.specs.Step as spec;
 
 use crate::command::Command;

@@ -2,12 +2,13 @@
 ghost use Rattle.std.specs.Prelude.{◌≡◌, true, IfOk};
 ghost use Rattle.pl_base.specs.Marks.{last_date_of};
 ghost use Rattle.pl_base.specs.Rows.{has_page, store_of};
-ghost use Rattle.pl_engine.specs.Engine.{IsSound};
+ghost use Rattle.pl_history.specs.Sound.{IsSound};
+ghost use Rattle.pl_base.specs.Visiting as visiting;
 ghost use Rattle.pl_engine.specs.Step as spec;
 
-use crate::engine::find::find_page;
 use crate::reply::Reply;
 use pl_base::{Micros, NoMemory, PageId, Refusal, Rows, Steps};
+use pl_history::find_page;
 use pl_link::Canon;
 use pl_marks::{is_bookmarked, tag_text};
 use std::alloc::Global;
@@ -32,7 +33,7 @@ pub fn page<R: Rows, L: Ledger>(
 ) -> Result<Reply, NoMemory>
     requires sound { IsSound (R.kept rows.now) }
     ensures { IfOk result (λ reply. reply ≡ spec.told_page (store_of (R.kept rows.now))
-        (spec.find_page url.now (store_of (R.kept rows.now)).pages)) }
+        (visiting.find_page url.now (store_of (R.kept rows.now)).pages)) }
 {
     let Some(id) = find_page(rows, url.text(), steps)? else {
         return Ok(Reply::Refused(Refusal::NoPage));

@@ -3,15 +3,15 @@ ghost use Rattle.std.specs.Prelude.{◌≡◌, ◌≤◌, ℕ, List, length, tru
 ghost use Rattle.pl_base.specs.Good.{longest_title};
 ghost use Rattle.pl_base.specs.Live.{slot_limit};
 ghost use Rattle.pl_base.specs.Rows.{has_page, store_of, with_title};
-ghost use Rattle.pl_engine.specs.Engine.{IsSound};
+ghost use Rattle.pl_history.specs.Sound.{IsSound};
 ghost use Rattle.pl_engine.specs.Step as spec;
 ghost use Rattle.pl_engine.specs.Titled.{within_slots};
 
 use crate::command::Command;
-use crate::engine::find::find_page;
 use crate::engine::slots::{chunks, is_full};
 use crate::reply::Reply;
 use pl_base::{NoMemory, PageId, Refusal, Rows, Steps, Txt, cut_title};
+use pl_history::find_page;
 use pl_link::Canon;
 use std::sync::ledger::Ledger;
 

@@ -9,19 +9,21 @@ ghost use Rattle.pl_base.specs.Good.{end_of_ids};
 ghost use Rattle.pl_base.specs.Live as live;
 ghost use Rattle.pl_base.specs.Live.{live_slots, slot_limit};
 ghost use Rattle.pl_base.specs.Rows.{has_visit, store_of};
-ghost use Rattle.pl_engine.specs.Engine.{IsSound};
+ghost use Rattle.pl_history.specs.Sound.{IsSound};
 ghost use Rattle.pl_marks.specs.Refreshed.{AreRightBut, HaveCounts, source_page};
+ghost use Rattle.pl_base.specs.Visiting as visiting;
 ghost use Rattle.pl_engine.specs.Step as spec;
-ghost use Rattle.pl_engine.specs.Target.{AddsVisit, HasRoom, IsReady, IsTargetOf, WithTarget};
+ghost use Rattle.pl_engine.specs.Target.{AddsVisit, IsReady};
+ghost use Rattle.pl_history.specs.Target.{HasRoom, IsTargetOf, WithTarget};
 
 use crate::command::Command;
-use crate::engine::find::{Target, find_target, is_place};
 use crate::engine::slots::chunks;
 use crate::reply::Reply;
 use pl_base::{
     IdKind, Ids, Micros, NoMemory, PageId, Refusal, Rows, Slot, Steps, Transition, VisitId,
     VisitRow,
 };
+use pl_history::{Target, find_target, is_place};
 use pl_link::{Canon, split};
 use pl_marks::{refresh, visited_mark};
 use std::alloc::Global;
@@ -45,7 +47,7 @@ pub fn slots_after<R: Rows, L: Ledger>(
     requires { IsTargetOf (R.kept rows.now) url.now target }
     ensures after { (transition : Transition) → (date : Micros) → (source : Option VisitId)
         → result ≡ live_slots
-        (spec.after_visit (store_of (R.kept rows.now)) url.now transition date source) }
+        (visiting.after_visit (store_of (R.kept rows.now)) url.now transition date source) }
     ensures grows { live_slots (store_of (R.kept rows.now)) < result }
     ensures most { result ≤ live_slots (store_of (R.kept rows.now)) + 550 }
 {
@@ -82,7 +84,7 @@ fn room_refusal<R: Rows, L: Ledger>(
     requires { IsTargetOf (R.kept rows.now) url.now target }
     ensures { (transition : Transition) → (date : Micros) → (source : Option VisitId)
         → result ≡ spec.room_refusal limit (store_of (R.kept rows.now)) url.now (live_slots
-        (spec.after_visit (store_of (R.kept rows.now)) url.now transition date source)) }
+        (visiting.after_visit (store_of (R.kept rows.now)) url.now transition date source)) }
 {
     let ids = rows.ids(steps);
     let slots = slots_after(rows, url, target, steps);

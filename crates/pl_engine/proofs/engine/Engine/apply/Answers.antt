@@ -2,7 +2,7 @@ use Rattle.std.proofs.Common.{◌≡◌, ap}
 use Rattle.pl_base.specs.Rows.{store_of}
 use Rattle.pl_base.specs.Store.{Store}
 use Rattle.pl_engine.specs.declared.reply.Reply.{Reply}
-use Rattle.pl_engine.specs.Engine.{IsSound}
+use Rattle.pl_history.specs.Sound.{IsSound}
 use Rattle.pl_engine.specs.Step.{perform}
 use Rattle.pl_engine.proofs.engine.Engine.apply.Given.{Over}
 use Rattle.pl_engine.proofs.engine.Engine.apply.Goals.{Joined-command, in-Visit+in_ok-reply-in-Visit}

@@ -6,7 +6,7 @@ use Rattle.pl_engine.specs.Room.{page_item}
 use Rattle.pl_engine.specs.Step.{after_insert}
 use Rattle.pl_marks.proofs.LookUps.{found_where}
 use Rattle.pl_engine.proofs.GrownItems.{adds_new, mark_counted, sound_grown}
-use Rattle.pl_engine.proofs.SourcePage.{source_store}
+use Rattle.pl_history.proofs.SourcePage.{source_store}
 use Rattle.pl_engine.proofs.engine.bookmark.add_bookmark.Goals as goal
 
 pub unwrap-mark-requires : goal.unwrap-mark-requires

@@ -1,6 +1,6 @@
 use Rattle.std.proofs.Common.{List, subst, sym}
 use Rattle.pl_base.specs.declared.id.PageId.{PageId}
-use Rattle.pl_engine.specs.Removed.{AreSettledBut}
+use Rattle.pl_history.specs.Settled.{AreSettledBut}
 use Rattle.pl_engine.proofs.LostItems.{lost_settled}
 use Rattle.pl_engine.proofs.engine.remove.remove.Goals as goal
 

@@ -3,7 +3,7 @@ use Rattle.pl_base.specs.Rows.{Kept, KeptPage, has_page, mark_of, store_of}
 use Rattle.pl_tree.specs.Tagged.{new_items, tagged_items}
 use Rattle.pl_marks.proofs.LookUps.{found_where}
 use Rattle.pl_engine.proofs.GrownItems.{mark_counted, sound_grown}
-use Rattle.pl_engine.proofs.SourcePage.{source_store}
+use Rattle.pl_history.proofs.SourcePage.{source_store}
 use Rattle.pl_engine.proofs.TagMade.{adds_tagged}
 use Rattle.pl_engine.proofs.engine.tag.add_tag.Goals as goal
 

@@ -6,9 +6,9 @@ use Rattle.pl_base.specs.Rows.{Kept, KeptPage, has_page, mark_of, store_of, with
 use Rattle.pl_engine.specs.declared.reply.Reply.TheVariants.{Visit as VisitReply}
 use Rattle.pl_marks.specs.Refreshed.{Refreshes}
 use Rattle.pl_engine.specs.Target.{AddsVisit}
-use Rattle.pl_engine.proofs.RightAfter.{counts_refreshed, counts_visited}
+use Rattle.pl_history.proofs.RightAfter.{counts_refreshed, counts_visited}
 use Rattle.pl_marks.proofs.LookUps.{found_where}
-use Rattle.pl_engine.proofs.KeptMark.{count_told, few_counted, mark_made}
+use Rattle.pl_history.proofs.KeptMark.{count_told, few_counted, mark_made}
 use Rattle.pl_engine.proofs.VisitMade.{added_after, afresh_made, right_still, sound_after}
 use Rattle.pl_engine.proofs.engine.visit.add_visit.Goals as goal
 

@@ -1,7 +1,7 @@
 use Rattle.std.proofs.Common.{subst, ◌∙◌, ap, List, ℕ}
 use Rattle.pl_base.specs.Rows.{store_of}
-use Rattle.pl_engine.specs.Step.{find_page}
-use Rattle.pl_engine.specs.Target.{IsTargetOf}
+use Rattle.pl_base.specs.Visiting.{find_page}
+use Rattle.pl_history.specs.Target.{IsTargetOf}
 use Rattle.pl_engine.proofs.Targets.{absent}
 use Rattle.pl_engine.proofs.engine.visit.page_for.Goals as goal
 

@@ -1,5 +1,5 @@
 use Rattle.std.proofs.Common.{arith, subst}
-use Rattle.pl_engine.specs.Target.{IsTargetOf}
+use Rattle.pl_history.specs.Target.{IsTargetOf}
 use Rattle.pl_engine.proofs.Targets.{slots_known, slots_new}
 use Rattle.pl_engine.proofs.engine.visit.slots_after.Goals as goal
 

@@ -4,7 +4,7 @@ use Rattle.pl_base.specs.declared.row.VisitRow.{VisitRow}
 use Rattle.pl_base.specs.Rows.{store_of}
 use Rattle.pl_engine.specs.Step.{visit_refusal}
 use Rattle.pl_engine.specs.Target.{AddsVisit}
-use Rattle.pl_engine.proofs.OriginParts.{is_place-by_parts}
+use Rattle.pl_history.proofs.OriginParts.{is_place-by_parts}
 use Rattle.pl_engine.proofs.ReadyPage.{ready}
 use Rattle.pl_engine.proofs.VisitAllowed.{has_id, has_room, has_slot, has_source}
 use Rattle.pl_engine.proofs.VisitMade.{step_after}

@@ -1,0 +1,11 @@
+pub mod Dropped
+pub mod GoodRows
+pub mod KeptMark
+pub mod KeptUrls
+pub mod OriginParts
+pub mod RightAfter
+pub mod Settled
+pub mod SourcePage
+pub mod StandingPages
+pub mod VisitRows
+pub mod VisitedPages

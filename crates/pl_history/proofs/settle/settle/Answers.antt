@@ -1,0 +1,44 @@
+use Rattle.std.proofs.Common.{◌==◌, ◌∙◌, ap, sym}
+use Rattle.pl_base.specs.Rows.{KeptPage, mark_of}
+use Rattle.pl_base.specs.Removal.{without_idle_pages}
+use Rattle.pl_marks.proofs.LookUps.{found_where}
+use Rattle.pl_history.proofs.Dropped.{dropped_settled, dropped_store}
+use Rattle.pl_history.proofs.KeptMark.{count_at, mark_at}
+use Rattle.pl_history.proofs.Settled.{refreshed_settled}
+use Rattle.pl_history.proofs.SourcePage.{source_store}
+use Rattle.pl_history.proofs.settle.settle.Goals as goal
+
+pub returns-then-not-is_standing-clause-store : goal.returns-then-not-is_standing-clause-store
+returns-then-not-is_standing-clause-store g c =
+    dropped_store c.args.page (g.R.Rows.kept c.args.rows.now) (g.R.Rows.kept c.remove_page.new.self)
+    c.remove_page.ensures.kept (sym c.is_standing.ensures ∙ c.if-not-is_standing.true)
+
+pub returns-then-not-is_standing-clause-settled : goal.returns-then-not-is_standing-clause-settled
+returns-then-not-is_standing-clause-settled g c rest s =
+    dropped_settled c.args.page (g.R.Rows.kept c.args.rows.now) (g.R.Rows.kept c.remove_page.new.self) rest
+    c.remove_page.ensures.kept (sym c.is_standing.ensures ∙ c.if-not-is_standing.true) s
+
+pub unwrap-mark-requires : goal.unwrap-mark-requires
+unwrap-mark-requires g c =
+    found_where (λ (p : KeptPage). p.page.id.0 == c.args.page.0) mark_of (g.R.Rows.kept c.args.rows.now).pages
+    c.page_at.result c.requires.page c.page_at.ensures.mark
+
+pub refresh-requires-clause-count : goal.refresh-requires-clause-count
+refresh-requires-clause-count g c =
+    count_at (g.R.Rows.kept c.args.rows.now) c.args.page c.unwrap-mark.result c.requires.counts
+    (mark_at (g.R.Rows.kept c.args.rows.now) c.args.page c.unwrap-mark.result
+    (sym c.unwrap-mark.ensures ∙ c.page_at.ensures.mark))
+
+pub returns-clause-store : goal.returns-clause-store
+returns-clause-store g c =
+    ap without_idle_pages
+    (source_store (g.R.Rows.kept c.args.rows.now) (g.R.Rows.kept c.refresh.new.rows) c.args.page c.unwrap-mark.result
+    c.in_ok-is_place.is_place c.in_ok-refresh.field-0 (g.met.R.Rows.well_kept c.args.rows.now)
+    (sym c.unwrap-mark.ensures ∙ c.page_at.ensures.mark) c.in_ok-refresh.ensures.refreshed)
+
+pub returns-clause-settled : goal.returns-clause-settled
+returns-clause-settled g c rest s =
+    refreshed_settled (g.R.Rows.kept c.args.rows.now) (g.R.Rows.kept c.refresh.new.rows) c.args.page rest
+    c.unwrap-mark.result c.in_ok-is_place.is_place c.in_ok-refresh.field-0 (g.met.R.Rows.well_kept c.args.rows.now)
+    (sym c.unwrap-mark.ensures ∙ c.page_at.ensures.mark) c.in_ok-is_place.ensures
+    (sym c.is_standing.ensures ∙ c.if-not-is_standing.false) c.in_ok-refresh.ensures.refreshed s

@@ -1,0 +1,34 @@
+use Rattle.std.proofs.Common.{◌∙◌, ◌+◌, arith, drop, get_or, sym}
+use Rattle.pl_history.proofs.Settled.{next_there, none_next, page_next, settled_sound, settled_store}
+use Rattle.pl_history.proofs.settle.settle_all.Goals as goal
+
+pub settle-requires-clause-page : goal.settle-requires-clause-page
+settle-requires-clause-page g c =
+    next_there (g.R.Rows.kept c.loop-page.rows) (get_or c.args.pages.now c.loop-page.page-index (record { 0 = 0 }))
+    (drop (c.loop-page.page-index + 1) c.args.pages.now)
+    (page_next (g.R.Rows.kept c.loop-page.rows) c.args.pages.now c.loop-page.page-index (record { 0 = 0 })
+    (omega arith) c.loop-page.invariant.settled)
+
+pub loop-page-preserved : goal.loop-page-preserved
+loop-page-preserved g c =
+    record {
+      settled =
+          c.in_ok-settle.ensures.settled (drop (c.loop-page.page-index + 1) c.args.pages.now)
+          (page_next (g.R.Rows.kept c.loop-page.rows) c.args.pages.now c.loop-page.page-index (record { 0 = 0 })
+          (omega arith) c.loop-page.invariant.settled);
+      store = c.in_ok-settle.ensures.store ∙ c.loop-page.invariant.store;
+      base = λ bytes was. c.in_ok-settle.ensures.base bytes (c.loop-page.invariant.base bytes was);
+    }
+
+pub returns-clause-store : goal.returns-clause-store
+returns-clause-store g c =
+    sym (settled_store (g.R.Rows.kept c.loop-page.rows)
+    (none_next (g.R.Rows.kept c.loop-page.rows) c.args.pages.now c.loop-page.page-index (omega arith)
+    c.loop-page.invariant.settled))
+    ∙ c.loop-page.invariant.store
+
+pub returns-clause-sound : goal.returns-clause-sound
+returns-clause-sound g c =
+    settled_sound (g.R.Rows.kept c.loop-page.rows) (g.met.R.Rows.well_kept c.loop-page.rows)
+    (none_next (g.R.Rows.kept c.loop-page.rows) c.args.pages.now c.loop-page.page-index (omega arith)
+    c.loop-page.invariant.settled)

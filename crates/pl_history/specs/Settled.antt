@@ -1,0 +1,21 @@
+-- What is known of the rows while the pages that lost an item are settled.
+use Rattle.std.specs.Prelude.{◌≡◌, ◌≢◌, ◌==◌, false, IsTrue, List}
+use Rattle.std.specs.List.{All, AllPairs, list_any}
+use Rattle.pl_base.specs.declared.id.PageId.{PageId}
+use Rattle.pl_base.specs.Good.{HasGoodItems}
+use Rattle.pl_base.specs.Rows.{Kept, KeptPage, has_page, store_of}
+use Rattle.pl_marks.specs.Refreshed.{AreRightBut, HaveCounts}
+use Rattle.pl_history.specs.Sound.{IsTypedRight}
+use Rattle.pl_base.specs.Removal.{is_standing}
+
+-- the pages with these ids are there, and each of the others is right and stands there by a visit
+-- or an item
+pub record AreSettledBut (ids : List PageId) (kept : Kept) : Type 0 where
+  pub there : All (λ (id : PageId). IsTrue (has_page kept id)) ids
+  pub apart : AllPairs (λ (a b : PageId). a.0 ≢ b.0) ids
+  pub items : HasGoodItems (store_of kept)
+  pub counts : HaveCounts kept
+  pub right : AreRightBut ids kept
+  pub by_row : All (λ (p : KeptPage). list_any (λ (id : PageId). p.page.id.0 == id.0) ids ≡ false
+      → IsTrue (is_standing (store_of kept) p.page.id)) kept.pages
+  pub typed : All (IsTypedRight kept) kept.pages
