@@ -1,5 +1,6 @@
 pub mod Address
 pub mod Date
+pub mod Days
 pub mod Expiration
 pub mod Fold
 pub mod Frecency

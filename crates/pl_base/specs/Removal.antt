@@ -7,6 +7,7 @@ use Rattle.pl_base.specs.declared.id.VisitId.{VisitId}
 use Rattle.pl_base.specs.Good.{is_visited}
 use Rattle.pl_base.specs.Marks.{is_referenced}
 use Rattle.pl_base.specs.Store.{Store, Page, Visit}
+use Rattle.pl_base.specs.Visits.{visits_of}
 
 -- a page stands there by a visit or an item
 abbrev pub is_standing : Store → PageId → Bool
@@ -40,3 +41,7 @@ visits_left gone visits =
 abbrev pub without_visits : List VisitId → Store → Store
 without_visits gone store =
     without_idle_pages (record store { visits = visits_left gone store.visits })
+
+-- the store without the visits of a page
+abbrev pub forgotten : PageId → Store → Store
+forgotten page store = without_visits (map (λ (v : Visit). v.id) (visits_of store page)) store

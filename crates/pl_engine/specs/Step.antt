@@ -53,7 +53,6 @@ use Rattle.pl_engine.specs.declared.reply.Reply.{Reply}
 use Rattle.pl_engine.specs.declared.reply.Reply.TheVariants.{Visit as VisitReply}
 use Rattle.pl_engine.specs.declared.reply.Reply.TheVariants.{Page as PageReply, Done, Refused}
 use Rattle.pl_engine.specs.declared.reply.Reply.TheVariants.{Item as ItemReply, List as ListReply}
-use Rattle.pl_base.specs.Removal.{is_standing}
 use Rattle.pl_engine.specs.Parsed.{Parsed}
 
 -- ---- a visit

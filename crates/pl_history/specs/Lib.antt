@@ -1,3 +1,4 @@
 pub mod Settled
 pub mod Sound
 pub mod Target
+pub mod Went

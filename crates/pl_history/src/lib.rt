@@ -1,9 +1,16 @@
-//! History, changed over any rows: pages are found by their URLs, visits go, and pages go that
-//! nothing keeps any longer; what is computed of each page that a change bears on is right behind it.
+//! History, changed over any rows: pages are found by their URLs, visits go one by one or because
+//! they are old, pages go that nothing keeps any longer, and the day goes on. What is computed of
+//! each page that a change bears on is right behind it.
 #![tactic(auto)]
 
+mod days;
+mod expiration;
 mod find;
+mod removal;
 mod settle;
 
+pub use days::set_day;
+pub use expiration::{expire, forget, trim};
 pub use find::{Target, find_page, find_target, is_place};
+pub use removal::{Removed, remove_visits};
 pub use settle::settle_all;
