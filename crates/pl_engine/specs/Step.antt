@@ -1,9 +1,10 @@
 -- One step of the machine: what a command answers and what it leaves of the store.
-use Rattle.std.specs.Prelude.{◌≡◌, ℕ, ◌+◌, ◌==◌, ◌&&◌, ◌||◌, Bool, true, false, List}
-use Rattle.std.specs.Prelude.{[], ◌∷◌, ◌++◌, map, nat_lt, bytes_eq, unwrap_or}
+use Rattle.std.specs.Prelude.{◌≡◌, ℕ, ◌+◌, ◌-◌, ◌==◌, ◌&&◌, ◌||◌, Bool, true, false, List}
+use Rattle.std.specs.Prelude.{[], ◌∷◌, length, map, nat_lt, bytes_eq}
 use Rattle.std.specs.Prelude.{is_none, Option, Some, None, Ok, Err, if◌then◌else◌}
 use Rattle.std.specs.List.{filter, find}
 use Rattle.std.specs.Option.{is_some, option_and_then, option_map, option_or}
+use Rattle.pl_base.specs.declared.date.Day.{Day}
 use Rattle.pl_base.specs.declared.date.Micros.{Micros}
 use Rattle.pl_base.specs.declared.id.IdKind.TheVariants.{Page as PageKind, Visit as VisitKind}
 use Rattle.pl_base.specs.declared.id.IdKind.TheVariants.{Item as ItemKind}
@@ -13,10 +14,12 @@ use Rattle.pl_base.specs.declared.id.VisitId.{VisitId}
 use Rattle.pl_base.specs.declared.item.ItemKind.TheVariants.{Bookmark, Folder, Separator}
 use Rattle.pl_base.specs.declared.refusal.Refusal.{Refusal}
 use Rattle.pl_base.specs.declared.refusal.Refusal.TheVariants.{NotRecorded, NoVisit, NoPage}
-use Rattle.pl_base.specs.declared.refusal.Refusal.TheVariants.{Full, NoIds, DupTag, NoTag}
+use Rattle.pl_base.specs.declared.refusal.Refusal.TheVariants.{DayBack, Full, NoIds, DupTag, NoTag}
 use Rattle.pl_base.specs.declared.transition.Transition.{Transition}
 use Rattle.pl_base.specs.Address.{is_unrecorded_url}
-use Rattle.pl_base.specs.Date.{IsDate}
+use Rattle.pl_base.specs.Date.{IsDate, IsDay}
+use Rattle.pl_base.specs.Days.{on_day, pages_moved}
+use Rattle.pl_base.specs.Expiration.{expired, trimmed}
 use Rattle.pl_base.specs.Frecency.{frecency_of}
 use Rattle.pl_base.specs.Good.{end_of_ids}
 use Rattle.pl_base.specs.Live.{live_slots}
@@ -24,7 +27,7 @@ use Rattle.pl_base.specs.Marks.{is_hidden, is_typed, last_date_of, visit_count}
 use Rattle.pl_base.specs.Redirects.{visit_by_id}
 use Rattle.pl_base.specs.Store.{Store, Page, Visit, Item, item_id}
 use Rattle.pl_base.specs.Tags.{is_bookmarked, tag_text}
-use Rattle.pl_base.specs.Removal.{without_idle_pages}
+use Rattle.pl_base.specs.Removal.{forgotten, without_idle_pages, without_visits}
 use Rattle.pl_base.specs.Title.{cut_title}
 use Rattle.pl_base.specs.Tree.{child_items, retitled}
 use Rattle.pl_base.specs.Visiting.{after_visit, find_page, page_for, visited_page, with_page_for}
@@ -36,9 +39,14 @@ use Rattle.pl_tree.specs.Changes.{with_moved, with_new, with_removed}
 use Rattle.pl_tree.specs.Refused.{folder_refusal, refusal}
 use Rattle.pl_tree.specs.Tagged.{new_items, tag_entry, tagged_items, untagged_items}
 use Rattle.pl_engine.specs.declared.command.Command.{Command}
+use Rattle.pl_engine.specs.declared.command.Command.TheVariants.{Day as DayCommand}
 use Rattle.pl_engine.specs.declared.command.Command.TheVariants.{Visit as VisitCommand}
 use Rattle.pl_engine.specs.declared.command.Command.TheVariants.{Title as TitleCommand}
 use Rattle.pl_engine.specs.declared.command.Command.TheVariants.{Page as PageCommand}
+use Rattle.pl_engine.specs.declared.command.Command.TheVariants.{Unvisit as UnvisitCommand}
+use Rattle.pl_engine.specs.declared.command.Command.TheVariants.{Forget as ForgetCommand}
+use Rattle.pl_engine.specs.declared.command.Command.TheVariants.{Expire as ExpireCommand}
+use Rattle.pl_engine.specs.declared.command.Command.TheVariants.{Trim as TrimCommand}
 use Rattle.pl_engine.specs.declared.command.Command.TheVariants.{Folder as FolderCommand}
 use Rattle.pl_engine.specs.declared.command.Command.TheVariants.{Bookmark as BookmarkCommand}
 use Rattle.pl_engine.specs.declared.command.Command.TheVariants.{Separator as SeparatorCommand}
@@ -53,7 +61,14 @@ use Rattle.pl_engine.specs.declared.reply.Reply.{Reply}
 use Rattle.pl_engine.specs.declared.reply.Reply.TheVariants.{Visit as VisitReply}
 use Rattle.pl_engine.specs.declared.reply.Reply.TheVariants.{Page as PageReply, Done, Refused}
 use Rattle.pl_engine.specs.declared.reply.Reply.TheVariants.{Item as ItemReply, List as ListReply}
+use Rattle.pl_engine.specs.declared.reply.Reply.TheVariants.{Day as DayReply}
+use Rattle.pl_engine.specs.declared.reply.Reply.TheVariants.{Removed as RemovedReply}
 use Rattle.pl_engine.specs.Parsed.{Parsed}
+
+-- a refused command changes nothing
+abbrev pub unless_refused : Option Refusal → Store → Reply × Store → Reply × Store
+unless_refused (Some refusal) store done = (Refused refusal, store)
+unless_refused None store done = done
 
 -- ---- a visit
 
@@ -61,11 +76,14 @@ use Rattle.pl_engine.specs.Parsed.{Parsed}
 abbrev pub is_full : ℕ → ℕ → ℕ → Bool
 is_full limit before after = nat_lt limit after && nat_lt before after
 
+-- a visit that is not there
+abbrev pub absent_visit : Store → VisitId → Option Refusal
+absent_visit store id = if is_none (visit_by_id store id) then Some (NoVisit id) else None
+
 -- the source that a visit names is not there
 abbrev pub source_refusal : Store → Option VisitId → Option Refusal
 source_refusal store None = None
-source_refusal store (Some id) =
-    if is_none (visit_by_id store id) then Some (NoVisit id) else None
+source_refusal store (Some id) = absent_visit store id
 
 -- an id for a page is wanting, one for the visit, or the slots for what the visit makes
 abbrev pub room_refusal : ℕ → Store → List ℕ → ℕ → Option Refusal
@@ -121,12 +139,28 @@ abbrev pub told_page : Store → Option Page → Reply
 told_page store None = Refused NoPage
 told_page store (Some p) = page_reply store p
 
--- ---- items
+-- ---- the day, and what goes
 
--- a refused command changes nothing
-abbrev pub unless_refused : Option Refusal → Store → Reply × Store → Reply × Store
-unless_refused (Some refusal) store done = (Refused refusal, store)
-unless_refused None store done = done
+-- a day before the store's own
+abbrev pub day_refusal : Store → Day → Option Refusal
+day_refusal store day = if nat_lt day.0 store.day.0 then Some (DayBack store.day) else None
+
+-- the reply tells how many visits and pages the store had more than it has now
+abbrev pub removed_reply : Store → Store → Reply
+removed_reply store after =
+    RemovedReply (length store.visits - length after.visits)
+    (length store.pages - length after.pages)
+
+-- what went, and the store after it
+abbrev pub removal_step : Store → Store → Reply × Store
+removal_step store after = (removed_reply store after, after)
+
+-- the visits to a page go, where there is the page
+abbrev pub forget_step : Store → Option Page → Reply × Store
+forget_step store None = (Refused NoPage, store)
+forget_step store (Some p) = removal_step store (forgotten p.id store)
+
+-- ---- items
 
 -- a new folder or separator, with no page
 abbrev pub new_folder : List ℕ → Micros → NewItem
@@ -251,11 +285,16 @@ list_reply store id = ListReply (map (list_row store) (child_items store.items i
 
 -- ---- the step
 
--- the dates of a command are in range
+-- the dates and days of a command are in range
 abbrev pub HasDates : Command → Type 0
+HasDates (DayCommand day) = IsDay day
 HasDates (VisitCommand url transition date source) = IsDate date
 HasDates (TitleCommand url text) = Unit {0}
 HasDates (PageCommand url) = Unit {0}
+HasDates (UnvisitCommand visit) = Unit {0}
+HasDates (ForgetCommand url) = Unit {0}
+HasDates (ExpireCommand day) = IsDay day
+HasDates (TrimCommand most) = Unit {0}
 HasDates (FolderCommand parent place title date) = IsDate date
 HasDates (BookmarkCommand parent place url title date) = IsDate date
 HasDates (SeparatorCommand parent place date) = IsDate date
@@ -268,9 +307,14 @@ HasDates (UntagCommand url name) = Unit {0}
 
 -- any command may want memory but a visit that is not recorded
 abbrev pub MayWantMemory : Command → Type 0
+MayWantMemory (DayCommand day) = Unit {0}
 MayWantMemory (VisitCommand url transition date source) = is_unrecorded_url url ≡ false
 MayWantMemory (TitleCommand url text) = Unit {0}
 MayWantMemory (PageCommand url) = Unit {0}
+MayWantMemory (UnvisitCommand visit) = Unit {0}
+MayWantMemory (ForgetCommand url) = Unit {0}
+MayWantMemory (ExpireCommand day) = Unit {0}
+MayWantMemory (TrimCommand most) = Unit {0}
 MayWantMemory (FolderCommand parent place title date) = Unit {0}
 MayWantMemory (BookmarkCommand parent place url title date) = Unit {0}
 MayWantMemory (SeparatorCommand parent place date) = Unit {0}
@@ -283,9 +327,14 @@ MayWantMemory (UntagCommand url name) = Unit {0}
 
 -- a command of a kind that may change the store
 abbrev pub is_change : Command → Bool
+is_change (DayCommand day) = true
 is_change (VisitCommand url transition date source) = true
 is_change (TitleCommand url text) = true
 is_change (PageCommand url) = false
+is_change (UnvisitCommand visit) = true
+is_change (ForgetCommand url) = true
+is_change (ExpireCommand day) = true
+is_change (TrimCommand most) = true
 is_change (FolderCommand parent place title date) = true
 is_change (BookmarkCommand parent place url title date) = true
 is_change (SeparatorCommand parent place date) = true
@@ -298,12 +347,21 @@ is_change (UntagCommand url name) = true
 
 -- on a store that takes at most so many slots
 abbrev pub perform : ℕ → Store → Command → Reply × Store
+perform limit store (DayCommand day) =
+    unless_refused (day_refusal store day) store
+    (DayReply day (pages_moved day store), on_day day store)
 perform limit store (VisitCommand url transition date source) =
     unless_refused (visit_refusal limit store url transition date source) store
     (visit_reply store url transition date source, after_visit store url transition date source)
 perform limit store (TitleCommand url text) =
     unless_refused (title_refusal limit store url text) store (Done, after_title store url text)
 perform limit store (PageCommand url) = (told_page store (find_page url store.pages), store)
+perform limit store (UnvisitCommand visit) =
+    unless_refused (absent_visit store visit) store
+    (removal_step store (without_visits (visit ∷ []) store))
+perform limit store (ForgetCommand url) = forget_step store (find_page url store.pages)
+perform limit store (ExpireCommand day) = removal_step store (expired day store)
+perform limit store (TrimCommand most) = removal_step store (trimmed most store)
 perform limit store (FolderCommand parent place title date) =
     insert_step limit store parent place false
     (after_insert parent place (new_folder title date) store)

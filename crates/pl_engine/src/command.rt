@@ -1,7 +1,7 @@
 ghost use Rattle.std.specs.Prelude.{◌≡◌};
 ghost use Rattle.pl_engine.specs.Step.{is_change};
 
-use pl_base::{ItemId, Micros, Transition, Txt, VisitId};
+use pl_base::{Day, ItemId, Micros, Transition, Txt, VisitId};
 use pl_link::Canon;
 use pl_tree::Place;
 use pl_words::TagName;
@@ -9,6 +9,10 @@ use pl_words::TagName;
 /// What a line of the script asks for.
 #[derive(Debug, Drop)]
 pub enum Command {
+    /// The store's day, which is never one before.
+    Day {
+        day: Day,
+    },
     /// A visit to an address.
     Visit {
         url: Canon,
@@ -25,6 +29,22 @@ pub enum Command {
     /// What is known of the page of an address.
     Page {
         url: Canon,
+    },
+    /// A visit goes.
+    Unvisit {
+        visit: VisitId,
+    },
+    /// All visits to the page of an address go.
+    Forget {
+        url: Canon,
+    },
+    /// The visits of the days before this one go.
+    Expire {
+        day: Day,
+    },
+    /// The pages that no item has go, the stalest first, until there are so many pages.
+    Trim {
+        most: u32,
     },
     /// A new folder of the bookmark tree.
     Folder {
@@ -87,8 +107,13 @@ impl Command {
         ensures { result ≡ is_change self.now }
     {
         match self {
-            Command::Visit { .. }
+            Command::Day { .. }
+            | Command::Visit { .. }
             | Command::Title { .. }
+            | Command::Unvisit { .. }
+            | Command::Forget { .. }
+            | Command::Expire { .. }
+            | Command::Trim { .. }
             | Command::Folder { .. }
             | Command::Bookmark { .. }
             | Command::Separator { .. }

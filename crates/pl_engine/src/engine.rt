@@ -1,5 +1,6 @@
 mod bookmark;
 mod change;
+mod history;
 mod insert;
 mod list;
 mod page;
@@ -20,6 +21,7 @@ ghost use Rattle.pl_engine.specs.Step as spec;
 use crate::command::Command;
 use crate::engine::bookmark::bookmark;
 use crate::engine::change::{move_item, retitle};
+use crate::engine::history::{day, expire, forget, trim, unvisit};
 use crate::engine::insert::{folder, separator};
 use crate::engine::list::list;
 use crate::engine::page::page;
@@ -91,6 +93,7 @@ impl<R: Rows + Drop> Engine<R> {
             limit,
         } = self;
         let reply = match command {
+            Command::Day { day: to } => day(alloc, &mut rows, *to, steps)?,
             Command::Visit {
                 url,
                 transition,
@@ -108,6 +111,10 @@ impl<R: Rows + Drop> Engine<R> {
             )?,
             Command::Title { url, text } => title(&mut rows, limit, url, text, steps)?,
             Command::Page { url } => page(alloc, &rows, url, steps)?,
+            Command::Unvisit { visit } => unvisit(alloc, &mut rows, *visit, steps)?,
+            Command::Forget { url } => forget(alloc, &mut rows, url, steps)?,
+            Command::Expire { day } => expire(alloc, &mut rows, *day, steps)?,
+            Command::Trim { most } => trim(alloc, &mut rows, *most, steps)?,
             Command::Folder {
                 parent,
                 place,

@@ -1,8 +1,13 @@
-use pl_base::{ItemId, ItemKind, Micros, PageId, Refusal, Seq, Txt, VisitId};
+use pl_base::{Day, ItemId, ItemKind, Micros, PageId, Refusal, Seq, Txt, VisitId};
 
 /// The answer to a command.
 #[derive(Debug, PartialEq, Eq, Drop)]
 pub enum Reply {
+    /// The store's day, and how many pages have another frecency than on the day before it.
+    Day {
+        day: Day,
+        changed: u32,
+    },
     /// The visit that was added, its page, and the page's frecency from then on.
     Visit {
         visit: VisitId,
@@ -26,6 +31,11 @@ pub enum Reply {
         title: Txt,
         /// Its tags, in the order of their folds and joined by commas.
         tags: Txt,
+    },
+    /// How many visits and pages went.
+    Removed {
+        visits: u32,
+        pages: u32,
     },
     /// The item that was inserted.
     Item(ItemId),

@@ -13,6 +13,10 @@ use Rattle.pl_engine.proofs.engine.Engine.apply.Goals.{in-Separator+in_ok-reply-
 use Rattle.pl_engine.proofs.engine.Engine.apply.Goals.{in-Retitle+in_ok-reply-in-Retitle}
 use Rattle.pl_engine.proofs.engine.Engine.apply.Goals.{in-Tag+in_ok-reply-in-Tag, in-Untag+in_ok-reply-in-Untag}
 use Rattle.pl_engine.proofs.engine.Engine.apply.Goals.{in-Remove+in_ok-reply-in-Remove, in-List+in_ok-reply-in-List}
+use Rattle.pl_engine.proofs.engine.Engine.apply.Goals.{in-Day+in_ok-reply-in-Day, in-Trim+in_ok-reply-in-Trim}
+use Rattle.pl_engine.proofs.engine.Engine.apply.Goals.{in-Unvisit+in_ok-reply-in-Unvisit}
+use Rattle.pl_engine.proofs.engine.Engine.apply.Goals.{in-Forget+in_ok-reply-in-Forget}
+use Rattle.pl_engine.proofs.engine.Engine.apply.Goals.{in-Expire+in_ok-reply-in-Expire}
 use Rattle.pl_engine.proofs.engine.Engine.apply.Goals as goal
 
 -- whichever command it is
@@ -25,6 +29,11 @@ sound g c =
         good = c.args.self.good;
         right = c.args.self.right;
       })
+      | in-Day+in_ok-reply-in-Day w ↦ rw w.rows-is w.in_ok-reply-in-Day.ensures.sound
+      | in-Unvisit+in_ok-reply-in-Unvisit w ↦ rw w.rows-is w.in_ok-reply-in-Unvisit.ensures.sound
+      | in-Forget+in_ok-reply-in-Forget w ↦ rw w.rows-is w.in_ok-reply-in-Forget.ensures.sound
+      | in-Expire+in_ok-reply-in-Expire w ↦ rw w.rows-is w.in_ok-reply-in-Expire.ensures.sound
+      | in-Trim+in_ok-reply-in-Trim w ↦ rw w.rows-is w.in_ok-reply-in-Trim.ensures.sound
       | in-Folder+in_ok-reply-in-Folder w ↦ rw w.rows-is w.in_ok-reply-in-Folder.ensures.sound
       | in-Bookmark+in_ok-reply-in-Bookmark w ↦ rw w.rows-is w.in_ok-reply-in-Bookmark.ensures.sound
       | in-Separator+in_ok-reply-in-Separator w ↦ rw w.rows-is w.in_ok-reply-in-Separator.ensures.sound
@@ -51,6 +60,16 @@ step g c =
           w.in_ok-reply-in-Title.ensures.step
       | in-Page+in_ok-reply-in-Page w ↦ rw (w.rows-is, w.reply-is, w.in-Page.is)
           (ap (λ (r : Reply). (r, store_of (g.R.Rows.kept c.args.self.rows))) w.in_ok-reply-in-Page.ensures)
+      | in-Day+in_ok-reply-in-Day w ↦ rw (w.rows-is, w.reply-is, w.in-Day.is)
+          (w.in_ok-reply-in-Day.ensures.step c.args.self.limit)
+      | in-Unvisit+in_ok-reply-in-Unvisit w ↦ rw (w.rows-is, w.reply-is, w.in-Unvisit.is)
+          (w.in_ok-reply-in-Unvisit.ensures.step c.args.self.limit)
+      | in-Forget+in_ok-reply-in-Forget w ↦ rw (w.rows-is, w.reply-is, w.in-Forget.is)
+          (w.in_ok-reply-in-Forget.ensures.step c.args.self.limit)
+      | in-Expire+in_ok-reply-in-Expire w ↦ rw (w.rows-is, w.reply-is, w.in-Expire.is)
+          (w.in_ok-reply-in-Expire.ensures.step c.args.self.limit)
+      | in-Trim+in_ok-reply-in-Trim w ↦ rw (w.rows-is, w.reply-is, w.in-Trim.is)
+          (w.in_ok-reply-in-Trim.ensures.step c.args.self.limit)
       | in-Folder+in_ok-reply-in-Folder w ↦ rw (w.rows-is, w.reply-is, w.in-Folder.is)
           w.in_ok-reply-in-Folder.ensures.step
       | in-Bookmark+in_ok-reply-in-Bookmark w ↦ rw (w.rows-is, w.reply-is, w.in-Bookmark.is)
