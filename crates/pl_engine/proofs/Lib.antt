@@ -15,6 +15,7 @@ mod LostItems
 mod PageSlots
 mod PageTold
 mod ReadyPage
+mod Removals
 mod TagAllowed
 mod TagMade
 mod Targets
