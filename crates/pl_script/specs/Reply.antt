@@ -10,7 +10,8 @@ use Rattle.pl_base.specs.declared.item.ItemKind.TheVariants.{Bookmark, Folder, S
 use Rattle.pl_base.specs.Refusal.{refusal_number, refusal_values}
 use Rattle.pl_engine.specs.declared.reply.ListRow.{ListRow}
 use Rattle.pl_engine.specs.declared.reply.Reply.{Reply}
-use Rattle.pl_engine.specs.declared.reply.Reply.TheVariants.{Visit, Done, Page, Item, Refused}
+use Rattle.pl_engine.specs.declared.reply.Reply.TheVariants.{Day, Visit, Done, Page, Removed, Item}
+use Rattle.pl_engine.specs.declared.reply.Reply.TheVariants.{Refused}
 use Rattle.pl_engine.specs.declared.reply.Reply.TheVariants.{List as ListReply}
 use Rattle.pl_script.specs.Script.{escaped, fields_of, text_of}
 
@@ -52,6 +53,8 @@ row_fields row = kind_word row.kind ∷ decimal row.id.0 ∷ map escaped (told_t
 
 -- the fields of the first line of a reply, which of a list says how many items it has
 abbrev pub reply_fields : Reply → List (List ℕ)
+reply_fields (Day day changed) =
+    codes "day" ∷ decimal day.0 ∷ codes "changed" ∷ decimal changed ∷ []
 reply_fields (Visit id page frecency) =
     codes "visit" ∷ decimal id.0 ∷ codes "page" ∷ decimal page.0
     ∷ codes "frecency" ∷ signed_decimal frecency ∷ []
@@ -60,6 +63,8 @@ reply_fields (Page id frecency count last typed hidden bookmarked url title tags
     codes "page" ∷ decimal id.0 ∷ signed_decimal frecency ∷ decimal count ∷ date_text last
     ∷ truth_text typed ∷ truth_text hidden ∷ truth_text bookmarked
     ∷ escaped url ∷ escaped title ∷ escaped tags ∷ []
+reply_fields (Removed visits pages) =
+    codes "removed" ∷ codes "visits" ∷ decimal visits ∷ codes "pages" ∷ decimal pages ∷ []
 reply_fields (Item id) = codes "item" ∷ decimal id.0 ∷ []
 reply_fields (ListReply rows) = codes "rows" ∷ decimal (length rows) ∷ []
 reply_fields (Refused refusal) =
@@ -67,9 +72,11 @@ reply_fields (Refused refusal) =
 
 -- those of the lines behind it: one for each item of a list, and else none
 abbrev pub more_fields : Reply → List (List (List ℕ))
+more_fields (Day day changed) = []
 more_fields (Visit id page frecency) = []
 more_fields Done = []
 more_fields (Page id frecency count last typed hidden bookmarked url title tags) = []
+more_fields (Removed visits pages) = []
 more_fields (Item id) = []
 more_fields (ListReply rows) = map row_fields rows
 more_fields (Refused refusal) = []
@@ -106,11 +113,13 @@ pub record IsToldAgain (row : ListRow) : Type 0 where
 -- the texts of the reply are read again from the last fields of its line, and those of the items of
 -- a list from the last fields of the lines behind the first, in order
 abbrev pub TellsTexts : Reply → List ℕ → Type 0
+TellsTexts (Day day changed) text = Unit {0}
 TellsTexts (Visit id page frecency) text = Unit {0}
 TellsTexts Done text = Unit {0}
 TellsTexts (Page id frecency count last typed hidden bookmarked url title tags) text =
     map (λ fields. map text_of (drop 8 fields)) (fields_in text)
     ≡ (Some url ∷ Some title ∷ Some tags ∷ []) ∷ []
+TellsTexts (Removed visits pages) text = Unit {0}
 TellsTexts (Item id) text = Unit {0}
 TellsTexts (ListReply rows) text =
     map (λ fields. map text_of (drop 2 fields)) (drop 1 (fields_in text))

@@ -19,7 +19,8 @@ use Rattle.pl_base.specs.Transition.{transition_at}
 use Rattle.pl_tree.specs.declared.place.Place.{Place}
 use Rattle.pl_tree.specs.declared.place.Place.TheVariants.{End, Number}
 use Rattle.pl_engine.specs.declared.command.Command.{Command}
-use Rattle.pl_engine.specs.declared.command.Command.TheVariants.{Visit, Title, Page}
+use Rattle.pl_engine.specs.declared.command.Command.TheVariants.{Day, Visit, Title, Page}
+use Rattle.pl_engine.specs.declared.command.Command.TheVariants.{Unvisit, Forget, Expire, Trim}
 use Rattle.pl_engine.specs.declared.command.Command.TheVariants.{Folder, Bookmark, Separator}
 use Rattle.pl_engine.specs.declared.command.Command.TheVariants.{Move, Retitle, Remove}
 use Rattle.pl_engine.specs.declared.command.Command.TheVariants.{Tag, Untag}
@@ -182,7 +183,10 @@ no_more_fields fields = none_in fields.column fields.left
 -- the words of lines
 abbrev pub words : List (List ℕ × Word)
 words =
-    (codes "visit", word.Visit) ∷ (codes "title", word.Title) ∷ (codes "page", word.Page)
+    (codes "day", word.Day)
+    ∷ (codes "visit", word.Visit) ∷ (codes "title", word.Title) ∷ (codes "page", word.Page)
+    ∷ (codes "unvisit", word.Unvisit) ∷ (codes "forget", word.Forget)
+    ∷ (codes "expire", word.Expire) ∷ (codes "trim", word.Trim)
     ∷ (codes "folder", word.Folder) ∷ (codes "bookmark", word.Bookmark)
     ∷ (codes "separator", word.Separator) ∷ (codes "move", word.Move)
     ∷ (codes "retitle", word.Retitle) ∷ (codes "remove", word.Remove)
@@ -199,6 +203,14 @@ in_range date = if nat_le date.0 last_date then Ok date else Err BadDate
 -- the URL that an address gives
 abbrev pub url_of : List ℕ → Parsed (List ℕ)
 url_of address = ok_or (canon address) BadUrl
+
+-- `day` and a day
+abbrev pub day_line : Fields → Parsed Command
+day_line fields = do
+  named ← next_field day_of fields
+  end ← no_more_fields named.1
+  day ← day_in_range named.0
+  Ok (Day day)
 
 -- `visit`, an address, a transition, a date, and its source or none
 abbrev pub visit_line : Fields → Parsed Command
@@ -228,6 +240,36 @@ page_line fields = do
   end ← no_more_fields address.1
   url ← url_of address.0
   Ok (Page url)
+
+-- `unvisit` and a visit
+abbrev pub unvisit_line : Fields → Parsed Command
+unvisit_line fields = do
+  visit ← next_field visit_id_of fields
+  end ← no_more_fields visit.1
+  Ok (Unvisit visit.0)
+
+-- `forget` and an address
+abbrev pub forget_line : Fields → Parsed Command
+forget_line fields = do
+  address ← next_field text_of fields
+  end ← no_more_fields address.1
+  url ← url_of address.0
+  Ok (Forget url)
+
+-- `expire` and a day
+abbrev pub expire_line : Fields → Parsed Command
+expire_line fields = do
+  named ← next_field day_of fields
+  end ← no_more_fields named.1
+  day ← day_in_range named.0
+  Ok (Expire day)
+
+-- `trim` and a number of pages
+abbrev pub trim_line : Fields → Parsed Command
+trim_line fields = do
+  most ← next_field number_32_of fields
+  end ← no_more_fields most.1
+  Ok (Trim most.0)
 
 -- `folder`, its parent, a place in it, a title and a date
 abbrev pub folder_line : Fields → Parsed Command
@@ -322,9 +364,14 @@ list_line fields = do
 
 -- the rest of a line by its word
 abbrev pub line_of : Word → Fields → Parsed Command
+line_of word.Day fields = day_line fields
 line_of word.Visit fields = visit_line fields
 line_of word.Title fields = title_line fields
 line_of word.Page fields = page_line fields
+line_of word.Unvisit fields = unvisit_line fields
+line_of word.Forget fields = forget_line fields
+line_of word.Expire fields = expire_line fields
+line_of word.Trim fields = trim_line fields
 line_of word.Folder fields = folder_line fields
 line_of word.Bookmark fields = bookmark_line fields
 line_of word.Separator fields = separator_line fields

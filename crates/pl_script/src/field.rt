@@ -16,9 +16,14 @@ pub fn word(field: &[u8]) -> Option<Word>
     ensures { result ≡ spec.word_of field.now }
 {
     match field {
+        b"day" => Some(Word::Day),
         b"visit" => Some(Word::Visit),
         b"title" => Some(Word::Title),
         b"page" => Some(Word::Page),
+        b"unvisit" => Some(Word::Unvisit),
+        b"forget" => Some(Word::Forget),
+        b"expire" => Some(Word::Expire),
+        b"trim" => Some(Word::Trim),
         b"folder" => Some(Word::Folder),
         b"bookmark" => Some(Word::Bookmark),
         b"separator" => Some(Word::Separator),
@@ -159,7 +164,7 @@ pub fn date(field: &[u8]) -> Option<Micros>
     Some(Micros(number(field)?))
 }
 
-fn number_32(field: &[u8]) -> Option<u32>
+pub fn number_32(field: &[u8]) -> Option<u32>
     ensures { result ≡ spec.number_32_of field.now }
 {
     u32::try_from(number(field)?).ok()

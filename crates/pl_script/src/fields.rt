@@ -129,6 +129,23 @@ impl<'a> Fields<'a> {
         formed(field::place(bytes), column)
     }
 
+    pub fn visit_id(&mut self) -> Result<VisitId, LineError>
+        ensures { ReadsInPlace (λ id. (id, self.new)) result
+            (spec.next_field spec.visit_id_of self.old) }
+    {
+        let (column, bytes) = self.next()?;
+        formed(field::visit_id(bytes), column)
+    }
+
+    /// A number of at most 32 bits.
+    pub fn number(&mut self) -> Result<u32, LineError>
+        ensures { ReadsInPlace (λ number. (number, self.new)) result
+            (spec.next_field spec.number_32_of self.old) }
+    {
+        let (column, bytes) = self.next()?;
+        formed(field::number_32(bytes), column)
+    }
+
     /// The visit that the last field names, which the line may lack.
     pub fn last_visit_id(&mut self) -> Result<Option<VisitId>, LineError>
         ensures { ReadsInPlace (λ id. (id, self.new)) result

@@ -4,6 +4,7 @@
 
 mod field;
 mod fields;
+mod history_lines;
 mod item_lines;
 mod lines;
 mod reply;

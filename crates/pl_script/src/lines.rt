@@ -9,6 +9,7 @@ ghost use Rattle.pl_script.specs.declared.lines.LineError.TheVariants.{Refused};
 ghost use Rattle.pl_script.specs.declared.lines.LineError.TheVariants.{NoMemory as OutOfMemory};
 
 use crate::fields::{Fields, LONGEST_LINE};
+use crate::history_lines::{day_line, expire_line, forget_line, trim_line, unvisit_line};
 use crate::item_lines::{
     bookmark_line, folder_line, list_line, move_line, remove_line, retitle_line, separator_line,
 };
@@ -87,9 +88,14 @@ fn command_line(alloc: Global, bytes: &[u8]) -> Result<Command, LineError>
     }
     let mut fields = Fields::new(bytes);
     match fields.word()? {
+        Word::Day => day_line(fields),
         Word::Visit => visit_line(alloc, fields),
         Word::Title => title_line(alloc, fields),
         Word::Page => page_line(alloc, fields),
+        Word::Unvisit => unvisit_line(fields),
+        Word::Forget => forget_line(alloc, fields),
+        Word::Expire => expire_line(fields),
+        Word::Trim => trim_line(fields),
         Word::Folder => folder_line(alloc, fields),
         Word::Bookmark => bookmark_line(alloc, fields),
         Word::Separator => separator_line(fields),

@@ -20,6 +20,9 @@ pub fn reply_text(alloc: Global, reply: &Reply) -> Result<Txt, NoMemory>
     ensures never_empty { IfOk result (λ text. 0 < length text) }
 {
     match reply {
+        Reply::Day { day, changed } => Ok(Txt::from(
+            format!(in alloc; "day\t{}\tchanged\t{changed}\n", day.0)?,
+        )),
         Reply::Visit {
             visit,
             page,
@@ -46,6 +49,9 @@ pub fn reply_text(alloc: Global, reply: &Reply) -> Result<Txt, NoMemory>
             let texts = texts(alloc, url, title, tags)?;
             Ok(Txt::from(format!(in alloc; "page\t{numbers}\t{marks}\t{texts}\n")?))
         }
+        Reply::Removed { visits, pages } => Ok(Txt::from(
+            format!(in alloc; "removed\tvisits\t{visits}\tpages\t{pages}\n")?,
+        )),
         Reply::Item(id) => Ok(Txt::from(format!(in alloc; "item\t{}\n", id.0)?)),
         Reply::List(rows) => Ok(Txt::from(list_text(alloc, rows.as_slice())?)),
         Reply::Refused(refusal) => Ok(Txt::from(refusal_text(alloc, refusal)?)),
@@ -115,6 +121,7 @@ fn refusal_text(alloc: Global, refusal: &Refusal) -> Result<String, NoMemory>
     let number = refusal.number();
     Ok(match refusal {
         Refusal::NoVisit(id) => format!(in alloc; "refused\t{number}\t{}\n", id.0)?,
+        Refusal::DayBack(kept) => format!(in alloc; "refused\t{number}\t{}\n", kept.0)?,
         Refusal::NoItem(id) | Refusal::NotAFolder(id) | Refusal::Fixed(id) | Refusal::Inside(id) =>
             format!(in alloc; "refused\t{number}\t{}\n", id.0)?,
         Refusal::BadPlace(position, length) => {

@@ -1,9 +1,14 @@
 /// The first word of a line, which says what the line asks for.
 #[derive(Clone, Copy, Debug, PartialEq, Eq)]
 pub enum Word {
+    Day,
     Visit,
     Title,
     Page,
+    Unvisit,
+    Forget,
+    Expire,
+    Trim,
     Folder,
     Bookmark,
     Separator,

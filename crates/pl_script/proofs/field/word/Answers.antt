@@ -32,3 +32,18 @@ pub returns-in-untag : goal.returns-in-untag
 returns-in-untag c =
     let ends : EndsIn c.args.field.now 0 (codes "untag") = search rules in
     is_word c.args.field.now (codes "untag") ends
+
+pub returns-in-unvisit : goal.returns-in-unvisit
+returns-in-unvisit c =
+    let ends : EndsIn c.args.field.now 0 (codes "unvisit") = search rules in
+    is_word c.args.field.now (codes "unvisit") ends
+
+pub returns-in-forget : goal.returns-in-forget
+returns-in-forget c =
+    let ends : EndsIn c.args.field.now 0 (codes "forget") = search rules in
+    is_word c.args.field.now (codes "forget") ends
+
+pub returns-in-expire : goal.returns-in-expire
+returns-in-expire c =
+    let ends : EndsIn c.args.field.now 0 (codes "expire") = search rules in
+    is_word c.args.field.now (codes "expire") ends

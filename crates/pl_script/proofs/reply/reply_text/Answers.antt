@@ -4,7 +4,8 @@ use Rattle.std.specs.List.{All, join_with_byte}
 use Rattle.std.specs.Prelude.{codes, decimal}
 use Rattle.std.specs.Fmt.{signed_decimal}
 use Rattle.std.proofs.lemmas.Int.{to_z-of_z}
-use Rattle.pl_engine.specs.declared.reply.Reply.TheVariants.{Visit, Item, List as ListReply, Refused}
+use Rattle.pl_engine.specs.declared.reply.Reply.TheVariants.{Day, Visit, Removed, Item}
+use Rattle.pl_engine.specs.declared.reply.Reply.TheVariants.{List as ListReply, Refused}
 use Rattle.pl_script.specs.Reply.{IsToldAgain, date_text, line_text, reply_fields, reply_text}
 use Rattle.pl_script.proofs.ReplyLines.{never_empty, read_again, tells_rows, tells_texts}
 use Rattle.pl_script.proofs.reply.reply_text.Goals as goal
@@ -99,4 +100,30 @@ returns-in_ok-refusal_text-in-Refused c =
       reads_back = read_again c.args.reply.now c.from-in-Refused.result exact;
       texts = rw c.in-Refused.is tt;
       never_empty = never_empty c.args.reply.now c.from-in-Refused.result exact;
+    }
+
+pub returns-in_ok-format-in-Day : goal.returns-in_ok-format-in-Day
+returns-in_ok-format-in-Day c =
+    let exact : c.from-in-Day.result ≡ reply_text c.args.reply.now =
+    rw c.in-Day.is
+    (alone (reply_fields (Day c.in-Day.day c.in-Day.changed)) c.from-in-Day.result
+    (c.from-in-Day.ensures ∙ simp append_assoc (c.in_ok-format-in-Day.ensures.ok))) in
+    record {
+      exact = exact;
+      reads_back = read_again c.args.reply.now c.from-in-Day.result exact;
+      texts = rw c.in-Day.is tt;
+      never_empty = never_empty c.args.reply.now c.from-in-Day.result exact;
+    }
+
+pub returns-in_ok-format-in-Removed : goal.returns-in_ok-format-in-Removed
+returns-in_ok-format-in-Removed c =
+    let exact : c.from-in-Removed.result ≡ reply_text c.args.reply.now =
+    rw c.in-Removed.is
+    (alone (reply_fields (Removed c.in-Removed.visits c.in-Removed.pages)) c.from-in-Removed.result
+    (c.from-in-Removed.ensures ∙ simp append_assoc (c.in_ok-format-in-Removed.ensures.ok))) in
+    record {
+      exact = exact;
+      reads_back = read_again c.args.reply.now c.from-in-Removed.result exact;
+      texts = rw c.in-Removed.is tt;
+      never_empty = never_empty c.args.reply.now c.from-in-Removed.result exact;
     }
