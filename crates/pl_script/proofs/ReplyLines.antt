@@ -19,7 +19,7 @@ use Rattle.pl_base.specs.declared.item.ItemKind.TheVariants.{Bookmark, Folder, S
 use Rattle.pl_base.specs.Refusal.{refusal_number, refusal_values}
 use Rattle.pl_engine.specs.declared.reply.ListRow.{ListRow}
 use Rattle.pl_engine.specs.declared.reply.Reply.{Reply}
-use Rattle.pl_engine.specs.declared.reply.Reply.TheVariants.{Visit, Done, Page, Item, Refused}
+use Rattle.pl_engine.specs.declared.reply.Reply.TheVariants.{Day, Visit, Done, Page, Removed, Item, Refused}
 use Rattle.pl_engine.specs.declared.reply.Reply.TheVariants.{List as ListReply}
 use Rattle.pl_script.specs.Reply.{AreLinesOf, IsReadAgain, IsToldAgain, TellsTexts}
 use Rattle.pl_script.specs.Reply.{date_text, fields_in, kind_word, line_text, more_fields, reply_fields, reply_lines}
@@ -181,6 +181,10 @@ of_rows (row ∷ rows) =
     ((of_kind row.kind, (of_number row.id.0, texts)), of_rows rows)
 
 of_reply : (reply : Reply) → AreLines (reply_lines reply)
+of_reply (Day day changed) =
+    let moved : Are (codes "changed" ∷ decimal changed ∷ []) =
+    (of_word (codes "changed") refl, (of_number changed, tt)) in
+    ((of_word (codes "day") refl, (of_number day.0, moved)), tt)
 of_reply (Visit id page frecency) =
     let scored : Are (codes "frecency" ∷ signed_decimal frecency ∷ []) =
     (of_word (codes "frecency") refl, (of_signed frecency, tt)) in
@@ -197,6 +201,9 @@ of_reply (Page id frecency count last typed hidden bookmarked url title tags) =
     ∷ escaped url ∷ escaped title ∷ escaped tags ∷ []) =
     (of_number id.0, (of_signed frecency, (of_number count, (of_date last, marks)))) in
     ((of_word (codes "page") refl, numbers), tt)
+of_reply (Removed visits pages) =
+    let gone : Are (codes "pages" ∷ decimal pages ∷ []) = (of_word (codes "pages") refl, (of_number pages, tt)) in
+    ((of_word (codes "removed") refl, (of_word (codes "visits") refl, (of_number visits, gone))), tt)
 of_reply (Item id) = ((of_word (codes "item") refl, (of_number id.0, tt)), tt)
 of_reply (ListReply rows) = ((of_word (codes "rows") refl, (of_number (length rows), tt)), of_rows rows)
 of_reply (Refused refusal) =
