@@ -39,9 +39,14 @@ ReadsEntry (Err NoMemory) expected = Unit {0}
 
 -- the lines with this word have texts
 abbrev pub HasTexts : Word → Type 0
+HasTexts word.Day = ⊥
 HasTexts word.Visit = Unit {0}
 HasTexts word.Title = Unit {0}
 HasTexts word.Page = Unit {0}
+HasTexts word.Unvisit = ⊥
+HasTexts word.Forget = Unit {0}
+HasTexts word.Expire = ⊥
+HasTexts word.Trim = ⊥
 HasTexts word.Folder = Unit {0}
 HasTexts word.Bookmark = Unit {0}
 HasTexts word.Separator = ⊥

@@ -5,6 +5,7 @@ ghost use Rattle.std.specs.Prelude.{◌<◌};
 mod bookmarks;
 mod cuts;
 mod faults;
+mod history;
 mod lines;
 mod made;
 mod rows;

@@ -54,7 +54,7 @@ const ROWS: &[(&[u8], &[u8])] = &[
         b"refused\t14\t26\nrefused\t14\t25\nrefused\t1\nrefused\t3\t9\n",
     ),
     (
-        b"day\t1\nvisit\thttps://a.example/\t1\t253402300800000000\n",
+        b"days\t1\nvisit\thttps://a.example/\t1\t253402300800000000\n",
         b"refused\t14\t1\nrefused\t16\n",
     ),
     // The last moment of 9999, far ahead of the store's day.

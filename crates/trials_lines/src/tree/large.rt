@@ -2,7 +2,7 @@
 ghost use Rattle.std.specs.Prelude.{IfOk};
 ghost use Rattle.pl_engine.specs.Step.{HasDates};
 
-use super::talked;
+use crate::told::talked;
 use pl_base::{ItemId, Micros, Txt};
 use pl_engine::{Command, Reply};
 use pl_link::Canon;

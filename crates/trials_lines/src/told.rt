@@ -1,13 +1,4 @@
 // Lines on a store in memory, and the replies to them, which were worked out by hand.
-mod changes;
-mod ids;
-mod large;
-mod lines;
-mod moves;
-mod pages;
-mod refusals;
-mod tags;
-
 use pl_script::{line, reply_text};
 use pl_store::Memory;
 use std::alloc::Global;
@@ -15,7 +6,7 @@ use std::process::Abort;
 use std::test::Fail;
 
 // The store after a line, which has this reply.
-fn told(
+pub fn told(
     rt: &impl Abort,
     alloc: Global,
     memory: Memory,
@@ -32,7 +23,7 @@ fn told(
 }
 
 // The store after these lines, each with its reply.
-fn talked(
+pub fn talked(
     rt: &impl Abort,
     alloc: Global,
     memory: Memory,

@@ -1,5 +1,5 @@
 // Which cause is told, where two stand together too, and that a refused line changes nothing.
-use super::{talked, told};
+use crate::told::{talked, told};
 use pl_store::{Memory, SLOT_LIMIT};
 use std::test::Fail;
 

@@ -1,4 +1,4 @@
-use Rattle.trials_tree.proofs.tree.ids.talk.Given as goal
+use Rattle.trials_lines.proofs.tree.ids.talk.Given as goal
 
 -- the ledger is the one of the blank
 abbrev pub ghosts-talk_in : goal.ghosts-talk_in

@@ -1,7 +1,7 @@
 // Moves within a folder and between folders.
 ghost use Rattle.pl_engine.specs.Step.{HasDates};
 
-use super::talked;
+use crate::told::talked;
 use pl_base::{ItemId, Micros};
 use pl_engine::{Command, Reply};
 use pl_store::{Memory, SLOT_LIMIT};

@@ -1,5 +1,5 @@
 // What is inserted, moved, given a title, removed and listed.
-use super::talked;
+use crate::told::talked;
 use pl_store::{Memory, SLOT_LIMIT};
 use std::test::Fail;
 

@@ -1,5 +1,5 @@
 // The pages that gain or lose a bookmark: 75 for each sampled visit, and 140 where no visit counts.
-use super::talked;
+use crate::told::talked;
 use pl_store::{Memory, SLOT_LIMIT};
 use std::test::Fail;
 

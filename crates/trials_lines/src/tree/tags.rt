@@ -1,5 +1,5 @@
 // Tags that pages get and lose.
-use super::talked;
+use crate::told::talked;
 use pl_store::{Memory, SLOT_LIMIT};
 use std::test::Fail;
 

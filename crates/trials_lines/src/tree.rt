@@ -1,0 +1,9 @@
+// Lines of the bookmark tree.
+mod changes;
+mod ids;
+mod large;
+mod lines;
+mod moves;
+mod pages;
+mod refusals;
+mod tags;

@@ -1,7 +1,0 @@
-//! Tests of the bookmark tree, as lines and their replies, by public names. There is nothing else
-//! here, since a crate with tests of its own is proved twice; apart from the tests of runs, so that
-//! it does not wait for them.
-#![tactic(auto)]
-
-#[cfg(test)]
-mod tree;
