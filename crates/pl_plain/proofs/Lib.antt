@@ -19,3 +19,4 @@ pub mod RowChanges
 pub mod Searches
 pub mod StoredTexts
 pub mod TargetVisits
+pub mod VisitDropped

@@ -35,7 +35,7 @@ pub record IsSplit (pages others : List KeptPage) (p : KeptPage) : Type 0 where
   pub whole : pages ≡ front ++ p ∷ back
   pub rest : others ≡ front ++ back
 
-all_pass : {X : Type 0} (q : X → Bool) (xs : List X) → All (λ x. q x ≡ false) xs → filter (λ x. not (q x)) xs ≡ xs
+pub all_pass : {X : Type 0} (q : X → Bool) (xs : List X) → All (λ x. q x ≡ false) xs → filter (λ x. not (q x)) xs ≡ xs
 all_pass q [] none = refl
 all_pass q (x ∷ xs) none =
     rw (All-head (λ y. q y ≡ false) x xs none, all_pass q xs (All-tail (λ y. q y ≡ false) x xs none)) refl

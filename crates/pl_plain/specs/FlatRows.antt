@@ -1,17 +1,19 @@
 -- The parts of a flat store seen as what is kept of a store, and what holds of them.
 use Rattle.std.specs.Prelude.{◌≡◌, ◌≢◌, ◌-◌, ◌≤◌, ◌<◌, ◌==◌, ℕ, ℤ, Bool, false, IsTrue}
-use Rattle.std.specs.Prelude.{List, map, true, if◌then◌else◌}
+use Rattle.std.specs.Prelude.{List, [], ◌∷◌, map, true, if◌then◌else◌}
 use Rattle.std.specs.List.{All, AllPairs, list_any, range_with_len}
 use Rattle.std.specs.Str.{is_utf8}
 use Rattle.pl_base.specs.declared.date.Day.{Day}
 use Rattle.pl_base.specs.declared.id.Ids.{Ids}
 use Rattle.pl_base.specs.declared.id.PageId.{PageId}
 use Rattle.pl_base.specs.declared.id.Slot.{Slot}
+use Rattle.pl_base.specs.declared.id.VisitId.{VisitId}
 use Rattle.pl_base.specs.declared.row.Mark.{Mark}
 use Rattle.pl_base.specs.Address.{is_store_url}
 use Rattle.pl_base.specs.Date.{IsDate, IsDay}
 use Rattle.pl_base.specs.Good.{AreIds, IsTitle}
 use Rattle.pl_base.specs.Live.{live_slots, origin_count, slot_limit}
+use Rattle.pl_base.specs.Removal.{source_left}
 use Rattle.pl_base.specs.Rows.{AreAlike, HasSource, Kept, KeptOrigin, KeptPage}
 use Rattle.pl_base.specs.Rows.{has_page, store_of}
 use Rattle.pl_base.specs.Store.{Item, Page, Visit}
@@ -78,6 +80,10 @@ renamed_row in_use last name p = record p { origin = name_left in_use last name 
 abbrev pub names_left : Bool → ℕ → ℕ
 names_left true names = names
 names_left false names = names - 1
+
+-- a visit that stays where the one with this id goes
+abbrev pub left_by : VisitId → StoredVisit → StoredVisit
+left_by id v = record v { source = source_left (id ∷ []) v.source }
 
 -- the ids of the pages
 abbrev pub flat_page_ids : List FlatPage → List ℕ

@@ -3,6 +3,7 @@ mod drop;
 mod insert;
 mod items;
 mod mark;
+mod remove;
 pub(crate) mod row;
 mod rows;
 mod search;

@@ -146,6 +146,10 @@ impl Rows for Flat {
         Ok(id)
     }
 
+    fn remove_visit<L: Ledger>(&mut self, visit: VisitId, steps: &mut Steps<L>) {
+        self.drop_visit(visit);
+    }
+
     fn item_at<L: Ledger>(&self, item: ItemId, steps: &mut Steps<L>) -> Option<ItemRow> {
         self.items.item_at(item)
     }
