@@ -4,8 +4,11 @@ pub mod KeptMark
 pub mod KeptUrls
 pub mod OriginParts
 pub mod RightAfter
+pub mod PageTurns
 pub mod Settled
 pub mod SourcePage
 pub mod StandingPages
 pub mod VisitRows
 pub mod VisitedPages
+pub mod SameVisits
+pub mod TakenVisits

@@ -1,4 +1,5 @@
 pub mod Settled
 pub mod Sound
+pub mod Taken
 pub mod Target
 pub mod Went

@@ -38,7 +38,7 @@ ascend kept h =
     from_pairs kept.pages (AllPairs-from_increasing (map (λ (p : KeptPage). p.page.id.0) kept.pages)
     h.page_ids.ascending)
 
-given : (kept : Kept) → IsWellKept kept
+pub given : (kept : Kept) → IsWellKept kept
     → AllByRecursion (λ (p : KeptPage). (0 < p.page.id.0) × (p.page.id.0 < kept.ids.page)) kept.pages
 given kept h =
     from_map (λ n. (0 < n) × (n < kept.ids.page)) (λ (p : KeptPage). p.page.id.0) kept.pages
@@ -50,12 +50,12 @@ pub part : {X : Type 0} (P : X → Type 0) (front : List X) (x : X) (rest : List
 part P [] x rest all = all.0
 part P (y ∷ front) x rest all = part P front x rest all.1
 
-push : {X : Type 0} (P : X → Type 0) (front : List X) (x : X) → AllByRecursion P front → P x
+pub push : {X : Type 0} (P : X → Type 0) (front : List X) (x : X) → AllByRecursion P front → P x
     → AllByRecursion P (front ++ x ∷ [])
 push P [] x all here = (here, tt)
 push P (y ∷ front) x all here = (all.0, push P front x all.1 here)
 
-below : (front : List KeptPage) (p : KeptPage) (rest : List KeptPage) → Ascend (front ++ p ∷ rest)
+pub below : (front : List KeptPage) (p : KeptPage) (rest : List KeptPage) → Ascend (front ++ p ∷ rest)
     → AllByRecursion (λ (q : KeptPage). q.page.id.0 < p.page.id.0) front
 below [] p rest ordered = tt
 below (q ∷ front) p rest ordered =
@@ -78,7 +78,7 @@ not_less m n le = grind (arith, nat_tests)
 pub not_equal : (m n : ℕ) → m < n → eqb m n ≡ false
 not_equal m n less = grind (arith, nat_tests)
 
-behind : (n : ℕ) (front rest : List KeptPage) → AllByRecursion (λ (p : KeptPage). p.page.id.0 ≤ n) front
+pub behind : (n : ℕ) (front rest : List KeptPage) → AllByRecursion (λ (p : KeptPage). p.page.id.0 ≤ n) front
     → AllByRecursion (λ (p : KeptPage). n < p.page.id.0) rest
     → option_map (λ (p : KeptPage). p.page.id) (find (λ (p : KeptPage). nat_lt n p.page.id.0) (front ++ rest))
     ≡ first_page rest
@@ -246,7 +246,7 @@ behind_later n (p ∷ ps) id found = choose (ltb n p.page.id.0) refl found (behi
         omega (arith, ltb-true n p.page.id.0 less)
     choose false other here rest = rest here
 
-nears : (kept : Kept) (id : PageId) (next : Option PageId) → id.0 < 4_294_967_296 → next ≡ page_behind kept (Some id)
+pub nears : (kept : Kept) (id : PageId) (next : Option PageId) → id.0 < 4_294_967_296 → next ≡ page_behind kept (Some id)
     → left next < 4_294_967_296 - id.0
 nears kept id None fits is = omega arith
 nears kept id (Some later) fits is = omega (arith, behind_later id.0 kept.pages later (sym is))

@@ -44,7 +44,7 @@ Differ-latest_first (v ∷ vs) differ =
     Differ-in_place v (latest_first vs) (all-latest_first (λ (w : Visit). w.id.0 ≢ v.id.0) vs differ.0)
     (Differ-latest_first vs differ.1)
 
-differ : (kept : Kept) (page : PageId) → IsWellKept kept → Differ (page_visits kept page)
+pub differ : (kept : Kept) (page : PageId) → IsWellKept kept → Differ (page_visits kept page)
 differ kept page h =
     Differ-latest_first (visits_of (store_of kept) page)
     (Differ-filter (λ (v : Visit). v.page.0 == page.0) kept.visits
