@@ -1,4 +1,5 @@
 pub mod Dropped
+pub mod Freshened
 pub mod GoodRows
 pub mod KeptMark
 pub mod KeptUrls

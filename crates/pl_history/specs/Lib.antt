@@ -1,3 +1,4 @@
+pub mod Fresh
 pub mod Settled
 pub mod Sound
 pub mod Taken

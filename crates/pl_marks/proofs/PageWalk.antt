@@ -136,6 +136,12 @@ stands test kept next id w is = choose w.rest w.whole w.here
     choose (p ∷ ps) whole some =
         record { front = w.front; page = p; rest = ps; whole = whole; is = cc; failed = w.failed }
 
+pub first_behind : (kept : Kept) → IsWellKept kept → page_behind kept None ≡ first_page kept.pages
+first_behind kept h =
+    behind 0 [] kept.pages tt
+    (weaker (λ (p : KeptPage). (0 < p.page.id.0) × (p.page.id.0 < kept.ids.page))
+    (λ (p : KeptPage). 0 < p.page.id.0) kept.pages (λ p both. both.0) (given kept h))
+
 pub walk_starts : (test : List ℕ → Bool) (kept : Kept) (next : Option PageId) → IsWellKept kept
     → next ≡ page_behind kept None → Walk test kept next
 walk_starts test kept next h is =
@@ -143,10 +149,7 @@ walk_starts test kept next h is =
       front = [];
       rest = kept.pages;
       whole = refl;
-      here =
-          is ∙ behind 0 [] kept.pages tt
-          (weaker (λ (p : KeptPage). (0 < p.page.id.0) × (p.page.id.0 < kept.ids.page))
-          (λ (p : KeptPage). 0 < p.page.id.0) kept.pages (λ p both. both.0) (given kept h));
+      here = is ∙ first_behind kept h;
       failed = tt;
     }
 
@@ -169,27 +172,33 @@ test_here test kept id passes h s tested =
     let same : Some passes ≡ Some (test s.page.page.url) = tested ∙ ap (option_map test) (url_here test kept id h s) in
     cc
 
+-- behind a page stands the next one
+pub next_behind : (kept : Kept) (id : PageId) (front : List KeptPage) (p : KeptPage) (rest : List KeptPage)
+    → IsWellKept kept → kept.pages ≡ front ++ p ∷ rest → p.page.id ≡ id
+    → page_behind kept (Some id) ≡ first_page rest
+next_behind kept id front p rest h stands is =
+    let ordered : Ascend (front ++ p ∷ rest) = subst Ascend stands (ascend kept h) in
+    let whole : kept.pages ≡ (front ++ p ∷ []) ++ rest = stands ∙ sym (append_assoc front (p ∷ []) rest) in
+    let number : p.page.id.0 ≡ id.0 = ap (λ (i : PageId). i.0) is in
+    let low : AllByRecursion (λ (q : KeptPage). q.page.id.0 ≤ id.0) (front ++ p ∷ []) =
+    push (λ (q : KeptPage). q.page.id.0 ≤ id.0) front p
+    (weaker (λ (q : KeptPage). q.page.id.0 < p.page.id.0) (λ (q : KeptPage). q.page.id.0 ≤ id.0) front
+    (λ q less. omega arith) (below front p rest ordered))
+    (omega arith) in
+    let high : AllByRecursion (λ (q : KeptPage). id.0 < q.page.id.0) rest =
+    weaker (λ (q : KeptPage). p.page.id.0 < q.page.id.0) (λ (q : KeptPage). id.0 < q.page.id.0) rest
+    (λ q more. omega arith) (above front p rest ordered) in
+    rw whole (behind id.0 (front ++ p ∷ []) rest low high)
+
 pub walk_goes_on : (test : List ℕ → Bool) (kept : Kept) (id : PageId) (next : Option PageId) → IsWellKept kept
     → StandsAt test kept id → Some false ≡ option_map test (url_of kept id) → next ≡ page_behind kept (Some id)
     → Walk test kept next
 walk_goes_on test kept id next h s tested is =
-    let ordered : Ascend (s.front ++ s.page ∷ s.rest) = subst Ascend s.whole (ascend kept h) in
-    let whole : kept.pages ≡ (s.front ++ s.page ∷ []) ++ s.rest =
-    s.whole ∙ sym (append_assoc s.front (s.page ∷ []) s.rest) in
-    let number : s.page.page.id.0 ≡ id.0 = ap (λ (i : PageId). i.0) s.is in
-    let low : AllByRecursion (λ (q : KeptPage). q.page.id.0 ≤ id.0) (s.front ++ s.page ∷ []) =
-    push (λ (q : KeptPage). q.page.id.0 ≤ id.0) s.front s.page
-    (weaker (λ (q : KeptPage). q.page.id.0 < s.page.page.id.0) (λ (q : KeptPage). q.page.id.0 ≤ id.0) s.front
-    (λ q less. omega arith) (below s.front s.page s.rest ordered))
-    (omega arith) in
-    let high : AllByRecursion (λ (q : KeptPage). id.0 < q.page.id.0) s.rest =
-    weaker (λ (q : KeptPage). s.page.page.id.0 < q.page.id.0) (λ (q : KeptPage). id.0 < q.page.id.0) s.rest
-    (λ q more. omega arith) (above s.front s.page s.rest ordered) in
     record {
       front = s.front ++ s.page ∷ [];
       rest = s.rest;
-      whole = whole;
-      here = is ∙ rw whole (behind id.0 (s.front ++ s.page ∷ []) s.rest low high);
+      whole = s.whole ∙ sym (append_assoc s.front (s.page ∷ []) s.rest);
+      here = is ∙ next_behind kept id s.front s.page s.rest h s.whole s.is;
       failed =
           push (λ (p : KeptPage). test p.page.url ≡ false) s.front s.page s.failed
           (test_here test kept id false h s tested);

@@ -1,0 +1,14 @@
+use Rattle.std.proofs.Common.{ℕ, List}
+use Rattle.pl_marks.proofs.PageWalk.{left}
+use Rattle.pl_history.proofs.Freshened.{WalkedTo}
+use Rattle.pl_history.proofs.days.set_day.Given as goal
+
+abbrev pub invariant-loop-next : goal.invariant-loop-next
+invariant-loop-next g l =
+    record {
+      walked : WalkedTo l.fn.day (g.R.Rows.kept l.fn.rows) (g.R.Rows.kept l.rows) l.next l.moved;
+      base : (bytes : List ℕ) → g.R.Rows.base l.fn.rows bytes → g.R.Rows.base l.rows bytes;
+    }
+
+abbrev pub decreases-loop-next : goal.decreases-loop-next
+decreases-loop-next g l = left l.next
