@@ -1,5 +1,6 @@
 mod AddressRows
 mod ConstantRows
+mod HistoryRows
 pub mod IdsLaws
 pub mod ItemLaws
 pub mod ListLaws
