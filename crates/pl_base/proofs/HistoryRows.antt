@@ -1,5 +1,5 @@
 -- Worked rows of visits and pages that go, and of days: the definitions compute to values that were worked out by hand.
-use Rattle.std.proofs.Common.{◌≡◌, ◌*◌, ℕ, List, [], ◌∷◌, map, Option, Some, None, refl}
+use Rattle.std.proofs.Common.{◌≡◌, ◌*◌, ℕ, List, [], ◌∷◌, map, Option, Some, None, false, refl}
 use Rattle.std.specs.Prelude.{pos}
 use Rattle.pl_base.specs.declared.date.Day.{Day}
 use Rattle.pl_base.specs.declared.id.VisitId.{VisitId}
@@ -122,7 +122,7 @@ shelf =
 stalest : map (λ (p : Page). p.id.0) (stale_pages shelf) ≡ 2 ∷ 3 ∷ 4 ∷ []
 stalest = refl
 
--- five pages are no more than five; of four and three the stalest go, and the bookmarks stay whatever is asked
+-- five pages are no more than five; then the stalest go, and the bookmarks stay whatever is asked
 trimmed_to : map (λ n. page_ids (trimmed n shelf)) (6 ∷ 5 ∷ 4 ∷ 3 ∷ 2 ∷ 1 ∷ 0 ∷ [])
     ≡ (1 ∷ 2 ∷ 3 ∷ 4 ∷ 5 ∷ []) ∷ (1 ∷ 2 ∷ 3 ∷ 4 ∷ 5 ∷ []) ∷ (1 ∷ 3 ∷ 4 ∷ 5 ∷ []) ∷ (1 ∷ 4 ∷ 5 ∷ [])
     ∷ (1 ∷ 5 ∷ []) ∷ (1 ∷ 5 ∷ []) ∷ (1 ∷ 5 ∷ []) ∷ []
