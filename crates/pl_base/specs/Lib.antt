@@ -16,8 +16,10 @@ pub mod Store
 pub mod Tables
 pub mod Tags
 pub mod Title
+pub mod Totals
 pub mod Touched
 pub mod Transition
 pub mod Tree
+pub mod View
 pub mod Visiting
 pub mod Visits

@@ -15,7 +15,7 @@ use Rattle.pl_base.specs.declared.id.VisitId.{VisitId}
 use Rattle.pl_base.specs.declared.item.ItemRow.{ItemRow}
 use Rattle.pl_base.specs.declared.row.Mark.{Mark}
 use Rattle.pl_base.specs.declared.row.VisitRow.{VisitRow}
-use Rattle.pl_base.specs.Address.{is_store_url, same_origin}
+use Rattle.pl_base.specs.Address.{is_store_url, origin_of_url, same_origin}
 use Rattle.pl_base.specs.Date.{IsDate, IsDay}
 use Rattle.pl_base.specs.Frecency.{frecency_of}
 use Rattle.pl_base.specs.Good.{AreIds, IsTitle}
@@ -24,6 +24,7 @@ use Rattle.pl_base.specs.Marks.{is_hidden, visit_count}
 use Rattle.pl_base.specs.Redirects.{others_from, redirects_from}
 use Rattle.pl_base.specs.Removal.{visits_left}
 use Rattle.pl_base.specs.Store.{Store, Page, Visit, Item, item_id, roots}
+use Rattle.pl_base.specs.Totals.{scored_pages, total_of}
 use Rattle.pl_base.specs.Tree.{inserted, retitled}
 use Rattle.pl_base.specs.Visits.{latest_first, visits_of}
 
@@ -141,6 +142,16 @@ title_of kept page = option_map (λ (p : KeptPage). p.page.title) (page_at kept 
 abbrev pub origin_of : Kept → PageId → Option Slot
 origin_of kept page = option_map (λ (p : KeptPage). p.origin) (page_at kept page)
 
+-- an origin has this name
+abbrev pub has_origin : Kept → Slot → Bool
+has_origin kept origin = list_any (λ (a : KeptOrigin). a.origin.0 == origin.0) kept.origins
+
+-- the total of the origin with this name, as it was computed last
+abbrev pub total_at : Kept → Slot → Option ℕ
+total_at kept origin =
+    option_map (λ (a : KeptOrigin). a.total)
+    (find (λ (a : KeptOrigin). a.origin.0 == origin.0) kept.origins)
+
 -- the visit of the same page that comes next before it
 abbrev pub older_visit : Kept → VisitId → Option VisitId
 older_visit kept id =
@@ -190,6 +201,14 @@ with_new_page url origin kept =
 abbrev pub with_origin : Slot → Kept → Kept
 with_origin origin kept =
     record kept { origins = kept.origins ++ record { origin = origin; total = 0 } ∷ [] }
+
+-- an origin with this total, where it has the name
+abbrev pub totaled : Slot → ℕ → KeptOrigin → KeptOrigin
+totaled origin total a = if a.origin.0 == origin.0 then record a { total = total } else a
+
+-- the origin with this name has this total
+abbrev pub with_total : Slot → ℕ → Kept → Kept
+with_total origin total kept = record kept { origins = map (totaled origin total) kept.origins }
 
 -- the slots of the store with a page of this URL more
 abbrev pub live_with_page : List ℕ → Kept → ℕ
@@ -279,11 +298,16 @@ unnamed p = record p { origin = record { 0 = 0 } }
 abbrev pub other_pages : PageId → List KeptPage → List KeptPage
 other_pages page pages = filter (λ (p : KeptPage). not (p.page.id.0 == page.0)) pages
 
+-- the totals of the origins of these pages
+abbrev pub totals_of : Kept → List KeptPage → List (Option ℕ)
+totals_of kept pages = map (λ (p : KeptPage). total_at kept p.origin) pages
+
 -- the rows without the page, where the origins of the others may have other names than before
 pub record WithoutPage (page : PageId) (old new : Kept) : Type 0 where
   pub day : new.day ≡ old.day
   pub ids : new.ids ≡ old.ids
   pub pages : map unnamed new.pages ≡ map unnamed (other_pages page old.pages)
+  pub totals : totals_of new new.pages ≡ totals_of old (other_pages page old.pages)
   pub visits : new.visits ≡ old.visits
   pub items : new.items ≡ old.items
 
@@ -348,3 +372,9 @@ pub record IsRight (kept : Kept) : Type 0 where
       All (λ (p : KeptPage). p.frecency ≡ frecency_of (store_of kept) p.page) kept.pages
   pub counts : All (λ (p : KeptPage). p.count ≡ visit_count (store_of kept) p.page.id) kept.pages
   pub hidden : All (λ (p : KeptPage). p.hidden ≡ is_hidden (store_of kept) p.page) kept.pages
+
+-- the total of each page's origin is what the definition gives
+abbrev pub HaveTotals : Kept → Type 0
+HaveTotals kept =
+    All (λ (p : KeptPage). total_at kept p.origin
+    ≡ option_map (total_of (scored_pages (store_of kept))) (origin_of_url p.page.url)) kept.pages

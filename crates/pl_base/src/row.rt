@@ -11,6 +11,13 @@ pub struct Mark {
     pub hidden: bool,
 }
 
+/// What is kept of an origin.
+#[derive(Clone, Copy, Debug, PartialEq, Eq)]
+pub struct OriginRow {
+    /// The sum of the positive frecencies of its pages.
+    pub total: u64,
+}
+
 /// A visit without its id.
 #[derive(Clone, Copy, Debug, PartialEq, Eq)]
 pub struct VisitRow {

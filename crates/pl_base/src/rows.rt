@@ -15,7 +15,7 @@ ghost use Rattle.pl_base.specs.Rows.{origin_of, IsOriginOf, WithPageIn, with_day
 ghost use Rattle.pl_base.specs.Rows.{with_visit, live_with_page, most_reads, title_of, with_title};
 ghost use Rattle.pl_base.specs.Rows.{live_with_title, AreTargets, target_behind, WithoutPage};
 ghost use Rattle.pl_base.specs.Rows.{live_with_item, live_with_item_title, with_item, with_items};
-ghost use Rattle.pl_base.specs.Rows.{without_visit};
+ghost use Rattle.pl_base.specs.Rows.{has_origin, total_at, with_total, without_visit};
 ghost use Rattle.pl_base.specs.Store.{Store, Visit};
 ghost use Rattle.pl_base.specs.Touched.{changed, bytes_before, IsWithin};
 ghost use Rattle.pl_base.specs.Tree.{children_of, first_item, has_item, item_at, item_row};
@@ -23,8 +23,8 @@ ghost use Rattle.pl_base.specs.Tree.{item_title, moved, parent_of, redated, refe
 ghost use Rattle.pl_base.specs.Tree.{references, removed, retitled, sibling_behind};
 
 use crate::{
-    Day, Ids, ItemId, ItemRow, Mark, Micros, NoMemory, PageId, Slot, Steps, Touched, Txt, VisitId,
-    VisitRow,
+    Day, Ids, ItemId, ItemRow, Mark, Micros, NoMemory, OriginRow, PageId, Slot, Steps, Touched,
+    Txt, VisitId, VisitRow,
 };
 use std::sync::ledger::Ledger;
 
@@ -95,6 +95,11 @@ pub trait Rows {
         ensures origin { Some result ≡ origin_of (kept self.now) page }
         ensures cost { steps.new ≤ steps.old + most_reads };
 
+    fn origin_at<L: Ledger>(&self, origin: Slot, steps: &mut Steps<L>) -> OriginRow
+        requires { has_origin (kept self.now) origin ≡ true }
+        ensures total { Some result.total ≡ total_at (kept self.now) origin }
+        ensures cost { steps.new ≤ steps.old + most_reads };
+
     /// A new page with the next id, in the given origin or in a new one. Its URL is a URL of the
     /// store that no page has.
     fn insert_page<L: Ledger>(
@@ -136,6 +141,12 @@ pub trait Rows {
     fn set_mark<L: Ledger>(&mut self, page: PageId, mark: Mark, steps: &mut Steps<L>)
         requires { has_page (kept self.old) page ≡ true }
         ensures kept { kept self.new ≡ with_mark page mark (kept self.old) }
+        ensures base { (bytes : List ℕ) → base self.old bytes → base self.new bytes }
+        ensures cost { steps.new ≤ steps.old + most_reads };
+
+    fn set_total<L: Ledger>(&mut self, origin: Slot, total: u64, steps: &mut Steps<L>)
+        requires { has_origin (kept self.old) origin ≡ true }
+        ensures kept { kept self.new ≡ with_total origin total (kept self.old) }
         ensures base { (bytes : List ℕ) → base self.old bytes → base self.new bytes }
         ensures cost { steps.new ≤ steps.old + most_reads };
 

@@ -1,0 +1,27 @@
+use crate::{Micros, PageId, Txt};
+
+/// What is known of a page: what the totals of origins, queries and the address bar see of it.
+#[derive(Debug, PartialEq, Eq, Drop)]
+pub struct View {
+    pub id: PageId,
+    pub url: Txt,
+    pub title: Txt,
+    /// The title of the page's bookmark that was modified last; empty where it has none.
+    pub mark_title: Txt,
+    /// Its tags, in the order of their folds and joined by commas.
+    pub tags: Txt,
+    /// The scheme of its URL with `://` where an authority follows, and with `:` elsewhere.
+    pub prefix: Txt,
+    /// The host of its URL with its port; empty where the URL has none.
+    pub host: Txt,
+    pub frecency: i64,
+    /// Its `visit_count`.
+    pub count: u32,
+    /// The date of its latest visit.
+    pub last: Option<Micros>,
+    pub typed: bool,
+    pub hidden: bool,
+    pub bookmarked: bool,
+    /// Whether an item has it: a bookmark or a tag.
+    pub referenced: bool,
+}
