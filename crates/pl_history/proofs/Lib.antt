@@ -3,9 +3,14 @@ pub mod GoodRows
 pub mod KeptMark
 pub mod KeptUrls
 pub mod OriginParts
+pub mod PageOrder
+pub mod RemovedRows
 pub mod RightAfter
+pub mod RightRemoved
 pub mod Settled
 pub mod SourcePage
 pub mod StandingPages
+pub mod TargetWalk
 pub mod VisitRows
+pub mod VisitsLeft
 pub mod VisitedPages

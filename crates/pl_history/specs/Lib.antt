@@ -1,3 +1,4 @@
+pub mod Borne
 pub mod Settled
 pub mod Sound
 pub mod Target
