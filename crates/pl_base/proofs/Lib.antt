@@ -9,6 +9,7 @@ pub mod RootsLaws
 pub mod Searches
 pub mod TablesLaws
 mod TitleCuts
+mod TotalsRows
 mod TreeRows
 pub mod VisitsLaws
 mod WorkedRows

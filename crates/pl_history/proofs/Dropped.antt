@@ -1,23 +1,27 @@
 -- What holds of the rows once a page is dropped that has neither a visit nor an item.
 use Rattle.std.proofs.Common.{◌≡◌, ◌≢◌, ◌∙◌, ◌==◌, ◌&&◌, ◌||◌, All, Bool, true, false, IfSome, IsTrue, List, []}
 use Rattle.std.proofs.Common.{◌∷◌, Option, Some, None, ap, arith, filter, get_or, if◌then◌else◌, map, refl}
-use Rattle.std.proofs.Common.{subst, suc, sym}
+use Rattle.std.proofs.Common.{◌+◌, ℕ, length, subst, suc, sym}
 use Rattle.std.specs.Prelude.{not}
 use Rattle.std.specs.List.{AllByRecursion, list_any}
-use Rattle.std.proofs.lemmas.Bool.{eqb-false, eqb-true, false_from_ne_true, not-true, or_from, or_parts}
+use Rattle.std.proofs.lemmas.Bool.{eqb-false, eqb-true, false_from_ne_true, false≢true, ne_eqb, not-true, or_from}
+use Rattle.std.proofs.lemmas.Bool.{or_parts}
+use Rattle.std.proofs.lemmas.List.{length-map}
+use Rattle.std.proofs.lemmas.List.Kept.{AllPairs-from_increasing}
 use Rattle.std.proofs.lemmas.List.Elements.{All-from_recursion, All-map, recursion_from_All}
 use Rattle.pl_base.specs.declared.date.Day.{Day}
 use Rattle.pl_base.specs.declared.id.Ids.{Ids}
 use Rattle.pl_base.specs.declared.id.PageId.{PageId}
 use Rattle.pl_base.specs.Good.{HasGoodItems, IsGoodItem, has_page_at, is_visited}
 use Rattle.pl_base.specs.Marks.{is_referenced, visit_count}
-use Rattle.pl_base.specs.Rows.{Kept, KeptOrigin, KeptPage, WithoutPage, other_pages, store_of, unnamed}
+use Rattle.pl_base.specs.Rows.{IsWellKept, Kept, KeptOrigin, KeptPage, WithoutPage, has_page, other_pages, store_of}
+use Rattle.pl_base.specs.Rows.{unnamed}
 use Rattle.pl_base.specs.Store.{Item, Page, Store, Visit}
 use Rattle.pl_base.specs.Tree.{is_page}
 use Rattle.pl_base.proofs.IdsLaws.{same_page}
 use Rattle.pl_base.proofs.ListLaws.{All-from_map, list_any-map, map-map, weaker}
 use Rattle.pl_marks.specs.Refreshed.{IsRightPage}
-use Rattle.pl_marks.proofs.LookUps.{both, none_pass, where_passes}
+use Rattle.pl_marks.proofs.LookUps.{Apart, apart_ascending, both, none_pass, where_passes}
 use Rattle.pl_history.specs.Sound.{IsTypedRight}
 use Rattle.pl_base.specs.Removal.{is_standing}
 use Rattle.pl_history.specs.Settled.{AreSettledBut}
@@ -195,3 +199,40 @@ pub dropped_settled : (page : PageId) (old new : Kept) (rest : List PageId) → 
 dropped_settled page old new rest w idle s =
     subst (AreSettledBut rest) (sym (rebuilt page old new w))
     (settled_left page old new.pages new.origins w.pages idle rest s)
+
+-- ---- how many pages are left
+
+other_stay : (page : PageId) (ps : List KeptPage) → AllByRecursion (λ (p : KeptPage). p.page.id.0 ≢ page.0) ps
+    → length (other_pages page ps) ≡ length ps
+other_stay page [] others = refl
+other_stay page (p ∷ ps) others =
+    ap (λ (b : Bool). length (if not b then p ∷ other_pages page ps else other_pages page ps))
+    (ne_eqb p.page.id.0 page.0 others.0)
+    ∙ ap (λ (n : ℕ). suc n) (other_stay page ps others.1)
+
+one_fewer : (page : PageId) (ps : List KeptPage) → Apart (λ (p : KeptPage). p.page.id.0) ps
+    → list_any (λ (p : KeptPage). p.page.id.0 == page.0) ps ≡ true → length ps ≡ length (other_pages page ps) + 1
+one_fewer page [] apart there = absurd (false≢true there)
+one_fewer page (p ∷ ps) apart there = choose (p.page.id.0 == page.0) refl there (one_fewer page ps apart.1)
+  where
+    choose : (b : Bool) → (p.page.id.0 == page.0) ≡ b
+        → (b || list_any (λ (q : KeptPage). q.page.id.0 == page.0) ps) ≡ true
+        → (list_any (λ (q : KeptPage). q.page.id.0 == page.0) ps ≡ true → length ps ≡ length (other_pages page ps) + 1)
+        → suc (length ps) ≡ length (if not b then p ∷ other_pages page ps else other_pages page ps) + 1
+    choose true same here rest =
+        omega (arith, other_stay page ps
+        (weaker (λ (q : KeptPage). q.page.id.0 ≢ p.page.id.0) (λ (q : KeptPage). q.page.id.0 ≢ page.0) ps
+        (λ q other is. other (is ∙ sym (eqb-true p.page.id.0 page.0 same))) apart.0))
+    choose false other there rest = omega (arith, rest there)
+
+pub dropped_fewer : (page : PageId) (old new : Kept) → IsWellKept old → has_page old page ≡ true
+    → WithoutPage page old new → length old.pages ≡ length new.pages + 1
+dropped_fewer page old new h there w =
+    omega (
+      arith,
+      one_fewer page old.pages
+          (apart_ascending (λ (p : KeptPage). p.page.id.0) old.pages
+          (AllPairs-from_increasing (map (λ (p : KeptPage). p.page.id.0) old.pages) h.page_ids.ascending))
+          there,
+      sym (length-map new.pages unnamed) ∙ ap length w.pages ∙ length-map (other_pages page old.pages) unnamed,
+    )

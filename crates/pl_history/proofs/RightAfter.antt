@@ -65,7 +65,7 @@ came_alike old row n (Some id) stands =
     (find_push (λ (v : Visit). v.id.0 == id.0) old.visits (next_visit row old ∷ []) stands.1)
 
 -- a redirect did not come from a visit of another page than that of its source
-led_apart : (now : Kept) (redirect : Bool) (source : Option VisitId) (page : PageId) (w : Visit)
+pub led_apart : (now : Kept) (redirect : Bool) (source : Option VisitId) (page : PageId) (w : Visit)
     → list_any (λ (id : PageId). page.0 == id.0) (option_to_list
     (if redirect then option_map (λ (v : Visit). v.page) (option_and_then (visit_at now) source) else None)) ≡ false
     → visit_at now w.id ≡ Some w → (w.page.0 == page.0) ≡ true → (redirect && is_source w.id source) ≡ false

@@ -1,6 +1,6 @@
 -- What holds of the rows once a page is refreshed that lost an item, and once all such are settled.
 use Rattle.std.proofs.Common.{◌≡◌, ◌∙◌, ◌+◌, ◌<◌, ◌≤◌, ◌==◌, ◌||◌, ℕ, ℤ, All, Bool, true, false, IsTrue, List, [], ◌∷◌}
-use Rattle.std.proofs.Common.{Some, ap, arith, drop, filter, get_or, length, refl, subst, suc, sym}
+use Rattle.std.proofs.Common.{Some, ap, arith, drop, filter, get_or, if◌then◌else◌, length, refl, subst, suc, sym}
 use Rattle.std.specs.List.{AllByRecursion, list_any}
 use Rattle.std.specs.Option.{option_map}
 use Rattle.std.proofs.lemmas.List.{drop_all, drop_more}
@@ -112,3 +112,9 @@ settled_store kept s =
     (recursion_from_All (λ (p : Page). stands p ≡ true) (store_of kept).pages
     (All-map (λ (p : Page). stands p ≡ true) (λ (p : KeptPage). p.page) kept.pages
     (λ k d within. s.by_row k d within refl))))
+
+-- a page more went, or none
+pub went_more : (went : Bool) (more before after so_far : ℕ) → before ≡ after + (if went then 1 else 0)
+    → (went ≡ true → more ≡ 1) → (went ≡ false → more ≡ 0) → before + so_far ≡ after + (so_far + more)
+went_more true more before after so_far is one none = omega (arith, is, one refl)
+went_more false more before after so_far is one none = omega (arith, is, none refl)

@@ -1,3 +1,4 @@
+pub mod Borne
 pub mod Fresh
 pub mod Settled
 pub mod Sound

@@ -1,4 +1,4 @@
--- What is known of the rows while the pages that lost an item are settled.
+-- What is known of the rows while the pages that lost a visit or an item are settled.
 use Rattle.std.specs.Prelude.{◌≡◌, ◌≢◌, ◌==◌, false, IsTrue, List}
 use Rattle.std.specs.List.{All, AllPairs, list_any}
 use Rattle.pl_base.specs.declared.id.PageId.{PageId}
@@ -13,6 +13,16 @@ use Rattle.pl_base.specs.Removal.{is_standing}
 pub record AreSettledBut (ids : List PageId) (kept : Kept) : Type 0 where
   pub there : All (λ (id : PageId). IsTrue (has_page kept id)) ids
   pub apart : AllPairs (λ (a b : PageId). a.0 ≢ b.0) ids
+  pub items : HasGoodItems (store_of kept)
+  pub counts : HaveCounts kept
+  pub right : AreRightBut ids kept
+  pub by_row : All (λ (p : KeptPage). list_any (λ (id : PageId). p.page.id.0 == id.0) ids ≡ false
+      → IsTrue (is_standing (store_of kept) p.page.id)) kept.pages
+  pub typed : All (IsTypedRight kept) kept.pages
+
+-- the same before the ids are put in order, each once
+pub record AreOthersSettled (ids : List PageId) (kept : Kept) : Type 0 where
+  pub there : All (λ (id : PageId). IsTrue (has_page kept id)) ids
   pub items : HasGoodItems (store_of kept)
   pub counts : HaveCounts kept
   pub right : AreRightBut ids kept

@@ -1,5 +1,6 @@
 // Pages that lost a visit or an item: one that nothing keeps goes, any other is computed afresh.
-ghost use Rattle.std.specs.Prelude.{◌≡◌, ◌∷◌, true, ℕ, List, OnOk};
+ghost use Rattle.std.specs.Prelude.{◌≡◌, ◌+◌, ◌∷◌, true, ℕ, List, length, IfOk, OnOk};
+ghost use Rattle.std.specs.Prelude.{if◌then◌else◌};
 ghost use Rattle.pl_base.specs.declared.id.PageId.{PageId};
 ghost use Rattle.pl_base.specs.Removal as spec;
 ghost use Rattle.pl_base.specs.Rows.{has_page, store_of};
@@ -21,47 +22,52 @@ fn is_standing<R: Rows, L: Ledger>(rows: &R, page: PageId, steps: &mut Steps<L>)
     rows.latest(page, steps).is_some() || rows.first_reference(page, steps).is_some()
 }
 
-// A page that has neither a visit nor an item goes. What is computed of any other is computed
-// afresh.
+// A page that has neither a visit nor an item goes, and the answer is whether it does. What is
+// computed of any other is computed afresh.
 fn settle<R: Rows, L: Ledger>(
     alloc: Global,
     rows: &mut R,
     page: PageId,
     steps: &mut Steps<L>,
-) -> Result<(), NoMemory>
+) -> Result<bool, NoMemory>
     requires page { has_page (R.kept rows.old) page ≡ true }
     requires counts { HaveCounts (R.kept rows.old) }
     ensures store { OnOk result (spec.without_idle_pages (store_of (R.kept rows.new))
         ≡ spec.without_idle_pages (store_of (R.kept rows.old))) }
+    ensures went { IfOk result (λ went. length (R.kept rows.old).pages
+        ≡ length (R.kept rows.new).pages + (if went then 1 else 0)) }
     ensures settled { OnOk result ((rest : List PageId)
         → AreSettledBut (page ∷ rest) (R.kept rows.old) → AreSettledBut rest (R.kept rows.new)) }
     ensures base { OnOk result ((bytes : List ℕ) → R.base rows.old bytes → R.base rows.new bytes) }
 {
     if !is_standing(rows, page, steps) {
         rows.remove_page(page, steps);
-        return Ok(());
+        return Ok(true);
     }
     let mark = rows.page_at(page, steps).unwrap();
     let is_place = is_place(alloc, rows, page, steps)?;
     refresh(alloc, rows, page, mark, is_place, steps)?;
-    Ok(())
+    Ok(false)
 }
 
-/// Each of the pages, which lost a visit or an item, is settled.
+/// Each of the pages, which lost a visit or an item, is settled. The answer is how many went.
 pub fn settle_all<R: Rows, L: Ledger>(
     alloc: Global,
     rows: &mut R,
     pages: &[PageId],
     steps: &mut Steps<L>,
-) -> Result<(), NoMemory>
+) -> Result<u32, NoMemory>
     requires { AreSettledBut pages.now (R.kept rows.old) }
     ensures store { OnOk result (store_of (R.kept rows.new)
         ≡ spec.without_idle_pages (store_of (R.kept rows.old))) }
+    ensures went { IfOk result (λ went. length (R.kept rows.old).pages
+        ≡ length (R.kept rows.new).pages + went) }
     ensures base { OnOk result ((bytes : List ℕ) → R.base rows.old bytes → R.base rows.new bytes) }
     ensures sound { OnOk result (IsSound (R.kept rows.new)) }
 {
+    let mut went = 0;
     for page in pages {
-        settle(alloc, rows, *page, steps)?;
+        went += u32::from(settle(alloc, rows, *page, steps)?);
     }
-    Ok(())
+    Ok(went)
 }

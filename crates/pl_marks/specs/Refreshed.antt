@@ -1,5 +1,5 @@
 -- What is computed of pages, and which pages a visit bears on.
-use Rattle.std.specs.Prelude.{◌≡◌, ◌+◌, ◌||◌, ◌==◌, ℤ, Bool, false, List, Option, None}
+use Rattle.std.specs.Prelude.{◌≡◌, ◌+◌, ◌-◌, ◌||◌, ◌==◌, ℤ, Bool, false, List, Option, None}
 use Rattle.std.specs.Prelude.{if◌then◌else◌}
 use Rattle.std.specs.List.{All, list_any}
 use Rattle.std.specs.Option.{option_and_then, option_map}
@@ -21,6 +21,11 @@ visited_mark transition mark =
       count = mark.count + (if is_counted transition then 1 else 0);
       typed = mark.typed || is_typed transition;
     }
+
+-- a mark with one visit fewer, but for what is computed afresh
+abbrev pub unvisited_mark : Transition → Mark → Mark
+unvisited_mark transition mark =
+    record mark { count = mark.count - (if is_counted transition then 1 else 0) }
 
 -- a visit that does not show its page: it is within a frame or led to a redirect
 abbrev pub is_passing : Store → Visit → Bool

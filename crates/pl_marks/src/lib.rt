@@ -4,5 +4,5 @@
 mod mark;
 mod tags;
 
-pub use mark::{refresh, visited_mark};
+pub use mark::{refresh, unvisited_mark, visited_mark};
 pub use tags::{is_bookmarked, tag_text};

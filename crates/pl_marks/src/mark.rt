@@ -1,6 +1,6 @@
 // What is kept of a page, computed afresh.
-ghost use Rattle.std.specs.Prelude.{◌≡◌, ◌<◌, ◌||◌, ℕ, List, Some, None, true, map, take};
-ghost use Rattle.std.specs.Prelude.{IfOk, OnOk};
+ghost use Rattle.std.specs.Prelude.{◌≡◌, ◌<◌, ◌≤◌, ◌||◌, ℕ, List, Some, None, true, map, take};
+ghost use Rattle.std.specs.Prelude.{IfOk, OnOk, if◌then◌else◌};
 ghost use Rattle.pl_base.specs.Address.{is_place_url};
 ghost use Rattle.pl_base.specs.Frecency.{frecency_of};
 ghost use Rattle.pl_base.specs.Good.{end_of_ids};
@@ -27,6 +27,18 @@ pub fn visited_mark(mark: Mark, transition: Transition) -> Mark
     Mark {
         count: mark.count + counted,
         typed: mark.typed || transition == Transition::Typed,
+        ..mark
+    }
+}
+
+/// The mark with one visit of this transition fewer, but for what is computed afresh.
+pub fn unvisited_mark(mark: Mark, transition: Transition) -> Mark
+    requires { (if marks.is_counted transition then 1 else 0) ≤ mark.count }
+    ensures { result ≡ spec.unvisited_mark transition mark }
+{
+    let counted = u32::from(transition.is_counted());
+    Mark {
+        count: mark.count - counted,
         ..mark
     }
 }

@@ -2,7 +2,7 @@ use Rattle.std.proofs.Common.{◌==◌, ◌∙◌, ap, sym}
 use Rattle.pl_base.specs.Rows.{KeptPage, mark_of}
 use Rattle.pl_base.specs.Removal.{without_idle_pages}
 use Rattle.pl_marks.proofs.LookUps.{found_where}
-use Rattle.pl_history.proofs.Dropped.{dropped_settled, dropped_store}
+use Rattle.pl_history.proofs.Dropped.{dropped_fewer, dropped_settled, dropped_store}
 use Rattle.pl_history.proofs.KeptMark.{count_at, mark_at}
 use Rattle.pl_history.proofs.Settled.{refreshed_settled}
 use Rattle.pl_history.proofs.SourcePage.{source_store}
@@ -42,3 +42,8 @@ returns-clause-settled g c rest s =
     c.unwrap-mark.result c.in_ok-is_place.is_place c.in_ok-refresh.field-0 (g.met.R.Rows.well_kept c.args.rows.now)
     (sym c.unwrap-mark.ensures ∙ c.page_at.ensures.mark) c.in_ok-is_place.ensures
     (sym c.is_standing.ensures ∙ c.if-not-is_standing.false) c.in_ok-refresh.ensures.refreshed s
+
+pub returns-then-not-is_standing-clause-went : goal.returns-then-not-is_standing-clause-went
+returns-then-not-is_standing-clause-went g c =
+    dropped_fewer c.args.page (g.R.Rows.kept c.args.rows.now) (g.R.Rows.kept c.remove_page.new.self)
+    (g.met.R.Rows.well_kept c.args.rows.now) c.requires.page c.remove_page.ensures.kept

@@ -1,5 +1,5 @@
-use Rattle.std.proofs.Common.{◌∙◌, ◌+◌, arith, drop, get_or, sym}
-use Rattle.pl_history.proofs.Settled.{next_there, none_next, page_next, settled_sound, settled_store}
+use Rattle.std.proofs.Common.{◌∙◌, ◌+◌, arith, drop, get_or, length, sym}
+use Rattle.pl_history.proofs.Settled.{next_there, none_next, page_next, settled_sound, settled_store, went_more}
 use Rattle.pl_history.proofs.settle.settle_all.Goals as goal
 
 pub settle-requires-clause-page : goal.settle-requires-clause-page
@@ -17,6 +17,11 @@ loop-page-preserved g c =
           (page_next (g.R.Rows.kept c.loop-page.rows) c.args.pages.now c.loop-page.page-index (record { 0 = 0 })
           (omega arith) c.loop-page.invariant.settled);
       store = c.in_ok-settle.ensures.store ∙ c.loop-page.invariant.store;
+      went =
+          c.loop-page.invariant.went
+          ∙ went_more c.in_ok-settle.field-0 c.from.result (length (g.R.Rows.kept c.loop-page.rows).pages)
+          (length (g.R.Rows.kept c.settle.new.rows).pages) c.loop-page.went c.in_ok-settle.ensures.went
+          (λ is. rw is at c.from.ensures) (λ is. rw is at c.from.ensures);
       base = λ bytes was. c.in_ok-settle.ensures.base bytes (c.loop-page.invariant.base bytes was);
     }
 

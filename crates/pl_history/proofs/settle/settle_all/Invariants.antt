@@ -1,4 +1,4 @@
-use Rattle.std.proofs.Common.{◌≡◌, ℕ, List, drop}
+use Rattle.std.proofs.Common.{◌≡◌, ◌+◌, ℕ, List, drop, length}
 use Rattle.pl_base.specs.Rows.{store_of}
 use Rattle.pl_history.specs.Settled.{AreSettledBut}
 use Rattle.pl_base.specs.Removal.{without_idle_pages}
@@ -10,5 +10,6 @@ invariant-loop-page g l =
       settled : AreSettledBut (drop l.page-index l.pages) (g.R.Rows.kept l.rows);
       store : without_idle_pages (store_of (g.R.Rows.kept l.rows))
           ≡ without_idle_pages (store_of (g.R.Rows.kept l.fn.rows));
+      went : length (g.R.Rows.kept l.fn.rows).pages ≡ length (g.R.Rows.kept l.rows).pages + l.went;
       base : (bytes : List ℕ) → g.R.Rows.base l.fn.rows bytes → g.R.Rows.base l.rows bytes;
     }
