@@ -3,14 +3,18 @@
 //! each page that a change bears on is right behind it.
 #![tactic(auto)]
 
+mod counts;
 mod days;
 mod expiration;
 mod find;
 mod removal;
 mod settle;
+mod totals;
 
+pub use counts::visit_count;
 pub use days::set_day;
 pub use expiration::{expire, forget, trim};
 pub use find::{Target, find_page, find_target, is_place};
 pub use removal::{Removed, remove_visits};
 pub use settle::settle_all;
+pub use totals::total_up;

@@ -3,6 +3,8 @@
 
 mod mark;
 mod tags;
+mod views;
 
 pub use mark::{refresh, unvisited_mark, visited_mark};
 pub use tags::{is_bookmarked, tag_text};
+pub use views::views;

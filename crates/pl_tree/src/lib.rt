@@ -4,6 +4,7 @@
 
 mod ancestors;
 mod children;
+mod count;
 mod error;
 mod insertion;
 mod moves;
@@ -16,6 +17,7 @@ mod titles;
 mod tree_change;
 
 pub use children::child_at;
+pub use count::item_count;
 pub use error::TreeError;
 pub use insertion::insert;
 pub use moves::move_to;
