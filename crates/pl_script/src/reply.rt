@@ -115,6 +115,7 @@ fn refusal_text(alloc: Global, refusal: &Refusal) -> Result<String, NoMemory>
     let number = refusal.number();
     Ok(match refusal {
         Refusal::NoVisit(id) => format!(in alloc; "refused\t{number}\t{}\n", id.0)?,
+        Refusal::DayBack(kept) => format!(in alloc; "refused\t{number}\t{}\n", kept.0)?,
         Refusal::NoItem(id) | Refusal::NotAFolder(id) | Refusal::Fixed(id) | Refusal::Inside(id) =>
             format!(in alloc; "refused\t{number}\t{}\n", id.0)?,
         Refusal::BadPlace(position, length) => {
