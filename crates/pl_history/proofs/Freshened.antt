@@ -1,7 +1,8 @@
 -- A page that is refreshed, and a walk that refreshes each page of the rows on another day.
 use Rattle.std.proofs.Common.{◌≡◌, ◌≢◌, ◌∙◌, ◌+◌, ◌<◌, ◌==◌, ◌++◌, ℕ, ℤ, All, Bool, true, false, List, [], ◌∷◌}
 use Rattle.std.proofs.Common.{Option, Some, None, ap, append_assoc, arith, count_by, eq-eqb, find, get_or}
-use Rattle.std.proofs.Common.{if◌then◌else◌, length, map, nat_lt, refl, subst, sym, w64}
+use Rattle.std.proofs.Common.{if◌then◌else◌, length, map, nat_lt, refl, subst, sym}
+use Rattle.std.proofs.Common.{SFits, of_z, to_z, w64}
 use Rattle.std.specs.Prelude.{not}
 use Rattle.std.specs.List.{AllByRecursion}
 use Rattle.std.specs.Option.{option_map}
@@ -9,7 +10,6 @@ use Rattle.std.specs.Ordering.{int_eq}
 use Rattle.std.proofs.lemmas.Bool.{ne_eqb}
 use Rattle.std.proofs.lemmas.Bool.Decides.{Decides-int_eq, not_from_Decides}
 use Rattle.std.proofs.lemmas.Int.{to_z-of_z}
-use Rattle.std.proofs.Common.{SFits, of_z, to_z}
 use Rattle.std.proofs.lemmas.List.{append-nil, length-append, length-map}
 use Rattle.std.proofs.lemmas.List.Elements.{All-from_recursion, All-map, recursion_from_All}
 use Rattle.std.proofs.lemmas.List.Sums.{count_by-le-length, sum_by_push}
@@ -316,7 +316,8 @@ module _ (day : Day) (old now : Kept) (id : PageId) (count : ℕ) (h : IsWellKep
         let same : store_of now ≡ store =
         ap store_of s.rows ∙ store_partly day old s.front (s.page ∷ s.rest) s.whole in
         let both : Some moved ≡ Some (is_moved store s.page) =
-        is ∙ ap (λ (t : Store). option_map (is_moved t) (page_at now id)) same ∙ ap (option_map (is_moved store)) found in
+        is ∙ ap (λ (t : Store). option_map (is_moved t) (page_at now id)) same
+        ∙ ap (option_map (is_moved store)) found in
         cc
 
     pub goes_on : (new : Kept) (next : Option PageId) (moved : Bool) → IsWellKept now → new ≡ with_fresh id now
@@ -399,8 +400,8 @@ right_walked day old now count same w =
     let all : (P : Store → KeptPage → Type 0) → ((p : KeptPage) → P store (fresh store p))
     → All (P (store_of now)) now.pages =
     λ P each. subst (λ (t : Store). All (P t) now.pages) (sym same)
-    (subst (All (P store)) (sym is) (All-map (P store) (fresh store) old.pages (λ k d within. each (get_or old.pages k d))))
-    in
+    (subst (All (P store)) (sym is)
+    (All-map (P store) (fresh store) old.pages (λ k d within. each (get_or old.pages k d)))) in
     record {
       frecencies = all (λ (t : Store) (p : KeptPage). p.frecency ≡ frecency_of t p.page) (λ p. refl);
       counts = all (λ (t : Store) (p : KeptPage). p.count ≡ visit_count t p.page.id) (λ p. refl);

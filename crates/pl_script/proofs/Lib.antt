@@ -5,4 +5,5 @@ mod Numbers
 mod ReplyLines
 mod TagTexts
 mod Words
+mod WorkedDays
 mod WorkedScripts

@@ -1,13 +1,11 @@
 -- The script: one command a line, its fields apart by one TAB.
-use Rattle.std.specs.Prelude.{ℕ, ◌+◌, ◌-◌, ◌^◌, ◌==◌, ◌&&◌, Bool, true, false}
+use Rattle.std.specs.Prelude.{ℕ, ◌+◌, ◌-◌, ◌^◌, ◌==◌, Bool, true, false}
 use Rattle.std.specs.Prelude.{List, [], ◌∷◌, length, codes, bytes_eq, nat_lt}
 use Rattle.std.specs.Prelude.{nat_le, Option, Some, None, Ok, Err, if◌then◌else◌}
-use Rattle.std.specs.Char.{is_ascii_digit}
-use Rattle.std.specs.List.{filter_map, find, flat_map, list_all, slice_split}
+use Rattle.std.specs.List.{filter_map, find, flat_map, slice_split}
 use Rattle.std.specs.Option.{ok_or, option_and_then, option_map}
 use Rattle.std.specs.Str.{is_utf8}
 use Rattle.std.specs.Str.Lines.{lines}
-use Rattle.std.specs.Str.Parse.{digits_value}
 use Rattle.pl_base.specs.declared.date.Micros.{Micros}
 use Rattle.pl_base.specs.declared.id.ItemId.{ItemId}
 use Rattle.pl_base.specs.declared.id.VisitId.{VisitId}
@@ -26,6 +24,7 @@ use Rattle.pl_engine.specs.declared.command.Command.TheVariants.{Move, Retitle, 
 use Rattle.pl_engine.specs.declared.command.Command.TheVariants.{Tag, Untag}
 use Rattle.pl_engine.specs.declared.command.Command.TheVariants.{List as ListItems}
 use Rattle.pl_engine.specs.Parsed.{Parsed}
+use Rattle.pl_script.specs.NumberText.{number_of}
 use Rattle.pl_script.specs.TagText.{tag_of}
 use Rattle.pl_script.specs.declared.word.Word.{Word}
 use Rattle.pl_script.specs.declared.word.Word.TheVariants as word
@@ -83,18 +82,6 @@ escaped_as b (Some letter) = 92 ∷ letter ∷ []
 -- a text as replies write it: the four escapes, and nothing else escaped
 abbrev pub escaped : List ℕ → List ℕ
 escaped text = flat_map (λ b. escaped_as b (escape_of b)) text
-
--- `0`, or digits of which the first is not `0`
-abbrev pub is_numeral : List ℕ → Bool
-is_numeral [] = false
-is_numeral (digit ∷ rest) =
-    if digit == 48 then length rest == 0 else list_all is_ascii_digit (digit ∷ rest)
-
--- the number of a field, of at most 64 bits
-abbrev pub number_of : List ℕ → Option ℕ
-number_of field =
-    if is_numeral field && nat_lt (digits_value 10 field) (2 ^ 64)
-    then Some (digits_value 10 field) else None
 
 -- a transition is a number from 1 to 9
 abbrev pub transition_of : List ℕ → Option Transition

@@ -4,6 +4,7 @@ ghost use Rattle.std.specs.Char.{is_ascii_digit};
 ghost use Rattle.std.specs.List.{list_all};
 ghost use Rattle.std.specs.Option.{option_map};
 ghost use Rattle.std.specs.String.{string_bytes};
+ghost use Rattle.pl_script.specs.NumberText as numbers;
 ghost use Rattle.pl_script.specs.Script as spec;
 
 use crate::word::Word;
@@ -124,7 +125,7 @@ fn escape_of(c: char) -> Option<char>
 
 /// The number of a field, in decimal digits without sign or leading zero.
 pub fn number(field: &[u8]) -> Option<u64>
-    ensures { result ≡ spec.number_of field.now }
+    ensures { result ≡ numbers.number_of field.now }
 {
     if !is_numeral(field) {
         return None;
@@ -136,7 +137,7 @@ pub fn number(field: &[u8]) -> Option<u64>
 }
 
 fn is_numeral(field: &[u8]) -> bool
-    ensures { result ≡ spec.is_numeral field.now }
+    ensures { result ≡ numbers.is_numeral field.now }
 {
     match field {
         [] => false,
@@ -145,7 +146,7 @@ fn is_numeral(field: &[u8]) -> bool
     }
 }
 
-fn all_digits(field: &[u8]) -> bool
+pub fn all_digits(field: &[u8]) -> bool
     ensures { result ≡ list_all is_ascii_digit field.now }
 {
     field.iter().all(|byte| byte.is_ascii_digit())

@@ -1,15 +1,18 @@
 // The fields of a line, one after another, and the columns at which they stand.
 ghost use Rattle.std.specs.Prelude.{◌≡◌, ◌+◌, ◌-◌, ◌<◌, ◌≤◌, [], length, IfOk, IfErr, ◌==◌};
+ghost use Rattle.std.specs.Prelude.{IfSome};
 ghost use Rattle.std.specs.Option.{ok_or};
 ghost use Rattle.std.specs.List.{position, position_or_len};
+ghost use Rattle.pl_base.specs.Date.{IsDay};
+ghost use Rattle.pl_script.specs.DayText.{day_of};
 ghost use Rattle.pl_script.specs.Fields.{GivesField, TakesField};
 ghost use Rattle.pl_script.specs.LineError.{ReadsAs, ReadsInPlace};
 ghost use Rattle.pl_script.specs.Script as spec;
 
-use crate::field;
 use crate::lines::LineError;
 use crate::word::Word;
-use pl_base::{ItemId, Micros, Refusal, Transition, Txt, VisitId};
+use crate::{day, field};
+use pl_base::{Day, ItemId, Micros, Refusal, Transition, Txt, VisitId};
 use pl_tree::Place;
 use std::alloc::Global;
 use std::marker::Model;
@@ -111,6 +114,16 @@ impl<'a> Fields<'a> {
     {
         let (column, bytes) = self.next()?;
         formed(field::date(bytes), column)
+    }
+
+    /// A day, or none where no day of the range has the number or the date.
+    pub fn day(&mut self) -> Result<Option<Day>, LineError>
+        ensures day { ReadsInPlace (λ day. (day, self.new)) result
+            (spec.next_field day_of self.old) }
+        ensures range { IfOk result (λ day. IfSome day IsDay) }
+    {
+        let (column, bytes) = self.next()?;
+        formed(day::day(bytes), column)
     }
 
     pub fn item_id(&mut self) -> Result<ItemId, LineError>

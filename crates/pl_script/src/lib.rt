@@ -2,6 +2,7 @@
 //! `specs/` the grammar of both.
 #![tactic(auto)]
 
+mod day;
 mod field;
 mod fields;
 mod history_lines;

@@ -1,7 +1,8 @@
 // One line.
 ghost use Rattle.std.specs.Prelude.{◌≡◌, IfOk, IfSome, IsErrOf};
 ghost use Rattle.pl_engine.specs.Step.{HasDates};
-ghost use Rattle.pl_base.specs.Date.{IsDate};
+ghost use Rattle.pl_base.specs.Date.{IsDate, IsDay};
+ghost use Rattle.pl_script.specs.DayText as days;
 ghost use Rattle.pl_script.specs.LineError.{BecomesLineError, MayHaveTexts, ReadsAs, ReadsEntry};
 ghost use Rattle.pl_script.specs.LineError.{ReadsInPlace, TagBecomesLineError};
 ghost use Rattle.pl_script.specs.Script as spec;
@@ -15,7 +16,7 @@ use crate::item_lines::{
 };
 use crate::tag_lines::{tag_line, untag_line};
 use crate::word::Word;
-use pl_base::{Micros, NoMemory, Refusal};
+use pl_base::{Day, Micros, NoMemory, Refusal};
 use pl_engine::Command;
 use pl_link::{Canon, CanonError};
 use pl_words::TagError;
@@ -136,6 +137,18 @@ pub fn in_range(date: Micros) -> Result<Micros, LineError>
         return Err(LineError::Refused(Refusal::BadDate));
     }
     Ok(date)
+}
+
+/// The day, unless it is none of the range.
+pub fn day_in_range(day: Option<Day>) -> Result<Day, LineError>
+    requires { IfSome day IsDay }
+    ensures day { ReadsInPlace (λ day. day) result (days.day_in_range day) }
+    ensures range { IfOk result IsDay }
+{
+    match day {
+        Some(day) => Ok(day),
+        None => Err(LineError::Refused(Refusal::BadDate)),
+    }
 }
 
 fn title_line(alloc: Global, mut fields: Fields<'_>) -> Result<Command, LineError>
