@@ -25,6 +25,7 @@ use Rattle.pl_engine.specs.declared.command.Command.TheVariants.{Tag, Untag}
 use Rattle.pl_engine.specs.declared.command.Command.TheVariants.{List as ListItems}
 use Rattle.pl_engine.specs.Parsed.{Parsed}
 use Rattle.pl_script.specs.NumberText.{number_of}
+use Rattle.pl_script.specs.DayText.{day_in_range, day_of}
 use Rattle.pl_script.specs.TagText.{tag_of}
 use Rattle.pl_script.specs.declared.word.Word.{Word}
 use Rattle.pl_script.specs.declared.word.Word.TheVariants as word
