@@ -26,6 +26,17 @@ const DATES: &[u8] = &[0, 7, 3, 7, 1, 2, 9, 4, 8, 6, 5, 3];
 
 const LATEST_FIRST: &[u32] = &[11, 13, 8, 6, 14, 15, 12, 16, 7, 4, 10, 9, 5];
 
+// Visits 6 and 7 came from 5, and 5 and 8 from 4. What is left of all where 5 and 1 go, of which 2
+// and 3 came: each visit with its page, its date, its transition and its source.
+const LEFT: &[(u32, u32, u8, Transition, Option<VisitId>)] = &[
+    (2, 2, 1, Transition::RedirectPermanent, None),
+    (3, 3, 2, Transition::Link, None),
+    (4, 4, 3, Transition::Link, None),
+    (6, 4, 9, Transition::RedirectTemporary, None),
+    (7, 4, 9, Transition::Link, None),
+    (8, 4, 9, Transition::Link, Some(VisitId(4))),
+];
+
 fn add_link<L: Ledger>(
     rt: &impl Abort,
     flat: &mut Flat,
@@ -208,6 +219,84 @@ fn add_rows<L: Ledger>(rt: &impl Abort, flat: &mut Flat, steps: &mut Steps<L>) -
     Ok(())
 }
 
+// Visits 5 to 8.
+fn add_chain<L: Ledger>(
+    rt: &impl Abort,
+    flat: &mut Flat,
+    steps: &mut Steps<L>,
+) -> Result<(), Fail> {
+    add_target(rt, flat, VisitId(4), Transition::Link, steps)?;
+    add_target(rt, flat, VisitId(5), Transition::RedirectTemporary, steps)?;
+    add_target(rt, flat, VisitId(5), Transition::Link, steps)?;
+    add_target(rt, flat, VisitId(4), Transition::Link, steps)?;
+    check_targets(rt, flat, 4, &[5, 8], steps);
+    check_targets(rt, flat, 5, &[6, 7], steps);
+    check_order(rt, flat, PageId(4), &[8, 7, 6, 5, 4], steps)?;
+    assert_eq!(rt; flat.live(steps), 26);
+    Ok(())
+}
+
+fn remove_visit<L: Ledger>(
+    rt: &impl Abort,
+    flat: &mut Flat,
+    visit: VisitId,
+    steps: &mut Steps<L>,
+) -> Result<(), Fail> {
+    flat.visit_at(visit, steps).ok_or("no visit")?;
+    flat.remove_visit(visit, steps);
+    assert!(rt; flat.visit_at(visit, steps).is_none());
+    Ok(())
+}
+
+fn check_left<L: Ledger>(rt: &impl Abort, flat: &Flat, steps: &mut Steps<L>) {
+    for (id, page, date, transition, source) in LEFT {
+        let row = VisitRow {
+            page: PageId(*page),
+            date: Micros(u64::from(*date)),
+            transition: *transition,
+            source: *source,
+        };
+        assert!(rt; flat.visit_at(VisitId(*id), steps) == Some(row));
+    }
+}
+
+// The middle one of a chain goes, which had two targets, and then the one visit of a page.
+fn remove_visits<L: Ledger>(
+    rt: &impl Abort,
+    flat: &mut Flat,
+    steps: &mut Steps<L>,
+) -> Result<(), Fail> {
+    remove_visit(rt, flat, VisitId(5), steps)?;
+    check_targets(rt, flat, 4, &[8], steps);
+    check_targets(rt, flat, 5, &[], steps);
+    check_targets(rt, flat, 1, &[2, 3], steps);
+    check_order(rt, flat, PageId(4), &[8, 7, 6, 4], steps)?;
+    assert_eq!(rt; flat.live(steps), 25);
+    check_touched(rt, flat, (3, 3, 2), steps)?;
+    remove_visit(rt, flat, VisitId(1), steps)?;
+    check_targets(rt, flat, 1, &[], steps);
+    check_order(rt, flat, PageId(1), &[], steps)?;
+    check_order(rt, flat, PageId(2), &[2], steps)?;
+    assert_eq!(rt; flat.live(steps), 24);
+    assert_eq!(rt; flat.ids(steps).visit, 9);
+    check_left(rt, flat, steps);
+    Ok(())
+}
+
+fn leave_visits<L: Ledger>(rt: &impl Abort, alloc: Global, blank: Blank) -> Result<(), Fail>
+    requires name { blank.name ≡ L.name }
+    requires parts { blank.parts ≡ L.parts }
+    requires some { 0 < blank.parts }
+{
+    let steps = &mut Steps::<L>::none(blank);
+    let mut flat = Flat::check(alloc, &redirected::file(alloc, b"A")?)?;
+    add_chain(rt, &mut flat, steps)?;
+    check_touched(rt, &mut flat, (3, 3, 2), steps)?;
+    check_touched(rt, &mut flat, (3, 3, 0), steps)?;
+    remove_visits(rt, &mut flat, steps)?;
+    Ok(())
+}
+
 fn keep_rows<L: Ledger>(rt: &impl Abort, alloc: Global, blank: Blank) -> Result<(), Fail>
     requires name { blank.name ≡ L.name }
     requires parts { blank.parts ≡ L.parts }
@@ -251,6 +340,11 @@ fn first_page<L: Ledger>(rt: &impl Abort, alloc: Global, blank: Blank) -> Result
 #[test]
 fn keeps_rows(rt: HostRuntime) -> Result<(), Fail> {
     keep_rows::<Brand>(&rt, rt.alloc(), Blank::new(1))
+}
+
+#[test]
+fn removes_visits(rt: HostRuntime) -> Result<(), Fail> {
+    leave_visits::<Brand>(&rt, rt.alloc(), Blank::new(1))
 }
 
 #[test]
