@@ -5,6 +5,7 @@ pub mod KeptUrls
 pub mod OriginParts
 pub mod PageOrder
 pub mod RemovedRows
+pub mod RemovedVisits
 pub mod RightAfter
 pub mod RightRemoved
 pub mod Settled
