@@ -1,25 +1,23 @@
 -- Visits that go one after another, and the pages that they bore on once these are put in order.
-use Rattle.std.proofs.Common.{◌≡◌, ◌≢◌, ◌∙◌, ◌+◌, ◌-◌, ◌<◌, ◌≤◌, ◌==◌, ◌||◌, ℕ, All, Bool, true, false, IsTrue}
+use Rattle.std.proofs.Common.{◌≡◌, ◌≢◌, ◌∙◌, ◌+◌, ◌<◌, ◌≤◌, ◌==◌, ◌||◌, ℕ, All, Bool, true, false, IsTrue}
 use Rattle.std.proofs.Common.{List, [], ◌∷◌, ap, arith, eq-eqb, eqb-true, get_or}
-use Rattle.std.proofs.Common.{length, map, refl, subst, suc, sym, take, zero}
+use Rattle.std.proofs.Common.{length, refl, subst, suc, sym, take, zero}
 use Rattle.std.specs.List.{AllByRecursion, AllPairs, list_any}
 use Rattle.std.specs.List.Sorted.{IsStrictlyIncreasing}
 use Rattle.std.proofs.lemmas.Bool.{false_from_ne_true, false≢true, ne_eqb, or_from}
-use Rattle.std.proofs.lemmas.List.{length-map, take_all, take_more}
+use Rattle.std.proofs.lemmas.List.{take_all, take_more}
 use Rattle.std.proofs.lemmas.List.Elements.{All-head, All-tail}
 use Rattle.std.proofs.lemmas.List.Kept.{AllPairs-from_increasing}
 use Rattle.pl_base.specs.declared.id.PageId.{PageId}
 use Rattle.pl_base.specs.declared.id.VisitId.{VisitId}
-use Rattle.pl_base.specs.Good.{IsGoodPage, end_of_ids}
+use Rattle.pl_base.specs.Good.{IsGoodPage}
 use Rattle.pl_base.specs.Removal.{is_among, visits_left, without_idle_pages, without_visits}
 use Rattle.pl_base.specs.Rows.{IsWellKept, Kept, KeptPage, has_page, has_visit, store_of}
-use Rattle.pl_base.specs.Store.{Page, Store, Visit}
-use Rattle.pl_base.proofs.IdsLaws.{few_ids, same_page}
+use Rattle.pl_base.specs.Store.{Store, Visit}
+use Rattle.pl_base.proofs.IdsLaws.{same_page}
 use Rattle.pl_base.proofs.ListLaws.{All-from_map, AllPairs-from_map}
 use Rattle.pl_history.specs.Settled.{AreOthersSettled, AreSettledBut}
 use Rattle.pl_history.specs.Sound.{IsSound}
-use Rattle.pl_history.specs.Went.{went}
-use Rattle.pl_history.specs.declared.removal.Removed.{Removed}
 use Rattle.pl_history.proofs.GoodRows.{items_of}
 use Rattle.pl_history.proofs.PageOrder.{is_one, numbers}
 use Rattle.pl_history.proofs.RemovedRows.{differ_visits}
@@ -158,31 +156,3 @@ all_gone old now new ids k past so_far settled =
     settled ∙ ap without_idle_pages so_far
     ∙ ap (λ (gone : List VisitId). without_idle_pages (record (store_of old) { visits = visits_left gone old.visits }))
     (take_all k ids past)
-
-pub few_gone : (old now : Kept) (k : ℕ) → IsWellKept old → length now.visits + k ≡ length old.visits → k < end_of_ids
-few_gone old now k h fewer =
-    omega (
-      arith,
-      fewer,
-      few_ids (map (λ (v : Visit). v.id.0) old.visits) old.ids.visit (length old.visits) h.visit_ids
-          (length-map old.visits (λ (v : Visit). v.id.0)),
-    )
-
-abbrev removed : ℕ → ℕ → Removed
-removed visits pages = record { visits = visits; pages = pages }
-
-pub told_went : (old now new : Kept) (ids : List VisitId) (k visits pages : ℕ)
-    → store_of now ≡ record (store_of old) { visits = visits_left (take k ids) old.visits }
-    → store_of new ≡ without_idle_pages (store_of now) → length now.visits + k ≡ length old.visits → visits ≡ k
-    → length now.pages ≡ length new.pages + pages
-    → removed visits pages ≡ went (store_of old) (store_of new)
-told_went old now new ids k visits pages so_far settled fewer is gone =
-    let paged : KeptPage → Page = λ (p : KeptPage). p.page in
-    let left : length new.visits ≡ length now.visits = ap (λ (s : Store). length s.visits) settled in
-    let same : length now.pages ≡ length old.pages =
-    sym (length-map now.pages paged) ∙ ap (λ (s : Store). length s.pages) so_far ∙ length-map old.pages paged in
-    let first : visits ≡ length old.visits - length new.visits = omega (arith, left, fewer, is) in
-    let second : pages ≡ length (map paged old.pages) - length (map paged new.pages) =
-    omega (arith, same, gone, length-map old.pages paged, length-map new.pages paged) in
-    ap (λ (v : ℕ). removed v pages) first
-    ∙ ap (removed (length old.visits - length new.visits)) second
