@@ -220,9 +220,12 @@ one_fewer page (p ∷ ps) apart there = choose (p.page.id.0 == page.0) refl ther
         → (list_any (λ (q : KeptPage). q.page.id.0 == page.0) ps ≡ true → length ps ≡ length (other_pages page ps) + 1)
         → suc (length ps) ≡ length (if not b then p ∷ other_pages page ps else other_pages page ps) + 1
     choose true same here rest =
-        omega (arith, other_stay page ps
-        (weaker (λ (q : KeptPage). q.page.id.0 ≢ p.page.id.0) (λ (q : KeptPage). q.page.id.0 ≢ page.0) ps
-        (λ q other is. other (is ∙ sym (eqb-true p.page.id.0 page.0 same))) apart.0))
+        omega (
+          arith,
+          other_stay page ps
+              (weaker (λ (q : KeptPage). q.page.id.0 ≢ p.page.id.0) (λ (q : KeptPage). q.page.id.0 ≢ page.0) ps
+              (λ q other is. other (is ∙ sym (eqb-true p.page.id.0 page.0 same))) apart.0),
+        )
     choose false other there rest = omega (arith, rest there)
 
 pub dropped_fewer : (page : PageId) (old new : Kept) → IsWellKept old → has_page old page ≡ true

@@ -7,6 +7,7 @@ pub mod OriginParts
 pub mod PageOrder
 pub mod PageTurns
 pub mod RemovedRows
+pub mod RemovedVisits
 pub mod RightAfter
 pub mod RightRemoved
 pub mod SameVisits

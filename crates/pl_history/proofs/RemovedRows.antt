@@ -1,7 +1,7 @@
 -- What holds of the rows once a visit went, and the pages that it bears on joined the others.
 use Rattle.std.proofs.Common.{◌≡◌, ◌∙◌, ◌+◌, ◌≤◌, ◌==◌, ◌&&◌, ◌||◌, ◌++◌, ℕ, All, Bool, true, false, IsTrue, List, [], ◌∷◌}
 use Rattle.std.proofs.Common.{Option, Some, None, ap, arith, eq-eqb, eqb-true, filter, get_or, if◌then◌else◌, map, refl}
-use Rattle.std.proofs.Common.{length, option_to_list, subst, sym}
+use Rattle.std.proofs.Common.{option_to_list, subst, sym}
 use Rattle.std.specs.List.{AllByRecursion, list_any}
 use Rattle.std.specs.Option.{option_and_then, option_map}
 use Rattle.std.proofs.lemmas.Bool.{false≢true, or_parts}
@@ -15,24 +15,23 @@ use Rattle.pl_base.specs.declared.id.VisitId.{VisitId}
 use Rattle.pl_base.specs.declared.row.Mark.{Mark}
 use Rattle.pl_base.specs.declared.row.VisitRow.{VisitRow}
 use Rattle.pl_base.specs.declared.transition.Transition.TheVariants.{Typed}
-use Rattle.pl_base.specs.Date.{IsDate}
 use Rattle.pl_base.specs.Good.{HasGoodItems}
 use Rattle.pl_base.specs.Marks.{is_counted, is_referenced, visit_count}
 use Rattle.pl_base.specs.Redirects.{is_redirect, is_source, redirects_from}
 use Rattle.pl_base.specs.Removal.{is_standing, visits_left}
 use Rattle.pl_base.specs.Rows.{IsWellKept, Kept, KeptPage, has_page, mark_of, marked, page_at, row_of, store_of, visit_at}
 use Rattle.pl_base.specs.Rows.{with_mark, without_visit}
-use Rattle.pl_base.specs.Store.{Page, Store, Visit}
+use Rattle.pl_base.specs.Store.{Page, Visit}
 use Rattle.pl_base.proofs.IdsLaws.{same_page}
 use Rattle.pl_base.proofs.ListLaws.{list_any-alike, list_any-map, weaker}
 use Rattle.pl_base.proofs.VisitsLaws.{Differ, Differ-ascending}
-use Rattle.pl_marks.specs.Refreshed.{AreRightBut, HaveCounts, IsRightPage, source_page, unvisited_mark}
+use Rattle.pl_marks.specs.Refreshed.{HaveCounts, IsRightPage, source_page, unvisited_mark}
 use Rattle.pl_marks.proofs.LookUps.{found_holds, none_pass}
 use Rattle.pl_history.specs.Borne.{WithRedirectPages}
 use Rattle.pl_history.specs.Settled.{AreOthersSettled}
 use Rattle.pl_history.specs.Sound.{IsTypedRight}
 use Rattle.pl_history.proofs.GoodRows.{items_still}
-use Rattle.pl_history.proofs.KeptMark.{IsMarkAt, count_at, mark_at, typed_at}
+use Rattle.pl_history.proofs.KeptMark.{count_at, mark_at, typed_at}
 use Rattle.pl_history.proofs.PageOrder.{is_one}
 use Rattle.pl_history.proofs.RightAfter.{each_marked, other_way}
 use Rattle.pl_history.proofs.RightRemoved.{IsApart, computed_left, count_apart, visited_left}
@@ -187,9 +186,10 @@ module _ (old : Kept) (id : VisitId) (gone : Visit) (mark : Mark) (h : IsWellKep
         (All-append There mid (map (λ (v : Visit). v.page) w.redirects)
         (subst (All There) (sym own)
         (All-append There before (gone.page ∷ option_to_list (source_page old (row_of gone))) there
-        (All-from_recursion There (gone.page ∷ option_to_list (source_page old (row_of gone)))
-        (found_holds (λ (v : Visit). There v.page) (λ (v : Visit). v.id.0 == id.0) old.visits gone visits at,
-        source_there old (is_redirect gone.transition) gone.source visits))))
+        (All-from_recursion There (gone.page ∷ option_to_list (source_page old (row_of gone))) (
+          found_holds (λ (v : Visit). There v.page) (λ (v : Visit). v.id.0 == id.0) old.visits gone visits at,
+          source_there old (is_redirect gone.transition) gone.source visits,
+        ))))
         (All-map There (λ (v : Visit). v.page) w.redirects
         (All-permutation (λ (v : Visit). There v.page) (redirects_from (store_of old) id) w.redirects
         (IsPermutation-sym w.redirects (redirects_from (store_of old) id) w.all)

@@ -1,7 +1,7 @@
 -- Pages that a visit does not bear on stay right when it goes.
-use Rattle.std.proofs.Common.{◌≡◌, ◌≢◌, ◌+◌, ◌<◌, ◌==◌, ◌&&◌, ◌||◌, ◌++◌, ◌∙◌, if◌then◌else◌, ℕ, ℤ, All}
-use Rattle.std.proofs.Common.{Bool, true, false, filter, List, [], ◌∷◌, Option, Some, None}
-use Rattle.std.proofs.Common.{ap, arith, count_by, find, length, map, option_to_list, refl, subst, sym, take}
+use Rattle.std.proofs.Common.{◌≡◌, ◌==◌, ◌&&◌, ◌||◌, ◌∙◌, if◌then◌else◌, ℕ, ℤ}
+use Rattle.std.proofs.Common.{Bool, true, false, List, [], ◌∷◌, Option, Some, None}
+use Rattle.std.proofs.Common.{ap, find, length, map, option_to_list, refl, sym, take}
 use Rattle.std.specs.List.{AllByRecursion, list_all, list_any, sum_by}
 use Rattle.std.specs.Option.{option_and_then, option_map}
 use Rattle.std.proofs.lemmas.Bool.{eq-eqb, eqb-true, false_from_ne_true, false≢true}
@@ -21,7 +21,7 @@ use Rattle.pl_base.specs.Rows.{IsWellKept, Kept, row_of, store_of, visit_at, wit
 use Rattle.pl_base.specs.Store.{Page, Store, Visit}
 use Rattle.pl_base.specs.Tables.{bonus_of}
 use Rattle.pl_base.specs.Visits.{latest_first, sample_of, visits_of}
-use Rattle.pl_marks.specs.Refreshed.{IsRightPage, is_passing, source_page}
+use Rattle.pl_marks.specs.Refreshed.{is_passing, source_page}
 use Rattle.pl_base.proofs.ListLaws.{sum_by-agree, sum_by-map, weaker}
 use Rattle.pl_base.proofs.VisitsLaws.{all-latest_first}
 use Rattle.pl_marks.proofs.LookUps.{apart_ascending, both, found_one, where_passes}

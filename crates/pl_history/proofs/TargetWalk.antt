@@ -1,5 +1,5 @@
 -- A walk over the visits that came from one, up to the first that no redirect made.
-use Rattle.std.proofs.Common.{◌≡◌, ◌≢◌, ◌+◌, ◌-◌, ◌<◌, ◌≤◌, ◌++◌, ◌&&◌, ◌||◌, ◌==◌, ◌∙◌, ℕ, All, Bool, true}
+use Rattle.std.proofs.Common.{◌≡◌, ◌≢◌, ◌+◌, ◌-◌, ◌<◌, ◌≤◌, ◌++◌, ◌&&◌, ◌==◌, ◌∙◌, ℕ, All, Bool, true}
 use Rattle.std.proofs.Common.{false, List, [], ◌∷◌, Option, Some, None, ap, append_assoc, arith, cond, count_by}
 use Rattle.std.proofs.Common.{eq-eqb, filter, if◌then◌else◌, length, map, not, refl, subst, sym}
 use Rattle.std.specs.List.{AllByRecursion}
@@ -7,19 +7,18 @@ use Rattle.std.specs.List.Sorted.{IsPermutation}
 use Rattle.std.specs.Option.{IsSome, option_and_then, option_map}
 use Rattle.std.proofs.lemmas.Bool.{and_parts, eqb-true, false≢true, ne_eqb}
 use Rattle.std.proofs.lemmas.List.{append-nil, length-append, length-map, map_push}
-use Rattle.std.proofs.lemmas.List.Elements.{All-append, All-filter, All-from_recursion, filter_passes, recursion_from_All}
+use Rattle.std.proofs.lemmas.List.Elements.{All-filter, All-from_recursion, filter_passes, recursion_from_All}
 use Rattle.std.proofs.lemmas.List.Kept.{AllPairs-from_increasing}
 use Rattle.std.proofs.lemmas.List.Sorted.{All-permutation, IsPermutation-sym, sum_by-IsPermutation}
-use Rattle.std.proofs.lemmas.List.Sums.{sum_by-cons, sum_by-append}
+use Rattle.std.proofs.lemmas.List.Sums.{sum_by-cons}
 use Rattle.pl_base.specs.declared.id.PageId.{PageId}
 use Rattle.pl_base.specs.declared.id.VisitId.{VisitId}
 use Rattle.pl_base.specs.declared.row.VisitRow.{VisitRow}
 use Rattle.pl_base.specs.Redirects.{is_redirect, is_source, others_from, redirects_from}
 use Rattle.pl_base.specs.Rows.{AreTargets, IsWellKept, Kept, first_id, id_behind, row_of, store_of, target_behind, visit_at}
 use Rattle.pl_base.specs.Store.{Visit}
-use Rattle.pl_base.proofs.ListLaws.{all-filter, weaker}
+use Rattle.pl_base.proofs.ListLaws.{weaker}
 use Rattle.pl_base.proofs.VisitsLaws.{Differ, Differ-ascending, Differ-filter}
-use Rattle.pl_marks.proofs.LookUps.{both, none_pass}
 use Rattle.pl_marks.proofs.PageWalk.{part}
 use Rattle.pl_marks.proofs.VisitWalk.{row_is, visits_found}
 use Rattle.pl_history.specs.Borne.{WithRedirectPages}
@@ -139,8 +138,11 @@ differ_part : (kept : Kept) (test : Visit → Bool) (part : List Visit) → IsWe
     → IsPermutation part (filter test kept.visits) → Differ part
 differ_part kept test part h same =
     from_once part (λ n.
-    omega (arith, like_permuted n part (filter test kept.visits) same,
-    once_from (filter test kept.visits) (Differ-filter test kept.visits (differ_all kept h)) n))
+    omega (
+      arith,
+      like_permuted n part (filter test kept.visits) same,
+      once_from (filter test kept.visits) (Differ-filter test kept.visits (differ_all kept h)) n,
+    ))
 
 differ_append : (vs ws : List Visit) → Differ vs → Differ ws
     → AllByRecursion (λ (v : Visit). AllByRecursion (λ (w : Visit). w.id.0 ≢ v.id.0) ws) vs → Differ (vs ++ ws)

@@ -1,9 +1,9 @@
 -- Lists of visits when some of them go.
 use Rattle.std.proofs.Common.{◌≡◌, ◌≢◌, ◌∙◌, ◌+◌, ◌==◌, ◌||◌, ◌++◌, ℕ, Bool, true, false, List, [], ◌∷◌, Option, Some, None}
 use Rattle.std.proofs.Common.{ap, arith, cond, count_by, eq-eqb, filter, find, if◌then◌else◌, length, map, not, refl}
-use Rattle.std.proofs.Common.{subst, sym}
+use Rattle.std.proofs.Common.{sym}
 use Rattle.std.specs.List.{AllByRecursion, list_any}
-use Rattle.std.specs.Option.{option_map}
+use Rattle.std.specs.Option.{IsSome, option_map}
 use Rattle.std.proofs.lemmas.Bool.{eqb-true, false≢true, ne_eqb}
 use Rattle.std.proofs.lemmas.List.Folds.{list_any-append}
 use Rattle.std.proofs.lemmas.List.Sums.{sum_by-cons}
@@ -11,7 +11,7 @@ use Rattle.pl_base.specs.declared.id.VisitId.{VisitId}
 use Rattle.pl_base.specs.Removal.{is_among, source_left, visit_left, visits_left}
 use Rattle.pl_base.specs.Store.{Visit}
 use Rattle.pl_base.specs.Visits.{in_place, is_later, latest_first}
-use Rattle.pl_base.proofs.ListLaws.{weaker}
+use Rattle.pl_base.proofs.ListLaws.{found_in, weaker}
 use Rattle.pl_base.proofs.VisitsLaws.{Differ}
 
 -- ---- tests of what is left
@@ -181,8 +181,11 @@ count_gone id p q (v ∷ vs) gone differ found alike =
         let others : count_by p (visits_left (id ∷ []) vs) ≡ count_by q vs =
         count_left (id ∷ []) p q vs
         (weaker (λ (w : Visit). w.id.0 ≢ v.id.0) (Keeps (id ∷ []) p q) vs
-        (λ w other. (λ among. absurd (other (eqb-true w.id.0 id.0 (among_is id w.id among)
-        ∙ sym (eqb-true v.id.0 id.0 is))), alike w)) differ.0) in
+        (λ w other. (
+          λ among. absurd (other (eqb-true w.id.0 id.0 (among_is id w.id among)
+              ∙ sym (eqb-true v.id.0 id.0 is))),
+          alike w,
+        )) differ.0) in
         let here : count_if id p v vs (is_among (id ∷ []) v.id) ≡ count_by p (visits_left (id ∷ []) vs) =
         ap (count_if id p v vs) (among_one id v.id true is) in
         omega (arith, here, others, ap (λ (w : Visit). bit (q w)) same)
@@ -245,3 +248,36 @@ left_twice gone id (v ∷ vs) =
         then v ∷ staying (gone ++ id ∷ []) vs else staying (gone ++ id ∷ []) vs)
     choose true rest = rest
     choose false rest = last (is_among (id ∷ []) v.id) rest
+
+-- ---- none, and how many
+
+source_none : (source : Option VisitId) → source_left [] source ≡ source
+source_none None = refl
+source_none (Some id) = refl
+
+pub left_none : (vs : List Visit) → visits_left [] vs ≡ vs
+left_none [] = refl
+left_none (v ∷ vs) =
+    ap (λ (s : Option VisitId). record v { source = s } ∷ visits_left [] vs) (source_none v.source)
+    ∙ ap (λ (ws : List Visit). v ∷ ws) (left_none vs)
+
+all_counted : (vs : List Visit) → count_by (λ (v : Visit). true) vs ≡ length vs
+unfolding bit
+all_counted [] = refl
+all_counted (v ∷ vs) =
+    let more : count_by (λ (w : Visit). true) (v ∷ vs) ≡ 1 + count_by (λ (w : Visit). true) vs =
+    count_cons (λ (w : Visit). true) v vs in
+    omega (arith, more, all_counted vs)
+
+pub one_fewer : (id : VisitId) (vs : List Visit) → Differ vs → list_any (λ (v : Visit). v.id.0 == id.0) vs ≡ true
+    → length vs ≡ length (visits_left (id ∷ []) vs) + 1
+one_fewer id vs differ there =
+    choose (find (λ (v : Visit). v.id.0 == id.0) vs) refl (found_in (λ (v : Visit). v.id.0 == id.0) vs there)
+  where
+    choose : (o : Option Visit) → find (λ (v : Visit). v.id.0 == id.0) vs ≡ o → IsSome o
+        → length vs ≡ length (visits_left (id ∷ []) vs) + 1
+    choose None at some = absurd (false≢true some)
+    choose (Some gone) at some =
+        sym (all_counted vs)
+        ∙ count_one_fewer id (λ (v : Visit). true) (λ (v : Visit). true) vs gone differ at (λ v. refl)
+        ∙ ap (λ (n : ℕ). n + 1) (all_counted (visits_left (id ∷ []) vs))

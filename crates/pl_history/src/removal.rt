@@ -28,11 +28,7 @@ pub struct Removed {
 }
 
 // The page of the visit that a redirect came from.
-fn source_page<R: Rows, L: Ledger>(
-    rows: &R,
-    row: &VisitRow,
-    steps: &mut Steps<L>,
-) -> Option<PageId>
+fn source_page<R: Rows, L: Ledger>(rows: &R, row: &VisitRow, steps: &mut Steps<L>) -> Option<PageId>
     ensures { result ≡ marks.source_page (R.kept rows.now) row.now }
 {
     if !row.transition.is_redirect() {
@@ -93,7 +89,7 @@ fn remove_visit<R: Rows, L: Ledger>(
     requires settled { AreOthersSettled pages.old.items (R.kept rows.old) }
     ensures store { OnOk result (store_of (R.kept rows.new)
         ≡ record (store_of (R.kept rows.old)) {
-            visits = visits_left (visit ∷ []) (R.kept rows.old).visits;
+          visits = visits_left (visit ∷ []) (R.kept rows.old).visits;
         }) }
     ensures settled { OnOk result (AreOthersSettled pages.new.items (R.kept rows.new)) }
     ensures base { OnOk result ((bytes : List ℕ) → R.base rows.old bytes → R.base rows.new bytes) }

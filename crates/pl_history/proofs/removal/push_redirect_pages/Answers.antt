@@ -1,9 +1,5 @@
-use Rattle.std.proofs.Common.{List, sym, ◌∙◌}
-use Rattle.pl_base.specs.declared.id.PageId.{PageId}
-use Rattle.pl_base.specs.declared.id.VisitId.{VisitId}
-use Rattle.pl_base.specs.Rows.{IsWellKept, Kept}
-use Rattle.pl_base.specs.Store.{Visit}
-use Rattle.pl_history.proofs.TargetWalk.{IsTargetHere, target_here, told_here, walk_ends, walk_goes_on, walk_nears}
+use Rattle.std.proofs.Common.{sym, ◌∙◌}
+use Rattle.pl_history.proofs.TargetWalk.{target_here, told_here, walk_ends, walk_goes_on, walk_nears}
 use Rattle.pl_history.proofs.TargetWalk.{walk_stops}
 use Rattle.pl_history.proofs.removal.push_redirect_pages.Goals as goal
 
