@@ -1,5 +1,6 @@
 pub mod Settled
 pub mod Sound
+pub mod Stale
 pub mod Taken
 pub mod Target
 pub mod Went

@@ -8,9 +8,11 @@ mod expiration;
 mod find;
 mod removal;
 mod settle;
+mod trimming;
 
 pub use days::set_day;
-pub use expiration::{expire, forget, trim};
+pub use expiration::{expire, forget};
 pub use find::{Target, find_page, find_target, is_place};
 pub use removal::{Removed, remove_visits};
 pub use settle::settle_all;
+pub use trimming::trim;
