@@ -3,6 +3,8 @@ pub mod Freshened
 pub mod GoodRows
 pub mod KeptMark
 pub mod KeptUrls
+pub mod LastDates
+pub mod OneOrder
 pub mod OriginParts
 pub mod PageOrder
 pub mod PageTurns
@@ -13,9 +15,13 @@ pub mod RightRemoved
 pub mod SameVisits
 pub mod Settled
 pub mod SourcePage
+pub mod StaleOrder
+pub mod StalePages
+pub mod StaleSort
 pub mod StandingPages
 pub mod TakenVisits
 pub mod TargetWalk
+pub mod TrimmedPages
 pub mod VisitRows
 pub mod VisitedPages
 pub mod VisitsLeft

@@ -1,13 +1,14 @@
 -- A walk over the pages, of which something holds of those in front.
-use Rattle.std.proofs.Common.{◌≡◌, ◌≢◌, ◌∙◌, ◌<◌, ◌≤◌, ◌++◌, ◌==◌, List, [], ◌∷◌, Option, Some, None}
-use Rattle.std.proofs.Common.{ap, append_assoc, arith, eq-eqb, refl, subst, sym, true, ℕ}
+use Rattle.std.proofs.Common.{◌≡◌, ◌≢◌, ◌∙◌, ◌<◌, ◌≤◌, ◌++◌, ◌==◌, List, [], ◌∷◌, Option, Some, None, ap}
+use Rattle.std.proofs.Common.{append_assoc, arith, eq-eqb, refl, subst, sym, true}
 use Rattle.std.specs.List.{AllByRecursion}
 use Rattle.std.proofs.lemmas.List.{append-nil}
 use Rattle.pl_base.specs.declared.id.PageId.{PageId}
 use Rattle.pl_base.specs.Good.{end_of_ids}
 use Rattle.pl_base.specs.Rows.{IsWellKept, Kept, KeptPage, has_page, page_behind}
 use Rattle.pl_base.proofs.ListLaws.{weaker}
-use Rattle.pl_marks.proofs.PageWalk.{Ascend, above, ascend, behind, below, first_page, given, left, nears, part, push, there}
+use Rattle.pl_marks.proofs.PageWalk.{Ascend, above, ascend, behind, below, first_page, given, left, nears, part, push}
+use Rattle.pl_marks.proofs.PageWalk.{there}
 
 -- what holds of the pages in front of the next one
 pub record PageTurns (kept : Kept) (P : List KeptPage → Type 0) (next : Option PageId) : Type 0 where
@@ -106,4 +107,5 @@ id_given kept P id h w =
 pub turns_near : (kept : Kept) (P : List KeptPage → Type 0) (now : Option PageId) (id : PageId) (next : Option PageId)
     → IsWellKept kept → PageTurns kept P now → now ≡ Some id → next ≡ page_behind kept (Some id)
     → left next < left now
-turns_near kept P now id next h w at is = rw at (nears kept id next (id_given kept P id h (page_here kept P now id w at)) is)
+turns_near kept P now id next h w at is =
+    rw at (nears kept id next (id_given kept P id h (page_here kept P now id w at)) is)

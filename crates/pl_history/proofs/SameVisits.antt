@@ -1,6 +1,6 @@
 -- What stays of a store without some visits depends on which visits go, and not on the order in which they are named.
-use Rattle.std.proofs.Common.{◌≡◌, ◌∙◌, Bool, true, false, List, [], ◌∷◌, Option, Some, None, ap, filter, map, not}
-use Rattle.std.proofs.Common.{if◌then◌else◌, refl, sym}
+use Rattle.std.proofs.Common.{◌≡◌, ◌∙◌, Bool, List, [], ◌∷◌, Option, Some, None, ap, filter, map, not, if◌then◌else◌}
+use Rattle.std.proofs.Common.{refl}
 use Rattle.pl_base.specs.declared.id.VisitId.{VisitId}
 use Rattle.pl_base.specs.Removal.{is_among, source_left, visit_left, visits_left, without_idle_pages, without_visits}
 use Rattle.pl_base.specs.Store.{Store, Visit}

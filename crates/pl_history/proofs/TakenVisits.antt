@@ -1,7 +1,7 @@
 -- The visits of some pages that pass a test, one page behind the other: each is there, none stands twice, and they are
 -- those that a filter over all visits gives.
-use Rattle.std.proofs.Common.{◌≡◌, ◌≢◌, ◌∙◌, ◌++◌, ◌&&◌, ◌||◌, ◌==◌, ℕ, All, Bool, true, false, List, [], ◌∷◌, Some}
-use Rattle.std.proofs.Common.{ap, append_assoc, arith, eqb, filter, IsTrue, if◌then◌else◌, map, refl, subst, sym}
+use Rattle.std.proofs.Common.{◌≡◌, ◌≢◌, ◌∙◌, ◌++◌, ◌&&◌, ◌||◌, ◌==◌, ℕ, Bool, true, false, List, [], ◌∷◌, Some, ap}
+use Rattle.std.proofs.Common.{append_assoc, arith, eqb, filter, IsTrue, if◌then◌else◌, map, refl, subst, sym}
 use Rattle.std.specs.List.{AllByRecursion, AllPairs, flat_map, list_any}
 use Rattle.std.proofs.lemmas.Bool.{eqb-true}
 use Rattle.std.proofs.lemmas.Bool.Decides.{nat_tests}
@@ -99,7 +99,8 @@ any-none (x ∷ xs) = any-none xs
 any-or : {X : Type 0} (p q : X → Bool) (xs : List X)
     → list_any (λ x. p x || q x) xs ≡ (list_any p xs || list_any q xs)
 any-or p q [] = refl
-any-or p q (x ∷ xs) = ap (λ (b : Bool). (p x || q x) || b) (any-or p q xs) ∙ mix (p x) (q x) (list_any p xs) (list_any q xs)
+any-or p q (x ∷ xs) =
+    ap (λ (b : Bool). (p x || q x) || b) (any-or p q xs) ∙ mix (p x) (q x) (list_any p xs) (list_any q xs)
   where
     mix : (a b c d : Bool) → ((a || b) || (c || d)) ≡ ((a || c) || (b || d))
     mix true b c d = refl
@@ -336,7 +337,7 @@ all_these test kept ids h are =
 
 -- ---- visits to one page
 
-everyone : {X : Type 0} (P : X → Type 0) (xs : List X) → ((x : X) → P x) → AllByRecursion P xs
+pub everyone : {X : Type 0} (P : X → Type 0) (xs : List X) → ((x : X) → P x) → AllByRecursion P xs
 everyone P [] all = tt
 everyone P (x ∷ xs) all = (all x, everyone P xs all)
 

@@ -1,5 +1,5 @@
 // History that a user no longer wants, or that is old.
-ghost use Rattle.std.specs.Prelude.{◌≡◌, ◌≤◌, ◌++◌, ◌∷◌, [], ℕ, List, Some, true, IfOk, OnOk};
+ghost use Rattle.std.specs.Prelude.{◌≡◌, ◌++◌, ◌∷◌, [], ℕ, List, Some, true, IfOk, OnOk};
 ghost use Rattle.std.specs.List.{filter};
 ghost use Rattle.pl_base.specs.Expiration as spec;
 ghost use Rattle.pl_base.specs.Removal.{forgotten};
@@ -83,8 +83,8 @@ fn add_visits_before<R: Rows, L: Ledger>(
     steps: &mut Steps<L>,
 ) -> Result<(), NoMemory>
     requires { has_page (R.kept rows.now) page ≡ true }
-    ensures { OnOk result (visits.new.items
-        ≡ visits.old.items ++ ids_of (filter (is_before day) (page_visits (R.kept rows.now) page))) }
+    ensures { OnOk result (visits.new.items ≡ visits.old.items
+        ++ ids_of (filter (is_before day) (page_visits (R.kept rows.now) page))) }
 {
     let mut next = rows.latest(page, steps);
     while let Some(visit) = next {
@@ -130,24 +130,4 @@ pub fn expire<R: Rows, L: Ledger>(
 {
     let visits = visits_before(alloc, rows, day, steps)?;
     remove_visits(alloc, rows, &visits, steps)
-}
-
-/// Where there are more pages than these, as many as there are beyond go of those that no item
-/// has, the ones first that were last visited longest ago.
-pub fn trim<R: Rows, L: Ledger>(
-    alloc: Global,
-    rows: &mut R,
-    most: u32,
-    steps: &mut Steps<L>,
-) -> Result<Removed, NoMemory>
-    requires scaffold { 1 ≤ 0 }
-    requires sound { IsSound (R.kept rows.old) }
-    ensures store { OnOk result (store_of (R.kept rows.new)
-        ≡ spec.trimmed most (store_of (R.kept rows.old))) }
-    ensures went { IfOk result (λ removed. removed
-        ≡ went (store_of (R.kept rows.old)) (store_of (R.kept rows.new))) }
-    ensures sound { OnOk result (IsSound (R.kept rows.new)) }
-    ensures base { OnOk result ((bytes : List ℕ) → R.base rows.old bytes → R.base rows.new bytes) }
-{
-    Err(NoMemory)
 }

@@ -1,8 +1,8 @@
-use Rattle.std.proofs.Common.{◌≡◌, ◌++◌, ◌∙◌, List}
+use Rattle.std.proofs.Common.{◌∙◌}
 use Rattle.std.proofs.lemmas.Result.{on_ok_weaker}
 use Rattle.pl_base.specs.Rows.{Kept, store_of}
 use Rattle.pl_base.specs.Visits.{visits_of}
-use Rattle.pl_history.specs.Taken.{AreThese, ids_of}
+use Rattle.pl_history.specs.Taken.{ids_of}
 use Rattle.pl_history.proofs.TakenVisits.{page_these, these_gone}
 use Rattle.pl_history.proofs.expiration.forget.Goals as goal
 

@@ -1,0 +1,150 @@
+-- The pages that a trim takes: each is there, none stands twice, and their visits are those of the definition.
+use Rattle.std.proofs.Common.{◌≡◌, ◌≢◌, ◌∙◌, ◌==◌, ◌&&◌, ◌-◌, ℕ, All, Bool, true, false, List, [], ◌∷◌, Some, ap}
+use Rattle.std.proofs.Common.{arith, filter, length, map, not, refl, subst, suc, sym, take, zero}
+use Rattle.std.specs.List.{AllByRecursion, AllPairs, list_any}
+use Rattle.std.proofs.lemmas.List.{length-map, take-map}
+use Rattle.std.proofs.lemmas.List.Elements.{All-from_recursion, recursion_from_All}
+use Rattle.std.proofs.lemmas.List.Kept.{AllPairs-cons, AllPairs-from_increasing}
+use Rattle.pl_base.specs.declared.id.PageId.{PageId}
+use Rattle.pl_base.specs.declared.id.VisitId.{VisitId}
+use Rattle.pl_base.specs.Expiration.{stale_pages, trimmed_pages, visits_to}
+use Rattle.pl_base.specs.Marks.{is_referenced}
+use Rattle.pl_base.specs.Rows.{IsWellKept, Kept, KeptPage, has_page, page_at, store_of}
+use Rattle.pl_base.specs.Store.{Page, Store, Visit}
+use Rattle.pl_base.proofs.ListLaws.{all-filter, list_any-alike, list_any-map, weaker}
+use Rattle.pl_marks.proofs.LookUps.{Apart, apart_ascending, found_self, found_some}
+use Rattle.pl_history.specs.declared.trimming.StalePage.{StalePage}
+use Rattle.pl_history.specs.Stale.{stale_page, visits_of_pages}
+use Rattle.pl_history.specs.Taken.{AreThese, ids_of}
+use Rattle.pl_history.proofs.SameVisits.{filter-alike}
+use Rattle.pl_history.proofs.StalePages.{stale_ids}
+use Rattle.pl_history.proofs.StaleSort.{all_sorted, apart_filter, apart_sorted, number, pages_apart, to_map}
+use Rattle.pl_history.proofs.TakenVisits.{are_these, eqb-sym, everyone, taken, to_pages}
+
+-- ---- parts of a list
+
+all_take : {X : Type 0} (P : X → Type 0) (n : ℕ) (xs : List X) → AllByRecursion P xs → AllByRecursion P (take n xs)
+all_take P zero [] all = tt
+all_take P zero (x ∷ xs) all = tt
+all_take P (suc n) [] all = tt
+all_take P (suc n) (x ∷ xs) all = (all.0, all_take P n xs all.1)
+
+apart_take : {X : Type 0} (key : X → ℕ) (n : ℕ) (xs : List X) → Apart key xs → Apart key (take n xs)
+apart_take key zero [] apart = tt
+apart_take key zero (x ∷ xs) apart = tt
+apart_take key (suc n) [] apart = tt
+apart_take key (suc n) (x ∷ xs) apart =
+    (all_take (λ y. key y ≢ key x) n xs apart.0, apart_take key n xs apart.1)
+
+apart_pairs : {X : Type 0} (key : X → ℕ) (xs : List X) → Apart key xs → AllPairs (λ x y. key x ≢ key y) xs
+apart_pairs key [] apart = λ i j d before within. absurd (omega arith)
+apart_pairs key (x ∷ xs) apart =
+    AllPairs-cons (λ y z. key y ≢ key z) x xs
+    (All-from_recursion (λ y. key x ≢ key y) xs
+    (weaker (λ y. key y ≢ key x) (λ y. key x ≢ key y) xs (λ y others same. others (sym same)) apart.0))
+    (apart_pairs key xs apart.1)
+
+pairs_apart : (pages : List StalePage) → AllPairs (λ (p q : StalePage). p.page.0 ≢ q.page.0) pages
+    → Apart (λ (p : PageId). p.0) (stale_ids pages)
+pairs_apart [] apart = tt
+pairs_apart (p ∷ ps) apart = (
+  to_map (λ (q : PageId). q.0 ≢ p.page.0) (λ (q : StalePage). q.page) ps
+      (weaker (λ (q : StalePage). p.page.0 ≢ q.page.0) (λ (q : StalePage). q.page.0 ≢ p.page.0) ps
+      (λ q others same. others (sym same))
+      (recursion_from_All (λ (q : StalePage). p.page.0 ≢ q.page.0) ps
+      (λ k d lt. apart 0 (suc k) d (omega arith) (omega arith)))),
+  pairs_apart ps (λ i j d before within. apart (suc i) (suc j) d (omega arith) (omega arith)),
+)
+
+-- ---- the visits to given pages
+
+and_true : (b : Bool) → (b && true) ≡ b
+and_true true = refl
+and_true false = refl
+
+pub stale_these : (kept : Kept) (pages : List StalePage) (ids : List VisitId) → IsWellKept kept
+    → AllPairs (λ (p q : StalePage). p.page.0 ≢ q.page.0) pages
+    → ids ≡ ids_of (taken (λ _. true) kept (stale_ids pages))
+    → AreThese (visits_of_pages pages (store_of kept)) kept ids
+stale_these kept pages ids h apart are =
+    are_these (λ _. true) (λ (v : Visit). list_any (λ (p : StalePage). p.page.0 == v.page.0) pages) kept
+    (stale_ids pages) ids h (pairs_apart pages apart)
+    (everyone (λ (v : Visit). (to_pages (stale_ids pages) v && true)
+    ≡ list_any (λ (p : StalePage). p.page.0 == v.page.0) pages) kept.visits
+    (λ v. and_true (to_pages (stale_ids pages) v)
+    ∙ list_any-map (λ (p : PageId). v.page.0 == p.0) (λ (p : StalePage). p.page) pages
+    ∙ list_any-alike (λ (p : StalePage). v.page.0 == p.page.0) (λ (p : StalePage). p.page.0 == v.page.0) pages
+    (λ p. eqb-sym v.page.0 p.page.0)))
+    are
+
+-- ---- the pages of a trim
+
+-- the pages that go
+abbrev pub AreTrimmed : ℕ → Store → List StalePage → Type 0
+AreTrimmed most store pages = pages ≡ map (stale_page store) (trimmed_pages most store)
+
+pub trimmed_are : (kept : Kept) (most count excess : ℕ) (found cut : List StalePage)
+    → found ≡ map (stale_page (store_of kept)) (stale_pages (store_of kept)) → cut ≡ take excess found
+    → count ≡ length kept.pages → excess ≡ count - most → AreTrimmed most (store_of kept) cut
+trimmed_are kept most count excess found cut all is counted beyond =
+    let many : length (store_of kept).pages ≡ length kept.pages = length-map kept.pages (λ (p : KeptPage). p.page) in
+    let so_many : excess ≡ length (store_of kept).pages - most =
+    beyond ∙ ap (λ (n : ℕ). n - most) (counted ∙ sym many) in
+    is ∙ ap (take excess) all ∙ take-map (stale_page (store_of kept)) excess (stale_pages (store_of kept))
+    ∙ ap (λ (n : ℕ). map (stale_page (store_of kept)) (take n (stale_pages (store_of kept)))) so_many
+
+kept_there : (kept : Kept) → IsWellKept kept
+    → AllByRecursion (λ (p : Page). has_page kept p.id ≡ true) (store_of kept).pages
+kept_there kept h =
+    to_map (λ (p : Page). has_page kept p.id ≡ true) (λ (p : KeptPage). p.page) kept.pages
+    (weaker (λ (p : KeptPage). page_at kept p.page.id ≡ Some p) (λ (p : KeptPage). has_page kept p.page.id ≡ true)
+    kept.pages (λ p at. found_some (λ (q : KeptPage). q.page.id.0 == p.page.id.0) kept.pages p at)
+    (found_self (λ (p : KeptPage). p.page.id.0) kept.pages
+    (apart_ascending (λ (p : KeptPage). p.page.id.0) kept.pages
+    (AllPairs-from_increasing (map (λ (p : KeptPage). p.page.id.0) kept.pages) h.page_ids.ascending))))
+
+pub trimmed_there : (kept : Kept) (most : ℕ) (pages : List StalePage) → IsWellKept kept
+    → AreTrimmed most (store_of kept) pages → All (λ (p : StalePage). has_page kept p.page ≡ true) pages
+trimmed_there kept most pages h are =
+    All-from_recursion (λ (p : StalePage). has_page kept p.page ≡ true) pages
+    (subst (AllByRecursion (λ (p : StalePage). has_page kept p.page ≡ true)) (sym are)
+    (to_map (λ (p : StalePage). has_page kept p.page ≡ true) (stale_page (store_of kept))
+    (trimmed_pages most (store_of kept))
+    (all_take (λ (p : Page). has_page kept p.id ≡ true) (length (store_of kept).pages - most)
+    (stale_pages (store_of kept))
+    (all_sorted (λ (p : Page). has_page kept p.id ≡ true) (store_of kept)
+    (filter (λ (p : Page). not (is_referenced (store_of kept) p.id)) (store_of kept).pages)
+    (all-filter (λ (p : Page). has_page kept p.id ≡ true)
+    (λ (p : Page). not (is_referenced (store_of kept) p.id)) (store_of kept).pages (kept_there kept h))))))
+
+apart_map : (store : Store) (ps : List Page) → Apart number ps
+    → Apart (λ (p : StalePage). p.page.0) (map (stale_page store) ps)
+apart_map store [] apart = tt
+apart_map store (p ∷ ps) apart = (
+  to_map (λ (q : StalePage). q.page.0 ≢ p.id.0) (stale_page store) ps apart.0,
+  apart_map store ps apart.1,
+)
+
+pub trimmed_apart : (kept : Kept) (most : ℕ) (pages : List StalePage) → IsWellKept kept
+    → AreTrimmed most (store_of kept) pages → AllPairs (λ (p q : StalePage). p.page.0 ≢ q.page.0) pages
+trimmed_apart kept most pages h are =
+    apart_pairs (λ (p : StalePage). p.page.0) pages
+    (subst (Apart (λ (p : StalePage). p.page.0)) (sym are)
+    (apart_map (store_of kept) (trimmed_pages most (store_of kept))
+    (apart_take number (length (store_of kept).pages - most) (stale_pages (store_of kept))
+    (apart_sorted (store_of kept)
+    (filter (λ (p : Page). not (is_referenced (store_of kept) p.id)) (store_of kept).pages)
+    (apart_filter (λ (p : Page). not (is_referenced (store_of kept) p.id)) (store_of kept).pages
+    (pages_apart kept h))))))
+
+-- their visits
+pub trimmed_visits : (most : ℕ) (store : Store) (pages : List StalePage) → AreTrimmed most store pages
+    → visits_of_pages pages store ≡ visits_to (trimmed_pages most store) store
+trimmed_visits most store pages are =
+    ap (λ (ps : List StalePage). visits_of_pages ps store) are
+    ∙ ap ids_of
+    (filter-alike
+    (λ (v : Visit). list_any (λ (p : StalePage). p.page.0 == v.page.0)
+    (map (stale_page store) (trimmed_pages most store)))
+    (λ (v : Visit). list_any (λ (p : Page). p.id.0 == v.page.0) (trimmed_pages most store)) store.visits
+    (λ v. list_any-map (λ (p : StalePage). p.page.0 == v.page.0) (stale_page store) (trimmed_pages most store)))

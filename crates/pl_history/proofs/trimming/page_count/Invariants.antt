@@ -1,0 +1,10 @@
+use Rattle.std.proofs.Common.{◌≡◌, length}
+use Rattle.pl_marks.proofs.PageWalk.{left}
+use Rattle.pl_history.proofs.PageTurns.{PageTurns}
+use Rattle.pl_history.proofs.trimming.page_count.Given as goal
+
+abbrev pub invariant-loop-next : goal.invariant-loop-next
+invariant-loop-next g l = PageTurns (g.R.Rows.kept l.rows) (λ front. length front ≡ l.count) l.next
+
+abbrev pub decreases-loop-next : goal.decreases-loop-next
+decreases-loop-next g l = left l.next
