@@ -9,11 +9,8 @@ mod expiration;
 mod find;
 mod removal;
 mod settle;
-<<<<<<< HEAD
 mod totals;
-=======
 mod trimming;
->>>>>>> edb8fc650fec68872eca0df7fcc90191b8d971d6
 
 pub use counts::visit_count;
 pub use days::set_day;
@@ -21,8 +18,5 @@ pub use expiration::{expire, forget};
 pub use find::{Target, find_page, find_target, is_place};
 pub use removal::{Removed, remove_visits};
 pub use settle::settle_all;
-<<<<<<< HEAD
 pub use totals::total_up;
-=======
 pub use trimming::trim;
->>>>>>> edb8fc650fec68872eca0df7fcc90191b8d971d6
