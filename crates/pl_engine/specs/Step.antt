@@ -305,7 +305,7 @@ HasDates (ListCommand item) = Unit {0}
 HasDates (TagCommand url name date) = IsDate date
 HasDates (UntagCommand url name) = Unit {0}
 
--- any command may want memory but a visit that is not recorded
+-- any command may want memory but a move, and a visit that is not recorded
 abbrev pub MayWantMemory : Command → Type 0
 MayWantMemory (DayCommand day) = Unit {0}
 MayWantMemory (VisitCommand url transition date source) = is_unrecorded_url url ≡ false
@@ -318,7 +318,7 @@ MayWantMemory (TrimCommand most) = Unit {0}
 MayWantMemory (FolderCommand parent place title date) = Unit {0}
 MayWantMemory (BookmarkCommand parent place url title date) = Unit {0}
 MayWantMemory (SeparatorCommand parent place date) = Unit {0}
-MayWantMemory (MoveCommand item parent place date) = Unit {0}
+MayWantMemory (MoveCommand item parent place date) = ⊥
 MayWantMemory (RetitleCommand item title date) = Unit {0}
 MayWantMemory (RemoveCommand item) = Unit {0}
 MayWantMemory (ListCommand item) = Unit {0}

@@ -84,7 +84,7 @@ impl<R: Rows + Drop> Engine<R> {
             R.form (R.bytes done.0.rows) (store_of (R.kept done.0.rows))) }
         ensures limit { IfOk result (λ done. done.0.limit ≡ self.limit) }
 
-        // A visit that is not recorded wants no memory.
+        // A move and a visit that is not recorded want no memory.
         ensures no_memory { IsErr result → spec.MayWantMemory command.now }
     {
         let Engine {
