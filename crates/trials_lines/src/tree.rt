@@ -2,7 +2,6 @@
 mod changes;
 mod ids;
 mod large;
-mod lines;
 mod moves;
 mod pages;
 mod refusals;
