@@ -192,7 +192,7 @@ const HISTORY: &[(&[u8], &[u8])] = &[
           removed\tvisits\t2\tpages\t0\n\
           page\t1\t100\t1\t86400000000\t1\t0\t0\thttps://a.example/\t\t\n",
     ),
-    // The middle of a chain of redirects goes: the end has its own 50, and the beginning shows again.
+    // The middle of a chain of redirects goes: the end has its own 50, the beginning shows again.
     (
         b"visit\thttps://a.example/\t2\t0\n\
           visit\thttps://b.example/\t6\t1\t1\n\
@@ -211,7 +211,7 @@ const HISTORY: &[(&[u8], &[u8])] = &[
           page\t1\t2000\t1\t0\t1\t0\t0\thttps://a.example/\t\t\n\
           page\t3\t50\t1\t2\t0\t0\t0\thttps://c.example/\t\t\n",
     ),
-    // A typed source goes from its page, which stays: what came from it has no source and its own 50.
+    // A typed source goes from its page, which stays: what came from it counts its own 50.
     (
         b"visit\thttps://a.example/\t1\t0\n\
           visit\thttps://a.example/\t2\t1\n\
