@@ -1,5 +1,6 @@
 -- What holds of the rows once a visit went, and the pages that it bears on joined the others.
-use Rattle.std.proofs.Common.{◌≡◌, ◌∙◌, ◌+◌, ◌≤◌, ◌==◌, ◌&&◌, ◌||◌, ◌++◌, ℕ, All, Bool, true, false, IsTrue, List, [], ◌∷◌}
+use Rattle.std.proofs.Common.{◌≡◌, ◌∙◌, ◌+◌, ◌≤◌, ◌==◌, ◌&&◌, ◌||◌, ◌++◌, ℕ, All, Bool, true, false, IsTrue, List}
+use Rattle.std.proofs.Common.{[], ◌∷◌}
 use Rattle.std.proofs.Common.{Option, Some, None, ap, arith, eq-eqb, eqb-true, filter, get_or, if◌then◌else◌, map, refl}
 use Rattle.std.proofs.Common.{option_to_list, subst, sym}
 use Rattle.std.specs.List.{AllByRecursion, list_any}
@@ -19,7 +20,8 @@ use Rattle.pl_base.specs.Good.{HasGoodItems}
 use Rattle.pl_base.specs.Marks.{is_counted, is_referenced, visit_count}
 use Rattle.pl_base.specs.Redirects.{is_redirect, is_source, redirects_from}
 use Rattle.pl_base.specs.Removal.{is_standing, visits_left}
-use Rattle.pl_base.specs.Rows.{IsWellKept, Kept, KeptPage, has_page, mark_of, marked, page_at, row_of, store_of, visit_at}
+use Rattle.pl_base.specs.Rows.{IsWellKept, Kept, KeptPage, has_page, mark_of, marked, page_at, row_of, store_of}
+use Rattle.pl_base.specs.Rows.{visit_at}
 use Rattle.pl_base.specs.Rows.{with_mark, without_visit}
 use Rattle.pl_base.specs.Store.{Page, Visit}
 use Rattle.pl_base.proofs.IdsLaws.{same_page}
@@ -133,7 +135,8 @@ module _ (old : Kept) (id : VisitId) (gone : Visit) (mark : Mark) (h : IsWellKep
       ≡ store_of (without_visit id old)
   same_store =
       store_same (without_visit id old) gone.page (unvisited_mark gone.transition mark)
-      (All-map (λ (p : Page). (p.id.0 == gone.page.0) ≡ true → mark.typed ≡ p.typed) (λ (p : KeptPage). p.page) old.pages
+      (All-map (λ (p : Page). (p.id.0 == gone.page.0) ≡ true → mark.typed ≡ p.typed) (λ (p : KeptPage). p.page)
+      old.pages
       (typed_at old gone.page mark h (mark_at old gone.page mark marks)))
 
   module _ (before mid after : List PageId)
@@ -174,7 +177,8 @@ module _ (old : Kept) (id : VisitId) (gone : Visit) (mark : Mark) (h : IsWellKep
 
     not_own : (page : PageId) → (page.0 == gone.page.0) ≡ true → is_one page after ≡ false → ⊥
     not_own page same other =
-        false≢true (sym (others_apart page other).0.own ∙ eq-eqb gone.page.0 page.0 (sym (eqb-true page.0 gone.page.0 same)))
+        false≢true (sym (others_apart page other).0.own
+        ∙ eq-eqb gone.page.0 page.0 (sym (eqb-true page.0 gone.page.0 same)))
 
     all_there : All (λ (i : PageId). IsTrue (has_page old i)) before
         → All (λ (i : PageId). IsTrue (has_page old i)) after
@@ -213,7 +217,8 @@ module _ (old : Kept) (id : VisitId) (gone : Visit) (mark : Mark) (h : IsWellKep
           counts =
               each_marked (λ (p : KeptPage). p.count ≡ visit_count (store_of left) p.page.id) gone.page told old.pages
               (λ k d within same.
-              count_told ∙ ap (visit_count (store_of left)) (sym (same_page (get_or old.pages k d).page.id gone.page same)))
+              count_told
+              ∙ ap (visit_count (store_of left)) (sym (same_page (get_or old.pages k d).page.id gone.page same)))
               (λ k d within other.
               let page : PageId = (get_or old.pages k d).page.id in
               s.counts k d within ∙ sym (count_apart old id gone h at page (other_way page gone.page other)));

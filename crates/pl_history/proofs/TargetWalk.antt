@@ -15,7 +15,8 @@ use Rattle.pl_base.specs.declared.id.PageId.{PageId}
 use Rattle.pl_base.specs.declared.id.VisitId.{VisitId}
 use Rattle.pl_base.specs.declared.row.VisitRow.{VisitRow}
 use Rattle.pl_base.specs.Redirects.{is_redirect, is_source, others_from, redirects_from}
-use Rattle.pl_base.specs.Rows.{AreTargets, IsWellKept, Kept, first_id, id_behind, row_of, store_of, target_behind, visit_at}
+use Rattle.pl_base.specs.Rows.{AreTargets, IsWellKept, Kept, first_id, id_behind, row_of, store_of, target_behind}
+use Rattle.pl_base.specs.Rows.{visit_at}
 use Rattle.pl_base.specs.Store.{Visit}
 use Rattle.pl_base.proofs.ListLaws.{weaker}
 use Rattle.pl_base.proofs.VisitsLaws.{Differ, Differ-ascending, Differ-filter}
@@ -211,7 +212,8 @@ targets_of kept source targets h t =
 -- ---- the walk
 
 -- the visits in front of the next one are redirects, and their pages stand behind the others
-pub record TargetWalk (kept : Kept) (targets : List Visit) (old now : List PageId) (next : Option VisitId) : Type 0 where
+pub record TargetWalk (kept : Kept) (targets : List Visit) (old now : List PageId) (next : Option VisitId)
+    : Type 0 where
   pub front : List Visit
   pub rest : List Visit
   pub whole : targets ≡ front ++ rest
@@ -417,7 +419,8 @@ pub walk_stops : (kept : Kept) (source : VisitId) (targets : List Visit) (old no
 walk_stops kept source targets old now id row h t w told other =
     all_walked kept source targets old now w.front (w.visit ∷ w.rest) h t w.whole w.made
     (first_other w.visit w.rest
-    (ap (λ (r : VisitRow). is_redirect r.transition) (sym (row_here kept source targets old now id row w told)) ∙ other))
+    (ap (λ (r : VisitRow). is_redirect r.transition) (sym (row_here kept source targets old now id row w told))
+    ∙ other))
     w.pages
 
 -- or behind all
@@ -428,5 +431,6 @@ walk_ends kept source targets old now next h t w none = choose w.rest w.whole w.
   where
     choose : (rest : List Visit) → targets ≡ w.front ++ rest → next ≡ first_id rest
         → WithRedirectPages kept source old now
-    choose [] whole end = all_walked kept source targets old now w.front [] h t whole w.made (none_in_front [] tt) w.pages
+    choose [] whole end =
+        all_walked kept source targets old now w.front [] h t whole w.made (none_in_front [] tt) w.pages
     choose (v ∷ vs) whole some = absurd (none v.id some)

@@ -1,5 +1,6 @@
 -- Lists of visits when some of them go.
-use Rattle.std.proofs.Common.{◌≡◌, ◌≢◌, ◌∙◌, ◌+◌, ◌==◌, ◌||◌, ◌++◌, ℕ, Bool, true, false, List, [], ◌∷◌, Option, Some, None}
+use Rattle.std.proofs.Common.{◌≡◌, ◌≢◌, ◌∙◌, ◌+◌, ◌==◌, ◌||◌, ◌++◌, ℕ, Bool, true, false, List, [], ◌∷◌}
+use Rattle.std.proofs.Common.{Option, Some, None}
 use Rattle.std.proofs.Common.{ap, arith, cond, count_by, eq-eqb, filter, find, if◌then◌else◌, length, map, not, refl}
 use Rattle.std.proofs.Common.{sym}
 use Rattle.std.specs.List.{AllByRecursion, list_any}
@@ -104,7 +105,8 @@ find_left gone p q (v ∷ vs) all = choose (is_among gone v.id) refl (find_left 
         ∙ ap (λ (o : Option Visit). if q v then Some (visit_left gone v) else o) rest ∙ pull (q v)
 
 -- what holds of all holds of those that are left
-pub all_left : (P Q : Visit → Type 0) (gone : List VisitId) (vs : List Visit) → ((v : Visit) → P v → Q (visit_left gone v))
+pub all_left : (P Q : Visit → Type 0) (gone : List VisitId) (vs : List Visit)
+    → ((v : Visit) → P v → Q (visit_left gone v))
     → AllByRecursion P vs → AllByRecursion Q (visits_left gone vs)
 all_left P Q gone [] stays all = tt
 all_left P Q gone (v ∷ vs) stays all = choose (is_among gone v.id) (all_left P Q gone vs stays all.1)
@@ -121,7 +123,8 @@ place_left : (gone : List VisitId) (v : Visit) (ws : List Visit)
 place_left gone v [] = refl
 place_left gone v (w ∷ ws) = choose (is_later v w) (place_left gone v ws)
   where
-    choose : (b : Bool) → in_place (visit_left gone v) (map (visit_left gone) ws) ≡ map (visit_left gone) (in_place v ws)
+    choose : (b : Bool)
+        → in_place (visit_left gone v) (map (visit_left gone) ws) ≡ map (visit_left gone) (in_place v ws)
         → (if b then visit_left gone v ∷ visit_left gone w ∷ map (visit_left gone) ws
         else visit_left gone w ∷ in_place (visit_left gone v) (map (visit_left gone) ws))
         ≡ map (visit_left gone) (if b then v ∷ w ∷ ws else w ∷ in_place v ws)
@@ -192,7 +195,8 @@ count_gone id p q (v ∷ vs) gone differ found alike =
     choose false is at rest =
         let more : count_if id p v vs (is_among (id ∷ []) v.id) ≡ bit (p (visit_left (id ∷ []) v))
         + count_by p (visits_left (id ∷ []) vs) =
-        ap (count_if id p v vs) (among_one id v.id false is) ∙ count_cons p (visit_left (id ∷ []) v) (visits_left (id ∷ []) vs) in
+        ap (count_if id p v vs) (among_one id v.id false is)
+        ∙ count_cons p (visit_left (id ∷ []) v) (visits_left (id ∷ []) vs) in
         omega (arith, more, ap bit (alike v), rest at)
 
 pub count_one_fewer : (id : VisitId) (p q : Visit → Bool) (vs : List Visit) (gone : Visit) → Differ vs

@@ -52,4 +52,5 @@ pub returns : goal.returns
 returns g c =
     walk_ends (g.R.Rows.kept c.args.rows.now) c.args.visit (g.R.Rows.targets c.args.rows.now c.args.visit)
     c.args.pages.now.items c.loop-next.pages.items c.loop-next.next (g.met.R.Rows.well_kept c.args.rows.now)
-    (g.met.R.Rows.targeted c.args.rows.now c.args.visit) c.loop-next.invariant (λ id some. c.in_default.not-Some id some)
+    (g.met.R.Rows.targeted c.args.rows.now c.args.visit) c.loop-next.invariant
+    (λ id some. c.in_default.not-Some id some)
