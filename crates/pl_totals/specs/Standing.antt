@@ -1,0 +1,38 @@
+-- What totals stand for: pages, by their origins and frecencies.
+use Rattle.std.specs.Prelude.{◌≡◌, ◌+◌, ◌^◌, ◌<◌, ◌&&◌, ◌∷◌, ◌++◌, [], ℕ, List, bytes_eq, unwrap_or}
+use Rattle.std.specs.String.{string_bytes}
+use Rattle.indexmap.specs.IndexMap.{get_by, get_by_text}
+use Rattle.pl_base.specs.declared.view.View.{View}
+use Rattle.pl_base.specs.Live.{slot_limit}
+use Rattle.pl_base.specs.Totals.{Origin, Scored, group_total, origins_with_total, sum_of_totals}
+use Rattle.pl_base.specs.Totals.{total_of}
+use Rattle.pl_totals.specs.declared.totals.Origin.{Origin as Kept}
+use Rattle.pl_totals.specs.declared.totals.Totals.{Totals}
+
+-- the total that is kept of an origin, and 0 where none is
+abbrev pub kept_total : Totals → Origin → ℕ
+kept_total totals origin =
+    unwrap_or (get_by (λ (k : Kept). bytes_eq origin.0 (string_bytes k.prefix)
+    && bytes_eq origin.1 (string_bytes k.host)) totals.origins) 0
+
+-- the total that is kept of a group of hosts, and 0 where none is
+abbrev pub kept_group : Totals → List ℕ → ℕ
+kept_group totals group = unwrap_or (get_by_text totals.groups group) 0
+
+-- the totals are those of the pages: for each origin and each group, and over all origins
+pub record StandsFor (totals : Totals) (pages : List Scored) : Type 0 where
+  pub origins : (origin : Origin) → kept_total totals origin ≡ total_of pages origin
+  pub groups : (group : List ℕ) → kept_group totals group ≡ group_total pages group
+  pub count : totals.count ≡ origins_with_total pages
+  pub sum : totals.sum ≡ sum_of_totals pages
+
+-- no total is above what a store can have, and so one more share fits
+pub record HasRoom (totals : Totals) : Type 0 where
+  pub origins : (origin : Origin) → kept_total totals origin < 2 ^ 36
+  pub groups : (group : List ℕ) → kept_group totals group < 2 ^ 36
+  pub count : totals.count < slot_limit
+  pub sum : totals.sum < 2 ^ 36
+
+-- the origin of a view, and its frecency
+abbrev pub scored : View → Scored
+scored view = ((view.prefix, view.host), view.frecency)
