@@ -1,15 +1,15 @@
 -- What one page more makes of the totals.
-use Rattle.std.proofs.Common.{◌≡◌, ◌+◌, ◌<◌, ◌≤◌, ◌++◌, ◌&&◌, ◌||◌, ◌∙◌, ℕ, Bool, true, false, List, [], ◌∷◌, ap}
-use Rattle.std.proofs.Common.{append_assoc, arith, bytes_eq, count_by, filter, if◌then◌else◌, length, map, nat_lt, not}
+use Rattle.std.proofs.Common.{◌≡◌, ◌+◌, ◌≤◌, ◌++◌, ◌||◌, ◌∙◌, ℕ, Bool, true, false, List, [], ◌∷◌, ap}
+use Rattle.std.proofs.Common.{append_assoc, arith, bytes_eq, filter, if◌then◌else◌, length, map, nat_lt, not, zero}
 use Rattle.std.proofs.Common.{refl, sym}
 use Rattle.std.specs.List.{list_any, sum_by}
 use Rattle.std.proofs.lemmas.Bool.{and_from, and_parts, false_from_ne_true, or_parts}
 use Rattle.std.proofs.lemmas.List.{append-nil, length-map, map-append}
-use Rattle.std.proofs.lemmas.List.Sums.{count_by-le-length, length-filter, sum_by-append, sum_by-cons, sum_by_push}
+use Rattle.std.proofs.lemmas.List.Sums.{count_by-le-length, length-filter, sum_by-cons, sum_by_push}
 use Rattle.std.proofs.lemmas.Slice.Eq.{bytes_eq-Decides}
 use Rattle.std.proofs.lemmas.Bool.Decides.{nat_tests}
 use Rattle.pl_base.specs.Totals.{Origin, Scored, distinct, group_total, is_in_group, is_origin, origins_of}
-use Rattle.pl_base.specs.Totals.{origins_with_total, positive_origins, share, sum_of_totals, total_of}
+use Rattle.pl_base.specs.Totals.{origins_with_total, share, sum_of_totals, total_of}
 
 -- ---- sums
 
@@ -17,12 +17,13 @@ sum_by-filter : {X : Type 0} (p : X → Bool) (f : X → ℕ) (xs : List X)
     → sum_by f (filter p xs) ≡ sum_by (λ x. if p x then f x else 0) xs
 sum_by-filter p f [] = refl
 sum_by-filter {X} p f (x ∷ xs) =
-    choose (p x) ∙ sym (sum_by-cons (λ y. if p y then f y else 0) x xs)
+    choose (p x) (sum_by-filter p f xs) ∙ sym (sum_by-cons (λ y. if p y then f y else 0) x xs)
   where
-    choose : (b : Bool) → sum_by f (if b then x ∷ filter p xs else filter p xs)
+    choose : (b : Bool) → sum_by f (filter p xs) ≡ sum_by (λ y. if p y then f y else 0) xs
+        → sum_by f (if b then x ∷ filter p xs else filter p xs)
         ≡ (if b then f x else 0) + sum_by (λ y. if p y then f y else 0) xs
-    choose true = sum_by-cons f x (filter p xs) ∙ ap (λ n. f x + n) (sum_by-filter p f xs)
-    choose false = omega (arith, sum_by-filter p f xs)
+    choose true rest = sum_by-cons f x (filter p xs) ∙ ap (λ n. f x + n) rest
+    choose false rest = omega (arith, rest)
 
 sum_by-alike : {X : Type 0} (f g : X → ℕ) (xs : List X) → ((x : X) → f x ≡ g x) → sum_by f xs ≡ sum_by g xs
 sum_by-alike f g [] alike = refl
@@ -48,7 +49,7 @@ itself a =
     and_from (bytes_eq a.0 a.0) (bytes_eq a.1 a.1) ((bytes_eq-Decides a.0 a.0).1 refl)
     ((bytes_eq-Decides a.1 a.1).1 refl)
 
-flipped : (a b : Origin) → is_origin a b ≡ false → is_origin b a ≡ false
+pub flipped : (a b : Origin) → is_origin a b ≡ false → is_origin b a ≡ false
 flipped a b apart =
     false_from_ne_true (is_origin b a) (λ is. let same : b ≡ a = equal b a is in
     let one : is_origin a a ≡ false = ap (is_origin a) (sym same) ∙ apart in
@@ -78,14 +79,16 @@ pub distinct-push : (h k : Origin → ℕ) (o : Origin) (os : List Origin)
     → (list_any (λ x. is_origin x o) os ≡ false → h o ≡ 0)
     → sum_by k (distinct (os ++ o ∷ [])) + h o ≡ sum_by h (distinct os) + k o
 distinct-push h k o [] agree absent = let none : h o ≡ 0 = absent refl in omega arith
-distinct-push h k o (x ∷ xs) agree absent = choose (is_origin x o) refl
+distinct-push h k o (x ∷ xs) agree absent =
+    choose (is_origin x o) refl
+    (distinct-push (but x h) (but x k) o xs
+    (λ y apart. ap (λ n. if not (is_origin y x) then n else 0) (agree y apart)))
   where
-    agree_but : (y : Origin) → is_origin y o ≡ false → but x k y ≡ but x h y
-    agree_but y apart = ap (λ n. if not (is_origin y x) then n else 0) (agree y apart)
-
     choose : (b : Bool) → is_origin x o ≡ b
+        → ((list_any (λ y. is_origin y o) xs ≡ false → but x h o ≡ 0)
+        → sum_by (but x k) (distinct (xs ++ o ∷ [])) + but x h o ≡ sum_by (but x h) (distinct xs) + but x k o)
         → sum_by k (distinct (x ∷ (xs ++ o ∷ []))) + h o ≡ sum_by h (distinct (x ∷ xs)) + k o
-    choose true is =
+    choose true is rest =
         let same : x ≡ o = equal x o is in
         let back : is_origin o x ≡ true = ap (is_origin o) same ∙ itself o in
         let old : but x h o ≡ 0 = but_same x h o back in
@@ -98,9 +101,9 @@ distinct-push h k o (x ∷ xs) agree absent = choose (is_origin x o) refl
           new,
           distinct-cons k x (xs ++ o ∷ []),
           distinct-cons h x xs,
-          distinct-push (but x h) (but x k) o xs agree_but (λ _. old),
+          rest (λ _. old),
         )
-    choose false apart =
+    choose false apart rest =
         let back : is_origin o x ≡ false = flipped x o apart in
         let old : but x h o ≡ h o = but_other x h o back in
         let new : but x k o ≡ k o = but_other x k o back in
@@ -111,8 +114,8 @@ distinct-push h k o (x ∷ xs) agree absent = choose (is_origin x o) refl
           new,
           distinct-cons k x (xs ++ o ∷ []),
           distinct-cons h x xs,
-          distinct-push (but x h) (but x k) o xs agree_but
-          (λ none. old ∙ absent (ap (λ b. b || list_any (λ y. is_origin y o) xs) apart ∙ none)),
+          rest
+              (λ none. old ∙ absent (ap (λ b. b || list_any (λ y. is_origin y o) xs) apart ∙ none)),
         )
 
 -- ---- the total of an origin
@@ -157,17 +160,17 @@ pushed : (count : Origin → ℕ → ℕ) (pages : List Scored) (s : Scored) →
     → sum_by (λ x. count x (total_of (pages ++ s ∷ []) x)) (origins_of (pages ++ s ∷ []))
     + count s.0 (total_of pages s.0)
     ≡ sum_by (λ x. count x (total_of pages x)) (origins_of pages) + count s.0 (total_of pages s.0 + share s.1)
-pushed count pages s zero =
+pushed count pages s of_zero =
     let origins : map (λ (t : Scored). t.0) (pages ++ s ∷ []) ≡ map (λ (t : Scored). t.0) pages ++ s.0 ∷ []
-      = map-append (λ (t : Scored). t.0) pages (s ∷ []) in
+    = map-append (λ (t : Scored). t.0) pages (s ∷ []) in
     let here : total_of (pages ++ s ∷ []) s.0 ≡ total_of pages s.0 + share s.1
-      = total-push pages s s.0 ∙ ap (λ b. total_of pages s.0 + (if b then share s.1 else 0)) (itself s.0) in
+    = total-push pages s s.0 ∙ ap (λ b. total_of pages s.0 + (if b then share s.1 else 0)) (itself s.0) in
     let law = distinct-push (λ x. count x (total_of pages x)) (λ x. count x (total_of (pages ++ s ∷ []) x)) s.0
-      (map (λ (t : Scored). t.0) pages)
-      (λ x apart. ap (count x) (total-push pages s x
-      ∙ ap (λ b. total_of pages x + (if b then share s.1 else 0)) (flipped x s.0 apart)
-      ∙ nothing-more (total_of pages x)))
-      (λ none. ap (count s.0) (total-sum pages s.0 ∙ total-absent pages s.0 none) ∙ zero) in
+    (map (λ (t : Scored). t.0) pages)
+    (λ x apart. ap (count x) (total-push pages s x
+    ∙ ap (λ b. total_of pages x + (if b then share s.1 else 0)) (flipped x s.0 apart)
+    ∙ nothing-more (total_of pages x)))
+    (λ none. ap (count s.0) (total-sum pages s.0 ∙ total-absent pages s.0 none) ∙ of_zero) in
     omega (
       arith,
       ap (λ (os : List Origin). sum_by (λ x. count x (total_of (pages ++ s ∷ []) x)) (distinct os)) origins,
@@ -214,7 +217,7 @@ sum-grown pages (s ∷ more) =
     )
 
 pub sum-shares : (pages : List Scored) → sum_of_totals pages ≡ shares pages
-sum-shares pages = sum-grown [] pages
+sum-shares pages = omega (arith, sum-grown [] pages)
 
 -- ---- how many origins have a total
 
@@ -265,11 +268,11 @@ pub group-push : (pages : List Scored) (s : Scored) (group : List ℕ)
     ≡ group_total pages group + (if is_in_group group s.0 then share s.1 else 0)
 group-push pages s group =
     split (is_in_group group s.0) (group-sum pages group) (group-sum (pages ++ s ∷ []) group)
-    (pushed (grouped group) pages s (zero (is_in_group group s.0)))
+    (pushed (grouped group) pages s (nothing (is_in_group group s.0)))
   where
-    zero : (b : Bool) → (if b then 0 else 0) ≡ 0
-    zero true = refl
-    zero false = refl
+    nothing : (b : Bool) → (if b then zero else zero) ≡ zero
+    nothing true = refl
+    nothing false = refl
 
     split : (b : Bool) {old new before after : ℕ} → old ≡ before → new ≡ after
         → after + (if b then total_of pages s.0 else 0) ≡ before + (if b then total_of pages s.0 + share s.1 else 0)
@@ -293,5 +296,5 @@ group-le pages group =
       sums-sum pages,
       sum-shares pages,
       sum_by-le (λ x. grouped group x (total_of pages x)) (λ x. positive x (total_of pages x)) (origins_of pages)
-      (grouped-le pages group),
+          (grouped-le pages group),
     )

@@ -1,8 +1,7 @@
 -- The origins that are looked up, and those that are kept.
-use Rattle.std.proofs.Common.{◌≡◌, ◌&&◌, ◌++◌, Bool, List, ℕ, bytes_eq, refl, rules, true}
+use Rattle.std.proofs.Common.{◌≡◌, ◌&&◌, ◌++◌, List, ℕ, bytes_eq, refl}
 use Rattle.std.specs.Prelude.{IsTrue}
 use Rattle.std.specs.Hash as fed
-use Rattle.std.specs.Cmp.Rules.{hashing}
 use Rattle.std.specs.String.{string_bytes, string_eq}
 use Rattle.std.proofs.lemmas.Bool.{and_parts}
 use Rattle.std.proofs.lemmas.Slice.Eq.{bytes_eq-Decides}

@@ -1,11 +1,12 @@
 -- What totals stand for: pages, by their origins and frecencies.
-use Rattle.std.specs.Prelude.{◌≡◌, ◌+◌, ◌^◌, ◌<◌, ◌&&◌, ◌∷◌, ◌++◌, [], ℕ, List, bytes_eq, unwrap_or}
+use Rattle.std.specs.Prelude.{◌≡◌, ◌+◌, ◌^◌, ◌<◌, ◌&&◌, ◌==◌, [], ℕ, List}
+use Rattle.std.specs.Prelude.{bytes_eq, if◌then◌else◌, unwrap_or}
 use Rattle.std.specs.String.{string_bytes}
 use Rattle.indexmap.specs.IndexMap.{get_by, get_by_text}
 use Rattle.pl_base.specs.declared.view.View.{View}
 use Rattle.pl_base.specs.Live.{slot_limit}
-use Rattle.pl_base.specs.Totals.{Origin, Scored, group_total, origins_with_total, sum_of_totals}
-use Rattle.pl_base.specs.Totals.{total_of}
+use Rattle.pl_base.specs.Totals.{Origin, Scored, group_total, is_in_group, is_origin}
+use Rattle.pl_base.specs.Totals.{origins_with_total, sum_of_totals, total_of}
 use Rattle.pl_totals.specs.declared.totals.Origin.{Origin as Kept}
 use Rattle.pl_totals.specs.declared.totals.Totals.{Totals}
 
@@ -36,3 +37,19 @@ pub record HasRoom (totals : Totals) : Type 0 where
 -- the origin of a view, and its frecency
 abbrev pub scored : View → Scored
 scored view = ((view.prefix, view.host), view.frecency)
+
+-- a share more for an origin, and in the sum; the origin is counted where it had no total
+pub record RaisesOrigin (origin : Origin) (more : ℕ) (old new : Totals) : Type 0 where
+  pub origins : (other : Origin) → kept_total new other
+      ≡ kept_total old other + (if is_origin origin other then more else 0)
+  pub groups : (group : List ℕ) → kept_group new group ≡ kept_group old group
+  pub count : new.count ≡ old.count + (if kept_total old origin == 0 then 1 else 0)
+  pub sum : new.sum ≡ old.sum + more
+
+-- a share more for the group that a host is in, if any
+pub record RaisesGroup (host : List ℕ) (more : ℕ) (old new : Totals) : Type 0 where
+  pub origins : (origin : Origin) → kept_total new origin ≡ kept_total old origin
+  pub groups : (group : List ℕ) → kept_group new group
+      ≡ kept_group old group + (if is_in_group group ([], host) then more else 0)
+  pub count : new.count ≡ old.count
+  pub sum : new.sum ≡ old.sum
