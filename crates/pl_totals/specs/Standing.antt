@@ -1,20 +1,18 @@
 -- What totals stand for: pages, by their origins and frecencies.
-use Rattle.std.specs.Prelude.{◌≡◌, ◌+◌, ◌^◌, ◌<◌, ◌&&◌, ◌==◌, [], ℕ, List}
-use Rattle.std.specs.Prelude.{bytes_eq, if◌then◌else◌, unwrap_or}
-use Rattle.std.specs.String.{string_bytes}
+use Rattle.std.specs.Prelude.{◌≡◌, ◌+◌, ◌^◌, ◌<◌, ◌==◌, [], ℕ, List}
+use Rattle.std.specs.Prelude.{if◌then◌else◌, unwrap_or}
 use Rattle.indexmap.specs.IndexMap.{get_by, get_by_text}
 use Rattle.pl_base.specs.declared.view.View.{View}
 use Rattle.pl_base.specs.Live.{slot_limit}
 use Rattle.pl_base.specs.Totals.{Origin, Scored, group_total, is_in_group, is_origin}
 use Rattle.pl_base.specs.Totals.{origins_with_total, sum_of_totals, total_of}
-use Rattle.pl_totals.specs.declared.totals.Origin.{Origin as Kept}
 use Rattle.pl_totals.specs.declared.totals.Totals.{Totals}
+use Rattle.pl_totals.specs.Keys.{is_key}
 
 -- the total that is kept of an origin, and 0 where none is
 abbrev pub kept_total : Totals → Origin → ℕ
 kept_total totals origin =
-    unwrap_or (get_by (λ (k : Kept). bytes_eq origin.0 (string_bytes k.prefix)
-    && bytes_eq origin.1 (string_bytes k.host)) totals.origins) 0
+    unwrap_or (get_by (is_key origin.0 origin.1) totals.origins) 0
 
 -- the total that is kept of a group of hosts, and 0 where none is
 abbrev pub kept_group : Totals → List ℕ → ℕ

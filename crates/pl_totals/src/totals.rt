@@ -1,8 +1,7 @@
 // The totals of origins and of groups of hosts.
-ghost use Rattle.std.specs.Prelude.{◌≡◌, ◌∷◌, ◌++◌, ◌^◌, ◌<◌, ◌&&◌, [], ℕ, List};
-ghost use Rattle.std.specs.Prelude.{IfOk, OnOk, bytes_eq, length};
+ghost use Rattle.std.specs.Prelude.{◌≡◌, ◌∷◌, ◌++◌, ◌^◌, ◌<◌, [], ℕ, List};
+ghost use Rattle.std.specs.Prelude.{IfOk, OnOk, length};
 ghost use Rattle.std.specs.List.{sum_by};
-ghost use Rattle.std.specs.String.{string_bytes};
 ghost use Rattle.pl_base.specs.Live.{slot_limit};
 ghost use Rattle.pl_base.specs.Totals as spec;
 ghost use Rattle.pl_base.specs.Totals.{Scored, group_passes, origins_with_total, share};
@@ -30,10 +29,10 @@ struct Named<'a> {
 }
 
 impl Equivalent<Origin> for Named<'_> {
-    ghost use Rattle.pl_totals.specs.Keys.{alike, hashed};
+    ghost use Rattle.std.specs.String.{string_bytes};
+    ghost use Rattle.pl_totals.specs.Keys.{alike, hashed, is_key};
 
-    ghost equivalent = { λ q k. bytes_eq q.prefix.now (string_bytes k.prefix)
-        && bytes_eq q.host.now (string_bytes k.host) };
+    ghost equivalent = { λ q. is_key q.prefix.now q.host.now };
 
     ghost respects_hash = { λ q k. hashed q.prefix.now (string_bytes k.prefix)
         q.host.now (string_bytes k.host) };
@@ -54,8 +53,8 @@ impl Equivalent<Origin> for Named<'_> {
 ///
 /// A group of hosts has the origins whose hosts are equal without one leading `www.`, whatever
 /// their prefixes; an origin without a host is in none. A group passes where its total is
-/// positive and no less than the mean of the totals that are positive. Bookmarks have no say in
-/// it: neither does one make its group pass, nor is one's group exempt.
+/// positive and no less than the mean of the totals that are positive. A bookmark exempts no group
+/// from it.
 #[derive(Drop)]
 pub struct Totals {
     // Those that are positive.
