@@ -1,0 +1,6 @@
+//! The totals of origins and of groups of hosts, which the address bar goes by.
+#![tactic(auto)]
+
+mod totals;
+
+pub use totals::Totals;
