@@ -2,10 +2,8 @@ pub mod Dropped
 pub mod Freshened
 pub mod GoodRows
 pub mod KeptMark
-pub mod KeptUrls
 pub mod OriginParts
 pub mod PageOrder
-pub mod PageTurns
 pub mod RemovedRows
 pub mod RightAfter
 pub mod RightRemoved

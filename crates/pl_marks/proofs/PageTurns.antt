@@ -1,6 +1,6 @@
 -- A walk over the pages, of which something holds of those in front.
 use Rattle.std.proofs.Common.{◌≡◌, ◌≢◌, ◌∙◌, ◌<◌, ◌≤◌, ◌++◌, ◌==◌, List, [], ◌∷◌, Option, Some, None}
-use Rattle.std.proofs.Common.{ap, append_assoc, arith, eq-eqb, refl, subst, sym, true, ℕ}
+use Rattle.std.proofs.Common.{ap, append_assoc, arith, eq-eqb, refl, subst, sym, true}
 use Rattle.std.specs.List.{AllByRecursion}
 use Rattle.std.proofs.lemmas.List.{append-nil}
 use Rattle.pl_base.specs.declared.id.PageId.{PageId}
