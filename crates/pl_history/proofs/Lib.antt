@@ -7,7 +7,6 @@ pub mod LastDates
 pub mod OneOrder
 pub mod OriginParts
 pub mod PageOrder
-pub mod PageTurns
 pub mod RemovedRows
 pub mod RemovedVisits
 pub mod RightAfter

@@ -6,7 +6,7 @@ use Rattle.pl_base.specs.Address.{is_place, is_place_url, record_of, same_origin
 use Rattle.pl_base.proofs.OriginLaws.{same_origin-by_texts}
 use Rattle.pl_link.specs.declared.parts.Parts.{Parts}
 use Rattle.pl_link.specs.Parts.{ArePartsOf}
-use Rattle.pl_history.specs.Target.{HasParts}
+use Rattle.pl_marks.specs.UrlParts.{HasParts}
 use Rattle.pl_link.proofs.OriginParts.{origin_by_parts}
 
 pub same_origin-by_parts : (text url : List ℕ) (own parts : Parts) (alike : Bool) (kept_url : Option (List ℕ))

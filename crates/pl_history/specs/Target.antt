@@ -1,22 +1,14 @@
 -- Where a visit goes: to a page that is there, or to a new one.
 use Rattle.std.specs.Prelude.{◌≡◌, ◌≤◌, ◌<◌, ℕ, Bool, true, false, List, Some, None}
 use Rattle.std.specs.Option.{option_map}
-use Rattle.std.specs.Result.{IsOkAnd}
 use Rattle.pl_base.specs.declared.id.PageId.{PageId}
-use Rattle.pl_base.specs.Address.{record_of}
 use Rattle.pl_base.specs.Good.{end_of_ids}
 use Rattle.pl_base.specs.Live.{slot_limit}
 use Rattle.pl_base.specs.Rows.{IsOriginOf, Kept, WithPageIn, live_with_page, store_of}
 use Rattle.pl_base.specs.Store.{Page}
 use Rattle.pl_base.specs.Visiting.{find_page}
-use Rattle.pl_link.specs.declared.parts.Parts.{Parts}
-use Rattle.pl_link.specs.Parts.{ArePartsOf}
 use Rattle.pl_history.specs.declared.find.Target.{Target}
 use Rattle.pl_history.specs.declared.find.Target.TheVariants.{Known, New}
-
--- the parts are those of the URL
-abbrev pub HasParts : List ℕ → Parts → Type 0
-HasParts url parts = IsOkAnd (record_of url) (λ found. ArePartsOf found parts)
 
 -- the page that has the URL, or the origin of the URL where no page has it
 abbrev pub IsTargetOf : Kept → List ℕ → Target → Type 0

@@ -2,14 +2,16 @@
 ghost use Rattle.std.specs.Prelude.{◌≡◌, ◌&&◌, ℕ, List, Some, true, bytes_eq, IfOk};
 ghost use Rattle.std.specs.Option.{option_map};
 ghost use Rattle.pl_base.specs.Address as address;
-ghost use Rattle.pl_base.specs.Address.{is_place_url, is_store_url};
+ghost use Rattle.pl_base.specs.Address.{is_place_url};
 ghost use Rattle.pl_base.specs.Rows.{IsOriginOf, has_page, store_of, url_of};
 ghost use Rattle.pl_base.specs.Store.{Page};
 ghost use Rattle.pl_base.specs.Visiting as spec;
-ghost use Rattle.pl_history.specs.Target.{HasParts, IsTargetOf, is_new};
+ghost use Rattle.pl_history.specs.Target.{IsTargetOf, is_new};
+ghost use Rattle.pl_marks.specs.UrlParts.{HasParts};
 
 use pl_base::{NoMemory, PageId, Rows, Slot, Steps};
-use pl_link::{Canon, CanonError, Parts, split};
+use pl_link::{Canon, Parts};
+use pl_marks::parts_of;
 use std::alloc::Global;
 use std::sync::ledger::Ledger;
 
@@ -60,17 +62,6 @@ pub fn find_page<R: Rows, L: Ledger>(
         next = rows.page_after(Some(page), steps);
     }
     Ok(None)
-}
-
-fn parts_of(alloc: Global, url: &str) -> Result<Parts, NoMemory>
-    requires { is_store_url url.now ≡ true }
-    ensures { IfOk result (HasParts url.now) }
-{
-    match Canon::read(alloc, url) {
-        Ok(canon) => split(alloc, &canon),
-        Err(CanonError::NoMemory) => Err(NoMemory),
-        Err(CanonError::BadUrl) => unreachable!(),
-    }
 }
 
 /// Whether the page's URL is a query.

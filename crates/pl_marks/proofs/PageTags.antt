@@ -32,7 +32,7 @@ use Rattle.pl_marks.proofs.TagTree.{HaveTags, tag_is_one, tags_there}
 abbrev pub is_outside : List Item → Item → Bool
 is_outside items i = is_none (tag_folder items i.id)
 
-outside_is : (store : Store) (id : ItemId) → is_none (tag_folder store.items id) ≡ not (is_tag_entry store id)
+pub outside_is : (store : Store) (id : ItemId) → is_none (tag_folder store.items id) ≡ not (is_tag_entry store id)
 outside_is store id = choose (parent_of store.items id) refl
   where
     at_root : (f : ItemId) (b : Bool) → is_none (if b then Some f else None) ≡ not b

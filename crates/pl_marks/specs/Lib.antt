@@ -1,2 +1,4 @@
+pub mod Freshest
 pub mod Refreshed
 pub mod TagFolders
+pub mod UrlParts

@@ -1,10 +1,17 @@
-//! What is computed of a page by its visits and its items: its frecency, its two marks and its tags.
+//! What is computed of a page by its visits and its items: its frecency, its two marks, its tags
+//! and its view.
 #![tactic(auto)]
 
+mod bookmarks;
+mod dates;
 mod mark;
+mod page_views;
 mod tags;
-mod views;
+mod url_parts;
 
+pub use bookmarks::mark_title;
+pub use dates::last_date;
 pub use mark::{refresh, unvisited_mark, visited_mark};
+pub use page_views::views;
 pub use tags::{is_bookmarked, tag_text};
-pub use views::views;
+pub use url_parts::parts_of;

@@ -72,8 +72,8 @@ fn source_transition<R: Rows, L: Ledger>(
     Some(source.transition)
 }
 
-// Whether an item of the bookmark tree has the page.
-fn is_referenced<R: Rows, L: Ledger>(rows: &R, page: PageId, steps: &mut Steps<L>) -> bool
+/// Whether an item of the bookmark tree has the page.
+pub fn is_referenced<R: Rows, L: Ledger>(rows: &R, page: PageId, steps: &mut Steps<L>) -> bool
     ensures { result ≡ marks.is_referenced (store_of (R.kept rows.now)) page }
 {
     rows.first_reference(page, steps).is_some()

@@ -95,8 +95,12 @@ fn parent<R: Rows, L: Ledger>(rows: &R, item: ItemId, steps: &mut Steps<L>) -> O
     rows.item_at(item, steps)?.parent
 }
 
-// The tag folder that the item is in.
-fn tag_folder<R: Rows, L: Ledger>(rows: &R, item: ItemId, steps: &mut Steps<L>) -> Option<ItemId>
+/// The tag folder that the item is in.
+pub fn tag_folder<R: Rows, L: Ledger>(
+    rows: &R,
+    item: ItemId,
+    steps: &mut Steps<L>,
+) -> Option<ItemId>
     requires { has_item (R.kept rows.now).items item ≡ true }
     ensures { result ≡ spec.tag_folder (R.kept rows.now).items item }
 {

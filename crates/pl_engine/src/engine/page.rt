@@ -1,28 +1,17 @@
 // What is known of a page.
-ghost use Rattle.std.specs.Prelude.{◌≡◌, true, IfOk};
-ghost use Rattle.pl_base.specs.Marks.{last_date_of};
-ghost use Rattle.pl_base.specs.Rows.{has_page, store_of};
+ghost use Rattle.std.specs.Prelude.{◌≡◌, IfOk};
+ghost use Rattle.pl_base.specs.Rows.{store_of};
 ghost use Rattle.pl_history.specs.Sound.{IsSound};
 ghost use Rattle.pl_base.specs.Visiting as visiting;
 ghost use Rattle.pl_engine.specs.Step as spec;
 
 use crate::reply::Reply;
-use pl_base::{Micros, NoMemory, PageId, Refusal, Rows, Steps};
+use pl_base::{NoMemory, Refusal, Rows, Steps};
 use pl_history::find_page;
 use pl_link::Canon;
-use pl_marks::{is_bookmarked, tag_text};
+use pl_marks::{is_bookmarked, last_date, tag_text};
 use std::alloc::Global;
 use std::sync::ledger::Ledger;
-
-// The date of the page's latest visit.
-fn last_date<R: Rows, L: Ledger>(rows: &R, page: PageId, steps: &mut Steps<L>) -> Option<Micros>
-    requires { has_page (R.kept rows.now) page ≡ true }
-    ensures { result ≡ last_date_of (store_of (R.kept rows.now)) page }
-{
-    let latest = rows.latest(page, steps)?;
-    let row = rows.visit_at(latest, steps).unwrap();
-    Some(row.date)
-}
 
 /// What is known of the page of the URL.
 pub fn page<R: Rows, L: Ledger>(

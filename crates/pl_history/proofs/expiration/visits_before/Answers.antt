@@ -1,7 +1,6 @@
 use Rattle.pl_base.specs.Rows.{Kept}
 use Rattle.pl_history.specs.Taken.{is_before}
-use Rattle.pl_history.proofs.PageTurns.{IsPageHere, has_here, page_here, turns_end, turns_go_on, turns_near}
-use Rattle.pl_history.proofs.PageTurns.{turns_start}
+use Rattle.pl_marks.proofs.PageTurns.{IsPageHere, has_here, page_here, turns_end, turns_go_on, turns_near, turns_start}
 use Rattle.pl_history.proofs.TakenVisits.{HasTaken, all_these, has_more}
 use Rattle.pl_history.proofs.expiration.visits_before.Goals as goal
 

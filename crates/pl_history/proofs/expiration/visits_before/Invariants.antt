@@ -1,6 +1,6 @@
 use Rattle.pl_marks.proofs.PageWalk.{left}
 use Rattle.pl_history.specs.Taken.{is_before}
-use Rattle.pl_history.proofs.PageTurns.{PageTurns}
+use Rattle.pl_marks.proofs.PageTurns.{PageTurns}
 use Rattle.pl_history.proofs.TakenVisits.{HasTaken}
 use Rattle.pl_history.proofs.expiration.visits_before.Given as goal
 

@@ -1,6 +1,6 @@
 use Rattle.std.proofs.Common.{ℕ, List, false}
 use Rattle.pl_base.specs.Address.{same_origin}
-use Rattle.pl_history.specs.Target.{HasParts}
+use Rattle.pl_marks.specs.UrlParts.{HasParts}
 use Rattle.pl_marks.proofs.PageWalk.{Walk, left}
 use Rattle.pl_history.proofs.find.find_origin.Given as goal
 

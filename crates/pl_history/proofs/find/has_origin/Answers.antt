@@ -1,6 +1,6 @@
 use Rattle.std.proofs.Common.{Some, ap, ◌∙◌, ℕ, List}
 use Rattle.pl_base.specs.Rows.{url_of}
-use Rattle.pl_history.proofs.KeptUrls.{url-of_store}
+use Rattle.pl_marks.proofs.KeptUrls.{url-of_store}
 use Rattle.pl_history.proofs.OriginParts.{same_origin-by_parts}
 use Rattle.pl_history.proofs.find.has_origin.Goals as goal
 

@@ -1,7 +1,7 @@
 use Rattle.std.proofs.Common.{Some, ap, ◌∙◌, ℕ, Bool, List}
 use Rattle.std.specs.Option.{option_map}
 use Rattle.pl_base.specs.Address.{is_place_url}
-use Rattle.pl_history.proofs.KeptUrls.{url-of_store}
+use Rattle.pl_marks.proofs.KeptUrls.{url-of_store}
 use Rattle.pl_history.proofs.OriginParts.{is_place-by_parts}
 use Rattle.pl_history.proofs.find.is_place.Goals as goal
 

@@ -1,6 +1,6 @@
 use Rattle.std.proofs.Common.{◌≡◌, ◌+◌, ◌∷◌, [], arith, length, length-append, refl, sym}
 use Rattle.pl_base.specs.Rows.{Kept}
-use Rattle.pl_history.proofs.PageTurns.{IsPageHere, page_here, turns_end, turns_go_on, turns_near, turns_start}
+use Rattle.pl_marks.proofs.PageTurns.{IsPageHere, page_here, turns_end, turns_go_on, turns_near, turns_start}
 use Rattle.pl_history.proofs.trimming.page_count.Goals as goal
 
 pub loop-next-init : goal.loop-next-init

@@ -1,6 +1,6 @@
 use Rattle.std.proofs.Common.{◌≡◌, length}
 use Rattle.pl_marks.proofs.PageWalk.{left}
-use Rattle.pl_history.proofs.PageTurns.{PageTurns}
+use Rattle.pl_marks.proofs.PageTurns.{PageTurns}
 use Rattle.pl_history.proofs.trimming.page_count.Given as goal
 
 abbrev pub invariant-loop-next : goal.invariant-loop-next

@@ -1,8 +1,8 @@
 use Rattle.std.proofs.Common.{filter, not}
 use Rattle.pl_base.specs.Marks.{is_referenced}
 use Rattle.pl_base.specs.Rows.{Kept, store_of}
-use Rattle.pl_history.proofs.PageTurns.{IsPageHere, has_here, page_here, turns_end, turns_go_on, turns_near}
-use Rattle.pl_history.proofs.PageTurns.{turns_start}
+use Rattle.pl_marks.proofs.PageTurns.{IsPageHere, has_here, page_here, turns_end, turns_go_on, turns_near}
+use Rattle.pl_marks.proofs.PageTurns.{turns_start}
 use Rattle.pl_history.proofs.StalePages.{AreStale, stale_more}
 use Rattle.pl_base.specs.Store.{Page}
 use Rattle.pl_history.proofs.StaleSort.{apart_filter, pages_apart, sorted_is}

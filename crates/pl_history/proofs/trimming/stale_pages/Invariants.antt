@@ -1,6 +1,6 @@
 use Rattle.pl_base.specs.Rows.{store_of}
 use Rattle.pl_marks.proofs.PageWalk.{left}
-use Rattle.pl_history.proofs.PageTurns.{PageTurns}
+use Rattle.pl_marks.proofs.PageTurns.{PageTurns}
 use Rattle.pl_history.proofs.StalePages.{AreStale}
 use Rattle.pl_history.proofs.trimming.stale_pages.Given as goal
 

@@ -1,6 +1,6 @@
 use Rattle.std.proofs.Common.{◌∙◌, sym}
-use Rattle.pl_engine.proofs.PageTold.{latest_date, latest_found}
-use Rattle.pl_engine.proofs.engine.page.last_date.Goals as goal
+use Rattle.pl_marks.proofs.LatestVisit.{latest_date, latest_found}
+use Rattle.pl_marks.proofs.dates.last_date.Goals as goal
 
 pub unwrap-row-requires : goal.unwrap-row-requires
 unwrap-row-requires g c =

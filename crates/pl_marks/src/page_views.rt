@@ -1,0 +1,67 @@
+// The views of pages.
+ghost use Rattle.std.specs.Prelude.{◌≡◌, Some, true, IfOk};
+ghost use Rattle.pl_base.specs.Good.{IsGood};
+ghost use Rattle.pl_base.specs.Rows.{IsRight, KeptPage, has_page, page_at, store_of};
+ghost use Rattle.pl_base.specs.View.{AreViewsOf, IsViewOf};
+
+use crate::bookmarks::mark_title;
+use crate::dates::last_date;
+use crate::mark::is_referenced;
+use crate::tags::{is_bookmarked, tag_text};
+use crate::url_parts::parts_of;
+use pl_base::{NoMemory, PageId, Rows, Steps, View};
+use std::alloc::Global;
+use std::sync::ledger::Ledger;
+
+// What is known of the page.
+fn page_view<R: Rows, L: Ledger>(
+    alloc: Global,
+    rows: &R,
+    page: PageId,
+    steps: &mut Steps<L>,
+) -> Result<View, NoMemory>
+    requires page { has_page (R.kept rows.now) page ≡ true }
+    requires good { IsGood (store_of (R.kept rows.now)) }
+    requires right { IsRight (R.kept rows.now) }
+    ensures { IfOk result (λ view. (p : KeptPage) → page_at (R.kept rows.now) page ≡ Some p
+        → IsViewOf (store_of (R.kept rows.now)) p.page view) }
+{
+    let mark = rows.page_at(page, steps).unwrap();
+    let url = rows.url(page, steps)?;
+    let parts = parts_of(alloc, url.as_str())?;
+    Ok(View {
+        id: page,
+        url,
+        title: rows.title(page, steps)?,
+        mark_title: mark_title(alloc, rows, page, steps)?,
+        tags: tag_text(alloc, rows, page, steps)?,
+        prefix: parts.prefix,
+        host: parts.host,
+        frecency: mark.frecency,
+        count: mark.count,
+        last: last_date(rows, page, steps),
+        typed: mark.typed,
+        hidden: mark.hidden,
+        bookmarked: is_bookmarked(rows, page, steps),
+        referenced: is_referenced(rows, page, steps),
+    })
+}
+
+/// The view of each page, by ascending id.
+pub fn views<R: Rows, L: Ledger>(
+    alloc: Global,
+    rows: &R,
+    steps: &mut Steps<L>,
+) -> Result<Vec<View>, NoMemory>
+    requires good { IsGood (store_of (R.kept rows.now)) }
+    requires right { IsRight (R.kept rows.now) }
+    ensures { IfOk result (λ views. AreViewsOf (store_of (R.kept rows.now)) views.items) }
+{
+    let mut views = Vec::new(alloc);
+    let mut next = rows.page_after(None, steps);
+    while let Some(page) = next {
+        views.push(page_view(alloc, rows, page, steps)?)?;
+        next = rows.page_after(Some(page), steps);
+    }
+    Ok(views)
+}
