@@ -54,9 +54,9 @@ pages_same rows (p ∷ ps) (q ∷ qs) zip =
     ap (λ (x : Page). x ∷ map (λ (k : KeptPage). k.page) (map page_of qs)) (same_page rows p q zip.0)
     ∙ ap (λ (xs : List Page). stored_page p ∷ xs) (pages_same rows ps qs zip.1)
 
-pub store-same : (rows : Stored) (qs : List FlatPage) (origins : ℕ) → AllZip (IsAssessed rows) rows.pages qs
-    → store_of (kept_of_rows rows qs origins) ≡ stored_store rows
-store-same rows qs origins zip =
+pub store-same : (rows : Stored) (qs : List FlatPage) (totals : List ℕ) → AllZip (IsAssessed rows) rows.pages qs
+    → store_of (kept_of_rows rows qs totals) ≡ stored_store rows
+store-same rows qs totals zip =
     ap (λ (pages : List Page).
     record { day = rows.day; ids = rows.ids; pages = pages; visits = map visit_of rows.visits; items = rows.items })
     (pages_same rows rows.pages qs zip)
@@ -81,11 +81,11 @@ each_stored rows P Q (p ∷ ps) (q ∷ qs) each all zip =
 
 -- ---- the marks
 
-pub is-right : (rows : Stored) (qs : List FlatPage) (origins : ℕ) → AllZip (IsAssessed rows) rows.pages qs
-    → IsRight (kept_of_rows rows qs origins)
-is-right rows qs origins zip =
-    let store : Store = store_of (kept_of_rows rows qs origins) in
-    let same : stored_store rows ≡ store = sym (store-same rows qs origins zip) in
+pub is-right : (rows : Stored) (qs : List FlatPage) (totals : List ℕ) → AllZip (IsAssessed rows) rows.pages qs
+    → IsRight (kept_of_rows rows qs totals)
+is-right rows qs totals zip =
+    let store : Store = store_of (kept_of_rows rows qs totals) in
+    let same : stored_store rows ≡ store = sym (store-same rows qs totals zip) in
     record {
       frecencies =
           All-map (λ (k : KeptPage). k.frecency ≡ frecency_of store k.page) page_of qs
@@ -116,22 +116,22 @@ kept_pages rows (p ∷ ps) (q ∷ qs) zip =
     ∙ ap (λ (z : ℤ). (stored_page p, z)) (zip.0.frecency ∙ sym zip.0.right))
     ∙ ap (λ (xs : List (Page × ℤ)). page_row p ∷ xs) (kept_pages rows ps qs zip.1)
 
-rows_same : (rows : Stored) (qs : List FlatPage) (origins : ℕ) → AllZip (IsAssessed rows) rows.pages qs
-    → kept_rows (kept_of_rows rows qs origins) ≡ form_rows rows
-rows_same rows qs origins zip =
+rows_same : (rows : Stored) (qs : List FlatPage) → AllZip (IsAssessed rows) rows.pages qs
+    → kept_rows (kept_of_rows rows qs []) ≡ form_rows rows
+rows_same rows qs zip =
     ap (λ (pages : List (Page × ℤ)).
     record { day = rows.day; ids = rows.ids; pages = pages; visits = map visit_of rows.visits; items = rows.items })
     (kept_pages rows rows.pages qs zip)
 
-pub bytes-same : (rows : Stored) (qs : List FlatPage) (origins : ℕ) → AllZip (IsAssessed rows) rows.pages qs
-    → bytes_from rows.day rows.ids qs origins rows.visits rows.items ≡ in_pages (stored_bytes rows)
-bytes-same rows qs origins zip = ap form_bytes (rows_same rows qs origins zip)
+pub bytes-same : (rows : Stored) (qs : List FlatPage) → AllZip (IsAssessed rows) rows.pages qs
+    → bytes_from rows.day rows.ids qs rows.visits rows.items ≡ in_pages (stored_bytes rows)
+bytes-same rows qs zip = ap form_bytes (rows_same rows qs zip)
 
-pub bytes-length : (rows : Stored) (qs : List FlatPage) (origins pages : ℕ) → AllZip (IsAssessed rows) rows.pages qs
+pub bytes-length : (rows : Stored) (qs : List FlatPage) (pages : ℕ) → AllZip (IsAssessed rows) rows.pages qs
     → pages ≡ 2 + filled_pages (length (stored_bytes rows))
-    → length (bytes_from rows.day rows.ids qs origins rows.visits rows.items) ≡ bytes_before pages
-bytes-length rows qs origins pages zip counted =
-    ap length (bytes-same rows qs origins zip) ∙ length-in_pages (stored_bytes rows) ∙ ap bytes_before (sym counted)
+    → length (bytes_from rows.day rows.ids qs rows.visits rows.items) ≡ bytes_before pages
+bytes-length rows qs pages zip counted =
+    ap length (bytes-same rows qs zip) ∙ length-in_pages (stored_bytes rows) ∙ ap bytes_before (sym counted)
 
 -- ---- the rows are well kept
 
@@ -139,9 +139,9 @@ urls_same : (rows : Stored) (qs : List FlatPage)
     → map (λ (k : KeptPage). k.page.url) (map page_of qs) ≡ map (λ (q : FlatPage). q.url) qs
 urls_same rows qs = map-map (λ (k : KeptPage). k.page.url) page_of qs
 
-page_urls : (rows : Stored) (qs : List FlatPage) (origins : ℕ) → AllZip (IsAssessed rows) rows.pages qs
+page_urls : (rows : Stored) (qs : List FlatPage) → AllZip (IsAssessed rows) rows.pages qs
     → map (λ (q : FlatPage). q.url) qs ≡ map (λ (p : Page). p.url) (stored_store rows).pages
-page_urls rows qs origins zip =
+page_urls rows qs zip =
     sym (urls_same rows qs) ∙ sym (map-map (λ (p : Page). p.url) (λ (k : KeptPage). k.page) (map page_of qs))
     ∙ ap (map (λ (p : Page). p.url)) (pages_same rows rows.pages qs zip)
 
@@ -153,7 +153,7 @@ pub slots-by : (rows : Stored) (qs : List FlatPage) (keys : List Key) (origins l
     → live ≡ live_slots (stored_store rows)
 slots-by rows qs keys origins live zip named count slots =
     let counted : origins ≡ origin_count (map (λ (p : Page). p.url) (map stored_page rows.pages)) =
-    count ∙ named.counted ∙ ap origin_count (page_urls rows qs origins zip) in
+    count ∙ named.counted ∙ ap origin_count (page_urls rows qs zip) in
     omega (
       arith,
       slots,
@@ -169,10 +169,10 @@ ids_same rows qs zip =
     sym (map-map (λ (p : Page). p.id.0) (λ (k : KeptPage). k.page) (map page_of qs))
     ∙ ap (map (λ (p : Page). p.id.0)) (pages_same rows rows.pages qs zip)
 
-has_page_same : (rows : Stored) (qs : List FlatPage) (origins : ℕ) (id : PageId)
+has_page_same : (rows : Stored) (qs : List FlatPage) (totals : List ℕ) (id : PageId)
     → AllZip (IsAssessed rows) rows.pages qs
-    → has_page (kept_of_rows rows qs origins) id ≡ list_any (λ (p : Page). p.id.0 == id.0) (map stored_page rows.pages)
-has_page_same rows qs origins id zip =
+    → has_page (kept_of_rows rows qs totals) id ≡ list_any (λ (p : Page). p.id.0 == id.0) (map stored_page rows.pages)
+has_page_same rows qs totals id zip =
     sym (list_any-map (λ (p : Page). p.id.0 == id.0) (λ (k : KeptPage). k.page) (map page_of qs))
     ∙ ap (list_any (λ (p : Page). p.id.0 == id.0)) (pages_same rows rows.pages qs zip)
 
@@ -209,10 +209,10 @@ alike keys p q distinct first second = (
       (subst (IsNamed keys q.origin.0) key second.2)),
 )
 
-pub is-flat : (rows : Stored) (qs : List FlatPage) (keys : List Key) (origins live : ℕ)
-    → IsGiven rows qs keys origins live → IsTree rows.items → IsFlat (kept_of_rows rows qs origins) origins live
-is-flat rows qs keys origins live h tree =
-    let kept : Kept = kept_of_rows rows qs origins in
+pub is-flat : (rows : Stored) (qs : List FlatPage) (keys : List Key) (totals : List ℕ) (origins live : ℕ)
+    → IsGiven rows qs keys origins live → IsTree rows.items → IsFlat (kept_of_rows rows qs totals) origins live
+is-flat rows qs keys totals origins live h tree =
+    let kept : Kept = kept_of_rows rows qs totals in
     let good : IsGood (stored_store rows) = h.good tree in
     record {
       day = good.day;
@@ -235,7 +235,7 @@ is-flat rows qs keys origins live h tree =
           (subst (AllPairs (λ (p q : Page). p.url ≢ q.url)) (sym (pages_same rows rows.pages qs h.pages)) good.urls);
       visits =
           All-weaker (IsGoodVisit (stored_store rows)) (λ (v : Visit). IsDate v.date × IsTrue (has_page kept v.page))
-          (λ v one. (one.date, has_page_same rows qs origins v.page h.pages ∙ one.page)) (map visit_of rows.visits)
+          (λ v one. (one.date, has_page_same rows qs totals v.page h.pages ∙ one.page)) (map visit_of rows.visits)
           good.visits;
       titles =
           All-map (λ (k : KeptPage). IsTitle k.page.title) page_of qs
@@ -265,7 +265,7 @@ is-flat rows qs keys origins live h tree =
       counted = h.count ∙ h.named.counted ∙ ap origin_count (sym (urls_same rows qs));
       filled =
           slots-by rows qs keys origins live h.pages h.named h.count h.slots
-          ∙ ap live_slots (sym (store-same rows qs origins h.pages));
+          ∙ ap live_slots (sym (store-same rows qs totals h.pages));
       few = h.few;
     }
 
@@ -297,13 +297,13 @@ all_right rows (p ∷ ps) (q ∷ qs) zip = All-cons (IsFrecencyRight rows) p ps 
 begins_with : (bytes form rest : List ℕ) → bytes ≡ form ++ rest → take (length form) bytes ≡ form
 begins_with bytes form rest begins = ap (take (length form)) begins ∙ take-append_seam form rest
 
-pub stands-for : (bytes : List ℕ) (rows : Stored) (qs : List FlatPage) (keys : List Key) (origins live : ℕ)
-    → HoldsRows bytes rows → IsGiven rows qs keys origins live → IsTree rows.items
-    → StandsFor bytes (store_of (kept_of_rows rows qs origins))
-stands-for bytes rows qs keys origins live holds h tree =
+pub stands-for : (bytes : List ℕ) (rows : Stored) (qs : List FlatPage) (keys : List Key) (totals : List ℕ)
+    (origins live : ℕ) → HoldsRows bytes rows → IsGiven rows qs keys origins live → IsTree rows.items
+    → StandsFor bytes (store_of (kept_of_rows rows qs totals))
+stands-for bytes rows qs keys totals origins live holds h tree =
     let form : form_bytes (store_rows (stored_store rows)) ≡ in_pages (stored_bytes rows) =
     ap form_bytes (store_rows-is rows (all_right rows rows.pages qs h.pages)) in
-    subst (StandsFor bytes) (sym (store-same rows qs origins h.pages))
+    subst (StandsFor bytes) (sym (store-same rows qs totals h.pages))
     (record {
       good = h.good tree;
       texts =

@@ -11,6 +11,7 @@ pub mod Lists
 pub mod Lookups
 pub mod OlderVisits
 pub mod OneStore
+pub mod OriginTotals
 pub mod OriginsLeft
 pub mod OpeningGood
 pub mod PageDropped

@@ -2,7 +2,7 @@
 use Rattle.std.proofs.Common.{◌≡◌, ◌≢◌, ◌+◌, ◌-◌, ◌<◌, ◌≤◌, ◌==◌, ◌||◌, ◌++◌, ◌∙◌, ℕ, All, Bool, true, false}
 use Rattle.std.proofs.Common.{IsTrue, List, [], ◌∷◌, Some, ap, arith, eq-eqb, filter, find, get_or}
 use Rattle.std.proofs.Common.{if◌then◌else◌, length, map, not, refl, subst, suc, sym}
-use Rattle.std.specs.List.{AllPairs, list_any, sum_by}
+use Rattle.std.specs.List.{AllPairs, list_any, sum_by, swap_remove}
 use Rattle.std.specs.Str.{is_utf8}
 use Rattle.std.proofs.lemmas.Bool.{eqb-true, false≢true, false_from_ne_true, ne_eqb}
 use Rattle.std.proofs.lemmas.List.{length-append, length-map, map-append}
@@ -16,14 +16,15 @@ use Rattle.pl_base.specs.Address.{is_store_url, same_origin}
 use Rattle.pl_base.specs.Good.{AreIds, IsTitle, is_visited}
 use Rattle.pl_base.specs.Live.{chunks, live_slots, origin_count}
 use Rattle.pl_base.specs.Rows.{AreAlike, Kept, KeptOrigin, KeptPage, WithoutPage, has_page, other_pages, page_at}
-use Rattle.pl_base.specs.Rows.{store_of, unnamed}
+use Rattle.pl_base.specs.Rows.{store_of, total_at, totals_of, unnamed}
 use Rattle.pl_base.specs.Store.{Visit}
 use Rattle.pl_base.proofs.ItemLaws.{map-filter}
 use Rattle.pl_base.proofs.ListLaws.{AllPairs-map, list_any-map, map-map, sum_by-map}
 use Rattle.pl_base.proofs.OriginLaws.{same_origin-self}
 use Rattle.pl_plain.specs.declared.flat.row.FlatPage.{FlatPage}
-use Rattle.pl_plain.specs.FlatRows.{IsFlat, has_name, name_left, names_left, page_of, renamed_row}
+use Rattle.pl_plain.specs.FlatRows.{IsFlat, has_name, name_left, origins_from, page_of, renamed_row, totals_left}
 use Rattle.pl_plain.proofs.FlatChanges.{one_page, slots_of}
+use Rattle.pl_plain.proofs.OriginTotals.{length-swap_remove, swapped_here, swapped_other, total_named}
 use Rattle.pl_plain.proofs.OriginsLeft.{is_new, origins_without, true_both}
 
 -- ---- the pages but one
@@ -128,6 +129,11 @@ count_split ps others p s own =
     )
 
 -- ---- names
+
+-- how many names are left of so many
+abbrev pub names_left : Bool → ℕ → ℕ
+names_left true names = names
+names_left false names = names - 1
 
 -- a page whose origin is named as is left
 abbrev pub renamed : Bool → ℕ → Slot → KeptPage → KeptPage
@@ -298,6 +304,48 @@ left origins p rest false is were =
         (other_of (p.origin.0 == n) (list_any (λ (q : KeptPage). q.origin.0 == n) rest) other
         (were.named n some (omega (arith, few))))
 
+-- ---- the totals that are left
+
+left_length : (used : Bool) (name : Slot) (totals : List ℕ)
+    → length (totals_left used name totals) ≡ names_left used (length totals)
+left_length true name totals = refl
+left_length false name totals = length-swap_remove totals (name.0 - 1)
+
+-- an origin has the same total by the name that it has from then on
+left_total : (totals : List ℕ) (name origin : Slot) (used : Bool) (old new : Kept) → old.origins ≡ origins_from totals
+    → new.origins ≡ origins_from (totals_left used name totals) → (0 < name.0) × (name.0 ≤ length totals)
+    → (0 < origin.0) × (origin.0 ≤ length totals) → (used ≡ false → origin.0 ≢ name.0)
+    → total_at new (name_left used (length totals) name origin) ≡ total_at old origin
+left_total totals name origin true old new was is within bounds apart =
+    ap (λ (os : List KeptOrigin). total_at (record old { origins = os }) origin) (is ∙ sym was)
+left_total totals name origin false old new was is within bounds apart = choose (origin.0 == length totals) refl
+  where
+    few : length (swap_remove totals (name.0 - 1) 0) ≡ length totals - 1
+    few = length-swap_remove totals (name.0 - 1)
+
+    choose : (b : Bool) → (origin.0 == length totals) ≡ b
+        → total_at new (if b then name else origin) ≡ total_at old origin
+    choose true at_end =
+        let number : origin.0 ≡ length totals = eqb-true origin.0 (length totals) at_end in
+        let inside : name.0 - 1 < length totals - 1 = omega (arith, number, apart refl, within.0, within.1) in
+        total_named (swap_remove totals (name.0 - 1) 0) new name is within.0 (omega (arith, few, inside))
+        ∙ ap Some (swapped_here totals (name.0 - 1) inside ∙ ap (λ n. get_or totals (n - 1) 0) (sym number))
+        ∙ sym (total_named totals old origin was bounds.0 bounds.1)
+    choose false before =
+        let other : origin.0 ≢ length totals =
+        λ same. false≢true (sym before ∙ eq-eqb origin.0 (length totals) same) in
+        let inside : origin.0 - 1 < length totals - 1 = omega (arith, other, bounds.0, bounds.1) in
+        let away : origin.0 - 1 ≢ name.0 - 1 =
+        λ same. apart refl (omega (arith, same, bounds.0, within.0)) in
+        total_named (swap_remove totals (name.0 - 1) 0) new origin is bounds.0 (omega (arith, few, inside))
+        ∙ ap Some (swapped_other totals (name.0 - 1) (origin.0 - 1) inside away)
+        ∙ sym (total_named totals old origin was bounds.0 bounds.1)
+
+map_where : {X Y : Type 0} (f g : X → Y) (xs : List X) → All (λ x. f x ≡ g x) xs → map f xs ≡ map g xs
+map_where f g [] same = refl
+map_where f g (x ∷ xs) same =
+    rw (All-head (λ y. f y ≡ g y) x xs same, map_where f g xs (All-tail (λ y. f y ≡ g y) x xs same)) refl
+
 -- ---- the rows without the page
 
 -- the rows without a page, whose origin's name goes to the last one where no other page has it
@@ -356,6 +404,10 @@ used_where kept origins live id p h found =
     (λ k d within same. eq-eqb (get_or rest k d).origin.0 p.origin.0
     (ap (λ (s : Slot). s.0) (sym ((all k d within).1 same)))))
 
+names_few : (b : Bool) (n : ℕ) → names_left b n ≤ n
+names_few true n = omega arith
+names_few false n = omega arith
+
 left_count : (b : Bool) (n m : ℕ) → n ≡ m + is_new b → names_left b n ≡ m
 left_count true n m is = omega (arith, is)
 left_count false n m is = omega (arith, is)
@@ -397,10 +449,24 @@ slots_dropped kept origins live id p named h found =
       sum_split (λ (q : KeptPage). chunks q.page.url + chunks q.page.title) kept.pages rest p s,
       names_few used origins,
     )
-  where
-    names_few : (b : Bool) (n : ℕ) → names_left b n ≤ n
-    names_few true n = omega arith
-    names_few false n = omega arith
+
+-- the pages that are left have the totals that they had
+pub totals_dropped : (kept : Kept) (totals : List ℕ) (live : ℕ) (id : PageId) (p : KeptPage)
+    → IsFlat kept (length totals) live → page_at kept id ≡ Some p → kept.origins ≡ origins_from totals
+    → let used = in_use p.origin (other_pages id kept.pages) in
+    let new = dropped id used (length totals) p.origin (origins_from (totals_left used p.origin totals)) kept in
+    totals_of new new.pages ≡ totals_of kept (other_pages id kept.pages)
+totals_dropped kept totals live id p h found was =
+    let rest : List KeptPage = other_pages id kept.pages in
+    let used : Bool = in_use p.origin rest in
+    let new : Kept =
+    dropped id used (length totals) p.origin (origins_from (totals_left used p.origin totals)) kept in
+    let w = were kept (length totals) live id p h found in
+    map-map (λ (q : KeptPage). total_at new q.origin) (renamed used (length totals) p.origin) rest
+    ∙ map_where (λ (q : KeptPage). total_at new (name_left used (length totals) p.origin q.origin))
+    (λ (q : KeptPage). total_at kept q.origin) rest
+    (λ k d within. left_total totals p.origin (get_or rest k d).origin used kept new was refl w.own (w.within k d within)
+    (λ none. free p.origin rest none k d within))
 
 pub IsFlat-dropped : (kept : Kept) (origins live : ℕ) (id : PageId) (p : KeptPage) (named : List KeptOrigin)
     → IsFlat kept origins live → page_at kept id ≡ Some p → is_visited (store_of kept) id ≡ false
@@ -501,12 +567,40 @@ IsFlat-dropped kept origins live id p named h found unvisited =
         (sym (any_split (λ (q : KeptPage). q.page.id.0 == v.page.0) kept.pages rest p
         (one_of kept origins live id p h found)) ∙ there)
 
+-- the rows that are left are well kept, where the totals are those that are left
+pub flat_dropped : (kept : Kept) (totals : List ℕ) (live : ℕ) (id : PageId) (p : KeptPage)
+    → IsFlat kept (length totals) live → page_at kept id ≡ Some p → is_visited (store_of kept) id ≡ false
+    → let used = in_use p.origin (other_pages id kept.pages) in
+    let left = totals_left used p.origin totals in
+    IsFlat (dropped id used (length totals) p.origin (origins_from left) kept) (length left)
+    (live - (slots_of_page p + (length totals - length left)))
+flat_dropped kept totals live id p h found unvisited =
+    let used : Bool = in_use p.origin (other_pages id kept.pages) in
+    let left : List ℕ = totals_left used p.origin totals in
+    subst (λ n. IsFlat (dropped id used (length totals) p.origin (origins_from left) kept) n
+    (live - (slots_of_page p + (length totals - n)))) (sym (left_length used p.origin totals))
+    (IsFlat-dropped kept (length totals) live id p (origins_from left) h found unvisited)
+
+-- the slots that go are there
+pub slots_there : (kept : Kept) (totals : List ℕ) (live : ℕ) (id : PageId) (p : KeptPage)
+    → IsFlat kept (length totals) live → page_at kept id ≡ Some p
+    → let left = totals_left (in_use p.origin (other_pages id kept.pages)) p.origin totals in
+    (length left ≤ length totals) × (slots_of_page p + (length totals - length left) ≤ live)
+slots_there kept totals live id p h found =
+    let used : Bool = in_use p.origin (other_pages id kept.pages) in (
+      omega (arith, left_length used p.origin totals, names_few used (length totals)),
+      omega (
+        arith,
+        left_length used p.origin totals,
+        slots_dropped kept (length totals) live id p [] h found,
+      ),
+    )
+
 -- a page that is there has a name for its origin
 pub some_name : (kept : Kept) (origins live : ℕ) (id : PageId) (p : KeptPage) → IsFlat kept origins live
-    → page_at kept id ≡ Some p → 1 ≤ origins
+    → page_at kept id ≡ Some p → (0 < p.origin.0) × (p.origin.0 ≤ origins)
 some_name kept origins live id p h found =
-    let own = holds_of (λ (q : KeptPage). (0 < q.origin.0) × (q.origin.0 ≤ origins)) kept id p found h.named in
-    omega (arith, own.0, own.1)
+    holds_of (λ (q : KeptPage). (0 < q.origin.0) × (q.origin.0 ≤ origins)) kept id p found h.named
 
 -- ---- over rows
 
@@ -548,12 +642,15 @@ used_dropped id name ps left is =
 
 -- but for their names the pages are the others
 pub without_dropped : (id : PageId) (used : Bool) (last : ℕ) (name : Slot) (named : List KeptOrigin) (kept : Kept)
+    → totals_of (dropped id used last name named kept) (map (renamed used last name) (other_pages id kept.pages))
+    ≡ totals_of kept (other_pages id kept.pages)
     → WithoutPage id kept (dropped id used last name named kept)
-without_dropped id used last name named kept =
+without_dropped id used last name named kept totals =
     record {
       day = refl;
       ids = refl;
       pages = map-map unnamed (renamed used last name) (other_pages id kept.pages);
+      totals = totals;
       visits = refl;
       items = refl;
     }

@@ -42,7 +42,7 @@ pub record IsGiven (rows : Stored) (qs : List FlatPage) (keys : List Key)
       + sum_by (λ (i : Item). chunks i.title) rows.items
   pub few : live ≤ slot_limit
 
--- the rows with these pages and so many origins
-abbrev pub kept_of_rows : Stored → List FlatPage → ℕ → Kept
-kept_of_rows rows qs origins =
-    kept_from rows.day rows.ids qs origins rows.visits rows.items
+-- the rows with these pages, and with these totals of origins
+abbrev pub kept_of_rows : Stored → List FlatPage → List ℕ → Kept
+kept_of_rows rows qs totals =
+    kept_from rows.day rows.ids qs totals rows.visits rows.items

@@ -8,12 +8,12 @@ use Rattle.pl_plain.specs.FlatRows.{bytes_from, kept_from}
 -- what a flat store keeps
 abbrev pub kept_of : Flat → Kept
 kept_of flat =
-    kept_from flat.day flat.ids flat.pages.items flat.origins flat.visits.items flat.items
+    kept_from flat.day flat.ids flat.pages.items flat.totals.items flat.visits.items flat.items
 
 -- the bytes that a file of the store holds from page 1 on
 abbrev pub bytes_of : Flat → List ℕ
 bytes_of flat =
-    bytes_from flat.day flat.ids flat.pages.items flat.origins flat.visits.items flat.items
+    bytes_from flat.day flat.ids flat.pages.items flat.visits.items flat.items
 
 -- what the bytes may have been at the last `touched`
 pub record IsBase (flat : Flat) (bytes : List ℕ) : Type 0 where

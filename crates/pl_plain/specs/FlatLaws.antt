@@ -2,13 +2,13 @@
 -- good store with right marks.
 use Rattle.std.specs.Prelude.{◌≡◌, ◌+◌, ◌≤◌, ◌<◌, ◌-◌, ◌==◌, ℕ, ℤ, Contains}
 use Rattle.std.specs.Prelude.{List, [], ◌∷◌, length, map, take, true}
-use Rattle.std.specs.List.{All, list_any, range_with_len}
+use Rattle.std.specs.List.{All, enumerate_from, list_any}
 use Rattle.std.proofs.Common.{◌∙◌, ap, arith, get_or, refl, subst, sym}
 use Rattle.std.proofs.lemmas.Bool.{eqb-true}
 use Rattle.std.proofs.lemmas.List.{get_or-map, length-map, take_all}
 use Rattle.std.proofs.lemmas.List.Elements.{All-head, All-map, All-tail}
 use Rattle.std.proofs.lemmas.List.Folds.{Any-from_list_any}
-use Rattle.std.proofs.lemmas.List.FromFn.{get_or-range_with_len, length-range_with_len}
+use Rattle.std.proofs.lemmas.List.FromFn.{get_or-enumerate_from, length-enumerate_from}
 use Rattle.std.proofs.lemmas.List.Sorted.{IsPermutation-refl}
 use Rattle.std.proofs.lemmas.Str.{IsUtf8-from_is_utf8}
 use Rattle.std.specs.Str.{IsUtf8}
@@ -23,40 +23,41 @@ use Rattle.pl_base.specs.Rows.{KeptPage, NamesOrigins, page_origins, store_of}
 use Rattle.pl_base.specs.Store.{Item, Page, Store}
 use Rattle.pl_plain.specs.declared.flat.row.FlatPage.{FlatPage}
 use Rattle.pl_form.specs.declared.stored.StoredVisit.{StoredVisit}
-use Rattle.pl_plain.specs.FlatRows.{IsFlat, kept_from, origin_named}
+use Rattle.pl_plain.specs.FlatRows.{IsFlat, kept_from, origin_with, origins_from}
 use Rattle.pl_check.specs.Targets.{targets_of}
 use Rattle.pl_form.specs.Form.{FormRows, StandsFor, form_bytes, kept_rows, store_rows}
 
 -- ---- the rows are well kept
 
--- the origins named 1 to this
-abbrev named_to : ℕ → List KeptOrigin
-named_to origins = map origin_named (range_with_len 1 origins)
+pub length-origins_from : (totals : List ℕ) → length (origins_from totals) ≡ length totals
+length-origins_from totals =
+    length-map (enumerate_from 1 totals) origin_with ∙ length-enumerate_from 1 totals
 
-named_at : (origins i : ℕ) (d : KeptOrigin) → i < origins
-    → get_or (named_to origins) i d ≡ origin_named (1 + i)
-named_at origins i d within =
-    get_or-map origin_named (range_with_len 1 origins) i 0 d (rw length-range_with_len within)
-    ∙ ap origin_named (get_or-range_with_len 1 origins i 0 within)
+-- the origin at a place
+pub named_at : (totals : List ℕ) (i : ℕ) (d : KeptOrigin) → i < length totals
+    → get_or (origins_from totals) i d ≡ origin_with (1 + i, get_or totals i 0)
+named_at totals i d within =
+    get_or-map origin_with (enumerate_from 1 totals) i (0, 0) d
+    (rw (length-enumerate_from 1 totals) within)
+    ∙ ap origin_with (get_or-enumerate_from 1 totals i (0, 0) within)
 
-length-named_to : (origins : ℕ) → length (named_to origins) ≡ origins
-length-named_to origins =
-    length-map (range_with_len 1 origins) origin_named ∙ length-range_with_len 1 origins
+number_at : (totals : List ℕ) (i d : ℕ) → i < length totals
+    → get_or (map (λ (a : KeptOrigin). a.origin.0) (origins_from totals)) i d ≡ 1 + i
+number_at totals i d within =
+    let inside : i < length (origins_from totals) = rw (length-origins_from totals) within in
+    get_or-map (λ (a : KeptOrigin). a.origin.0) (origins_from totals) i (origin_with (0, 0)) d
+    inside
+    ∙ ap (λ (a : KeptOrigin). a.origin.0) (named_at totals i (origin_with (0, 0)) within)
 
-number_at : (origins i d : ℕ) → i < origins
-    → get_or (map (λ (a : KeptOrigin). a.origin.0) (named_to origins)) i d ≡ 1 + i
-number_at origins i d within =
-    let inside : i < length (named_to origins) = rw (length-named_to origins) within in
-    get_or-map (λ (a : KeptOrigin). a.origin.0) (named_to origins) i (origin_named 0) d inside
-    ∙ ap (λ (a : KeptOrigin). a.origin.0) (named_at origins i (origin_named 0) within)
-
-contains_number : (origins n : ℕ) → 0 < n → n ≤ origins
-    → Contains (map (λ (a : KeptOrigin). a.origin.0) (named_to origins)) n
-contains_number origins n some few = (
+contains_number : (totals : List ℕ) (n : ℕ) → 0 < n → n ≤ length totals
+    → Contains (map (λ (a : KeptOrigin). a.origin.0) (origins_from totals)) n
+contains_number totals n some few = (
   n - 1,
-  rw (length-map (named_to origins) (λ (a : KeptOrigin). a.origin.0), length-named_to origins)
-      (omega arith),
-  omega (arith, number_at origins (n - 1) n (omega arith)),
+  rw (
+    length-map (origins_from totals) (λ (a : KeptOrigin). a.origin.0),
+    length-origins_from totals,
+  ) (omega arith),
+  omega (arith, number_at totals (n - 1) n (omega arith)),
 )
 
 contains_page : (kept : Kept) (n : ℕ)
@@ -70,47 +71,42 @@ contains_page kept n some =
           ∙ ap (λ (p : KeptPage). p.origin.0) at.3 ∙ eqb-true at.1.origin.0 n at.4,
     )
 
-origins_named : (kept : Kept) (origins live : ℕ) → IsFlat kept origins live
-    → kept.origins ≡ named_to origins → NamesOrigins kept
-origins_named kept origins live h names =
+origins_named : (kept : Kept) (totals : List ℕ) (live : ℕ) → IsFlat kept (length totals) live
+    → kept.origins ≡ origins_from totals → NamesOrigins kept
+origins_named kept totals live h names =
     subst (λ (os : List KeptOrigin). NamesOrigins (record kept { origins = os })) (sym names)
     (record {
       distinct =
           λ i j d before within same.
-          let last : j < origins = rw (length-named_to origins) at within in
+          let last : j < length totals = rw (length-origins_from totals) at within in
           let numbers : 1 + i ≡ 1 + j =
-          ap (λ (a : KeptOrigin). a.origin.0) (sym (named_at origins i d (omega arith)))
+          ap (λ (a : KeptOrigin). a.origin.0) (sym (named_at totals i d (omega arith)))
           ∙ ap (λ s. s.0) same ∙ ap (λ (a : KeptOrigin). a.origin.0)
-          (named_at origins j d last) in
+          (named_at totals j d last) in
           omega arith;
       some =
-          All-map (λ (a : KeptOrigin). 0 < a.origin.0) origin_named (range_with_len 1 origins)
-          (λ k d within. omega (
-            arith,
-            get_or-range_with_len 1 origins k d (rw length-range_with_len at within),
-          ));
+          λ k d within.
+          let inside : k < length totals = rw (length-origins_from totals) at within in
+          omega (arith, ap (λ (a : KeptOrigin). a.origin.0) (named_at totals k d inside));
       known =
-          λ k d within. contains_number origins (get_or kept.pages k d).origin.0
+          λ k d within. contains_number totals (get_or kept.pages k d).origin.0
           (h.named k d within).0 (h.named k d within).1;
       used =
-          All-map (λ (a : KeptOrigin). Contains (page_origins kept) a.origin.0) origin_named
-          (range_with_len 1 origins)
-          (λ k d within.
-          let inside : k < origins = rw length-range_with_len at within in
-          contains_page kept (get_or (range_with_len 1 origins) k d)
-          (h.used (get_or (range_with_len 1 origins) k d)
-          (omega (arith, get_or-range_with_len 1 origins k d inside))
-          (omega (arith, get_or-range_with_len 1 origins k d inside))));
+          λ k d within.
+          let inside : k < length totals = rw (length-origins_from totals) at within in
+          subst (λ (a : KeptOrigin). Contains (page_origins kept) a.origin.0)
+          (sym (named_at totals k d inside))
+          (contains_page kept (1 + k) (h.used (1 + k) (omega arith) (omega arith)));
       same = h.same;
     })
 
 -- a flat store's rows are well kept
-pub well_kept : (day : Day) (ids : Ids) (pages : List FlatPage) (origins : ℕ)
+pub well_kept : (day : Day) (ids : Ids) (pages : List FlatPage) (totals : List ℕ)
     (visits : List StoredVisit) (items : List Item) (live : ℕ)
-    → IsFlat (kept_from day ids pages origins visits items) origins live
-    → IsWellKept (kept_from day ids pages origins visits items)
-well_kept day ids pages origins visits items live h =
-    let kept : Kept = kept_from day ids pages origins visits items in
+    → IsFlat (kept_from day ids pages totals visits items) (length totals) live
+    → IsWellKept (kept_from day ids pages totals visits items)
+well_kept day ids pages totals visits items live h =
+    let kept : Kept = kept_from day ids pages totals visits items in
     record {
       day = h.day;
       page_ids = h.page_ids;
@@ -121,7 +117,7 @@ well_kept day ids pages origins visits items live h =
       titles = h.titles;
       visits = h.visits;
       sources = h.sources;
-      origins = origins_named kept origins live h refl;
+      origins = origins_named kept totals live h refl;
       live = omega (arith, h.filled, h.few);
     }
 

@@ -1,7 +1,7 @@
 -- The parts of a flat store seen as what is kept of a store, and what holds of them.
 use Rattle.std.specs.Prelude.{◌≡◌, ◌≢◌, ◌-◌, ◌≤◌, ◌<◌, ◌==◌, ℕ, ℤ, Bool, false, IsTrue}
 use Rattle.std.specs.Prelude.{List, [], ◌∷◌, map, true, if◌then◌else◌}
-use Rattle.std.specs.List.{All, AllPairs, list_any, range_with_len}
+use Rattle.std.specs.List.{All, AllPairs, enumerate_from, list_any, swap_remove}
 use Rattle.std.specs.Str.{is_utf8}
 use Rattle.pl_base.specs.declared.date.Day.{Day}
 use Rattle.pl_base.specs.declared.id.Ids.{Ids}
@@ -76,10 +76,11 @@ name_left false last name origin = if origin.0 == last then name else origin
 abbrev pub renamed_row : Bool → ℕ → Slot → FlatPage → FlatPage
 renamed_row in_use last name p = record p { origin = name_left in_use last name p.origin }
 
--- how many names are left of so many
-abbrev pub names_left : Bool → ℕ → ℕ
-names_left true names = names
-names_left false names = names - 1
+-- the totals that are left, where the origin by a name goes unless it is in use, and the last one
+-- takes its place
+abbrev pub totals_left : Bool → Slot → List ℕ → List ℕ
+totals_left true name totals = totals
+totals_left false name totals = swap_remove totals (name.0 - 1) 0
 
 -- a visit that stays where the one with this id goes
 abbrev pub left_by : VisitId → StoredVisit → StoredVisit
@@ -89,26 +90,30 @@ left_by id v = record v { source = source_left (id ∷ []) v.source }
 abbrev pub flat_page_ids : List FlatPage → List ℕ
 flat_page_ids pages = map (λ (p : FlatPage). p.id.0) pages
 
--- an origin by its name, with no total yet
-abbrev pub origin_named : ℕ → KeptOrigin
-origin_named n = record { origin = record { 0 = n }; total = 0 }
+-- an origin by its name, with its total
+abbrev pub origin_with : ℕ × ℕ → KeptOrigin
+origin_with o = record { origin = record { 0 = o.0 }; total = o.1 }
 
--- the rows, with so many origins
-abbrev pub kept_from : Day → Ids → List FlatPage → ℕ → List StoredVisit → List Item → Kept
-kept_from day ids pages origins visits items =
+-- the origins with these totals, which are named 1 and so on in their order
+abbrev pub origins_from : List ℕ → List KeptOrigin
+origins_from totals = map origin_with (enumerate_from 1 totals)
+
+-- the rows, with the totals of the origins
+abbrev pub kept_from : Day → Ids → List FlatPage → List ℕ → List StoredVisit → List Item → Kept
+kept_from day ids pages totals visits items =
     record {
       day = day;
       ids = ids;
       pages = map page_of pages;
-      origins = map origin_named (range_with_len 1 origins);
+      origins = origins_from totals;
       visits = map visit_of visits;
       items = items;
     }
 
--- the bytes that a file of these rows holds from page 1 on
-abbrev pub bytes_from : Day → Ids → List FlatPage → ℕ → List StoredVisit → List Item → List ℕ
-bytes_from day ids pages origins visits items =
-    form_bytes (kept_rows (kept_from day ids pages origins visits items))
+-- the bytes that a file of these rows holds from page 1 on, in which no total stands
+abbrev pub bytes_from : Day → Ids → List FlatPage → List StoredVisit → List Item → List ℕ
+bytes_from day ids pages visits items =
+    form_bytes (kept_rows (kept_from day ids pages [] visits items))
 
 -- the rows are well kept, where the names of the origins are 1 to `origins`,
 -- and they take so many slots

@@ -1,10 +1,15 @@
 -- Where a new page's origin is named.
-use Rattle.std.specs.Prelude.{◌≡◌, ◌↔◌, ◌⊎◌, ◌+◌, ◌≤◌, ◌<◌, ℕ, IsTrue, List, [], ◌∷◌, map}
+use Rattle.std.specs.Prelude.{◌≡◌, ◌↔◌, ◌⊎◌, ◌+◌, ◌-◌, ◌≤◌, ◌<◌, ◌++◌, ℕ, IsTrue}
+use Rattle.std.specs.Prelude.{List, [], ◌∷◌, length, map, replicate}
 use Rattle.std.specs.List.{All}
 use Rattle.pl_base.specs.declared.id.Slot.{Slot}
 use Rattle.pl_base.specs.Address.{same_origin}
 use Rattle.pl_base.specs.Live.{new_origins}
 use Rattle.pl_base.specs.Rows.{Kept, KeptPage}
+
+-- the totals where there are to be so many: a new origin has none yet
+abbrev pub grown : List ℕ → ℕ → List ℕ
+grown totals origins = totals ++ replicate (origins - length totals) 0
 
 -- the URLs of the pages
 abbrev pub urls_of : Kept → List (List ℕ)

@@ -38,19 +38,19 @@ pub struct Flat {
     // By ascending id.
     visits: Vec<StoredVisit>,
     items: Items,
-    // The names of origins are 1 to this.
-    origins: u32,
+    // The total of each origin, where the first is named 1 and so on.
+    totals: Vec<u64>,
     // In slots of 128 bytes.
     live: u64,
     // The length in pages at the last `touched`.
     before: u32,
     // Whether the rows may differ from those of the last `touched`.
     is_changed: bool,
-    ghost rows: { IsFlat (kept_from day ids pages.items origins visits.items items)
-        origins live } by { Prim.hlevel props },
+    ghost rows: { IsFlat (kept_from day ids pages.items totals.items visits.items items)
+        (length totals.items) live } by { Prim.hlevel props },
     ghost some_page: { 1 ≤ before },
     ghost settled: { is_changed ≡ false
-        → length (bytes_from day ids pages.items origins visits.items items)
+        → length (bytes_from day ids pages.items visits.items items)
         ≡ bytes_before before },
 }
 
@@ -85,14 +85,14 @@ impl Flat {
             pages: Vec::new(alloc),
             visits: Vec::new(alloc),
             items: Items::opening(alloc)?,
-            origins: 0,
+            totals: Vec::new(alloc),
             live: ROOT_SLOTS,
             before: 1,
             is_changed: true,
         })
     }
 
-    /// Rows of a file whose store has so many pages, with the names of their origins.
+    /// Rows of a file whose store has so many pages, with the totals of their origins.
     pub(crate) fn from_rows(
         alloc: Global,
         day: Day,
@@ -100,17 +100,17 @@ impl Flat {
         pages: Vec<FlatPage>,
         visits: Vec<StoredVisit>,
         items: Items,
-        origins: u32,
+        totals: Vec<u64>,
         live: u64,
         before: u32,
     ) -> Flat
-        requires rows { IsFlat (kept_from day ids pages.items origins visits.items items)
-            origins live }
+        requires rows { IsFlat (kept_from day ids pages.items totals.items visits.items items)
+            (length totals.items) live }
         requires some_page { 1 ≤ before }
-        requires settled { length (bytes_from day ids pages.items origins visits.items items)
+        requires settled { length (bytes_from day ids pages.items visits.items items)
             ≡ bytes_before before }
         ensures kept { kept_of result
-            ≡ kept_from day ids pages.items origins visits.items items }
+            ≡ kept_from day ids pages.items totals.items visits.items items }
         ensures base { (bytes : List ℕ) → IsBase result bytes ↔ (bytes ≡ bytes_of result) }
     {
         Flat {
@@ -120,7 +120,7 @@ impl Flat {
             pages,
             visits,
             items,
-            origins,
+            totals,
             live,
             before,
             is_changed: false,

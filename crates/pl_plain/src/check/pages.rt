@@ -1,5 +1,6 @@
 // The pages of a file's rows, with what the definitions give of them.
-ghost use Rattle.std.specs.Prelude.{◌≡◌, ◌↔◌, ◌+◌, ℕ, List, length, map, true, IfErr, IfOk};
+ghost use Rattle.std.specs.Prelude.{◌≡◌, ◌↔◌, ◌+◌, ℕ, List, length, map, replicate, true};
+ghost use Rattle.std.specs.Prelude.{IfErr, IfOk};
 ghost use Rattle.std.specs.List.{All, AllZip};
 ghost use Rattle.std.specs.List.Sorted.{IsStrictlyIncreasing};
 ghost use Rattle.pl_base.specs.Address.{is_place_url};
@@ -108,7 +109,7 @@ pub fn into_flat(
     requires before { before ≡ 2 + filled_pages (length (stored_bytes rows)) }
     ensures tree { IfOk result (λ _. IsTree rows.items) }
     ensures kept { IfOk result (λ flat.
-        kept_of flat ≡ kept_of_rows rows named.pages.items named.origins) }
+        kept_of flat ≡ kept_of_rows rows named.pages.items (replicate named.origins 0)) }
     ensures base { IfOk result (λ flat. (bytes : List ℕ)
         → IsBase flat bytes ↔ (bytes ≡ bytes_of flat)) }
     ensures whole { IsTree rows.items → IfErr result (λ e. e ≡ CheckError.NoMemory) }
@@ -124,5 +125,6 @@ pub fn into_flat(
         return Err(CheckError::NotAStore);
     };
     let NamedPages { pages, origins } = named;
-    Ok(Flat::from_rows(alloc, day, ids, pages, visits, items, origins, live, before))
+    let totals = vec![in alloc; 0; origins as usize]?;
+    Ok(Flat::from_rows(alloc, day, ids, pages, visits, items, totals, live, before))
 }

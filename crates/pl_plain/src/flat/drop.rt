@@ -1,10 +1,10 @@
 // A page goes, and its origin with its last page.
-ghost use Rattle.std.specs.Prelude.{◌≡◌, ◌≤◌, ◌==◌, not, false, map, true};
+ghost use Rattle.std.specs.Prelude.{◌≡◌, ◌≤◌, ◌<◌, ◌^◌, ◌==◌, not, false, length, map, true};
 ghost use Rattle.std.specs.List.{filter};
 ghost use Rattle.pl_base.specs.Good.{is_visited};
 ghost use Rattle.pl_base.specs.Rows.{WithoutPage, has_page, store_of};
 ghost use Rattle.pl_plain.specs.declared.flat.row.FlatPage.{FlatPage};
-ghost use Rattle.pl_plain.specs.FlatRows.{has_name, names_left, renamed_row};
+ghost use Rattle.pl_plain.specs.FlatRows.{has_name, renamed_row, totals_left};
 
 use crate::Flat;
 use crate::flat::row::FlatPage;
@@ -36,18 +36,22 @@ fn give_name(pages: &mut Vec<FlatPage>, last: u32, name: Slot)
     }
 }
 
-// How many names are left, where this one is given to the last origin if no page has it.
-fn free_name(pages: &mut Vec<FlatPage>, name: Slot, names: u32) -> u32
-    requires { 1 ≤ names }
-    ensures names { result ≡ names_left (has_name name pages.old.items) names }
+// If no page has this name, its origin goes, and the last one has the name.
+fn free_name(pages: &mut Vec<FlatPage>, totals: &mut Vec<u64>, name: Slot)
+    requires first { 1 ≤ name.0 }
+    requires last { name.0 ≤ length totals.old.items }
+    requires few { length totals.old.items < 2 ^ 32 }
+    ensures totals { totals.new.items
+        ≡ totals_left (has_name name pages.old.items) name totals.old.items }
     ensures pages { pages.new.items
-        ≡ map (renamed_row (has_name name pages.old.items) names name) pages.old.items }
+        ≡ map (renamed_row (has_name name pages.old.items) (length totals.old.items) name)
+        pages.old.items }
 {
     if is_in_use(pages, name) {
-        return names;
+        return;
     }
-    give_name(pages, names, name);
-    names - 1
+    give_name(pages, totals.len() as u32, name);
+    totals.swap_remove(name.0 as usize - 1);
 }
 
 impl Flat {
@@ -64,10 +68,10 @@ impl Flat {
         let page = find_page(&self.pages, id).unwrap();
         let origin = page.origin;
         let slots = 1 + chunks(page.url.as_str()) + chunks(page.title.as_str());
+        let origins = self.totals.len();
         drop_row(&mut self.pages, id);
-        let origins = free_name(&mut self.pages, origin, self.origins);
-        self.live -= slots + u64::from(self.origins - origins);
-        self.origins = origins;
+        free_name(&mut self.pages, &mut self.totals, origin);
+        self.live -= slots + (origins - self.totals.len()) as u64;
         self.is_changed = true;
     }
 }

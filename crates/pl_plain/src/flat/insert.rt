@@ -1,36 +1,50 @@
-ghost use Rattle.std.specs.Prelude.{◌≡◌, ◌≢◌, ◌≤◌, ◌<◌, ℕ, List, map, true, IfOk, OnOk};
-ghost use Rattle.std.specs.List.{All, range_with_len};
+ghost use Rattle.std.specs.Prelude.{◌≡◌, ◌≢◌, ◌≤◌, ◌<◌, ◌+◌, ℕ, List, length};
+ghost use Rattle.std.specs.Prelude.{true, IfOk, OnErr, OnOk};
+ghost use Rattle.std.specs.List.{All};
 ghost use Rattle.pl_base.specs.Address.{is_store_url};
 ghost use Rattle.pl_base.specs.Good.{end_of_ids};
 ghost use Rattle.pl_base.specs.Live.{slot_limit};
 ghost use Rattle.pl_base.specs.Rows.{KeptPage, live_with_page, with_new_page};
-ghost use Rattle.pl_plain.specs.Place.{IsSlotOf};
+ghost use Rattle.pl_plain.specs.Place.{IsSlotOf, grown};
 
 use crate::Flat;
 use crate::flat::row::FlatPage;
 use crate::slots::chunks;
 use pl_base::{NoMemory, PageId, Slot, Txt};
 
+// Where there are to be so many origins, the last one may be new and has no total yet.
+fn grow(totals: &mut Vec<u64>, origins: u32) -> Result<(), NoMemory>
+    requires { origins ≤ length totals.old.items + 1 }
+    ensures grown { OnOk result (totals.new.items ≡ grown totals.old.items origins) }
+    ensures same { OnErr result (totals.new.items ≡ totals.old.items) }
+{
+    if totals.len() < origins as usize {
+        totals.push(0)?;
+    }
+    Ok(())
+}
+
 impl Flat {
     ghost use Rattle.pl_plain.specs.Flat.{kept_of, IsBase};
-    ghost use Rattle.pl_plain.specs.FlatRows.{origin_named};
+    ghost use Rattle.pl_plain.specs.FlatRows.{origins_from};
 
     /// A new page whose origin has this name, where there are so many origins with it.
     pub fn add_page(&mut self, url: &str, origin: Slot, origins: u32) -> Result<PageId, NoMemory>
         requires url { is_store_url url.now ≡ true }
         requires absent { All (λ (p : KeptPage). p.page.url ≢ url.now) (kept_of self.old).pages }
-        requires place { IsSlotOf (kept_of self.old) self.old.origins url.now origin origins }
+        requires place { IsSlotOf (kept_of self.old) (length self.old.totals.items)
+            url.now origin origins }
         requires id { self.old.ids.page < end_of_ids }
         requires live { live_with_page url.now (kept_of self.old) ≤ slot_limit }
         ensures page { IfOk result (λ page. page.0 ≡ self.old.ids.page) }
         ensures kept { OnOk result (kept_of self.new
             ≡ record (with_new_page url.now origin (kept_of self.old))
-            { origins = map origin_named (range_with_len 1 origins) }) }
+            { origins = origins_from (grown self.old.totals.items origins) }) }
         ensures base { OnOk result
             ((bytes : List ℕ) → IsBase self.old bytes → IsBase self.new bytes) }
     {
         let id = PageId(self.ids.page);
-        self.pages.push(FlatPage {
+        let page = FlatPage {
             id,
             url: Txt::copied(self.alloc, url)?,
             title: Txt::copied(self.alloc, "")?,
@@ -39,10 +53,13 @@ impl Flat {
             frecency: 0,
             count: 0,
             hidden: false,
-        })?;
+        };
+        let more = origins - self.totals.len() as u32;
+        self.pages.reserve(1)?;
+        grow(&mut self.totals, origins)?;
+        self.pages.push(page)?;
         self.ids.page += 1;
-        self.live += u64::from(origins - self.origins) + 1 + chunks(url);
-        self.origins = origins;
+        self.live += u64::from(more) + 1 + chunks(url);
         self.is_changed = true;
         Ok(id)
     }

@@ -4,8 +4,8 @@ use crate::flat::search::{behind, find_page, find_visit, latest_visit};
 use crate::flat::targets::{first_target, next_target};
 use crate::flat::touched::whole_change;
 use pl_base::{
-    Day, Ids, ItemId, ItemRow, Mark, Micros, NoMemory, PageId, Rows, Slot, Steps, Touched, Txt,
-    VisitId, VisitRow,
+    Day, Ids, ItemId, ItemRow, Mark, Micros, NoMemory, OriginRow, PageId, Rows, Slot, Steps,
+    Touched, Txt, VisitId, VisitRow,
 };
 use pl_check::visit_row;
 use pl_form::StoredVisit;
@@ -13,6 +13,7 @@ use std::sync::ledger::Ledger;
 
 // No steps are counted, since each call reads any number of rows.
 impl Rows for Flat {
+    ghost use Rattle.std.specs.Prelude.{length};
     ghost use Rattle.pl_plain.specs.Flat.{kept_of, bytes_of, IsBase};
     ghost use Rattle.pl_plain.specs.FlatBase.{based};
     ghost use Rattle.pl_plain.specs.FlatLaws as laws;
@@ -72,13 +73,19 @@ impl Rows for Flat {
         find_page(&self.pages, page).unwrap().origin
     }
 
+    fn origin_at<L: Ledger>(&self, origin: Slot, steps: &mut Steps<L>) -> OriginRow {
+        OriginRow {
+            total: self.totals[origin.0 as usize - 1],
+        }
+    }
+
     fn insert_page<L: Ledger>(
         &mut self,
         url: &str,
         origin: Option<Slot>,
         steps: &mut Steps<L>,
     ) -> Result<PageId, NoMemory> {
-        let origins = self.origins;
+        let origins = self.totals.len() as u32;
         match origin {
             Some(origin) => self.add_page(url, origin, origins),
             None => self.add_page(url, Slot(origins + 1), origins + 1),
@@ -101,6 +108,11 @@ impl Rows for Flat {
     fn set_mark<L: Ledger>(&mut self, page: PageId, mark: Mark, steps: &mut Steps<L>) {
         mark_page(&mut self.pages, page, mark);
         self.is_changed = true;
+    }
+
+    // No byte changes, since the bytes have no totals.
+    fn set_total<L: Ledger>(&mut self, origin: Slot, total: u64, steps: &mut Steps<L>) {
+        self.totals[origin.0 as usize - 1] = total;
     }
 
     fn visit_at<L: Ledger>(&self, visit: VisitId, steps: &mut Steps<L>) -> Option<VisitRow> {
@@ -227,10 +239,11 @@ impl Rows for Flat {
 
     ghost based = { based };
 
-    ghost well_kept = { λ flat. laws.well_kept flat.day flat.ids flat.pages.items flat.origins
-        flat.visits.items flat.items flat.live flat.rows };
+    ghost well_kept = { λ flat. laws.well_kept flat.day flat.ids flat.pages.items
+        flat.totals.items flat.visits.items flat.items flat.live flat.rows };
 
     ghost targeted = { λ flat source. laws.targeted (kept_of flat) source };
 
-    ghost stands = { λ flat. laws.stands (kept_of flat) flat.origins flat.live flat.rows };
+    ghost stands = { λ flat. laws.stands (kept_of flat) (length flat.totals.items) flat.live
+        flat.rows };
 }

@@ -1,4 +1,4 @@
-use Rattle.std.proofs.Common.{◌≡◌, List, length, subst, sym}
+use Rattle.std.proofs.Common.{◌≡◌, ℕ, List, arith, length, subst, sym}
 use Rattle.std.proofs.lemmas.Option.{MatchOption-at_some}
 use Rattle.pl_base.specs.Good.{IsTree}
 use Rattle.pl_base.specs.Store.{Item}
@@ -15,13 +15,18 @@ from_rows-requires-clause-rows c =
     let planted : c.in-Some.items ≡ r.items.items =
     MatchOption-at_some _ _ _ c.in-Some.is c.in_ok-items.ensures.items in
     let tree : IsTree r.items.items = MatchOption-at_some _ _ _ c.in-Some.is c.in_ok-items.ensures.tree in
-    subst (λ (items : List Item).
-    IsFlat (kept_from r.day r.ids c.args.named.pages.items c.args.named.origins r.visits.items items)
+    let totals : List ℕ = c.in_ok-totals.totals.items in
+    let few : length totals ≡ c.args.named.origins = omega (arith, c.in_ok-totals.ensures.len) in
+    subst (λ (n : ℕ).
+    IsFlat (kept_from r.day r.ids c.args.named.pages.items totals r.visits.items c.in-Some.items) n c.args.live)
+    (sym few)
+    (subst (λ (items : List Item).
+    IsFlat (kept_from r.day r.ids c.args.named.pages.items totals r.visits.items items)
     c.args.named.origins c.args.live) (sym planted)
-    (subst (λ (rows : Stored). IsFlat (kept_of_rows rows c.args.named.pages.items c.args.named.origins)
+    (subst (λ (rows : Stored). IsFlat (kept_of_rows rows c.args.named.pages.items totals)
     c.args.named.origins c.args.live) (sym c.rows.view_is)
-    (is-flat c.args.rows c.args.named.pages.items c.requires.given.0 c.args.named.origins c.args.live
-    c.requires.given.1 (subst (λ (rows : Stored). IsTree rows.items) c.rows.view_is tree)))
+    (is-flat c.args.rows c.args.named.pages.items c.requires.given.0 totals c.args.named.origins c.args.live
+    c.requires.given.1 (subst (λ (rows : Stored). IsTree rows.items) c.rows.view_is tree))))
 
 pub from_rows-requires-clause-settled : goal.from_rows-requires-clause-settled
 from_rows-requires-clause-settled c =
@@ -29,10 +34,10 @@ from_rows-requires-clause-settled c =
     let planted : c.in-Some.items ≡ r.items.items =
     MatchOption-at_some _ _ _ c.in-Some.is c.in_ok-items.ensures.items in
     subst (λ (items : List Item).
-    length (bytes_from r.day r.ids c.args.named.pages.items c.args.named.origins r.visits.items items)
+    length (bytes_from r.day r.ids c.args.named.pages.items r.visits.items items)
     ≡ bytes_before c.args.before) (sym planted)
     (subst (λ (rows : Stored).
-    length (bytes_from rows.day rows.ids c.args.named.pages.items c.args.named.origins rows.visits rows.items)
+    length (bytes_from rows.day rows.ids c.args.named.pages.items rows.visits rows.items)
     ≡ bytes_before c.args.before) (sym c.rows.view_is)
-    (bytes-length c.args.rows c.args.named.pages.items c.args.named.origins c.args.before c.requires.given.1.pages
+    (bytes-length c.args.rows c.args.named.pages.items c.args.before c.requires.given.1.pages
     c.requires.before))

@@ -1,4 +1,4 @@
-use Rattle.std.proofs.Common.{◌∙◌, arith, subst, sym}
+use Rattle.std.proofs.Common.{◌∙◌, arith, replicate, subst, sym}
 use Rattle.std.proofs.lemmas.Bool.{true≢false}
 use Rattle.std.proofs.lemmas.Result.{err_from_is_err_and}
 use Rattle.pl_base.specs.Rows.{IsRight, Kept, store_of}
@@ -21,7 +21,7 @@ returns-clause-stands c =
     in_both c.into_flat.result c.into_flat.ensures.kept c.into_flat.ensures.tree
     (λ (flat : Flat) kept tree.
     subst (λ (k : Kept). StandsFor (behind_gate c.args.bytes.now) (store_of k)) (sym kept)
-    (stands-for (behind_gate c.args.bytes.now) rows pages keys origins c.live-live.result c.in_ok-rows.ensures.holds
+    (stands-for (behind_gate c.args.bytes.now) rows pages keys (replicate origins 0) origins c.live-live.result c.in_ok-rows.ensures.holds
     (record {
       stored = c.in_ok-rows.ensures.stored;
       good = c.in_ok-are_good.ensures.good c.if-not-branch.false;
@@ -37,7 +37,7 @@ pub returns-clause-right : goal.returns-clause-right
 returns-clause-right c =
     in_both c.into_flat.result c.into_flat.ensures.kept c.into_flat.ensures.kept
     (λ (flat : Flat) kept _. subst IsRight (sym kept)
-    (is-right c.in_ok-rows.field-0.rows c.in_ok-named.named.pages.items c.in_ok-named.named.origins
+    (is-right c.in_ok-rows.field-0.rows c.in_ok-named.named.pages.items (replicate c.in_ok-named.named.origins 0)
     c.in_ok-named.ensures.pages))
 
 pub returns-clause-begins : goal.returns-clause-begins

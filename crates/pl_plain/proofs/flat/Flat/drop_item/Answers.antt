@@ -1,4 +1,4 @@
-use Rattle.std.proofs.Common.{◌∙◌, ◌+◌, ◌-◌, ap, arith, sym}
+use Rattle.std.proofs.Common.{◌∙◌, ◌+◌, ◌-◌, ap, arith, sym, length}
 use Rattle.std.proofs.lemmas.Bool.{true≢false}
 use Rattle.pl_base.specs.Live.{chunks}
 use Rattle.pl_plain.specs.Flat.{kept_of}
@@ -17,18 +17,18 @@ overflow_sub-self c =
       arith,
       f.rows.filled,
       c.chunks-old.ensures ∙ ap chunks (sym at.2),
-      slots_with_removed c.args.item (kept_of f) f.origins f.live at.0 f.rows at.1,
+      slots_with_removed c.args.item (kept_of f) (length f.totals.items) f.live at.0 f.rows at.1,
     )
 
 pub invariant_of-self : goal.invariant_of-self
 invariant_of-self c =
     let f = c.args.self.now in
     let at = told_item c.args.item f.items c.title.result c.unwrap.result c.title.ensures c.unwrap.ensures in
-    let slots = slots_with_removed c.args.item (kept_of f) f.origins f.live at.0 f.rows at.1 in
+    let slots = slots_with_removed c.args.item (kept_of f) (length f.totals.items) f.live at.0 f.rows at.1 in
     record {
       rows =
           rw c.remove.ensures
-          (IsFlat-with_removed c.args.item (kept_of f) f.origins f.live (f.live - (1 + c.chunks-old.result))
+          (IsFlat-with_removed c.args.item (kept_of f) (length f.totals.items) f.live (f.live - (1 + c.chunks-old.result))
           (omega (arith, slots, f.rows.filled, c.chunks-old.ensures ∙ ap chunks (sym at.2)))
           (omega (arith, f.rows.few)) f.rows);
       some_page = f.some_page;

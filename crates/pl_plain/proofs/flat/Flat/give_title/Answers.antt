@@ -71,12 +71,12 @@ invariant_of-self c =
     record {
       rows =
           subst (λ (pages : List FlatPage).
-          IsFlat (kept_from f.day f.ids pages f.origins f.visits.items f.items) f.origins
+          IsFlat (kept_from f.day f.ids pages f.totals.items f.visits.items f.items) (length f.totals.items)
           (f.live - c.chunks-old.result + c.chunks.result)) (sym same)
-          (subst (λ (pages : List KeptPage). IsFlat (record (kept_of f) { pages = pages }) f.origins
+          (subst (λ (pages : List KeptPage). IsFlat (record (kept_of f) { pages = pages }) (length f.totals.items)
           (f.live - c.chunks-old.result + c.chunks.result))
           (sym (kept_changed c.args.id (with_title_of title) (titled title) (λ x. refl) f.pages.items))
-          (IsFlat-with_title c.args.id title (kept_of f) f.origins f.live
+          (IsFlat-with_title c.args.id title (kept_of f) (length f.totals.items) f.live
           (f.live - c.chunks-old.result + c.chunks.result) (c.utf8.title, c.requires.title) filled
           (omega (arith, filled, c.requires.live)) f.rows));
       some_page = f.some_page;

@@ -1,4 +1,4 @@
-use Rattle.std.proofs.Common.{◌∙◌, ◌++◌, ap, map, sym}
+use Rattle.std.proofs.Common.{◌∙◌, ◌++◌, ap, map, sym, length}
 use Rattle.pl_base.specs.Rows.{KeptPage}
 use Rattle.pl_form.specs.Stored.{visit_of}
 use Rattle.pl_plain.specs.Flat.{kept_of}
@@ -39,4 +39,4 @@ returns-clause-plain c =
 pub returns-clause-few : goal.returns-clause-few
 returns-clause-few c =
     let f = c.args.self.now in
-    rw (returns-clause-plain c) (plain_is_short (kept_of f) f.origins f.live c.put_items.ensures.children f.rows)
+    rw (returns-clause-plain c) (plain_is_short (kept_of f) (length f.totals.items) f.live c.put_items.ensures.children f.rows)

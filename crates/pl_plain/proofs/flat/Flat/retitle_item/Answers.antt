@@ -1,4 +1,4 @@
-use Rattle.std.proofs.Common.{[], ◌≡◌, ◌∙◌, ◌+◌, ◌-◌, ap, arith, sym}
+use Rattle.std.proofs.Common.{[], ◌≡◌, ◌∙◌, ◌+◌, ◌-◌, ap, arith, sym, length}
 use Rattle.std.proofs.lemmas.Bool.{true≢false}
 use Rattle.pl_base.specs.Live.{chunks}
 use Rattle.pl_base.specs.Rows.{live_with_item_title}
@@ -18,7 +18,7 @@ overflow_sub-self c =
       arith,
       f.rows.filled,
       c.chunks-old.ensures ∙ ap chunks (sym at.2),
-      slots_retitled c.args.item [] c.args.modified (kept_of f) f.origins f.live at.0 f.rows at.1,
+      slots_retitled c.args.item [] c.args.modified (kept_of f) (length f.totals.items) f.live at.0 f.rows at.1,
     )
 
 pub invariant_of-self : goal.invariant_of-self
@@ -30,8 +30,8 @@ invariant_of-self c =
     ≡ live_with_item_title c.args.item title c.args.modified (kept_of f) =
     omega (
       arith,
-      slots_retitled c.args.item title c.args.modified (kept_of f) f.origins f.live at.0 f.rows at.1,
-      slots_retitled c.args.item [] c.args.modified (kept_of f) f.origins f.live at.0 f.rows at.1,
+      slots_retitled c.args.item title c.args.modified (kept_of f) (length f.totals.items) f.live at.0 f.rows at.1,
+      slots_retitled c.args.item [] c.args.modified (kept_of f) (length f.totals.items) f.live at.0 f.rows at.1,
       f.rows.filled,
       c.chunks-old.ensures ∙ ap chunks (sym at.2),
       c.chunks.ensures,
@@ -39,7 +39,7 @@ invariant_of-self c =
     record {
       rows =
           rw (c.set.ensures, c.in_ok-text.ensures)
-          (IsFlat-with_retitled c.args.item title c.args.modified (kept_of f) f.origins f.live
+          (IsFlat-with_retitled c.args.item title c.args.modified (kept_of f) (length f.totals.items) f.live
           (f.live - c.chunks-old.result + c.chunks.result) (c.utf8.title, c.requires.title) filled
           (omega (arith, filled, c.requires.live)) f.rows);
       some_page = f.some_page;

@@ -7,7 +7,7 @@ pub invariant_of-result : goal.invariant_of-result
 invariant_of-result c =
     record {
       rows =
-          rw (c.new.ensures.items, c.new-2.ensures.items, c.in_ok-opening.ensures)
+          rw (c.new.ensures.items, c.new-2.ensures.items, c.new-3.ensures.items, c.in_ok-opening.ensures)
           record {
             day = omega arith;
             page_ids = no_ids c.args.ids.page c.requires.page (omega arith);

@@ -1,3 +1,4 @@
+use Rattle.std.proofs.Common.{length}
 use Rattle.std.proofs.lemmas.Bool.{true≢false}
 use Rattle.std.proofs.lemmas.List.{map_push}
 use Rattle.pl_form.specs.Stored.{visit_of}
@@ -11,7 +12,7 @@ invariant_of-self-2 g c =
     record {
       rows =
           rw (c.in_ok-push.ensures.items, map_push visit_of)
-          (IsFlat-with_visit c.args.row.now (kept_of f) f.origins f.live c.requires.page c.requires.date
+          (IsFlat-with_visit c.args.row.now (kept_of f) (length f.totals.items) f.live c.requires.page c.requires.date
           c.requires.source c.requires.id c.requires.live f.rows);
       some_page = f.some_page;
       settled = λ settled. absurd (true≢false settled);

@@ -1,4 +1,4 @@
-use Rattle.std.proofs.Common.{List, subst, sym}
+use Rattle.std.proofs.Common.{List, subst, sym, length}
 use Rattle.std.proofs.lemmas.Bool.{true≢false}
 use Rattle.pl_base.specs.Store.{Item}
 use Rattle.pl_plain.specs.Flat.{kept_of}
@@ -11,9 +11,9 @@ invariant_of-self g c =
     let f = c.args.self.now in
     record {
       rows =
-          subst (λ (items : List Item). IsFlat (kept_from f.day f.ids f.pages.items f.origins f.visits.items items)
-          f.origins f.live) (sym c.move_to.ensures)
-          (IsFlat-with_moved c.args.item c.args.parent c.args.after (kept_of f) f.origins f.live f.rows);
+          subst (λ (items : List Item). IsFlat (kept_from f.day f.ids f.pages.items f.totals.items f.visits.items items)
+          (length f.totals.items) f.live) (sym c.move_to.ensures)
+          (IsFlat-with_moved c.args.item c.args.parent c.args.after (kept_of f) (length f.totals.items) f.live f.rows);
       some_page = f.some_page;
       settled = λ settled. absurd (true≢false settled);
     }
