@@ -4,6 +4,7 @@ pub mod GoodRows
 pub mod KeptMark
 pub mod KeptUrls
 pub mod OriginParts
+pub mod PageCounts
 pub mod PageOrder
 pub mod PageTurns
 pub mod RemovedRows
