@@ -3,6 +3,7 @@ pub mod Freshened
 pub mod GoodRows
 pub mod KeptMark
 pub mod KeptUrls
+pub mod NewTotals
 pub mod OriginParts
 pub mod PageCounts
 pub mod PageOrder
@@ -12,6 +13,7 @@ pub mod RightAfter
 pub mod RightRemoved
 pub mod SameVisits
 pub mod Settled
+pub mod SmallTotals
 pub mod SourcePage
 pub mod StandingPages
 pub mod TakenVisits

@@ -1,4 +1,4 @@
-use Rattle.std.proofs.Common.{◌≡◌, ◌∙◌, ◌+◌, arith, sym}
+use Rattle.std.proofs.Common.{◌∙◌, ◌+◌, arith, sym}
 use Rattle.pl_base.specs.Rows.{Kept}
 use Rattle.pl_marks.proofs.VisitWalk.{IsVisitHere, has_here, visit_here, walk_ends, walk_goes_on, walk_nears}
 use Rattle.pl_history.proofs.PageCounts.{AreSoMany, length_of_visits, one_fits, one_more}
