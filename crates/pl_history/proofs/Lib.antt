@@ -4,8 +4,10 @@ pub mod GoodRows
 pub mod KeptMark
 pub mod KeptUrls
 pub mod LastDates
+pub mod NewTotals
 pub mod OneOrder
 pub mod OriginParts
+pub mod PageCounts
 pub mod PageOrder
 pub mod RemovedRows
 pub mod RemovedVisits
@@ -13,6 +15,7 @@ pub mod RightAfter
 pub mod RightRemoved
 pub mod SameVisits
 pub mod Settled
+pub mod SmallTotals
 pub mod SourcePage
 pub mod StaleOrder
 pub mod StalePages
