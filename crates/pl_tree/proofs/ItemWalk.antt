@@ -1,7 +1,7 @@
 -- A walk over all items: the ids of the items that were met, each with its children put behind the others.
-use Rattle.std.proofs.Common.{◌≡◌, ◌≢◌, ◌∙◌, ◌+◌, ◌<◌, ◌≤◌, ◌++◌, ◌==◌, ℕ, true, List, [], ◌∷◌, Some}
+use Rattle.std.proofs.Common.{◌≡◌, ◌≢◌, ◌∙◌, ◌+◌, ◌<◌, ◌≤◌, ◌++◌, ◌==◌, ℕ, true, List, [], ◌∷◌}
 use Rattle.std.proofs.Common.{ap, append_assoc, arith, inl, inr, length, map, refl, subst, sym, take, drop, get_or, suc}
-use Rattle.std.specs.List.{AllByRecursion, flat_map}
+use Rattle.std.specs.List.{flat_map}
 use Rattle.std.proofs.Math.Seq.{take-suc}
 use Rattle.std.proofs.lemmas.Grind.{flat_map-append}
 use Rattle.std.proofs.lemmas.List.{append-nil, length-append, length-map, take-append-drop, take-append-le}
@@ -10,7 +10,7 @@ use Rattle.pl_base.specs.declared.id.ItemId.{ItemId}
 use Rattle.pl_base.specs.Good.{HasGoodItems, IsTree, end_of_ids}
 use Rattle.pl_base.specs.Rows.{IsWellKept, Kept, store_of}
 use Rattle.pl_base.specs.Store.{Item, item_id, root_folder, top_folders}
-use Rattle.pl_base.specs.Tree.{children_of, has_item, parent_of}
+use Rattle.pl_base.specs.Tree.{children_of, has_item}
 use Rattle.pl_tree.proofs.Among.{Ascends, In, all_from_in, at_in, from_flat_map, from_map, in_back, in_either}
 use Rattle.pl_tree.proofs.Among.{in_flat_map, in_front, in_map}
 use Rattle.pl_tree.proofs.ChildWalk.{children_once, few_items, take_all}
@@ -25,10 +25,10 @@ once_join : (xs ys : List ItemId) → Once xs → Once ys → ((z : ItemId) → 
 once_join [] ys one two apart = two
 once_join (x ∷ xs) ys one two apart = (
   all_from_in (λ (d : ItemId). x ≢ d) (xs ++ ys) (λ z h same.
-  elim (in_either xs ys z h) as (λ _. ⊥) [
-    | inl g ↦ at_in (λ (d : ItemId). x ≢ d) xs z one.0 g same
-    | inr g ↦ apart z (inl (sym same)) g
-  ]),
+      elim (in_either xs ys z h) as (λ _. ⊥) [
+        | inl g ↦ at_in (λ (d : ItemId). x ≢ d) xs z one.0 g same
+        | inr g ↦ apart z (inl (sym same)) g
+      ]),
   once_join xs ys one.1 two (λ z h g. apart z (inr h) g),
 )
 
@@ -71,11 +71,11 @@ ids_once : (items : List Item) → Ascends item_key items → Once (ids_of items
 ids_once [] up = tt
 ids_once (i ∷ items) up = (
   all_from_in (λ (d : ItemId). i.id ≢ d) (ids_of items) (λ z h same.
-  let r = from_map (λ (j : Item). j.id) items z h in
-  let j : Item = r.0 in
-  let below : i.id.0 < j.id.0 = at_in (λ (k : Item). i.id.0 < k.id.0) items j up.0 r.1 in
-  let equal : i.id.0 ≡ j.id.0 = ap id_key (same ∙ r.2) in
-  omega (arith, below, equal)),
+      let r = from_map (λ (j : Item). j.id) items z h in
+      let j : Item = r.0 in
+      let below : i.id.0 < j.id.0 = at_in (λ (k : Item). i.id.0 < k.id.0) items j up.0 r.1 in
+      let equal : i.id.0 ≡ j.id.0 = ap id_key (same ∙ r.2) in
+      omega (arith, below, equal)),
   ids_once items up.1,
 )
 

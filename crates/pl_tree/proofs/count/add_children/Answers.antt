@@ -1,7 +1,5 @@
-use Rattle.std.proofs.Common.{◌++◌, ◌∷◌, [], ap, refl, sym}
-use Rattle.std.proofs.lemmas.List.{append-nil}
 use Rattle.pl_base.specs.Tree.{children_of}
-use Rattle.pl_tree.proofs.ChildWalk.{IsHere, id_here, walk_ends, walk_goes_on, walk_nears, walk_starts}
+use Rattle.pl_tree.proofs.ChildWalk.{IsHere, id_here, walk_goes_on, walk_nears}
 use Rattle.pl_tree.proofs.ItemWalk.{AreAdded, added_more}
 use Rattle.pl_tree.proofs.count.add_children.Given.{Over}
 use Rattle.pl_tree.proofs.count.add_children.Goals as goal
