@@ -2,8 +2,6 @@ pub mod Dropped
 pub mod Freshened
 pub mod GoodRows
 pub mod KeptMark
-pub mod KeptUrls
-pub mod LastDates
 pub mod NewTotals
 pub mod OneOrder
 pub mod OriginParts

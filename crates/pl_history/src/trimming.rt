@@ -3,7 +3,6 @@ ghost use Rattle.std.specs.Prelude.{◌≡◌, ◌≢◌, ◌++◌, ◌∷◌, [
 ghost use Rattle.std.specs.Prelude.{IfOk, OnOk};
 ghost use Rattle.std.specs.List.{All, AllPairs};
 ghost use Rattle.pl_base.specs.Expiration as spec;
-ghost use Rattle.pl_base.specs.Marks.{last_date_of};
 ghost use Rattle.pl_base.specs.Rows.{KeptPage, has_page, store_of};
 ghost use Rattle.pl_history.specs.declared.trimming.StalePage.{StalePage};
 ghost use Rattle.pl_history.specs.Sound.{IsSound};
@@ -14,6 +13,7 @@ ghost use Rattle.pl_history.specs.Went.{went};
 use crate::expiration::add_visits;
 use crate::removal::{Removed, remove_visits};
 use pl_base::{Micros, NoMemory, PageId, Rows, Steps, VisitId};
+use pl_marks::last_date;
 use std::alloc::Global;
 use std::sync::ledger::Ledger;
 
@@ -35,16 +35,6 @@ fn page_count<R: Rows, L: Ledger>(rows: &R, steps: &mut Steps<L>) -> u32
         next = rows.page_after(Some(page), steps);
     }
     count
-}
-
-// The date of the page's latest visit.
-fn last_date<R: Rows, L: Ledger>(rows: &R, page: PageId, steps: &mut Steps<L>) -> Option<Micros>
-    requires { has_page (R.kept rows.now) page ≡ true }
-    ensures { result ≡ last_date_of (store_of (R.kept rows.now)) page }
-{
-    let latest = rows.latest(page, steps)?;
-    let row = rows.visit_at(latest, steps).unwrap();
-    Some(row.date)
 }
 
 // The page joins the others where no item has it.

@@ -280,7 +280,7 @@ pub is_out : (c : ItemId) (o : Option ItemId) → option_eq (λ (a b : ItemId). 
 is_out c None = refl
 is_out c (Some id) = refl
 
-take_all : (n : ℕ) (ids : List ItemId) → length ids ≤ n → take n ids ≡ ids
+pub take_all : (n : ℕ) (ids : List ItemId) → length ids ≤ n → take n ids ≡ ids
 take_all zero [] le = refl
 take_all zero (c ∷ ids) le = absurd (omega arith)
 take_all (suc n) [] le = refl
@@ -395,7 +395,7 @@ children_known items parent tree = choose (item_at items parent) refl
         (each_known items items
         (recursion_from_All (λ c. has_item items c ≡ true) (child_ids items) tree.known)) at)
 
-few_items : (kept : Kept) → IsWellKept kept → length kept.items < end_of_ids
+pub few_items : (kept : Kept) → IsWellKept kept → length kept.items < end_of_ids
 few_items kept h =
     few_ids (map (λ (i : Item). i.id.0) kept.items) kept.ids.item (length kept.items)
     (record {

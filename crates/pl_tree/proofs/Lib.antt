@@ -16,6 +16,7 @@ pub mod GoodTagged
 mod InsertedChildren
 mod InsertedRows
 mod Insides
+mod ItemWalk
 mod KeptItems
 mod KeptRoots
 mod KeptTags

@@ -37,6 +37,8 @@ pub fn insert<R: Rows, L: Ledger>(
         ≡ with_inserted parent place item.now (R.kept rows.old)) }
     ensures refused { (refusal : Refusal) → result ≡ Err (TreeError.Refused refusal)
         → (insert_refusal parent place (R.kept rows.old) ≡ Some refusal) × (rows.new ≡ rows.old) }
+    ensures no_memory { result ≡ Err TreeError.NoMemory
+        → insert_refusal parent place (R.kept rows.old) ≡ None }
     ensures good { OnOk result (HasGoodItems (store_of (R.kept rows.new))) }
     ensures base { OnOk result ((bytes : List ℕ) → R.base rows.old bytes → R.base rows.new bytes) }
 {

@@ -33,6 +33,8 @@ pub fn retitle<R: Rows, L: Ledger>(
     ensures refused { (refusal : Refusal) → result ≡ Err (TreeError.Refused refusal)
         → (refused.refusal (R.kept rows.old).items (TreeChange.Retitle item) ≡ Some refusal)
         × (rows.new ≡ rows.old) }
+    ensures no_memory { result ≡ Err TreeError.NoMemory
+        → refused.refusal (R.kept rows.old).items (TreeChange.Retitle item) ≡ None }
     ensures good { OnOk result (HasGoodItems (store_of (R.kept rows.new))) }
     ensures base { OnOk result ((bytes : List ℕ) → R.base rows.old bytes → R.base rows.new bytes) }
 {
