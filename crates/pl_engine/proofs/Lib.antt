@@ -7,6 +7,7 @@ mod ItemMarks
 mod ItemStep
 mod ItemTitled
 mod ItemsGone
+mod KeptTotals
 mod KnownPage
 mod Listed
 mod LiveAfter

@@ -1,4 +1,5 @@
 pub mod Parsed
+pub mod Refused
 pub mod Room
 pub mod Run
 pub mod Step

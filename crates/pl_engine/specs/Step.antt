@@ -1,8 +1,8 @@
 -- One step of the machine: what a command answers and what it leaves of the store.
-use Rattle.std.specs.Prelude.{◌≡◌, ℕ, ◌+◌, ◌-◌, ◌==◌, ◌&&◌, ◌||◌, Bool, true, false, List}
+use Rattle.std.specs.Prelude.{◌≡◌, ℕ, ◌+◌, ◌-◌, ◌==◌, ◌&&◌, ◌||◌, not, Bool, true, false, List}
 use Rattle.std.specs.Prelude.{[], ◌∷◌, length, map, nat_lt, bytes_eq}
 use Rattle.std.specs.Prelude.{is_none, Option, Some, None, Ok, Err, if◌then◌else◌}
-use Rattle.std.specs.List.{filter, find}
+use Rattle.std.specs.List.{count_by, find}
 use Rattle.std.specs.Option.{is_some, option_and_then, option_map, option_or}
 use Rattle.pl_base.specs.declared.date.Day.{Day}
 use Rattle.pl_base.specs.declared.date.Micros.{Micros}
@@ -16,7 +16,7 @@ use Rattle.pl_base.specs.declared.refusal.Refusal.{Refusal}
 use Rattle.pl_base.specs.declared.refusal.Refusal.TheVariants.{NotRecorded, NoVisit, NoPage}
 use Rattle.pl_base.specs.declared.refusal.Refusal.TheVariants.{DayBack, Full, NoIds, DupTag, NoTag}
 use Rattle.pl_base.specs.declared.transition.Transition.{Transition}
-use Rattle.pl_base.specs.Address.{is_unrecorded_url}
+use Rattle.pl_base.specs.Address.{host_and_port, is_unrecorded_url, prefix, record_of, reversed_host}
 use Rattle.pl_base.specs.Date.{IsDate, IsDay}
 use Rattle.pl_base.specs.Days.{on_day, pages_moved}
 use Rattle.pl_base.specs.Expiration.{expired, trimmed}
@@ -29,8 +29,12 @@ use Rattle.pl_base.specs.Store.{Store, Page, Visit, Item, item_id}
 use Rattle.pl_base.specs.Tags.{is_bookmarked, tag_text}
 use Rattle.pl_base.specs.Removal.{forgotten, without_idle_pages, without_visits}
 use Rattle.pl_base.specs.Title.{cut_title}
+use Rattle.pl_base.specs.Totals.{Origin, Scored, group_passes, is_origin, origins_with_total}
+use Rattle.pl_base.specs.Totals.{scored_pages, sum_of_totals, total_of, without_www}
 use Rattle.pl_base.specs.Tree.{child_items, retitled}
 use Rattle.pl_base.specs.Visiting.{after_visit, find_page, page_for, visited_page, with_page_for}
+use Rattle.url.specs.Parser.{Parsed as ParsedUrl}
+use Rattle.url.specs.Parts.{Parts}
 use Rattle.pl_tree.specs.declared.new_item.NewItem.{NewItem}
 use Rattle.pl_tree.specs.declared.place.Place.{Place}
 use Rattle.pl_tree.specs.declared.tree_change.TreeChange.TheVariants.{Insert, Move, Retitle}
@@ -43,6 +47,8 @@ use Rattle.pl_engine.specs.declared.command.Command.TheVariants.{Day as DayComma
 use Rattle.pl_engine.specs.declared.command.Command.TheVariants.{Visit as VisitCommand}
 use Rattle.pl_engine.specs.declared.command.Command.TheVariants.{Title as TitleCommand}
 use Rattle.pl_engine.specs.declared.command.Command.TheVariants.{Page as PageCommand}
+use Rattle.pl_engine.specs.declared.command.Command.TheVariants.{Origin as OriginCommand}
+use Rattle.pl_engine.specs.declared.command.Command.TheVariants.{Stats as StatsCommand}
 use Rattle.pl_engine.specs.declared.command.Command.TheVariants.{Unvisit as UnvisitCommand}
 use Rattle.pl_engine.specs.declared.command.Command.TheVariants.{Forget as ForgetCommand}
 use Rattle.pl_engine.specs.declared.command.Command.TheVariants.{Expire as ExpireCommand}
@@ -62,6 +68,8 @@ use Rattle.pl_engine.specs.declared.reply.Reply.TheVariants.{Visit as VisitReply
 use Rattle.pl_engine.specs.declared.reply.Reply.TheVariants.{Page as PageReply, Done, Refused}
 use Rattle.pl_engine.specs.declared.reply.Reply.TheVariants.{Item as ItemReply, List as ListReply}
 use Rattle.pl_engine.specs.declared.reply.Reply.TheVariants.{Day as DayReply}
+use Rattle.pl_engine.specs.declared.reply.Reply.TheVariants.{Origin as OriginReply}
+use Rattle.pl_engine.specs.declared.reply.Reply.TheVariants.{Stats as StatsReply}
 use Rattle.pl_engine.specs.declared.reply.Reply.TheVariants.{Removed as RemovedReply}
 use Rattle.pl_engine.specs.Parsed.{Parsed}
 
@@ -138,6 +146,37 @@ page_reply store p =
 abbrev pub told_page : Store → Option Page → Reply
 told_page store None = Refused NoPage
 told_page store (Some p) = page_reply store p
+
+-- ---- what is known of an origin, and of the store
+
+-- how many of these pages an origin has
+abbrev pub pages_of : List Scored → Origin → ℕ
+pages_of pages origin = count_by (λ (s : Scored). is_origin s.0 origin) pages
+
+-- the group of the origin's host passes; an origin without a host has none
+abbrev pub origin_passes : List Scored → Origin → Bool
+origin_passes pages origin =
+    not (length origin.1 == 0) && group_passes pages (without_www origin.1)
+
+-- what is known of the origin of a URL, where a page has it
+abbrev pub origin_reply : List Scored → Parts → Reply
+origin_reply pages url =
+    let origin : Origin = (prefix url, host_and_port url) in
+    if pages_of pages origin == 0 then Refused NoPage else
+    OriginReply origin.0 origin.1 (reversed_host url) (total_of pages origin)
+    (pages_of pages origin) (origin_passes pages origin)
+
+-- the same of the record of a URL; a text that is none has no origin
+abbrev pub told_origin : List Scored → ParsedUrl Parts → Reply
+told_origin pages (Ok url) = origin_reply pages url
+told_origin pages (Err e) = Refused NoPage
+
+-- how much the store holds
+abbrev pub stats_reply : Store → Reply
+stats_reply store =
+    StatsReply (length store.pages) (length store.visits) (length store.items)
+    (origins_with_total (scored_pages store)) (sum_of_totals (scored_pages store))
+    (live_slots store)
 
 -- ---- the day, and what goes
 
@@ -291,6 +330,8 @@ HasDates (DayCommand day) = IsDay day
 HasDates (VisitCommand url transition date source) = IsDate date
 HasDates (TitleCommand url text) = Unit {0}
 HasDates (PageCommand url) = Unit {0}
+HasDates (OriginCommand url) = Unit {0}
+HasDates StatsCommand = Unit {0}
 HasDates (UnvisitCommand visit) = Unit {0}
 HasDates (ForgetCommand url) = Unit {0}
 HasDates (ExpireCommand day) = IsDay day
@@ -311,6 +352,8 @@ MayWantMemory (DayCommand day) = Unit {0}
 MayWantMemory (VisitCommand url transition date source) = is_unrecorded_url url ≡ false
 MayWantMemory (TitleCommand url text) = Unit {0}
 MayWantMemory (PageCommand url) = Unit {0}
+MayWantMemory (OriginCommand url) = Unit {0}
+MayWantMemory StatsCommand = Unit {0}
 MayWantMemory (UnvisitCommand visit) = Unit {0}
 MayWantMemory (ForgetCommand url) = Unit {0}
 MayWantMemory (ExpireCommand day) = Unit {0}
@@ -331,6 +374,8 @@ is_change (DayCommand day) = true
 is_change (VisitCommand url transition date source) = true
 is_change (TitleCommand url text) = true
 is_change (PageCommand url) = false
+is_change (OriginCommand url) = false
+is_change StatsCommand = false
 is_change (UnvisitCommand visit) = true
 is_change (ForgetCommand url) = true
 is_change (ExpireCommand day) = true
@@ -356,6 +401,9 @@ perform limit store (VisitCommand url transition date source) =
 perform limit store (TitleCommand url text) =
     unless_refused (title_refusal limit store url text) store (Done, after_title store url text)
 perform limit store (PageCommand url) = (told_page store (find_page url store.pages), store)
+perform limit store (OriginCommand url) =
+    (told_origin (scored_pages store) (record_of url), store)
+perform limit store StatsCommand = (stats_reply store, store)
 perform limit store (UnvisitCommand visit) =
     unless_refused (absent_visit store visit) store
     (removal_step store (without_visits (visit ∷ []) store))

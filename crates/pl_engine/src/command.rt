@@ -30,6 +30,12 @@ pub enum Command {
     Page {
         url: Canon,
     },
+    /// What is known of the origin of an address.
+    Origin {
+        url: Canon,
+    },
+    /// How much the store holds.
+    Stats,
     /// A visit goes.
     Unvisit {
         visit: VisitId,
@@ -122,7 +128,10 @@ impl Command {
             | Command::Remove { .. }
             | Command::Tag { .. }
             | Command::Untag { .. } => true,
-            Command::Page { .. } | Command::List { .. } => false,
+            Command::Page { .. }
+            | Command::Origin { .. }
+            | Command::Stats
+            | Command::List { .. } => false,
         }
     }
 }

@@ -3,6 +3,7 @@ mod change;
 mod history;
 mod insert;
 mod list;
+mod origin;
 mod page;
 mod remove;
 mod slots;
@@ -14,8 +15,9 @@ ghost use Rattle.std.specs.Prelude.{◌≡◌, ◌≤◌, ℕ, List, false, leng
 ghost use Rattle.std.proofs.Props.{props};
 ghost use Rattle.pl_base.specs.Good.{IsGood};
 ghost use Rattle.pl_base.specs.Live.{slot_limit};
-ghost use Rattle.pl_base.specs.Rows.{IsRight, store_of};
+ghost use Rattle.pl_base.specs.Rows.{HaveTotals, IsRight, store_of};
 ghost use Rattle.pl_base.specs.Touched.{IsWithin, changed, bytes_before};
+ghost use Rattle.pl_history.specs.Sound.{IsSound};
 ghost use Rattle.pl_engine.specs.Step as spec;
 
 use crate::command::Command;
@@ -24,6 +26,7 @@ use crate::engine::change::{move_item, retitle};
 use crate::engine::history::{day, expire, forget, trim, unvisit};
 use crate::engine::insert::{folder, separator};
 use crate::engine::list::list;
+use crate::engine::origin::{origin, stats};
 use crate::engine::page::page;
 use crate::engine::remove::remove;
 use crate::engine::tag::{tag, untag};
@@ -31,12 +34,14 @@ use crate::engine::title::title;
 use crate::engine::visit::visit;
 use crate::reply::Reply;
 use pl_base::{NoMemory, Refusal, Rows, Steps, Touched};
+use pl_history::total_up;
 use std::alloc::Global;
 use std::sync::ledger::Ledger;
 
 /// What performs commands on rows, however these are kept.
 ///
-/// The rows hold a good store, and what they keep of each page beside its texts is right.
+/// The rows hold a good store, and what they keep of each page beside its texts is right, and of
+/// each origin its total.
 #[derive(Drop)]
 pub struct Engine<R: Rows> {
     alloc: Global,
@@ -45,7 +50,23 @@ pub struct Engine<R: Rows> {
     limit: u32,
     ghost good: { IsGood (store_of (R.kept rows)) } by { Prim.hlevel props },
     ghost right: { IsRight (R.kept rows) } by { Prim.hlevel props },
+    ghost totals: { HaveTotals (R.kept rows) } by { Prim.hlevel props },
     ghost most: { limit ≤ slot_limit },
+}
+
+// The total of each origin, where something changed.
+fn keep_totals<R: Rows, L: Ledger>(rows: &mut R, is_changed: bool, steps: &mut Steps<L>)
+    requires sound { IsSound (R.kept rows.old) }
+    requires totals { is_changed ≡ false → HaveTotals (R.kept rows.old) }
+    ensures totals { HaveTotals (R.kept rows.new) }
+    ensures same { is_changed ≡ false → rows.new ≡ rows.old }
+    ensures store { store_of (R.kept rows.new) ≡ store_of (R.kept rows.old) }
+    ensures sound { IsSound (R.kept rows.new) }
+    ensures base { (bytes : List ℕ) → R.base rows.old bytes → R.base rows.new bytes }
+{
+    if is_changed {
+        total_up(rows, steps);
+    }
 }
 
 impl<R: Rows + Drop> Engine<R> {
@@ -53,6 +74,7 @@ impl<R: Rows + Drop> Engine<R> {
     pub fn over(alloc: Global, rows: R, limit: u32) -> Result<Engine<R>, NoMemory>
         requires good { IsGood (store_of (R.kept rows)) }
         requires right { IsRight (R.kept rows) }
+        requires totals { HaveTotals (R.kept rows) }
         requires most { limit ≤ slot_limit }
         ensures rows { IfOk result (λ engine. engine.rows ≡ rows) }
         ensures stands { R.form (R.bytes rows) (store_of (R.kept rows)) }
@@ -78,6 +100,7 @@ impl<R: Rows + Drop> Engine<R> {
             → done.0.rows ≡ self.rows) }
         ensures good { IfOk result (λ done. IsGood (store_of (R.kept done.0.rows))) }
         ensures right { IfOk result (λ done. IsRight (R.kept done.0.rows)) }
+        ensures totals { IfOk result (λ done. HaveTotals (R.kept done.0.rows)) }
         ensures base { IfOk result (λ done. (bytes : List ℕ)
             → R.base self.rows bytes → R.base done.0.rows bytes) }
         ensures stands { IfOk result (λ done.
@@ -111,6 +134,8 @@ impl<R: Rows + Drop> Engine<R> {
             )?,
             Command::Title { url, text } => title(&mut rows, limit, url, text, steps)?,
             Command::Page { url } => page(alloc, &rows, url, steps)?,
+            Command::Origin { url } => origin(alloc, &rows, url, steps)?,
+            Command::Stats => stats(alloc, &rows, steps)?,
             Command::Unvisit { visit } => unvisit(alloc, &mut rows, *visit, steps)?,
             Command::Forget { url } => forget(alloc, &mut rows, url, steps)?,
             Command::Expire { day } => expire(alloc, &mut rows, *day, steps)?,
@@ -153,6 +178,8 @@ impl<R: Rows + Drop> Engine<R> {
             Command::Untag { url, name } => untag(alloc, &mut rows, url, name, steps)?,
             Command::List { item } => list(alloc, &rows, *item, steps)?,
         };
+        let is_changed = command.is_change() && !reply.is_refused();
+        keep_totals(&mut rows, is_changed, steps);
         Ok((Engine { alloc, rows, limit }, reply))
     }
 

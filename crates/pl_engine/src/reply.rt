@@ -1,3 +1,6 @@
+ghost use Rattle.std.specs.Prelude.{◌≡◌};
+ghost use Rattle.pl_engine.specs.Refused.{is_refused};
+
 use pl_base::{Day, ItemId, ItemKind, Micros, PageId, Refusal, Seq, Txt, VisitId};
 
 /// The answer to a command.
@@ -32,6 +35,34 @@ pub enum Reply {
         /// Its tags, in the order of their folds and joined by commas.
         tags: Txt,
     },
+    /// What is known of an origin.
+    Origin {
+        /// The scheme with `://` where an authority follows, and with `:` elsewhere.
+        prefix: Txt,
+        /// The host with its port.
+        host: Txt,
+        /// The host without its port, its characters reversed, and a full stop.
+        reversed: Txt,
+        /// The sum of the positive frecencies of its pages.
+        total: u64,
+        /// How many pages it has.
+        pages: u32,
+        /// Whether the address bar fills in its host.
+        passes: bool,
+    },
+    /// How much the store holds.
+    Stats {
+        pages: u32,
+        visits: u32,
+        /// The items of the bookmark tree, the six roots among them.
+        items: u32,
+        /// How many origins have a total.
+        origins: u32,
+        /// The sum of these totals.
+        sum: u64,
+        /// How many slots of 128 bytes the store takes.
+        slots: u64,
+    },
     /// How many visits and pages went.
     Removed {
         visits: u32,
@@ -42,6 +73,15 @@ pub enum Reply {
     /// The children of a folder, in order.
     List(Seq<ListRow>),
     Refused(Refusal),
+}
+
+impl Reply {
+    /// Whether the command was refused, which changed nothing then.
+    pub fn is_refused(&self) -> bool
+        ensures { result ≡ is_refused self.now }
+    {
+        matches!(self, Reply::Refused(_))
+    }
 }
 
 /// A child of a folder, as it is listed.

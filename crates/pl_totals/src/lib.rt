@@ -3,4 +3,4 @@
 
 mod totals;
 
-pub use totals::Totals;
+pub use totals::{Totals, without_www};

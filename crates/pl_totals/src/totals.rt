@@ -66,8 +66,8 @@ pub struct Totals {
     sum: u64,
 }
 
-// The host without one leading `www.`.
-fn without_www(host: &str) -> &str
+/// The host without one leading `www.`: the name of its group.
+pub fn without_www(host: &str) -> &str
     ensures { result.now ≡ spec.without_www host.now }
 {
     host.strip_prefix("www.").unwrap_or(host)

@@ -8,6 +8,7 @@ mod faults;
 mod history;
 mod lines;
 mod made;
+mod origins;
 mod rows;
 mod stored;
 

@@ -1,9 +1,12 @@
-use Rattle.std.proofs.Common.{◌≡◌, ap}
-use Rattle.pl_base.specs.Rows.{store_of}
+use Rattle.std.proofs.Common.{◌≡◌, ◌&&◌, ap, false}
+use Rattle.std.specs.Prelude.{not}
+use Rattle.pl_base.specs.Rows.{HaveTotals, store_of}
 use Rattle.pl_base.specs.Store.{Store}
 use Rattle.pl_engine.specs.declared.reply.Reply.{Reply}
 use Rattle.pl_history.specs.Sound.{IsSound}
-use Rattle.pl_engine.specs.Step.{perform}
+use Rattle.pl_engine.specs.Refused.{is_refused}
+use Rattle.pl_engine.specs.Step.{is_change, perform}
+use Rattle.pl_engine.proofs.KeptTotals.{still}
 use Rattle.pl_engine.proofs.engine.Engine.apply.Given.{Over}
 use Rattle.pl_engine.proofs.engine.Engine.apply.Goals.{Joined-command, in-Visit+in_ok-reply-in-Visit}
 use Rattle.pl_engine.proofs.engine.Engine.apply.Goals.{in-Title+in_ok-reply-in-Title, in-Page+in_ok-reply-in-Page}
@@ -14,6 +17,8 @@ use Rattle.pl_engine.proofs.engine.Engine.apply.Goals.{in-Retitle+in_ok-reply-in
 use Rattle.pl_engine.proofs.engine.Engine.apply.Goals.{in-Tag+in_ok-reply-in-Tag, in-Untag+in_ok-reply-in-Untag}
 use Rattle.pl_engine.proofs.engine.Engine.apply.Goals.{in-Remove+in_ok-reply-in-Remove, in-List+in_ok-reply-in-List}
 use Rattle.pl_engine.proofs.engine.Engine.apply.Goals.{in-Day+in_ok-reply-in-Day, in-Trim+in_ok-reply-in-Trim}
+use Rattle.pl_engine.proofs.engine.Engine.apply.Goals.{in-Origin+in_ok-reply-in-Origin}
+use Rattle.pl_engine.proofs.engine.Engine.apply.Goals.{in-Stats+in_ok-reply-in-Stats}
 use Rattle.pl_engine.proofs.engine.Engine.apply.Goals.{in-Unvisit+in_ok-reply-in-Unvisit}
 use Rattle.pl_engine.proofs.engine.Engine.apply.Goals.{in-Forget+in_ok-reply-in-Forget}
 use Rattle.pl_engine.proofs.engine.Engine.apply.Goals.{in-Expire+in_ok-reply-in-Expire}
@@ -30,6 +35,14 @@ sound g c =
         right = c.args.self.right;
       })
       | in-Day+in_ok-reply-in-Day w ↦ rw w.rows-is w.in_ok-reply-in-Day.ensures.sound
+      | in-Origin+in_ok-reply-in-Origin w ↦ rw w.rows-is (record {
+        good = c.args.self.good;
+        right = c.args.self.right;
+      })
+      | in-Stats+in_ok-reply-in-Stats w ↦ rw w.rows-is (record {
+        good = c.args.self.good;
+        right = c.args.self.right;
+      })
       | in-Unvisit+in_ok-reply-in-Unvisit w ↦ rw w.rows-is w.in_ok-reply-in-Unvisit.ensures.sound
       | in-Forget+in_ok-reply-in-Forget w ↦ rw w.rows-is w.in_ok-reply-in-Forget.ensures.sound
       | in-Expire+in_ok-reply-in-Expire w ↦ rw w.rows-is w.in_ok-reply-in-Expire.ensures.sound
@@ -62,6 +75,10 @@ step g c =
           (ap (λ (r : Reply). (r, store_of (g.R.Rows.kept c.args.self.rows))) w.in_ok-reply-in-Page.ensures)
       | in-Day+in_ok-reply-in-Day w ↦ rw (w.rows-is, w.reply-is, w.in-Day.is)
           (w.in_ok-reply-in-Day.ensures.step c.args.self.limit)
+      | in-Origin+in_ok-reply-in-Origin w ↦ rw (w.rows-is, w.reply-is, w.in-Origin.is)
+          (ap (λ (r : Reply). (r, store_of (g.R.Rows.kept c.args.self.rows))) w.in_ok-reply-in-Origin.ensures)
+      | in-Stats+in_ok-reply-in-Stats w ↦ rw (w.rows-is, w.reply-is, w.in-Stats.is)
+          (ap (λ (r : Reply). (r, store_of (g.R.Rows.kept c.args.self.rows))) w.in_ok-reply-in-Stats.ensures)
       | in-Unvisit+in_ok-reply-in-Unvisit w ↦ rw (w.rows-is, w.reply-is, w.in-Unvisit.is)
           (w.in_ok-reply-in-Unvisit.ensures.step c.args.self.limit)
       | in-Forget+in_ok-reply-in-Forget w ↦ rw (w.rows-is, w.reply-is, w.in-Forget.is)
@@ -88,6 +105,48 @@ step g c =
           (w.in_ok-reply-in-Remove.ensures.step c.args.self.limit)
       | in-List+in_ok-reply-in-List w ↦ rw (w.rows-is, w.reply-is, w.in-List.is)
           (w.in_ok-reply-in-List.ensures c.args.self.limit)
+    ]
+
+-- the rows of a command that changed nothing have their totals still
+kept : (g : Over) (c : Joined-command g)
+    → (is_change c.args.command.now && not (is_refused c.match-command.reply)) ≡ false
+    → HaveTotals (g.R.Rows.kept c.match-command.rows)
+kept g c same =
+    elim c.match-command.branch [
+      | in-Day+in_ok-reply-in-Day w ↦ rw w.rows-is (still (λ rows. HaveTotals (g.R.Rows.kept rows)) c.args.self.rows _ _
+          w.in_ok-reply-in-Day.ensures.refused (rw (w.reply-is, w.in-Day.is) at same) c.args.self.totals)
+      | in-Visit+in_ok-reply-in-Visit w ↦ rw w.rows-is (still (λ rows. HaveTotals (g.R.Rows.kept rows)) c.args.self.rows _ _
+          w.in_ok-reply-in-Visit.ensures.refused (rw (w.reply-is, w.in-Visit.is) at same) c.args.self.totals)
+      | in-Title+in_ok-reply-in-Title w ↦ rw w.rows-is (still (λ rows. HaveTotals (g.R.Rows.kept rows)) c.args.self.rows _ _
+          w.in_ok-reply-in-Title.ensures.refused (rw (w.reply-is, w.in-Title.is) at same) c.args.self.totals)
+      | in-Unvisit+in_ok-reply-in-Unvisit w ↦ rw w.rows-is (still (λ rows. HaveTotals (g.R.Rows.kept rows)) c.args.self.rows _ _
+          w.in_ok-reply-in-Unvisit.ensures.refused (rw (w.reply-is, w.in-Unvisit.is) at same) c.args.self.totals)
+      | in-Forget+in_ok-reply-in-Forget w ↦ rw w.rows-is (still (λ rows. HaveTotals (g.R.Rows.kept rows)) c.args.self.rows _ _
+          w.in_ok-reply-in-Forget.ensures.refused (rw (w.reply-is, w.in-Forget.is) at same) c.args.self.totals)
+      | in-Expire+in_ok-reply-in-Expire w ↦ rw w.rows-is (still (λ rows. HaveTotals (g.R.Rows.kept rows)) c.args.self.rows _ _
+          w.in_ok-reply-in-Expire.ensures.refused (rw (w.reply-is, w.in-Expire.is) at same) c.args.self.totals)
+      | in-Trim+in_ok-reply-in-Trim w ↦ rw w.rows-is (still (λ rows. HaveTotals (g.R.Rows.kept rows)) c.args.self.rows _ _
+          w.in_ok-reply-in-Trim.ensures.refused (rw (w.reply-is, w.in-Trim.is) at same) c.args.self.totals)
+      | in-Folder+in_ok-reply-in-Folder w ↦ rw w.rows-is (still (λ rows. HaveTotals (g.R.Rows.kept rows)) c.args.self.rows _ _
+          w.in_ok-reply-in-Folder.ensures.refused (rw (w.reply-is, w.in-Folder.is) at same) c.args.self.totals)
+      | in-Bookmark+in_ok-reply-in-Bookmark w ↦ rw w.rows-is (still (λ rows. HaveTotals (g.R.Rows.kept rows)) c.args.self.rows _ _
+          w.in_ok-reply-in-Bookmark.ensures.refused (rw (w.reply-is, w.in-Bookmark.is) at same) c.args.self.totals)
+      | in-Separator+in_ok-reply-in-Separator w ↦ rw w.rows-is (still (λ rows. HaveTotals (g.R.Rows.kept rows)) c.args.self.rows _ _
+          w.in_ok-reply-in-Separator.ensures.refused (rw (w.reply-is, w.in-Separator.is) at same) c.args.self.totals)
+      | in-Retitle+in_ok-reply-in-Retitle w ↦ rw w.rows-is (still (λ rows. HaveTotals (g.R.Rows.kept rows)) c.args.self.rows _ _
+          w.in_ok-reply-in-Retitle.ensures.refused (rw (w.reply-is, w.in-Retitle.is) at same) c.args.self.totals)
+      | in-Tag+in_ok-reply-in-Tag w ↦ rw w.rows-is (still (λ rows. HaveTotals (g.R.Rows.kept rows)) c.args.self.rows _ _
+          w.in_ok-reply-in-Tag.ensures.refused (rw (w.reply-is, w.in-Tag.is) at same) c.args.self.totals)
+      | in-Untag+in_ok-reply-in-Untag w ↦ rw w.rows-is (still (λ rows. HaveTotals (g.R.Rows.kept rows)) c.args.self.rows _ _
+          w.in_ok-reply-in-Untag.ensures.refused (rw (w.reply-is, w.in-Untag.is) at same) c.args.self.totals)
+      | in-Remove+in_ok-reply-in-Remove w ↦ rw w.rows-is (still (λ rows. HaveTotals (g.R.Rows.kept rows)) c.args.self.rows _ _
+          w.in_ok-reply-in-Remove.ensures.refused (rw (w.reply-is, w.in-Remove.is) at same) c.args.self.totals)
+      | in-Move w ↦ rw w.rows-is (still (λ rows. HaveTotals (g.R.Rows.kept rows)) c.args.self.rows _ _
+          w.move_item-reply.ensures.refused (rw (w.reply-is, w.in-Move.is) at same) c.args.self.totals)
+      | in-Page+in_ok-reply-in-Page w ↦ rw w.rows-is c.args.self.totals
+      | in-Origin+in_ok-reply-in-Origin w ↦ rw w.rows-is c.args.self.totals
+      | in-Stats+in_ok-reply-in-Stats w ↦ rw w.rows-is c.args.self.totals
+      | in-List+in_ok-reply-in-List w ↦ rw w.rows-is c.args.self.totals
     ]
 
 pub invariant_of-result : goal.invariant_of-result

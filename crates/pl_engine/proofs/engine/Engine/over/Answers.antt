@@ -3,4 +3,4 @@ use Rattle.pl_engine.proofs.engine.Engine.over.Goals as goal
 
 pub invariant_of-result : goal.invariant_of-result
 invariant_of-result g c =
-    record { good = c.requires.good; right = c.requires.right; most = omega arith }
+    record { good = c.requires.good; right = c.requires.right; totals = c.requires.totals; most = omega arith }
