@@ -23,5 +23,6 @@ mod Targets
 mod TitleStep
 mod Titled
 mod Untagged
+mod Views
 mod VisitAllowed
 mod VisitMade

@@ -1,7 +1,7 @@
 -- The fields of each line of a reply are read from its text again.
 use Rattle.std.proofs.Common.{◌≡◌, ◌∙◌, ◌<◌, ◌≤◌, ◌+◌, ◌-◌, ◌%◌, ◌/◌, ℕ, Bool, true, false, List, [], ◌∷◌, ◌++◌, ap}
 use Rattle.std.proofs.Common.{append_assoc, arith, eqb, get_or, length, length-append, map, refl, subst, sym, zero, suc}
-use Rattle.std.proofs.Common.{drop, Option, None, Some, ⊎_elim}
+use Rattle.std.proofs.Common.{drop, Option, None, Some, take, ⊎_elim}
 use Rattle.std.specs.Prelude.{ℤ, pos, negsuc, codes, decimal, if◌then◌else◌, nat_le, nat_lt}
 use Rattle.std.specs.Fmt.{digits, digits_onto, digit_glyph, signed_decimal}
 use Rattle.std.specs.List.{All, flat_map, join_with_byte, list_all, slice_split}
@@ -19,7 +19,8 @@ use Rattle.pl_base.specs.declared.item.ItemKind.TheVariants.{Bookmark, Folder, S
 use Rattle.pl_base.specs.Refusal.{refusal_number, refusal_values}
 use Rattle.pl_engine.specs.declared.reply.ListRow.{ListRow}
 use Rattle.pl_engine.specs.declared.reply.Reply.{Reply}
-use Rattle.pl_engine.specs.declared.reply.Reply.TheVariants.{Day, Visit, Done, Page, Removed, Item, Refused}
+use Rattle.pl_engine.specs.declared.reply.Reply.TheVariants.{Day, Visit, Done, Page, Origin, Stats}
+use Rattle.pl_engine.specs.declared.reply.Reply.TheVariants.{Removed, Item, Refused}
 use Rattle.pl_engine.specs.declared.reply.Reply.TheVariants.{List as ListReply}
 use Rattle.pl_script.specs.Reply.{AreLinesOf, IsReadAgain, IsToldAgain, TellsTexts}
 use Rattle.pl_script.specs.Reply.{date_text, fields_in, kind_word, line_text, more_fields, reply_fields, reply_lines}
@@ -201,6 +202,18 @@ of_reply (Page id frecency count last typed hidden bookmarked url title tags) =
     ∷ escaped url ∷ escaped title ∷ escaped tags ∷ []) =
     (of_number id.0, (of_signed frecency, (of_number count, (of_date last, marks)))) in
     ((of_word (codes "page") refl, numbers), tt)
+of_reply (Origin prefix host reversed total pages passes) =
+    let numbers : Are (decimal total ∷ decimal pages ∷ truth_text passes ∷ []) =
+    (of_number total, (of_number pages, (of_truth passes, tt))) in
+    ((of_word (codes "origin") refl, (of_text prefix, (of_text host, (of_text reversed, numbers)))), tt)
+of_reply (Stats pages visits items origins sum slots) =
+    let totals : Are (codes "origins" ∷ decimal origins ∷ codes "sum" ∷ decimal sum ∷ codes "slots" ∷ decimal slots ∷ []) =
+    (of_word (codes "origins") refl, (of_number origins, (of_word (codes "sum") refl, (of_number sum,
+    (of_word (codes "slots") refl, (of_number slots, tt)))))) in
+    let rows : Are (codes "visits" ∷ decimal visits ∷ codes "items" ∷ decimal items
+    ∷ codes "origins" ∷ decimal origins ∷ codes "sum" ∷ decimal sum ∷ codes "slots" ∷ decimal slots ∷ []) =
+    (of_word (codes "visits") refl, (of_number visits, (of_word (codes "items") refl, (of_number items, totals)))) in
+    ((of_word (codes "stats") refl, (of_word (codes "pages") refl, (of_number pages, rows))), tt)
 of_reply (Removed visits pages) =
     let gone : Are (codes "pages" ∷ decimal pages ∷ []) = (of_word (codes "pages") refl, (of_number pages, tt)) in
     ((of_word (codes "removed") refl, (of_word (codes "visits") refl, (of_number visits, gone))), tt)
@@ -231,6 +244,15 @@ tells_texts id frecency count last typed hidden bookmarked url title tags text i
     let one = read_again (Page id frecency count last typed hidden bookmarked url title tags) text is in
     ap (map (λ fields. map text_of (drop 8 fields))) one
     ∙ rw (u, ti, ta) refl
+
+-- the texts of an origin's line
+pub tells_origin : (prefix host reversed : List ℕ) (total pages : ℕ) (passes : Bool) (text : List ℕ)
+    → text ≡ reply_text (Origin prefix host reversed total pages passes)
+    → IsReadAgain prefix → IsReadAgain host → IsReadAgain reversed
+    → TellsTexts (Origin prefix host reversed total pages passes) text
+tells_origin prefix host reversed total pages passes text is p h r =
+    let one = read_again (Origin prefix host reversed total pages passes) text is in
+    ap (map (λ fields. map text_of (take 3 (drop 1 fields)))) one ∙ rw (p, h, r) refl
 
 told_again : (rows : List ListRow) → All IsToldAgain rows
     → map (λ fields. map text_of (drop 2 fields)) (map row_fields rows)

@@ -1,5 +1,5 @@
 -- The text of a reply: its lines, each with its fields apart by TAB, and LF.
-use Rattle.std.specs.Prelude.{◌≡◌, ℕ, Bool, true, false, List, [], ◌∷◌, ◌++◌, drop, length, map}
+use Rattle.std.specs.Prelude.{◌≡◌, ℕ, Bool, true, false, List, [], ◌∷◌, ◌++◌, drop, length, map, take}
 use Rattle.std.specs.Prelude.{codes, decimal, Option, None, Some, unwrap_or}
 use Rattle.std.specs.Fmt.{signed_decimal}
 use Rattle.std.specs.List.{flat_map, join_with_byte}
@@ -10,7 +10,8 @@ use Rattle.pl_base.specs.declared.item.ItemKind.TheVariants.{Bookmark, Folder, S
 use Rattle.pl_base.specs.Refusal.{refusal_number, refusal_values}
 use Rattle.pl_engine.specs.declared.reply.ListRow.{ListRow}
 use Rattle.pl_engine.specs.declared.reply.Reply.{Reply}
-use Rattle.pl_engine.specs.declared.reply.Reply.TheVariants.{Day, Visit, Done, Page, Removed, Item}
+use Rattle.pl_engine.specs.declared.reply.Reply.TheVariants.{Day, Visit, Done, Page, Origin, Stats}
+use Rattle.pl_engine.specs.declared.reply.Reply.TheVariants.{Removed, Item}
 use Rattle.pl_engine.specs.declared.reply.Reply.TheVariants.{Refused}
 use Rattle.pl_engine.specs.declared.reply.Reply.TheVariants.{List as ListReply}
 use Rattle.pl_script.specs.Script.{escaped, fields_of, text_of}
@@ -63,6 +64,13 @@ reply_fields (Page id frecency count last typed hidden bookmarked url title tags
     codes "page" ∷ decimal id.0 ∷ signed_decimal frecency ∷ decimal count ∷ date_text last
     ∷ truth_text typed ∷ truth_text hidden ∷ truth_text bookmarked
     ∷ escaped url ∷ escaped title ∷ escaped tags ∷ []
+reply_fields (Origin prefix host reversed total pages passes) =
+    codes "origin" ∷ escaped prefix ∷ escaped host ∷ escaped reversed ∷ decimal total
+    ∷ decimal pages ∷ truth_text passes ∷ []
+reply_fields (Stats pages visits items origins sum slots) =
+    codes "stats" ∷ codes "pages" ∷ decimal pages ∷ codes "visits" ∷ decimal visits
+    ∷ codes "items" ∷ decimal items ∷ codes "origins" ∷ decimal origins
+    ∷ codes "sum" ∷ decimal sum ∷ codes "slots" ∷ decimal slots ∷ []
 reply_fields (Removed visits pages) =
     codes "removed" ∷ codes "visits" ∷ decimal visits ∷ codes "pages" ∷ decimal pages ∷ []
 reply_fields (Item id) = codes "item" ∷ decimal id.0 ∷ []
@@ -76,6 +84,8 @@ more_fields (Day day changed) = []
 more_fields (Visit id page frecency) = []
 more_fields Done = []
 more_fields (Page id frecency count last typed hidden bookmarked url title tags) = []
+more_fields (Origin prefix host reversed total pages passes) = []
+more_fields (Stats pages visits items origins sum slots) = []
 more_fields (Removed visits pages) = []
 more_fields (Item id) = []
 more_fields (ListReply rows) = map row_fields rows
@@ -110,8 +120,9 @@ pub record IsToldAgain (row : ListRow) : Type 0 where
   pub title : IsReadAgain (told_title row.kind row.title)
   pub url : IsReadAgain (told_url row.kind row.url)
 
--- the texts of the reply are read again from the last fields of its line, and those of the items of
--- a list from the last fields of the lines behind the first, in order
+-- the texts of the reply are read again: of a page from the last fields of its line, of an origin
+-- from the three behind its word, and of the items of a list from the last fields of the lines
+-- behind the first, in order
 abbrev pub TellsTexts : Reply → List ℕ → Type 0
 TellsTexts (Day day changed) text = Unit {0}
 TellsTexts (Visit id page frecency) text = Unit {0}
@@ -119,6 +130,10 @@ TellsTexts Done text = Unit {0}
 TellsTexts (Page id frecency count last typed hidden bookmarked url title tags) text =
     map (λ fields. map text_of (drop 8 fields)) (fields_in text)
     ≡ (Some url ∷ Some title ∷ Some tags ∷ []) ∷ []
+TellsTexts (Origin prefix host reversed total pages passes) text =
+    map (λ fields. map text_of (take 3 (drop 1 fields))) (fields_in text)
+    ≡ (Some prefix ∷ Some host ∷ Some reversed ∷ []) ∷ []
+TellsTexts (Stats pages visits items origins sum slots) text = Unit {0}
 TellsTexts (Removed visits pages) text = Unit {0}
 TellsTexts (Item id) text = Unit {0}
 TellsTexts (ListReply rows) text =

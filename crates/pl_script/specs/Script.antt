@@ -18,6 +18,7 @@ use Rattle.pl_tree.specs.declared.place.Place.{Place}
 use Rattle.pl_tree.specs.declared.place.Place.TheVariants.{End, Number}
 use Rattle.pl_engine.specs.declared.command.Command.{Command}
 use Rattle.pl_engine.specs.declared.command.Command.TheVariants.{Day, Visit, Title, Page}
+use Rattle.pl_engine.specs.declared.command.Command.TheVariants.{Origin, Stats}
 use Rattle.pl_engine.specs.declared.command.Command.TheVariants.{Unvisit, Forget, Expire, Trim}
 use Rattle.pl_engine.specs.declared.command.Command.TheVariants.{Folder, Bookmark, Separator}
 use Rattle.pl_engine.specs.declared.command.Command.TheVariants.{Move, Retitle, Remove}
@@ -173,6 +174,7 @@ abbrev pub words : List (List ℕ × Word)
 words =
     (codes "day", word.Day)
     ∷ (codes "visit", word.Visit) ∷ (codes "title", word.Title) ∷ (codes "page", word.Page)
+    ∷ (codes "origin", word.Origin) ∷ (codes "stats", word.Stats)
     ∷ (codes "unvisit", word.Unvisit) ∷ (codes "forget", word.Forget)
     ∷ (codes "expire", word.Expire) ∷ (codes "trim", word.Trim)
     ∷ (codes "folder", word.Folder) ∷ (codes "bookmark", word.Bookmark)
@@ -228,6 +230,20 @@ page_line fields = do
   end ← no_more_fields address.1
   url ← url_of address.0
   Ok (Page url)
+
+-- `origin` and an address
+abbrev pub origin_line : Fields → Parsed Command
+origin_line fields = do
+  address ← next_field text_of fields
+  end ← no_more_fields address.1
+  url ← url_of address.0
+  Ok (Origin url)
+
+-- `stats` alone
+abbrev pub stats_line : Fields → Parsed Command
+stats_line fields = do
+  end ← no_more_fields fields
+  Ok Stats
 
 -- `unvisit` and a visit
 abbrev pub unvisit_line : Fields → Parsed Command
@@ -356,6 +372,8 @@ line_of word.Day fields = day_line fields
 line_of word.Visit fields = visit_line fields
 line_of word.Title fields = title_line fields
 line_of word.Page fields = page_line fields
+line_of word.Origin fields = origin_line fields
+line_of word.Stats fields = stats_line fields
 line_of word.Unvisit fields = unvisit_line fields
 line_of word.Forget fields = forget_line fields
 line_of word.Expire fields = expire_line fields

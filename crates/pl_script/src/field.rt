@@ -21,6 +21,8 @@ pub fn word(field: &[u8]) -> Option<Word>
         b"visit" => Some(Word::Visit),
         b"title" => Some(Word::Title),
         b"page" => Some(Word::Page),
+        b"origin" => Some(Word::Origin),
+        b"stats" => Some(Word::Stats),
         b"unvisit" => Some(Word::Unvisit),
         b"forget" => Some(Word::Forget),
         b"expire" => Some(Word::Expire),

@@ -8,6 +8,7 @@ mod fields;
 mod history_lines;
 mod item_lines;
 mod lines;
+mod origin_lines;
 mod reply;
 mod rows;
 mod tag_lines;

@@ -11,6 +11,7 @@ ghost use Rattle.pl_script.specs.declared.lines.LineError.TheVariants.{NoMemory 
 
 use crate::fields::{Fields, LONGEST_LINE};
 use crate::history_lines::{day_line, expire_line, forget_line, trim_line, unvisit_line};
+use crate::origin_lines::{origin_line, stats_line};
 use crate::item_lines::{
     bookmark_line, folder_line, list_line, move_line, remove_line, retitle_line, separator_line,
 };
@@ -93,6 +94,8 @@ fn command_line(alloc: Global, bytes: &[u8]) -> Result<Command, LineError>
         Word::Visit => visit_line(alloc, fields),
         Word::Title => title_line(alloc, fields),
         Word::Page => page_line(alloc, fields),
+        Word::Origin => origin_line(alloc, fields),
+        Word::Stats => stats_line(fields),
         Word::Unvisit => unvisit_line(fields),
         Word::Forget => forget_line(alloc, fields),
         Word::Expire => expire_line(fields),

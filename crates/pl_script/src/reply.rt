@@ -1,5 +1,5 @@
 // The text of a reply.
-ghost use Rattle.std.specs.Prelude.{◌≡◌, ◌<◌, [], ◌∷◌, length, IfOk, decimal};
+ghost use Rattle.std.specs.Prelude.{◌≡◌, ◌<◌, [], ◌∷◌, length, IfOk, codes, decimal};
 ghost use Rattle.std.specs.Fmt.{signed_decimal};
 ghost use Rattle.std.specs.List.{join_with_byte};
 ghost use Rattle.std.specs.String.{string_bytes};
@@ -49,6 +49,30 @@ pub fn reply_text(alloc: Global, reply: &Reply) -> Result<Txt, NoMemory>
             let texts = texts(alloc, url, title, tags)?;
             Ok(Txt::from(format!(in alloc; "page\t{numbers}\t{marks}\t{texts}\n")?))
         }
+        Reply::Origin {
+            prefix,
+            host,
+            reversed,
+            total,
+            pages,
+            passes,
+        } => {
+            let names = texts(alloc, prefix, host, reversed)?;
+            let passes = truth_text(*passes);
+            Ok(Txt::from(format!(in alloc; "origin\t{names}\t{total}\t{pages}\t{passes}\n")?))
+        }
+        Reply::Stats {
+            pages,
+            visits,
+            items,
+            origins,
+            sum,
+            slots,
+        } => {
+            let rows = rows(alloc, *pages, *visits, *items)?;
+            let totals = format!(in alloc; "origins\t{origins}\tsum\t{sum}\tslots\t{slots}")?;
+            Ok(Txt::from(format!(in alloc; "stats\t{rows}\t{totals}\n")?))
+        }
         Reply::Removed { visits, pages } => Ok(Txt::from(
             format!(in alloc; "removed\tvisits\t{visits}\tpages\t{pages}\n")?,
         )),
@@ -82,6 +106,15 @@ fn marks(alloc: Global, typed: bool, hidden: bool, bookmarked: bool) -> Result<S
     let hidden = truth_text(hidden);
     let bookmarked = truth_text(bookmarked);
     Ok(format!(in alloc; "{typed}\t{hidden}\t{bookmarked}")?)
+}
+
+// The fields of a store's line that tell its rows.
+fn rows(alloc: Global, pages: u32, visits: u32, items: u32) -> Result<String, NoMemory>
+    ensures { IfOk result (λ text. string_bytes text ≡ join_with_byte 9
+        (codes "pages" ∷ decimal pages ∷ codes "visits" ∷ decimal visits
+        ∷ codes "items" ∷ decimal items ∷ [])) }
+{
+    Ok(format!(in alloc; "pages\t{pages}\tvisits\t{visits}\titems\t{items}")?)
 }
 
 // Those that are texts.

@@ -5,6 +5,8 @@ pub enum Word {
     Visit,
     Title,
     Page,
+    Origin,
+    Stats,
     Unvisit,
     Forget,
     Expire,

@@ -47,3 +47,13 @@ pub returns-in-expire : goal.returns-in-expire
 returns-in-expire c =
     let ends : EndsIn c.args.field.now 0 (codes "expire") = search rules in
     is_word c.args.field.now (codes "expire") ends
+
+pub returns-in-origin : goal.returns-in-origin
+returns-in-origin c =
+    let ends : EndsIn c.args.field.now 0 (codes "origin") = search rules in
+    is_word c.args.field.now (codes "origin") ends
+
+pub returns-in-stats : goal.returns-in-stats
+returns-in-stats c =
+    let ends : EndsIn c.args.field.now 0 (codes "stats") = search rules in
+    is_word c.args.field.now (codes "stats") ends

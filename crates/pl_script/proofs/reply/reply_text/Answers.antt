@@ -4,10 +4,10 @@ use Rattle.std.specs.List.{All, join_with_byte}
 use Rattle.std.specs.Prelude.{codes, decimal}
 use Rattle.std.specs.Fmt.{signed_decimal}
 use Rattle.std.proofs.lemmas.Int.{to_z-of_z}
-use Rattle.pl_engine.specs.declared.reply.Reply.TheVariants.{Day, Visit, Removed, Item}
+use Rattle.pl_engine.specs.declared.reply.Reply.TheVariants.{Day, Visit, Origin, Stats, Removed, Item}
 use Rattle.pl_engine.specs.declared.reply.Reply.TheVariants.{List as ListReply, Refused}
 use Rattle.pl_script.specs.Reply.{IsToldAgain, date_text, line_text, reply_fields, reply_text}
-use Rattle.pl_script.proofs.ReplyLines.{never_empty, read_again, tells_rows, tells_texts}
+use Rattle.pl_script.proofs.ReplyLines.{never_empty, read_again, tells_origin, tells_rows, tells_texts}
 use Rattle.pl_script.proofs.reply.reply_text.Goals as goal
 
 -- a text of one line
@@ -126,4 +126,38 @@ returns-in_ok-format-in-Removed c =
       reads_back = read_again c.args.reply.now c.from-in-Removed.result exact;
       texts = rw c.in-Removed.is tt;
       never_empty = never_empty c.args.reply.now c.from-in-Removed.result exact;
+    }
+
+pub returns-in_ok-format-in-Origin : goal.returns-in_ok-format-in-Origin
+returns-in_ok-format-in-Origin c =
+    let exact : c.from-in-Origin.result ≡ reply_text c.args.reply.now =
+    rw c.in-Origin.is
+    (alone (reply_fields (Origin c.in-Origin.prefix c.in-Origin.host c.in-Origin.reversed c.in-Origin.total
+    c.in-Origin.pages c.in-Origin.passes)) c.from-in-Origin.result
+    (c.from-in-Origin.ensures ∙ c.in_ok-format-in-Origin.ensures.ok
+    ∙ rw (c.in_ok-names-in-Origin.ensures.exact, c.truth_text-passes-in-Origin.ensures) (simp append_assoc refl))) in
+    let told =
+    tells_origin c.in-Origin.prefix c.in-Origin.host c.in-Origin.reversed c.in-Origin.total c.in-Origin.pages
+    c.in-Origin.passes c.from-in-Origin.result (rw c.in-Origin.is at exact) c.in_ok-names-in-Origin.ensures.url
+    c.in_ok-names-in-Origin.ensures.title c.in_ok-names-in-Origin.ensures.tags in
+    record {
+      exact = exact;
+      reads_back = read_again c.args.reply.now c.from-in-Origin.result exact;
+      texts = rw c.in-Origin.is told;
+      never_empty = never_empty c.args.reply.now c.from-in-Origin.result exact;
+    }
+
+pub returns-in_ok-format-in-Stats : goal.returns-in_ok-format-in-Stats
+returns-in_ok-format-in-Stats c =
+    let exact : c.from-in-Stats.result ≡ reply_text c.args.reply.now =
+    rw c.in-Stats.is
+    (alone (reply_fields (Stats c.in-Stats.pages c.in-Stats.visits c.in-Stats.items c.in-Stats.origins c.in-Stats.sum
+    c.in-Stats.slots)) c.from-in-Stats.result
+    (c.from-in-Stats.ensures ∙ c.in_ok-format-in-Stats.ensures.ok
+    ∙ rw (c.in_ok-rows-in-Stats.ensures, c.in_ok-totals-in-Stats.ensures.ok) (simp append_assoc refl))) in
+    record {
+      exact = exact;
+      reads_back = read_again c.args.reply.now c.from-in-Stats.result exact;
+      texts = rw c.in-Stats.is tt;
+      never_empty = never_empty c.args.reply.now c.from-in-Stats.result exact;
     }
