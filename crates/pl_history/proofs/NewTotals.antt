@@ -19,12 +19,12 @@ use Rattle.pl_base.specs.Rows.{has_page, mark_of, origin_names, origin_of, page_
 use Rattle.pl_base.specs.Rows.{totaled, with_total}
 use Rattle.pl_base.specs.Store.{Page, Store}
 use Rattle.pl_base.specs.Totals.{Origin, Scored, is_origin, scored_pages, share, total_of}
-use Rattle.pl_base.proofs.ListLaws.{sum_by-agree, weaker}
+use Rattle.pl_base.proofs.ListLaws.{weaker}
 use Rattle.pl_base.proofs.OriginLaws.{same_origin-by_texts, same_origin-self, same_origin-sym}
 use Rattle.pl_history.specs.Sound.{IsSound}
 use Rattle.pl_history.proofs.PageCounts.{sum_le}
 use Rattle.pl_history.proofs.PageTurns.{IsPageHere, PageTurns, turns_end}
-use Rattle.pl_history.proofs.SmallTotals.{few_shares, scored_by}
+use Rattle.pl_history.proofs.SmallTotals.{few_kept, scored_by}
 use Rattle.pl_marks.proofs.LookUps.{both}
 use Rattle.pl_marks.proofs.PageWalk.{found_at, part, push}
 
@@ -76,7 +76,8 @@ total_after : (kept : Kept) (o q : Slot) (total : ℕ) → has_origin kept o ≡
 total_after kept o q total there = choose (q.0 == o.0) refl
   where
     choose : (b : Bool) → (q.0 == o.0) ≡ b
-        → found_total q.0 (map (totaled o total) kept.origins) ≡ (if b then Some total else found_total q.0 kept.origins)
+        → found_total q.0 (map (totaled o total) kept.origins)
+        ≡ (if b then Some total else found_total q.0 kept.origins)
     choose true is =
         ap (λ (n : ℕ). found_total n (map (totaled o total) kept.origins)) (eqb-true q.0 o.0 is)
         ∙ set_there o total kept.origins there
@@ -239,7 +240,8 @@ module _ (old now : Kept) (id : PageId) (origin : Slot) (total : ℕ) (mark : Ma
       choose false other =
           let apart : (w.page.origin.0 == q.origin.0) ≡ false =
           ne_eqb w.page.origin.0 q.origin.0
-          (λ number. eqb-false q.origin.0 origin.0 other (sym number ∙ ap (λ (s : Slot). s.0) (sym same_origin_here))) in
+          (λ number.
+          eqb-false q.origin.0 origin.0 other (sym number ∙ ap (λ (s : Slot). s.0) (sym same_origin_here))) in
           let nothing : added w.front q.origin.0 ≡ added w.front q.origin.0 + 0 = omega arith in
           is
           ∙ ap (λ (n : ℕ). Some n) nothing
@@ -257,7 +259,6 @@ module _ (old now : Kept) (id : PageId) (origin : Slot) (total : ℕ) (mark : Ma
 
   pub share_fits : IsRight old → total + share mark.frecency < 2 ^ 36
   share_fits right =
-      let store : Store = store_of old in
       omega (
         arith,
         total_here,
@@ -267,9 +268,7 @@ module _ (old now : Kept) (id : PageId) (origin : Slot) (total : ℕ) (mark : Ma
         sum_by-append (λ (p : KeptPage). share p.frecency) w.front (w.page ∷ w.rest),
         sum_by-cons (λ (p : KeptPage). share p.frecency) w.page w.rest,
         ap (sum_by (λ (p : KeptPage). share p.frecency)) w.whole,
-        sum_by-agree (λ (p : KeptPage). share p.frecency) (λ (p : KeptPage). share (frecency_of store p.page))
-            old.pages (λ k d within. ap share (right.frecencies k d within)),
-        few_shares old h,
+        few_kept old h right,
       )
     where
       added_by-le : (n : ℕ) (p : KeptPage) → added_by n p ≤ share p.frecency

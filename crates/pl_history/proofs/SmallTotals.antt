@@ -1,6 +1,7 @@
 -- The positive frecencies of all pages are small together.
 use Rattle.std.proofs.Common.{◌≡◌, ◌+◌, ◌-◌, ◌*◌, ◌/◌, ◌^◌, ◌<◌, ◌≤◌, ◌==◌, ℕ, ℤ, pos, negsuc, All, Bool, true, false}
-use Rattle.std.proofs.Common.{List, [], ◌∷◌, ◌++◌, Option, Some, None, ap, arith, filter, if◌then◌else◌, get_or, length, refl}
+use Rattle.std.proofs.Common.{List, [], ◌∷◌, ◌++◌, Option, Some, None, ap, arith, filter, if◌then◌else◌, get_or}
+use Rattle.std.proofs.Common.{length, refl}
 use Rattle.std.specs.List.{filter_map, sum_by}
 use Rattle.std.specs.Option.{option_map}
 use Rattle.std.proofs.Math.Nat.{mul-le-mul_left}
@@ -16,12 +17,12 @@ use Rattle.pl_base.specs.Frecency.{frecency_from, frecency_of, points, rounded_u
 use Rattle.pl_base.specs.Frecency.{visited_frecency}
 use Rattle.pl_base.specs.Marks.{is_referenced, visit_count}
 use Rattle.pl_base.specs.Redirects.{is_redirect_source, source_transition}
-use Rattle.pl_base.specs.Rows.{IsWellKept, Kept, KeptPage, store_of}
+use Rattle.pl_base.specs.Rows.{IsRight, IsWellKept, Kept, KeptPage, store_of}
 use Rattle.pl_base.specs.Store.{Page, Store, Visit}
 use Rattle.pl_base.specs.Tables.{age, greatest_bonus, weight_of}
 use Rattle.pl_base.specs.Totals.{Origin, Scored, scored_pages, share}
 use Rattle.pl_base.specs.Visits.{sample_of}
-use Rattle.pl_base.proofs.ListLaws.{sum_by-map}
+use Rattle.pl_base.proofs.ListLaws.{sum_by-agree, sum_by-map}
 use Rattle.pl_base.proofs.TablesLaws.{bonus_of-le}
 use Rattle.pl_history.proofs.PageCounts.{counts_of_pages, sum_le}
 
@@ -101,6 +102,18 @@ few_shares kept h =
       linear (λ (p : KeptPage). visit_count (store_of kept) p.page.id) kept.pages,
       counts_of_pages kept h,
       length-map kept.pages (λ (p : KeptPage). p.page),
+    )
+
+-- as they are kept
+pub few_kept : (kept : Kept) → IsWellKept kept → IsRight kept
+    → sum_by (λ (p : KeptPage). share p.frecency) kept.pages < 2 ^ 36
+few_kept kept h right =
+    omega (
+      arith,
+      sum_by-agree (λ (p : KeptPage). share p.frecency)
+          (λ (p : KeptPage). share (frecency_of (store_of kept) p.page)) kept.pages
+          (λ k d within. ap share (right.frecencies k d within)),
+      few_shares kept h,
     )
 
 -- the share of one page

@@ -1,4 +1,4 @@
-// How many pages and visits there are.
+// How many visits a page has, and how many there are.
 ghost use Rattle.std.specs.Prelude.{◌≡◌, true, length};
 ghost use Rattle.pl_base.specs.Rows.{has_page, store_of};
 ghost use Rattle.pl_base.specs.Visits.{visits_of};
