@@ -6,9 +6,7 @@ use Rattle.std.proofs.lemmas.List.{append-nil}
 use Rattle.pl_base.specs.declared.id.PageId.{PageId}
 use Rattle.pl_base.specs.Good.{end_of_ids}
 use Rattle.pl_base.specs.Rows.{IsWellKept, Kept, KeptPage, has_page, page_behind}
-use Rattle.pl_base.proofs.ListLaws.{weaker}
-use Rattle.pl_marks.proofs.PageWalk.{Ascend, above, ascend, behind, below, first_page, given, left, nears, part, push}
-use Rattle.pl_marks.proofs.PageWalk.{there}
+use Rattle.pl_marks.proofs.PageWalk.{first_behind, first_page, given, left, nears, next_behind, part, there}
 
 -- what holds of the pages in front of the next one
 pub record PageTurns (kept : Kept) (P : List KeptPage → Type 0) (next : Option PageId) : Type 0 where
@@ -34,10 +32,7 @@ turns_start kept P next h is none =
       front = [];
       rest = kept.pages;
       whole = refl;
-      here =
-          is ∙ behind 0 [] kept.pages tt
-          (weaker (λ (p : KeptPage). (0 < p.page.id.0) × (p.page.id.0 < kept.ids.page))
-          (λ (p : KeptPage). 0 < p.page.id.0) kept.pages (λ p both. both.0) (given kept h));
+      here = is ∙ first_behind kept h;
       so_far = none;
     }
 
@@ -60,23 +55,11 @@ pub turns_go_on : (kept : Kept) (P Q : List KeptPage → Type 0) (id : PageId) (
     → IsWellKept kept → (w : IsPageHere kept P id) → next ≡ page_behind kept (Some id) → Q (w.front ++ w.page ∷ [])
     → PageTurns kept Q next
 turns_go_on kept P Q id next h w is more =
-    let ordered : Ascend (w.front ++ w.page ∷ w.rest) = subst Ascend w.whole (ascend kept h) in
-    let whole : kept.pages ≡ (w.front ++ w.page ∷ []) ++ w.rest =
-    w.whole ∙ sym (append_assoc w.front (w.page ∷ []) w.rest) in
-    let number : w.page.page.id.0 ≡ id.0 = ap (λ (i : PageId). i.0) w.is in
-    let low : AllByRecursion (λ (q : KeptPage). q.page.id.0 ≤ id.0) (w.front ++ w.page ∷ []) =
-    push (λ (q : KeptPage). q.page.id.0 ≤ id.0) w.front w.page
-    (weaker (λ (q : KeptPage). q.page.id.0 < w.page.page.id.0) (λ (q : KeptPage). q.page.id.0 ≤ id.0) w.front
-    (λ q less. omega arith) (below w.front w.page w.rest ordered))
-    (omega arith) in
-    let high : AllByRecursion (λ (q : KeptPage). id.0 < q.page.id.0) w.rest =
-    weaker (λ (q : KeptPage). w.page.page.id.0 < q.page.id.0) (λ (q : KeptPage). id.0 < q.page.id.0) w.rest
-    (λ q later. omega arith) (above w.front w.page w.rest ordered) in
     record {
       front = w.front ++ w.page ∷ [];
       rest = w.rest;
-      whole = whole;
-      here = is ∙ rw whole (behind id.0 (w.front ++ w.page ∷ []) w.rest low high);
+      whole = w.whole ∙ sym (append_assoc w.front (w.page ∷ []) w.rest);
+      here = is ∙ next_behind kept id w.front w.page w.rest h w.whole w.is;
       so_far = more;
     }
 
