@@ -18,7 +18,7 @@ use Rattle.pl_base.proofs.IdsLaws.{few_ids}
 use Rattle.pl_base.proofs.VisitsLaws.{length-latest_first}
 use Rattle.pl_marks.proofs.LookUps.{Apart, apart_ascending}
 use Rattle.pl_marks.proofs.VisitWalk.{IsVisitHere}
-use Rattle.pl_history.proofs.PageTurns.{IsPageHere}
+use Rattle.pl_marks.proofs.PageTurns.{IsPageHere}
 
 -- ---- sums
 

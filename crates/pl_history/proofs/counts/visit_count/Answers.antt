@@ -1,8 +1,8 @@
 use Rattle.std.proofs.Common.{◌∙◌, ◌+◌, arith, refl, sym}
 use Rattle.pl_base.specs.Rows.{Kept}
 use Rattle.pl_history.proofs.PageCounts.{HaveVisits, more_visits, visits_fit, visits_of_pages}
-use Rattle.pl_history.proofs.PageTurns.{IsPageHere, has_here, page_here, turns_end, turns_go_on, turns_near}
-use Rattle.pl_history.proofs.PageTurns.{turns_start}
+use Rattle.pl_marks.proofs.PageTurns.{IsPageHere, has_here, page_here, turns_end, turns_go_on, turns_near}
+use Rattle.pl_marks.proofs.PageTurns.{turns_start}
 use Rattle.pl_history.proofs.counts.visit_count.Goals as goal
 
 pub loop-next-init : goal.loop-next-init

@@ -1,6 +1,6 @@
 use Rattle.pl_marks.proofs.PageWalk.{left}
 use Rattle.pl_history.proofs.PageCounts.{HaveVisits}
-use Rattle.pl_history.proofs.PageTurns.{PageTurns}
+use Rattle.pl_marks.proofs.PageTurns.{PageTurns}
 use Rattle.pl_history.proofs.counts.visit_count.Given as goal
 
 abbrev pub invariant-loop-next : goal.invariant-loop-next

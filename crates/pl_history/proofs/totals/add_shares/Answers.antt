@@ -5,8 +5,8 @@ use Rattle.pl_base.specs.Totals.{share}
 use Rattle.pl_marks.proofs.LookUps.{found_where}
 use Rattle.pl_history.proofs.NewTotals.{AreAdded, AreAsBefore, adds_more, all_added, behind_still, has_still}
 use Rattle.pl_history.proofs.NewTotals.{named_here, none_added, set_still, share_fits}
-use Rattle.pl_history.proofs.PageTurns.{IsPageHere, has_here, page_here, turns_go_on, turns_near}
-use Rattle.pl_history.proofs.PageTurns.{turns_start}
+use Rattle.pl_marks.proofs.PageTurns.{IsPageHere, has_here, page_here, turns_go_on, turns_near}
+use Rattle.pl_marks.proofs.PageTurns.{turns_start}
 use Rattle.pl_history.proofs.totals.add_shares.Goals as goal
 
 pub loop-next-init : goal.loop-next-init

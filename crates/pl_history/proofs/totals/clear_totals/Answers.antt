@@ -2,8 +2,8 @@ use Rattle.std.proofs.Common.{◌∙◌, Some, refl}
 use Rattle.pl_base.specs.Rows.{Kept}
 use Rattle.pl_history.proofs.NewTotals.{AreAsBefore, AreCleared, all_cleared, behind_still, clears_more, has_still}
 use Rattle.pl_history.proofs.NewTotals.{named_here, set_still}
-use Rattle.pl_history.proofs.PageTurns.{IsPageHere, has_here, page_here, turns_go_on, turns_near}
-use Rattle.pl_history.proofs.PageTurns.{turns_start}
+use Rattle.pl_marks.proofs.PageTurns.{IsPageHere, has_here, page_here, turns_go_on, turns_near}
+use Rattle.pl_marks.proofs.PageTurns.{turns_start}
 use Rattle.pl_history.proofs.totals.clear_totals.Goals as goal
 
 pub loop-next-init : goal.loop-next-init

@@ -1,7 +1,7 @@
 use Rattle.std.proofs.Common.{ℕ, List}
 use Rattle.pl_marks.proofs.PageWalk.{left}
 use Rattle.pl_history.proofs.NewTotals.{AreAsBefore, AreCleared}
-use Rattle.pl_history.proofs.PageTurns.{PageTurns}
+use Rattle.pl_marks.proofs.PageTurns.{PageTurns}
 use Rattle.pl_history.proofs.totals.clear_totals.Given as goal
 
 abbrev pub invariant-loop-next : goal.invariant-loop-next
