@@ -1,12 +1,11 @@
 // What is known of the origin of an address, and of the whole store.
-ghost use Rattle.std.specs.Prelude.{◌≡◌, ◌&&◌, List, bytes_eq, IfOk};
-ghost use Rattle.std.specs.List.{count_by};
-ghost use Rattle.pl_base.specs.declared.view.View.{View};
+ghost use Rattle.std.specs.Prelude.{◌≡◌, ◌&&◌, ℕ, List, bytes_eq, IfOk};
 ghost use Rattle.pl_base.specs.Address.{record_of};
 ghost use Rattle.pl_base.specs.Rows.{store_of};
-ghost use Rattle.pl_base.specs.Totals.{scored_pages};
+ghost use Rattle.pl_base.specs.Totals.{Scored, scored_pages};
 ghost use Rattle.pl_base.specs.View.{scored_views};
 ghost use Rattle.pl_history.specs.Sound.{IsSound};
+ghost use Rattle.pl_totals.specs.Standing.{StandsFor};
 ghost use Rattle.pl_engine.specs.Step as spec;
 
 use crate::reply::Reply;
@@ -33,6 +32,14 @@ fn pages_of(views: &[View], parts: &Parts) -> usize
     views.iter().filter(|view| has_origin(view, parts)).count()
 }
 
+// Whether the group of a host passes; the empty host has none.
+fn passes(totals: &Totals, host: &str) -> bool
+    ensures { (pages : List Scored) → StandsFor totals.now pages → (prefix : List ℕ)
+        → result ≡ spec.origin_passes pages (prefix, host.now) }
+{
+    !host.is_empty() && totals.passes(without_www(host))
+}
+
 /// What is known of the origin of the URL.
 pub fn origin<R: Rows, L: Ledger>(
     alloc: Global,
@@ -52,8 +59,7 @@ pub fn origin<R: Rows, L: Ledger>(
     }
     let totals = Totals::over(alloc, &views)?;
     let total = totals.total(parts.prefix.as_str(), parts.host.as_str());
-    let host = parts.host.as_str();
-    let passes = !host.is_empty() && totals.passes(without_www(host));
+    let passes = passes(&totals, parts.host.as_str());
     Ok(Reply::Origin {
         prefix: parts.prefix,
         host: parts.host,
