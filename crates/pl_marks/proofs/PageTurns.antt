@@ -90,4 +90,5 @@ id_given kept P id h w =
 pub turns_near : (kept : Kept) (P : List KeptPage → Type 0) (now : Option PageId) (id : PageId) (next : Option PageId)
     → IsWellKept kept → PageTurns kept P now → now ≡ Some id → next ≡ page_behind kept (Some id)
     → left next < left now
-turns_near kept P now id next h w at is = rw at (nears kept id next (id_given kept P id h (page_here kept P now id w at)) is)
+turns_near kept P now id next h w at is =
+    rw at (nears kept id next (id_given kept P id h (page_here kept P now id w at)) is)
