@@ -173,7 +173,8 @@ freshest_goes_on kept page now next id found here new h walk at is told new_is =
 pub bookmark_is : (items : List Item) (id : ItemId) (i : Item) (inside : Bool) → item_at items id ≡ Some i
     → is_some (tag_folder items id) ≡ inside
     → dated_bookmark items i ≡ (if inside then None else Some (dated i))
-bookmark_is items id i inside at is = ap (λ (b : Bool). if b then Some (dated i) else None) (none_if here) ∙ turned inside
+bookmark_is items id i inside at is =
+    ap (λ (b : Bool). if b then Some (dated i) else None) (none_if here) ∙ turned inside
   where
     here : is_some (tag_folder items i.id) ≡ inside
     here =
