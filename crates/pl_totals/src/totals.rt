@@ -48,8 +48,8 @@ impl Equivalent<Origin> for Named<'_> {
 /// and its threshold: the mean, plus 0 times the standard deviation.
 ///
 /// An origin is a prefix, such as `https://`, and a host with its port, both as they stand in a
-/// URL; its total is the sum of the positive frecencies of its pages. A frecency of -1, of a page
-/// whose visits are still to be weighed, never counts.
+/// URL; its total is the sum of the positive frecencies of its pages. A frecency of -1, where the
+/// visits of a page add nothing, never counts.
 ///
 /// A group of hosts has the origins whose hosts are equal without one leading `www.`, whatever
 /// their prefixes; an origin without a host is in none. A group passes where its total is
