@@ -162,7 +162,8 @@ origin_where keys q name key own distinct first second =
     let number : q.origin.0 ≡ name = eqb-true q.origin.0 name same in
     let equal : own ≡ key =
     sym (first.is key) ∙ ap (λ n. get_or keys (n - 1) key) number ∙ second.is key in
-    and_from (bytes_eq own.0 key.0) (bytes_eq own.1 key.1) ((bytes_eq-Decides own.0 key.0).1 (ap (λ (k : Key). k.0) equal))
+    and_from (bytes_eq own.0 key.0) (bytes_eq own.1 key.1)
+    ((bytes_eq-Decides own.0 key.0).1 (ap (λ (k : Key). k.0) equal))
     ((bytes_eq-Decides own.1 key.1).1 (ap (λ (k : Key). k.1) equal)))
 
 -- a page with its origin

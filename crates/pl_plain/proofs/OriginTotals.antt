@@ -49,8 +49,8 @@ total_named totals kept origin is some last =
     ∙ ap (option_map (λ (a : KeptOrigin). a.total)) (found_from 1 totals origin.0 (omega arith) (omega (arith, last)))
 
 -- a name that is there is 1 or more, and no more than there are origins
-pub name_within : (totals : List ℕ) (n : ℕ) → list_any (λ (a : KeptOrigin). a.origin.0 == n) (origins_from totals) ≡ true
-    → (0 < n) × (n ≤ length totals)
+pub name_within : (totals : List ℕ) (n : ℕ)
+    → list_any (λ (a : KeptOrigin). a.origin.0 == n) (origins_from totals) ≡ true → (0 < n) × (n ≤ length totals)
 name_within totals n there =
     let at = Any-from_list_any (λ (a : KeptOrigin). a.origin.0 == n) (origins_from totals) there in
     let inside : at.0 < length totals = rw (length-origins_from totals) at at.2 in

@@ -21,7 +21,8 @@ from_rows-requires-clause-rows c =
     let tree : IsTree r.items.items = MatchOption-at_some _ _ _ c.in-Some.is c.in_ok-items.ensures.tree in
     let totals : List ℕ = c.in_ok-totals.totals.items in
     let few : length totals ≡ c.args.named.origins =
-    ap length (c.in_ok-totals.ensures ∙ ap (λ (ps : List FlatPage). totals_by ps c.args.named.origins) c.deref.ensures.value)
+    ap length (c.in_ok-totals.ensures
+    ∙ ap (λ (ps : List FlatPage). totals_by ps c.args.named.origins) c.deref.ensures.value)
     ∙ length-map-range_with_len (named_total c.args.named.pages.items) 1 c.args.named.origins in
     subst (λ (n : ℕ).
     IsFlat (kept_from r.day r.ids c.args.named.pages.items totals r.visits.items c.in-Some.items) n c.args.live)

@@ -8,7 +8,9 @@ use Rattle.pl_plain.proofs.CheckTotals.{length-totals, names_there, sum_fits, to
 use Rattle.pl_plain.proofs.check.totals.totals.Goals as goal
 
 pub loop-page-init : goal.loop-page-init
-loop-page-init c = totals_none c.in_ok-totals.totals.items c.args.origins (c.in_ok-totals.ensures.items_if_clones_equal (λ y same. same))
+loop-page-init c =
+    totals_none c.in_ok-totals.totals.items c.args.origins
+    (c.in_ok-totals.ensures.items_if_clones_equal (λ y same. same))
 
 pub index_mut-requires : goal.index_mut-requires
 index_mut-requires c =

@@ -23,7 +23,8 @@ returns-clause-stands c =
     in_both c.into_flat.result c.into_flat.ensures.kept c.into_flat.ensures.tree
     (λ (flat : Flat) kept tree.
     subst (λ (k : Kept). StandsFor (behind_gate c.args.bytes.now) (store_of k)) (sym kept)
-    (stands-for (behind_gate c.args.bytes.now) rows pages keys (totals_by pages origins) origins c.live-live.result c.in_ok-rows.ensures.holds
+    (stands-for (behind_gate c.args.bytes.now) rows pages keys (totals_by pages origins) origins
+    c.live-live.result c.in_ok-rows.ensures.holds
     (record {
       stored = c.in_ok-rows.ensures.stored;
       good = c.in_ok-are_good.ensures.good c.if-not-branch.false;
@@ -39,7 +40,8 @@ pub returns-clause-right : goal.returns-clause-right
 returns-clause-right c =
     in_both c.into_flat.result c.into_flat.ensures.kept c.into_flat.ensures.kept
     (λ (flat : Flat) kept _. subst IsRight (sym kept)
-    (is-right c.in_ok-rows.field-0.rows c.in_ok-named.named.pages.items (totals_by c.in_ok-named.named.pages.items c.in_ok-named.named.origins)
+    (is-right c.in_ok-rows.field-0.rows c.in_ok-named.named.pages.items
+    (totals_by c.in_ok-named.named.pages.items c.in_ok-named.named.origins)
     c.in_ok-named.ensures.pages))
 
 pub returns-clause-totals : goal.returns-clause-totals
