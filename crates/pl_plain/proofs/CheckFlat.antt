@@ -62,7 +62,7 @@ store-same rows qs totals zip =
     (pages_same rows rows.pages qs zip)
 
 -- what holds of each flat page
-each_page : (rows : Stored) (P : FlatPage → Type 0) (ps : List StoredPage) (qs : List FlatPage)
+pub each_page : (rows : Stored) (P : FlatPage → Type 0) (ps : List StoredPage) (qs : List FlatPage)
     → ((p : StoredPage) (q : FlatPage) → IsAssessed rows p q → P q) → AllZip (IsAssessed rows) ps qs → All P qs
 each_page rows P [] [] each zip = All-nil P
 each_page rows P [] (q ∷ qs) each zip = absurd zip
@@ -176,8 +176,8 @@ has_page_same rows qs totals id zip =
     sym (list_any-map (λ (p : Page). p.id.0 == id.0) (λ (k : KeptPage). k.page) (map page_of qs))
     ∙ ap (list_any (λ (p : Page). p.id.0 == id.0)) (pages_same rows rows.pages qs zip)
 
-names_equal : (keys : List Key) (m n : ℕ) (k : Key) → AllPairs (λ a b. a ≢ b) keys → IsNamed keys m k → IsNamed keys n k
-    → m ≡ n
+pub names_equal : (keys : List Key) (m n : ℕ) (k : Key) → AllPairs (λ a b. a ≢ b) keys → IsNamed keys m k
+    → IsNamed keys n k → m ≡ n
 names_equal keys m n k distinct first second =
     elim (cases_lt m n) [
       | inl less ↦ absurd (distinct (m - 1) (n - 1) k (omega (arith, first.some))

@@ -25,6 +25,7 @@ use Rattle.pl_base.specs.Live.{live_slots, slot_limit}
 use Rattle.pl_base.specs.Marks.{is_counted, is_referenced, visit_count}
 use Rattle.pl_base.specs.Redirects.{visit_by_id}
 use Rattle.pl_base.specs.Store.{Item, Page, Store, Visit}
+use Rattle.pl_base.specs.Totals.{share}
 use Rattle.pl_base.specs.Visits.{latest_first, sample_of, visits_of}
 use Rattle.pl_score.specs.declared.sample.Sampled.{Sampled}
 use Rattle.pl_score.specs.Sample.{sampled_of}
@@ -34,7 +35,7 @@ use Rattle.pl_form.specs.declared.check_error.CheckError.{CheckError}
 use Rattle.pl_form.specs.declared.check_error.CheckError.TheVariants.{NoMemory, NotAStore}
 use Rattle.pl_form.specs.declared.stored.StoredVisit.{StoredVisit}
 use Rattle.pl_form.specs.declared.stored.StoredPage.{StoredPage}
-use Rattle.pl_plain.specs.CheckPages.{IsFrecencyRight}
+use Rattle.pl_plain.specs.CheckPages.{IsFrecencyRight, most_share}
 use Rattle.pl_form.specs.Reading.{IsItemPage, IsSource}
 use Rattle.pl_form.specs.Form.{FormRows, StandsFor, filled_pages, form_bytes, in_pages, plain_bytes, store_rows}
 use Rattle.pl_form.specs.Stored.{AreStored, HoldsRows, IsChild, IsShort, IsStoredItem, IsStoredPage}
@@ -148,6 +149,54 @@ frecency-fits store p few =
       count_by-le-length (λ (v : Visit). (v.page.0 == p.id.0) && is_counted v.transition)
           store.visits,
     ))
+
+-- ---- what a page adds to a total
+
+rounded_within : (total sampled count : ℕ) → total ≤ 2_075_000 → sampled ≤ 10 → count ≤ slot_limit
+    → rounded_up (count * rounded_up total 100) sampled ≤ most_share
+rounded_within total sampled count small ten few =
+    let r : ℕ = rounded_up total 100 in
+    let r_small : r ≤ 20_751 = omega arith in
+    let product : count * r ≤ 4_194_304 * 20_751 =
+    mul-le-mul {n₁ = count} {m₁ = r} {n₂ = 4_194_304} {m₂ = 20_751} few r_small in
+    omega (arith, product, div-le_self (count * r + (sampled - 1)) sampled)
+
+visited_within : (b : Bool) (n : ℕ) → n ≤ most_share → share (if b then negsuc 0 else pos n) ≤ most_share
+visited_within true n small = omega arith
+visited_within false n small = small
+
+either_within : (b : Bool) (x y : ℤ) → share x ≤ most_share → share y ≤ most_share
+    → share (if b then x else y) ≤ most_share
+either_within true x y first second = first
+either_within false x y first second = second
+
+unvisited_within : (referenced typed place : Bool) → share (unvisited_frecency referenced typed place) ≤ most_share
+unvisited_within true true true = omega arith
+unvisited_within true true false = omega arith
+unvisited_within true false true = omega arith
+unvisited_within true false false = omega arith
+unvisited_within false true true = omega arith
+unvisited_within false true false = omega arith
+unvisited_within false false true = omega arith
+unvisited_within false false false = omega arith
+
+pub frecency-within : (store : Store) (p : Page) → length store.visits ≤ slot_limit
+    → share (frecency_of store p) ≤ most_share
+frecency-within store p few =
+    let total : ℕ =
+    sum_by (λ (v : Visit). points store.day v.date (visit_bonus store v)) (sample_of store p.id) in
+    let sampled : ℕ = length (sample_of store p.id) in
+    let count : ℕ = visit_count store p.id in
+    either_within (count == 0) (unvisited_frecency (is_referenced store p.id) p.typed (is_place_url p.url))
+    (visited_frecency total sampled count)
+    (unvisited_within (is_referenced store p.id) p.typed (is_place_url p.url))
+    (visited_within (total == 0) (rounded_up (count * rounded_up total 100) sampled)
+    (rounded_within total sampled count (few_points store p.id) (ten_sampled store p.id)
+    (omega (
+      arith,
+      few,
+      count_by-le-length (λ (v : Visit). (v.page.0 == p.id.0) && is_counted v.transition) store.visits,
+    ))))
 
 -- a source that is there has an id that fits
 source-fits : (store : Store) (v : Visit) → IsGood store → IsGoodVisit store v → IsSource v.source

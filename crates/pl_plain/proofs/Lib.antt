@@ -4,6 +4,7 @@ pub mod CheckFlat
 pub mod CheckHeld
 pub mod CheckOrigins
 pub mod CheckPages
+pub mod CheckTotals
 pub mod FlatChanges
 pub mod ItemChanges
 pub mod Lengths

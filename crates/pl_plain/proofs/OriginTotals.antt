@@ -1,7 +1,7 @@
 -- The totals of origins, by their names.
-use Rattle.std.proofs.Common.{◌≡◌, ◌≢◌, ◌+◌, ◌-◌, ◌<◌, ◌≤◌, ◌==◌, ◌++◌, ◌∙◌, ℕ, All, Bool, true, false, List, [], ◌∷◌}
-use Rattle.std.proofs.Common.{Option, Some, ap, arith, eq-eqb, find, get_or, if◌then◌else◌, length, map, min, refl}
-use Rattle.std.proofs.Common.{replicate, set, subst, suc, sym, take}
+use Rattle.std.proofs.Common.{◌≡◌, ◌≢◌, ◌+◌, ◌-◌, ◌<◌, ◌≤◌, ◌==◌, ◌++◌, ◌∙◌, ℕ, Bool, true, false, List, [], ◌∷◌}
+use Rattle.std.proofs.Common.{Some, ap, arith, eq-eqb, find, get_or, if◌then◌else◌, length, map, refl}
+use Rattle.std.proofs.Common.{replicate, set, suc, sym}
 use Rattle.std.specs.List.{enumerate_from, list_any, swap_remove}
 use Rattle.std.specs.Option.{option_map}
 use Rattle.std.proofs.lemmas.Bool.{eqb-true, true≢false}
@@ -9,9 +9,9 @@ use Rattle.std.proofs.lemmas.List.{append-nil, get_or-map, get_or-set_other, get
 use Rattle.std.proofs.lemmas.List.{length-append, length-map, length-replicate, length-set, length-take, same_lists}
 use Rattle.std.proofs.lemmas.List.Folds.{Any-from_list_any}
 use Rattle.pl_base.specs.declared.id.Slot.{Slot}
-use Rattle.pl_base.specs.Rows.{Kept, KeptOrigin, KeptPage, has_origin, total_at, totaled, with_total}
+use Rattle.pl_base.specs.Rows.{Kept, KeptOrigin, total_at, totaled}
 use Rattle.pl_plain.specs.FlatLaws.{length-origins_from, named_at}
-use Rattle.pl_plain.specs.FlatRows.{origin_with, origins_from, totals_left}
+use Rattle.pl_plain.specs.FlatRows.{origin_with, origins_from}
 use Rattle.pl_plain.specs.Place.{grown}
 
 -- ---- an origin by its name
@@ -49,8 +49,8 @@ total_named totals kept origin is some last =
     ∙ ap (option_map (λ (a : KeptOrigin). a.total)) (found_from 1 totals origin.0 (omega arith) (omega (arith, last)))
 
 -- a name that is there is 1 or more, and no more than there are origins
-pub name_within : (totals : List ℕ) (n : ℕ) → list_any (λ (a : KeptOrigin). a.origin.0 == n) (origins_from totals) ≡ true
-    → (0 < n) × (n ≤ length totals)
+pub name_within : (totals : List ℕ) (n : ℕ)
+    → list_any (λ (a : KeptOrigin). a.origin.0 == n) (origins_from totals) ≡ true → (0 < n) × (n ≤ length totals)
 name_within totals n there =
     let at = Any-from_list_any (λ (a : KeptOrigin). a.origin.0 == n) (origins_from totals) there in
     let inside : at.0 < length totals = rw (length-origins_from totals) at at.2 in

@@ -465,8 +465,8 @@ totals_dropped kept totals live id p h found was =
     map-map (λ (q : KeptPage). total_at new q.origin) (renamed used (length totals) p.origin) rest
     ∙ map_where (λ (q : KeptPage). total_at new (name_left used (length totals) p.origin q.origin))
     (λ (q : KeptPage). total_at kept q.origin) rest
-    (λ k d within. left_total totals p.origin (get_or rest k d).origin used kept new was refl w.own (w.within k d within)
-    (λ none. free p.origin rest none k d within))
+    (λ k d within. left_total totals p.origin (get_or rest k d).origin used kept new was refl w.own
+    (w.within k d within) (λ none. free p.origin rest none k d within))
 
 pub IsFlat-dropped : (kept : Kept) (origins live : ℕ) (id : PageId) (p : KeptPage) (named : List KeptOrigin)
     → IsFlat kept origins live → page_at kept id ≡ Some p → is_visited (store_of kept) id ≡ false

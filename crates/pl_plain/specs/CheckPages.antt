@@ -1,12 +1,13 @@
 -- The pages of a file's rows, with what the definitions give of them.
-use Rattle.std.specs.Prelude.{◌≡◌, ◌+◌, ◌≤◌, ℕ, List, length}
-use Rattle.std.specs.List.{AllZip, sum_by}
+use Rattle.std.specs.Prelude.{◌≡◌, ◌+◌, ◌≤◌, ◌==◌, ◌^◌, ℕ, List, length, map}
+use Rattle.std.specs.List.{AllZip, filter, range_with_len, sum_by}
 use Rattle.pl_base.specs.Frecency.{frecency_of}
 use Rattle.pl_base.specs.Good.{IsGood, IsTree}
 use Rattle.pl_base.specs.Live.{chunks, slot_limit}
 use Rattle.pl_base.specs.Marks.{is_hidden, visit_count}
 use Rattle.pl_base.specs.Rows.{Kept}
 use Rattle.pl_base.specs.Store.{Item}
+use Rattle.pl_base.specs.Totals.{share}
 use Rattle.pl_plain.specs.declared.flat.row.FlatPage.{FlatPage}
 use Rattle.pl_form.specs.declared.stored.StoredPage.{StoredPage}
 use Rattle.pl_plain.specs.CheckOrigins.{AreNamed, Key}
@@ -41,6 +42,20 @@ pub record IsGiven (rows : Stored) (qs : List FlatPage) (keys : List Key)
       + sum_by (λ (p : StoredPage). chunks p.url + chunks p.title) rows.pages
       + sum_by (λ (i : Item). chunks i.title) rows.items
   pub few : live ≤ slot_limit
+
+-- the total of the origin by this name: the sum of the positive frecencies of its pages
+abbrev pub named_total : List FlatPage → ℕ → ℕ
+named_total pages name =
+    sum_by (λ (p : FlatPage). share p.frecency)
+    (filter (λ (p : FlatPage). p.origin.0 == name) pages)
+
+-- the totals of the origins of these pages, which are named 1 to `origins`
+abbrev pub totals_by : List FlatPage → ℕ → List ℕ
+totals_by pages origins = map (named_total pages) (range_with_len 1 origins)
+
+-- no page of a store adds more to a total
+abbrev pub most_share : ℕ
+most_share = 2 ^ 37
 
 -- the rows with these pages, and with these totals of origins
 abbrev pub kept_of_rows : Stored → List FlatPage → List ℕ → Kept

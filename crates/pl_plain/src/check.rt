@@ -2,9 +2,10 @@
 mod live;
 mod origins;
 mod pages;
+mod totals;
 
 ghost use Rattle.std.specs.Prelude.{◌≡◌, ◌↔◌, ℕ, List, length, take, IfOk, IsErrOf};
-ghost use Rattle.pl_base.specs.Rows.{IsRight, store_of};
+ghost use Rattle.pl_base.specs.Rows.{HaveTotals, IsRight, store_of};
 ghost use Rattle.pl_base.specs.Store.{Store};
 ghost use Rattle.pl_base.specs.Touched.{behind_gate};
 ghost use Rattle.pl_plain.specs.Flat.{IsBase, bytes_of, kept_of};
@@ -25,6 +26,7 @@ impl Flat {
         ensures stands { IfOk result (λ flat.
             StandsFor (behind_gate bytes.now) (store_of (kept_of flat))) }
         ensures right { IfOk result (λ flat. IsRight (kept_of flat)) }
+        ensures totals { IfOk result (λ flat. HaveTotals (kept_of flat)) }
         // What is read is what a file of these rows holds.
         ensures begins { IfOk result (λ flat.
             take (length (bytes_of flat)) (behind_gate bytes.now) ≡ bytes_of flat) }

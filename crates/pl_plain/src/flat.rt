@@ -57,13 +57,14 @@ pub struct Flat {
 impl Flat {
     ghost use Rattle.std.specs.Prelude.{◌↔◌, ℕ, List, [], IfOk};
     ghost use Rattle.pl_base.specs.Good.{IsGood};
-    ghost use Rattle.pl_base.specs.Rows.{opening_with, store_of};
+    ghost use Rattle.pl_base.specs.Rows.{HaveTotals, opening_with, store_of};
     ghost use Rattle.pl_plain.specs.Flat.{IsBase, bytes_of, kept_of};
 
     /// The store before its first command, made over nothing.
     pub fn opening(alloc: Global) -> Result<Flat, NoMemory>
         ensures kept { IfOk result (λ flat. kept_of flat ≡ opening_with Ids.OPENING) }
         ensures good { IfOk result (λ flat. IsGood (store_of (kept_of flat))) }
+        ensures totals { IfOk result (λ flat. HaveTotals (kept_of flat)) }
         ensures base { IfOk result (λ flat. (bytes : List ℕ) → IsBase flat bytes ↔ (bytes ≡ [])) }
     {
         Flat::with_ids(alloc, Ids::OPENING)
@@ -76,6 +77,7 @@ impl Flat {
         requires item { 7 ≤ ids.item }
         ensures kept { IfOk result (λ flat. kept_of flat ≡ opening_with ids) }
         ensures good { IfOk result (λ flat. IsGood (store_of (kept_of flat))) }
+        ensures totals { IfOk result (λ flat. HaveTotals (kept_of flat)) }
         ensures base { IfOk result (λ flat. (bytes : List ℕ) → IsBase flat bytes ↔ (bytes ≡ [])) }
     {
         Ok(Flat {

@@ -1,5 +1,5 @@
 // The pages of a file's rows, with what the definitions give of them.
-ghost use Rattle.std.specs.Prelude.{◌≡◌, ◌↔◌, ◌+◌, ℕ, List, length, map, replicate, true};
+ghost use Rattle.std.specs.Prelude.{◌≡◌, ◌↔◌, ◌+◌, ℕ, List, length, map, true};
 ghost use Rattle.std.specs.Prelude.{IfErr, IfOk};
 ghost use Rattle.std.specs.List.{All, AllZip};
 ghost use Rattle.std.specs.List.Sorted.{IsStrictlyIncreasing};
@@ -10,11 +10,13 @@ ghost use Rattle.pl_base.specs.Tree.{has_item};
 ghost use Rattle.pl_check.specs.Items.{AreReferences, has_reference};
 ghost use Rattle.pl_plain.specs.CheckOrigins.{AreNamed, Key};
 ghost use Rattle.pl_plain.specs.CheckPages.{IsAssessed, IsFrecencyRight, IsGiven, kept_of_rows};
+ghost use Rattle.pl_plain.specs.CheckPages.{totals_by};
 ghost use Rattle.pl_plain.specs.Flat.{IsBase, bytes_of, kept_of};
 ghost use Rattle.pl_form.specs.Form.{filled_pages};
 ghost use Rattle.pl_form.specs.Stored.{AreStored, stored_bytes};
 
 use crate::check::origins::Origins;
+use crate::check::totals::totals;
 use crate::flat::Flat;
 use crate::flat::row::FlatPage;
 use pl_base::{Slot, Txt};
@@ -109,7 +111,8 @@ pub fn into_flat(
     requires before { before ≡ 2 + filled_pages (length (stored_bytes rows)) }
     ensures tree { IfOk result (λ _. IsTree rows.items) }
     ensures kept { IfOk result (λ flat.
-        kept_of flat ≡ kept_of_rows rows named.pages.items (replicate named.origins 0)) }
+        kept_of flat ≡ kept_of_rows rows named.pages.items
+        (totals_by named.pages.items named.origins)) }
     ensures base { IfOk result (λ flat. (bytes : List ℕ)
         → IsBase flat bytes ↔ (bytes ≡ bytes_of flat)) }
     ensures whole { IsTree rows.items → IfErr result (λ e. e ≡ CheckError.NoMemory) }
@@ -125,6 +128,6 @@ pub fn into_flat(
         return Err(CheckError::NotAStore);
     };
     let NamedPages { pages, origins } = named;
-    let totals = vec![in alloc; 0; origins as usize]?;
+    let totals = totals(alloc, &pages, origins)?;
     Ok(Flat::from_rows(alloc, day, ids, pages, visits, items, totals, live, before))
 }

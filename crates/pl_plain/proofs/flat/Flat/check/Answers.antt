@@ -1,14 +1,16 @@
-use Rattle.std.proofs.Common.{◌∙◌, arith, replicate, subst, sym}
+use Rattle.std.proofs.Common.{◌∙◌, arith, subst, sym}
 use Rattle.std.proofs.lemmas.Bool.{true≢false}
 use Rattle.std.proofs.lemmas.Result.{err_from_is_err_and}
-use Rattle.pl_base.specs.Rows.{IsRight, Kept, store_of}
+use Rattle.pl_base.specs.Rows.{HaveTotals, IsRight, Kept, store_of}
 use Rattle.pl_base.specs.Touched.{behind_gate}
 use Rattle.pl_form.specs.Form.{StandsFor}
 use Rattle.pl_plain.specs.declared.flat.Flat.{Flat}
+use Rattle.pl_plain.specs.CheckPages.{totals_by}
 use Rattle.pl_plain.specs.Flat.{kept_of}
 use Rattle.pl_plain.proofs.CheckEnds.{in_both, is_a_store}
 use Rattle.pl_plain.proofs.CheckFlat.{begins-right, is-right, slots-by, stands-for}
 use Rattle.pl_plain.proofs.CheckHeld.{apart, good_read, live_read, not_read, right_read}
+use Rattle.pl_plain.proofs.CheckTotals.{have-totals}
 use Rattle.pl_plain.proofs.OneStore.{one_store}
 use Rattle.pl_plain.proofs.flat.Flat.check.Goals as goal
 
@@ -21,7 +23,8 @@ returns-clause-stands c =
     in_both c.into_flat.result c.into_flat.ensures.kept c.into_flat.ensures.tree
     (λ (flat : Flat) kept tree.
     subst (λ (k : Kept). StandsFor (behind_gate c.args.bytes.now) (store_of k)) (sym kept)
-    (stands-for (behind_gate c.args.bytes.now) rows pages keys (replicate origins 0) origins c.live-live.result c.in_ok-rows.ensures.holds
+    (stands-for (behind_gate c.args.bytes.now) rows pages keys (totals_by pages origins) origins
+    c.live-live.result c.in_ok-rows.ensures.holds
     (record {
       stored = c.in_ok-rows.ensures.stored;
       good = c.in_ok-are_good.ensures.good c.if-not-branch.false;
@@ -37,8 +40,17 @@ pub returns-clause-right : goal.returns-clause-right
 returns-clause-right c =
     in_both c.into_flat.result c.into_flat.ensures.kept c.into_flat.ensures.kept
     (λ (flat : Flat) kept _. subst IsRight (sym kept)
-    (is-right c.in_ok-rows.field-0.rows c.in_ok-named.named.pages.items (replicate c.in_ok-named.named.origins 0)
+    (is-right c.in_ok-rows.field-0.rows c.in_ok-named.named.pages.items
+    (totals_by c.in_ok-named.named.pages.items c.in_ok-named.named.origins)
     c.in_ok-named.ensures.pages))
+
+pub returns-clause-totals : goal.returns-clause-totals
+returns-clause-totals c =
+    in_both c.into_flat.result c.into_flat.ensures.kept c.into_flat.ensures.kept
+    (λ (flat : Flat) kept _. subst HaveTotals (sym kept)
+    (have-totals c.in_ok-rows.field-0.rows c.in_ok-named.named.pages.items c.in_ok-named.ensures.origins.0
+    c.in_ok-named.named.origins c.in_ok-named.ensures.pages c.in_ok-named.ensures.origins.1
+    c.in_ok-named.ensures.origins.2))
 
 pub returns-clause-begins : goal.returns-clause-begins
 returns-clause-begins c =

@@ -28,7 +28,8 @@ invariant_of-self c =
     record {
       rows =
           rw c.remove.ensures
-          (IsFlat-with_removed c.args.item (kept_of f) (length f.totals.items) f.live (f.live - (1 + c.chunks-old.result))
+          (IsFlat-with_removed c.args.item (kept_of f) (length f.totals.items) f.live
+          (f.live - (1 + c.chunks-old.result))
           (omega (arith, slots, f.rows.filled, c.chunks-old.ensures ∙ ap chunks (sym at.2)))
           (omega (arith, f.rows.few)) f.rows);
       some_page = f.some_page;

@@ -39,4 +39,5 @@ returns-clause-plain c =
 pub returns-clause-few : goal.returns-clause-few
 returns-clause-few c =
     let f = c.args.self.now in
-    rw (returns-clause-plain c) (plain_is_short (kept_of f) (length f.totals.items) f.live c.put_items.ensures.children f.rows)
+    rw (returns-clause-plain c)
+    (plain_is_short (kept_of f) (length f.totals.items) f.live c.put_items.ensures.children f.rows)

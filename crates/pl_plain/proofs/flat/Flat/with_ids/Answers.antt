@@ -36,3 +36,6 @@ returns-clause-good c =
     rw (c.new.ensures.items, c.new-2.ensures.items, c.in_ok-opening.ensures)
     (opening_is_good c.args.ids c.requires.page c.requires.visit c.requires.item (omega arith) (omega arith)
     (omega arith))
+
+pub returns-clause-totals : goal.returns-clause-totals
+returns-clause-totals c = rw (c.new.ensures.items) (All-nil _)

@@ -1,4 +1,4 @@
-use Rattle.std.proofs.Common.{◌∙◌, ◌-◌, Some, ap, arith, get_or, refl, sym}
+use Rattle.std.proofs.Common.{◌∙◌, ◌-◌, Some, ap, arith, refl, sym}
 use Rattle.std.proofs.lemmas.List.{get_or_read}
 use Rattle.pl_plain.specs.Flat.{kept_of}
 use Rattle.pl_plain.proofs.OriginTotals.{name_within, total_named}

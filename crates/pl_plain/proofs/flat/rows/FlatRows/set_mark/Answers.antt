@@ -28,7 +28,8 @@ invariant_of-self g c =
           subst (λ (pages : List FlatPage).
           IsFlat (kept_from f.day f.ids pages f.totals.items f.visits.items f.items) (length f.totals.items)
           f.live) (sym same)
-          (subst (λ (pages : List KeptPage). IsFlat (record (kept_of f) { pages = pages }) (length f.totals.items) f.live)
+          (subst (λ (pages : List KeptPage).
+          IsFlat (record (kept_of f) { pages = pages }) (length f.totals.items) f.live)
           (sym (kept_changed c.args.page (with_mark_of c.args.mark) (marked c.args.mark) (λ x. refl) f.pages.items))
           (IsFlat-with_mark c.args.page c.args.mark (kept_of f) (length f.totals.items) f.live f.rows));
       some_page = f.some_page;
