@@ -58,7 +58,7 @@ const ORIGINS: &[(&[u8], &[u8])] = &[
           origin\thttps://\ta.example:8080\telpmaxe.a.\t100\t1\t1\n\
           origin\thttps://\t[2001:db8::1]:8080\t]1::8bd:1002[.\t100\t1\t1\n\
           origin\tmailto:\t\t.\t100\t1\t0\n\
-          origin\thttps://\twww.\t.www..\t100\t1\t1\n\
+          origin\thttps://\twww.\t.www.\t100\t1\t1\n\
           origin\thttps://\twww.www.a.example\telpmaxe.a.www.www.\t100\t1\t1\n\
           origin\thttps://\twww.a.example\telpmaxe.a.www.\t100\t1\t1\n\
           stats\tpages\t9\tvisits\t9\titems\t6\torigins\t7\tsum\t700\tslots\t41\n\
