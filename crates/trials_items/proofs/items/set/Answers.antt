@@ -1,4 +1,4 @@
-use Rattle.std.proofs.Common.{◌∙◌, ap, arith, sym}
+use Rattle.std.proofs.Common.{◌∙◌, ap, arith, length, sym}
 use Rattle.std.specs.Result.{result_ok}
 use Rattle.pl_plain.specs.Flat.{kept_of}
 use Rattle.trials_items.proofs.ItemLemmas.{item_there, room_for_name}
@@ -11,7 +11,7 @@ set_item-requires-clause-item g c =
 
 pub set_item-requires-clause-live : goal.set_item-requires-clause-live
 set_item-requires-clause-live g c =
-    room_for_name (kept_of c.args.flat.now) c.args.flat.now.origins c.args.flat.now.live c.args.item c.args.title.now
-    c.args.modified c.in_ok-ok_or.field-0 c.args.flat.now.rows
+    room_for_name (kept_of c.args.flat.now) (length c.args.flat.now.totals.items) c.args.flat.now.live c.args.item
+    c.args.title.now c.args.modified c.in_ok-ok_or.field-0 c.args.flat.now.rows
     (ap result_ok (sym c.in_ok-ok_or.was) ∙ sym c.ok_or.ensures.ok_part ∙ c.item_at.ensures.row) (omega arith)
     (omega (arith, c.live.ensures.live))
