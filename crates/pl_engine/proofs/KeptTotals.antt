@@ -1,12 +1,14 @@
 -- What was refused is as it was.
-use Rattle.std.proofs.Common.{◌≡◌, Bool, true, false, refl, subst, sym}
+use Rattle.std.proofs.Common.{◌≡◌, ◌∙◌, ◌&&◌, Bool, true, false, ap, refl, subst, sym}
 use Rattle.std.specs.Prelude.{not}
 use Rattle.std.proofs.lemmas.Bool.{not-false}
 use Rattle.pl_base.specs.declared.refusal.Refusal.{Refusal}
 use Rattle.pl_engine.specs.declared.reply.Reply.{Reply}
 use Rattle.pl_engine.specs.declared.reply.Reply.TheVariants.{Day, Visit, Done, Page, Origin, Stats}
 use Rattle.pl_engine.specs.declared.reply.Reply.TheVariants.{Removed, Item, List, Refused}
-use Rattle.pl_engine.specs.Refused.{is_refused}
+use Rattle.pl_engine.specs.declared.command.Command.{Command}
+use Rattle.pl_engine.specs.Refused.{has_changed, is_refused}
+use Rattle.pl_engine.specs.Step.{is_change}
 
 -- the refusal of a reply that is one
 refusal_in : (reply : Reply) → is_refused reply ≡ true → (refusal : Refusal) × (reply ≡ Refused refusal)
@@ -27,3 +29,13 @@ pub still : {X : Type 0} (P : X → Type 0) (old new : X) (reply : Reply)
 still P old new reply same refused holds =
     let found = refusal_in reply (not-false (is_refused reply) refused) in
     subst P (sym (same found.0 found.1)) holds
+
+-- a refused command changed nothing
+pub refused_changes_none : (command : Command) (reply : Reply) (refusal : Refusal) → reply ≡ Refused refusal
+    → has_changed command reply ≡ false
+refused_changes_none command reply refusal is =
+    ap (λ (r : Reply). is_change command && not (is_refused r)) is ∙ choose (is_change command)
+  where
+    choose : (b : Bool) → (b && false) ≡ false
+    choose true = refl
+    choose false = refl

@@ -1,8 +1,10 @@
--- Whether a command was refused.
-use Rattle.std.specs.Prelude.{Bool, true, false}
+-- Whether a command was refused, and whether it may have changed something.
+use Rattle.std.specs.Prelude.{◌&&◌, not, Bool, true, false}
+use Rattle.pl_engine.specs.declared.command.Command.{Command}
 use Rattle.pl_engine.specs.declared.reply.Reply.{Reply}
 use Rattle.pl_engine.specs.declared.reply.Reply.TheVariants.{Day, Visit, Done, Page, Origin, Stats}
 use Rattle.pl_engine.specs.declared.reply.Reply.TheVariants.{Removed, Item, List, Refused}
+use Rattle.pl_engine.specs.Step.{is_change}
 
 -- the reply is a refusal
 abbrev pub is_refused : Reply → Bool
@@ -16,3 +18,7 @@ is_refused (Removed visits pages) = false
 is_refused (Item id) = false
 is_refused (List rows) = false
 is_refused (Refused refusal) = true
+
+-- the command is of a kind that may change the store, and was not refused
+abbrev pub has_changed : Command → Reply → Bool
+has_changed command reply = is_change command && not (is_refused reply)

@@ -128,10 +128,8 @@ impl Command {
             | Command::Remove { .. }
             | Command::Tag { .. }
             | Command::Untag { .. } => true,
-            Command::Page { .. }
-            | Command::Origin { .. }
-            | Command::Stats
-            | Command::List { .. } => false,
+            Command::Page { .. } | Command::Origin { .. } | Command::Stats | Command::List { .. } =>
+                false,
         }
     }
 }

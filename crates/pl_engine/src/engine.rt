@@ -18,6 +18,7 @@ ghost use Rattle.pl_base.specs.Live.{slot_limit};
 ghost use Rattle.pl_base.specs.Rows.{HaveTotals, IsRight, store_of};
 ghost use Rattle.pl_base.specs.Touched.{IsWithin, changed, bytes_before};
 ghost use Rattle.pl_history.specs.Sound.{IsSound};
+ghost use Rattle.pl_engine.specs.Refused.{has_changed};
 ghost use Rattle.pl_engine.specs.Step as spec;
 
 use crate::command::Command;
@@ -54,17 +55,22 @@ pub struct Engine<R: Rows> {
     ghost most: { limit ≤ slot_limit },
 }
 
-// The total of each origin, where something changed.
-fn keep_totals<R: Rows, L: Ledger>(rows: &mut R, is_changed: bool, steps: &mut Steps<L>)
+// The total of each origin, where the command changed something.
+fn keep_totals<R: Rows, L: Ledger>(
+    rows: &mut R,
+    command: &Command,
+    reply: &Reply,
+    steps: &mut Steps<L>,
+)
     requires sound { IsSound (R.kept rows.old) }
-    requires totals { is_changed ≡ false → HaveTotals (R.kept rows.old) }
+    requires totals { has_changed command.now reply.now ≡ false → HaveTotals (R.kept rows.old) }
     ensures totals { HaveTotals (R.kept rows.new) }
-    ensures same { is_changed ≡ false → rows.new ≡ rows.old }
+    ensures same { has_changed command.now reply.now ≡ false → rows.new ≡ rows.old }
     ensures store { store_of (R.kept rows.new) ≡ store_of (R.kept rows.old) }
     ensures sound { IsSound (R.kept rows.new) }
     ensures base { (bytes : List ℕ) → R.base rows.old bytes → R.base rows.new bytes }
 {
-    if is_changed {
+    if command.is_change() && !reply.is_refused() {
         total_up(rows, steps);
     }
 }
@@ -178,8 +184,7 @@ impl<R: Rows + Drop> Engine<R> {
             Command::Untag { url, name } => untag(alloc, &mut rows, url, name, steps)?,
             Command::List { item } => list(alloc, &rows, *item, steps)?,
         };
-        let is_changed = command.is_change() && !reply.is_refused();
-        keep_totals(&mut rows, is_changed, steps);
+        keep_totals(&mut rows, command, &reply, steps);
         Ok((Engine { alloc, rows, limit }, reply))
     }
 

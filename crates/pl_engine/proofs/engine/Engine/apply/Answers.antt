@@ -1,12 +1,15 @@
-use Rattle.std.proofs.Common.{◌≡◌, ◌&&◌, ap, false}
+use Rattle.std.proofs.Common.{◌≡◌, ◌∙◌, ◌&&◌, Bool, ap, false}
 use Rattle.std.specs.Prelude.{not}
+use Rattle.std.proofs.lemmas.Bool.{true≢false}
+use Rattle.pl_base.specs.declared.refusal.Refusal.{Refusal}
 use Rattle.pl_base.specs.Rows.{HaveTotals, store_of}
 use Rattle.pl_base.specs.Store.{Store}
 use Rattle.pl_engine.specs.declared.reply.Reply.{Reply}
+use Rattle.pl_engine.specs.declared.reply.Reply.TheVariants.{Refused}
 use Rattle.pl_history.specs.Sound.{IsSound}
 use Rattle.pl_engine.specs.Refused.{is_refused}
 use Rattle.pl_engine.specs.Step.{is_change, perform}
-use Rattle.pl_engine.proofs.KeptTotals.{still}
+use Rattle.pl_engine.proofs.KeptTotals.{refused_changes_none, still}
 use Rattle.pl_engine.proofs.engine.Engine.apply.Given.{Over}
 use Rattle.pl_engine.proofs.engine.Engine.apply.Goals.{Joined-command, in-Visit+in_ok-reply-in-Visit}
 use Rattle.pl_engine.proofs.engine.Engine.apply.Goals.{in-Title+in_ok-reply-in-Title, in-Page+in_ok-reply-in-Page}
@@ -149,15 +152,85 @@ kept g c same =
       | in-List+in_ok-reply-in-List w ↦ rw w.rows-is c.args.self.totals
     ]
 
+-- a refused command leaves the very same rows
+refused : (g : Over) (c : Joined-command g) (refusal : Refusal) → c.match-command.reply ≡ Refused refusal
+    → c.match-command.rows ≡ c.args.self.rows
+refused g c refusal is =
+    elim c.match-command.branch [
+      | in-Day+in_ok-reply-in-Day w ↦ rw w.rows-is (w.in_ok-reply-in-Day.ensures.refused refusal (rw w.reply-is at is))
+      | in-Visit+in_ok-reply-in-Visit w ↦ rw w.rows-is (w.in_ok-reply-in-Visit.ensures.refused refusal (rw w.reply-is at is))
+      | in-Title+in_ok-reply-in-Title w ↦ rw w.rows-is (w.in_ok-reply-in-Title.ensures.refused refusal (rw w.reply-is at is))
+      | in-Unvisit+in_ok-reply-in-Unvisit w ↦ rw w.rows-is (w.in_ok-reply-in-Unvisit.ensures.refused refusal (rw w.reply-is at is))
+      | in-Forget+in_ok-reply-in-Forget w ↦ rw w.rows-is (w.in_ok-reply-in-Forget.ensures.refused refusal (rw w.reply-is at is))
+      | in-Expire+in_ok-reply-in-Expire w ↦ rw w.rows-is (w.in_ok-reply-in-Expire.ensures.refused refusal (rw w.reply-is at is))
+      | in-Trim+in_ok-reply-in-Trim w ↦ rw w.rows-is (w.in_ok-reply-in-Trim.ensures.refused refusal (rw w.reply-is at is))
+      | in-Folder+in_ok-reply-in-Folder w ↦ rw w.rows-is (w.in_ok-reply-in-Folder.ensures.refused refusal (rw w.reply-is at is))
+      | in-Bookmark+in_ok-reply-in-Bookmark w ↦ rw w.rows-is (w.in_ok-reply-in-Bookmark.ensures.refused refusal (rw w.reply-is at is))
+      | in-Separator+in_ok-reply-in-Separator w ↦ rw w.rows-is (w.in_ok-reply-in-Separator.ensures.refused refusal (rw w.reply-is at is))
+      | in-Retitle+in_ok-reply-in-Retitle w ↦ rw w.rows-is (w.in_ok-reply-in-Retitle.ensures.refused refusal (rw w.reply-is at is))
+      | in-Tag+in_ok-reply-in-Tag w ↦ rw w.rows-is (w.in_ok-reply-in-Tag.ensures.refused refusal (rw w.reply-is at is))
+      | in-Untag+in_ok-reply-in-Untag w ↦ rw w.rows-is (w.in_ok-reply-in-Untag.ensures.refused refusal (rw w.reply-is at is))
+      | in-Remove+in_ok-reply-in-Remove w ↦ rw w.rows-is (w.in_ok-reply-in-Remove.ensures.refused refusal (rw w.reply-is at is))
+      | in-Move w ↦ rw w.rows-is (w.move_item-reply.ensures.refused refusal (rw w.reply-is at is))
+      | in-Page+in_ok-reply-in-Page w ↦ w.rows-is
+      | in-Origin+in_ok-reply-in-Origin w ↦ w.rows-is
+      | in-Stats+in_ok-reply-in-Stats w ↦ w.rows-is
+      | in-List+in_ok-reply-in-List w ↦ w.rows-is
+    ]
+
+-- and so does one of a kind that changes nothing
+unchanged : (g : Over) (c : Joined-command g) → is_change c.args.command.now ≡ false
+    → c.match-command.rows ≡ c.args.self.rows
+unchanged g c none =
+    elim c.match-command.branch [
+      | in-Day+in_ok-reply-in-Day w ↦ absurd (true≢false (rw w.in-Day.is at none))
+      | in-Visit+in_ok-reply-in-Visit w ↦ absurd (true≢false (rw w.in-Visit.is at none))
+      | in-Title+in_ok-reply-in-Title w ↦ absurd (true≢false (rw w.in-Title.is at none))
+      | in-Unvisit+in_ok-reply-in-Unvisit w ↦ absurd (true≢false (rw w.in-Unvisit.is at none))
+      | in-Forget+in_ok-reply-in-Forget w ↦ absurd (true≢false (rw w.in-Forget.is at none))
+      | in-Expire+in_ok-reply-in-Expire w ↦ absurd (true≢false (rw w.in-Expire.is at none))
+      | in-Trim+in_ok-reply-in-Trim w ↦ absurd (true≢false (rw w.in-Trim.is at none))
+      | in-Folder+in_ok-reply-in-Folder w ↦ absurd (true≢false (rw w.in-Folder.is at none))
+      | in-Bookmark+in_ok-reply-in-Bookmark w ↦ absurd (true≢false (rw w.in-Bookmark.is at none))
+      | in-Separator+in_ok-reply-in-Separator w ↦ absurd (true≢false (rw w.in-Separator.is at none))
+      | in-Retitle+in_ok-reply-in-Retitle w ↦ absurd (true≢false (rw w.in-Retitle.is at none))
+      | in-Tag+in_ok-reply-in-Tag w ↦ absurd (true≢false (rw w.in-Tag.is at none))
+      | in-Untag+in_ok-reply-in-Untag w ↦ absurd (true≢false (rw w.in-Untag.is at none))
+      | in-Remove+in_ok-reply-in-Remove w ↦ absurd (true≢false (rw w.in-Remove.is at none))
+      | in-Move w ↦ absurd (true≢false (rw w.in-Move.is at none))
+      | in-Page+in_ok-reply-in-Page w ↦ w.rows-is
+      | in-Origin+in_ok-reply-in-Origin w ↦ w.rows-is
+      | in-Stats+in_ok-reply-in-Stats w ↦ w.rows-is
+      | in-List+in_ok-reply-in-List w ↦ w.rows-is
+    ]
+
+pub keep_totals-requires-clause-sound : goal.keep_totals-requires-clause-sound
+keep_totals-requires-clause-sound g c = sound g c.before.before.before
+
+pub keep_totals-requires-clause-totals : goal.keep_totals-requires-clause-totals
+keep_totals-requires-clause-totals g c same = kept g c.before.before.before same
+
 pub invariant_of-result : goal.invariant_of-result
 invariant_of-result g c =
-    let s : IsSound (g.R.Rows.kept c.match-command.rows) = sound g c in
-    record { good = s.good; right = s.right; most = c.args.self.most }
+    let s : IsSound (g.R.Rows.kept c.keep_totals.new.rows) = c.keep_totals.ensures.sound in
+    record { good = s.good; right = s.right; totals = c.keep_totals.ensures.totals; most = c.args.self.most }
 
 pub returns-clause-stands : goal.returns-clause-stands
 returns-clause-stands g c =
-    let s : IsSound (g.R.Rows.kept c.match-command.rows) = sound g c.before in
-    g.met.R.Rows.stands c.match-command.rows s.good s.right
+    let s : IsSound (g.R.Rows.kept c.keep_totals.new.rows) = c.keep_totals.ensures.sound in
+    g.met.R.Rows.stands c.keep_totals.new.rows s.good s.right
 
 pub returns-clause-step : goal.returns-clause-step
-returns-clause-step g c = step g c.before
+returns-clause-step g c =
+    let told : Store → Reply × Store = λ (s : Store). (c.match-command.reply, s) in
+    ap told c.keep_totals.ensures.store ∙ step g c.before.before.before.before.before
+
+pub returns-clause-refused : goal.returns-clause-refused
+returns-clause-refused g c refusal is =
+    c.keep_totals.ensures.same (refused_changes_none c.args.command.now c.match-command.reply refusal is)
+    ∙ refused g c.before.before.before.before.before refusal is
+
+pub returns-clause-unchanged : goal.returns-clause-unchanged
+returns-clause-unchanged g c none =
+    c.keep_totals.ensures.same (ap (λ (b : Bool). b && not (is_refused c.match-command.reply)) none)
+    ∙ unchanged g c.before.before.before.before.before none
