@@ -207,9 +207,19 @@ of_reply (Origin prefix host reversed total pages passes) =
     (of_number total, (of_number pages, (of_truth passes, tt))) in
     ((of_word (codes "origin") refl, (of_text prefix, (of_text host, (of_text reversed, numbers)))), tt)
 of_reply (Stats pages visits items origins sum slots) =
-    let totals : Are (codes "origins" ∷ decimal origins ∷ codes "sum" ∷ decimal sum ∷ codes "slots" ∷ decimal slots ∷ []) =
-    (of_word (codes "origins") refl, (of_number origins, (of_word (codes "sum") refl, (of_number sum,
-    (of_word (codes "slots") refl, (of_number slots, tt)))))) in
+    let totals : Are (codes "origins" ∷ decimal origins ∷ codes "sum" ∷ decimal sum ∷ codes "slots" ∷ decimal slots ∷ []) = (
+      of_word (codes "origins") refl,
+      (
+        of_number origins,
+        (
+          of_word (codes "sum") refl,
+          (
+            of_number sum,
+            (of_word (codes "slots") refl, (of_number slots, tt)),
+          ),
+        ),
+      ),
+    ) in
     let rows : Are (codes "visits" ∷ decimal visits ∷ codes "items" ∷ decimal items
     ∷ codes "origins" ∷ decimal origins ∷ codes "sum" ∷ decimal sum ∷ codes "slots" ∷ decimal slots ∷ []) =
     (of_word (codes "visits") refl, (of_number visits, (of_word (codes "items") refl, (of_number items, totals)))) in

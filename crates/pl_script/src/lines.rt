@@ -11,10 +11,10 @@ ghost use Rattle.pl_script.specs.declared.lines.LineError.TheVariants.{NoMemory 
 
 use crate::fields::{Fields, LONGEST_LINE};
 use crate::history_lines::{day_line, expire_line, forget_line, trim_line, unvisit_line};
-use crate::origin_lines::{origin_line, stats_line};
 use crate::item_lines::{
     bookmark_line, folder_line, list_line, move_line, remove_line, retitle_line, separator_line,
 };
+use crate::origin_lines::{origin_line, stats_line};
 use crate::tag_lines::{tag_line, untag_line};
 use crate::word::Word;
 use pl_base::{Day, Micros, NoMemory, Refusal};

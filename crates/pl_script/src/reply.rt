@@ -20,9 +20,10 @@ pub fn reply_text(alloc: Global, reply: &Reply) -> Result<Txt, NoMemory>
     ensures never_empty { IfOk result (λ text. 0 < length text) }
 {
     match reply {
-        Reply::Day { day, changed } => Ok(Txt::from(
-            format!(in alloc; "day\t{}\tchanged\t{changed}\n", day.0)?,
-        )),
+        Reply::Day { day, changed } => Ok(Txt::from(format!(in alloc;
+            "day\t{}\tchanged\t{changed}\n",
+            day.0
+        )?)),
         Reply::Visit {
             visit,
             page,
@@ -70,12 +71,12 @@ pub fn reply_text(alloc: Global, reply: &Reply) -> Result<Txt, NoMemory>
             slots,
         } => {
             let rows = rows(alloc, *pages, *visits, *items)?;
-            let totals = format!(in alloc; "origins\t{origins}\tsum\t{sum}\tslots\t{slots}")?;
+            let totals = totals(alloc, *origins, *sum, *slots)?;
             Ok(Txt::from(format!(in alloc; "stats\t{rows}\t{totals}\n")?))
         }
-        Reply::Removed { visits, pages } => Ok(Txt::from(
-            format!(in alloc; "removed\tvisits\t{visits}\tpages\t{pages}\n")?,
-        )),
+        Reply::Removed { visits, pages } => Ok(Txt::from(format!(in alloc;
+            "removed\tvisits\t{visits}\tpages\t{pages}\n"
+        )?)),
         Reply::Item(id) => Ok(Txt::from(format!(in alloc; "item\t{}\n", id.0)?)),
         Reply::List(rows) => Ok(Txt::from(list_text(alloc, rows.as_slice())?)),
         Reply::Refused(refusal) => Ok(Txt::from(refusal_text(alloc, refusal)?)),
@@ -115,6 +116,15 @@ fn rows(alloc: Global, pages: u32, visits: u32, items: u32) -> Result<String, No
         ∷ codes "items" ∷ decimal items ∷ [])) }
 {
     Ok(format!(in alloc; "pages\t{pages}\tvisits\t{visits}\titems\t{items}")?)
+}
+
+// Those that tell the totals of its origins, and its slots.
+fn totals(alloc: Global, origins: u32, sum: u64, slots: u64) -> Result<String, NoMemory>
+    ensures { IfOk result (λ text. string_bytes text ≡ join_with_byte 9
+        (codes "origins" ∷ decimal origins ∷ codes "sum" ∷ decimal sum
+        ∷ codes "slots" ∷ decimal slots ∷ [])) }
+{
+    Ok(format!(in alloc; "origins\t{origins}\tsum\t{sum}\tslots\t{slots}")?)
 }
 
 // Those that are texts.

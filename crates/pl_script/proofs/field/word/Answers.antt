@@ -57,3 +57,8 @@ pub returns-in-stats : goal.returns-in-stats
 returns-in-stats c =
     let ends : EndsIn c.args.field.now 0 (codes "stats") = search rules in
     is_word c.args.field.now (codes "stats") ends
+
+pub returns-in-title : goal.returns-in-title
+returns-in-title c =
+    let ends : EndsIn c.args.field.now 0 (codes "title") = search rules in
+    is_word c.args.field.now (codes "title") ends

@@ -6,7 +6,7 @@ use Rattle.std.specs.Fmt.{signed_decimal}
 use Rattle.std.proofs.lemmas.Int.{to_z-of_z}
 use Rattle.pl_engine.specs.declared.reply.Reply.TheVariants.{Day, Visit, Origin, Stats, Removed, Item}
 use Rattle.pl_engine.specs.declared.reply.Reply.TheVariants.{List as ListReply, Refused}
-use Rattle.pl_script.specs.Reply.{IsToldAgain, date_text, line_text, reply_fields, reply_text}
+use Rattle.pl_script.specs.Reply.{IsToldAgain, date_text, line_text, reply_fields, reply_text, truth_text}
 use Rattle.pl_script.proofs.ReplyLines.{never_empty, read_again, tells_origin, tells_rows, tells_texts}
 use Rattle.pl_script.proofs.reply.reply_text.Goals as goal
 
@@ -128,18 +128,24 @@ returns-in_ok-format-in-Removed c =
       never_empty = never_empty c.args.reply.now c.from-in-Removed.result exact;
     }
 
+-- three texts, and three fields behind them
+names_first : (a b c d e f text names : List ℕ) → names ≡ join_with_byte 9 (a ∷ b ∷ c ∷ [])
+    → text ≡ codes "origin\t" ++ (names ++ (codes "\t" ++ (d ++ (codes "\t" ++ (e ++ (codes "\t" ++ (f ++ codes "\n")))))))
+    → text ≡ line_text (codes "origin" ∷ a ∷ b ∷ c ∷ d ∷ e ∷ f ∷ []) ++ []
+names_first a b c d e f text names n written =
+    alone (codes "origin" ∷ a ∷ b ∷ c ∷ d ∷ e ∷ f ∷ []) text (written ∙ rw n (simp append_assoc refl))
+
 pub returns-in_ok-format-in-Origin : goal.returns-in_ok-format-in-Origin
 returns-in_ok-format-in-Origin c =
     let exact : c.from-in-Origin.result ≡ reply_text c.args.reply.now =
     rw c.in-Origin.is
-    (alone (reply_fields (Origin c.in-Origin.prefix c.in-Origin.host c.in-Origin.reversed c.in-Origin.total
-    c.in-Origin.pages c.in-Origin.passes)) c.from-in-Origin.result
-    (c.from-in-Origin.ensures ∙ c.in_ok-format-in-Origin.ensures.ok
-    ∙ rw (c.in_ok-names-in-Origin.ensures.exact, c.truth_text-passes-in-Origin.ensures) (simp append_assoc refl))) in
+    (c.from-in-Origin.ensures
+    ∙ names_first _ _ _ _ _ (truth_text c.in-Origin.passes) _ _ c.in_ok-texts-in-Origin.ensures.exact
+    (rw (← c.truth_text-passes.ensures) c.in_ok-format-in-Origin.ensures.ok)) in
     let told =
     tells_origin c.in-Origin.prefix c.in-Origin.host c.in-Origin.reversed c.in-Origin.total c.in-Origin.pages
-    c.in-Origin.passes c.from-in-Origin.result (rw c.in-Origin.is at exact) c.in_ok-names-in-Origin.ensures.url
-    c.in_ok-names-in-Origin.ensures.title c.in_ok-names-in-Origin.ensures.tags in
+    c.in-Origin.passes c.from-in-Origin.result (rw c.in-Origin.is at exact) c.in_ok-texts-in-Origin.ensures.url
+    c.in_ok-texts-in-Origin.ensures.title c.in_ok-texts-in-Origin.ensures.tags in
     record {
       exact = exact;
       reads_back = read_again c.args.reply.now c.from-in-Origin.result exact;
@@ -147,14 +153,23 @@ returns-in_ok-format-in-Origin c =
       never_empty = never_empty c.args.reply.now c.from-in-Origin.result exact;
     }
 
+-- two groups of six fields, one behind the other
+both_groups : (a b c d e f g h i j k l text rows totals : List ℕ)
+    → rows ≡ join_with_byte 9 (a ∷ b ∷ c ∷ d ∷ e ∷ f ∷ [])
+    → totals ≡ join_with_byte 9 (g ∷ h ∷ i ∷ j ∷ k ∷ l ∷ [])
+    → text ≡ codes "stats\t" ++ (rows ++ (codes "\t" ++ (totals ++ codes "\n")))
+    → text ≡ line_text (codes "stats" ∷ a ∷ b ∷ c ∷ d ∷ e ∷ f ∷ g ∷ h ∷ i ∷ j ∷ k ∷ l ∷ []) ++ []
+both_groups a b c d e f g h i j k l text rows totals r t written =
+    alone (codes "stats" ∷ a ∷ b ∷ c ∷ d ∷ e ∷ f ∷ g ∷ h ∷ i ∷ j ∷ k ∷ l ∷ []) text
+    (written ∙ rw (r, t) (simp append_assoc refl))
+
 pub returns-in_ok-format-in-Stats : goal.returns-in_ok-format-in-Stats
 returns-in_ok-format-in-Stats c =
     let exact : c.from-in-Stats.result ≡ reply_text c.args.reply.now =
     rw c.in-Stats.is
-    (alone (reply_fields (Stats c.in-Stats.pages c.in-Stats.visits c.in-Stats.items c.in-Stats.origins c.in-Stats.sum
-    c.in-Stats.slots)) c.from-in-Stats.result
-    (c.from-in-Stats.ensures ∙ c.in_ok-format-in-Stats.ensures.ok
-    ∙ rw (c.in_ok-rows-in-Stats.ensures, c.in_ok-totals-in-Stats.ensures.ok) (simp append_assoc refl))) in
+    (c.from-in-Stats.ensures
+    ∙ both_groups _ _ _ _ _ _ _ _ _ _ _ _ _ _ _ c.in_ok-rows-in-Stats.ensures c.in_ok-totals-in-Stats.ensures
+    c.in_ok-format-in-Stats.ensures.ok) in
     record {
       exact = exact;
       reads_back = read_again c.args.reply.now c.from-in-Stats.result exact;
