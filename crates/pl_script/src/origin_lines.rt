@@ -21,7 +21,7 @@ pub fn origin_line(alloc: Global, mut fields: Fields<'_>) -> Result<Command, Lin
 }
 
 pub fn stats_line(fields: Fields<'_>) -> Result<Command, LineError>
-    ensures command { ReadsInPlace (λ command. command) result (spec.stats_line fields) }
+    ensures command { ReadsInPlace (λ command. command) result (spec.stats_line fields.entry) }
     ensures dates { IfOk result HasDates }
 {
     fields.end()?;

@@ -6,6 +6,7 @@ use Rattle.std.specs.Fmt.{signed_decimal}
 use Rattle.std.proofs.lemmas.Int.{to_z-of_z}
 use Rattle.pl_engine.specs.declared.reply.Reply.TheVariants.{Day, Visit, Origin, Stats, Removed, Item}
 use Rattle.pl_engine.specs.declared.reply.Reply.TheVariants.{List as ListReply, Refused}
+use Rattle.pl_script.specs.Script.{escaped}
 use Rattle.pl_script.specs.Reply.{IsToldAgain, date_text, line_text, reply_fields, reply_text, truth_text}
 use Rattle.pl_script.proofs.ReplyLines.{never_empty, read_again, tells_origin, tells_rows, tells_texts}
 use Rattle.pl_script.proofs.reply.reply_text.Goals as goal
@@ -16,15 +17,15 @@ alone fields text is = is ∙ sym (append-nil (line_text fields))
 
 pub returns-in_ok-format-in-Visit : goal.returns-in_ok-format-in-Visit
 returns-in_ok-format-in-Visit c =
-    let exact : c.from.result ≡ reply_text c.args.reply.now =
+    let exact : c.from-in-Visit.result ≡ reply_text c.args.reply.now =
     rw c.in-Visit.is
-    (alone (reply_fields (Visit c.in-Visit.visit c.in-Visit.page c.in-Visit.frecency)) c.from.result
-    (c.from.ensures ∙ simp append_assoc (c.in_ok-format-in-Visit.ensures.ok))) in
+    (alone (reply_fields (Visit c.in-Visit.visit c.in-Visit.page c.in-Visit.frecency)) c.from-in-Visit.result
+    (c.from-in-Visit.ensures ∙ simp append_assoc (c.in_ok-format-in-Visit.ensures.ok))) in
     record {
       exact = exact;
-      reads_back = read_again c.args.reply.now c.from.result exact;
+      reads_back = read_again c.args.reply.now c.from-in-Visit.result exact;
       texts = rw c.in-Visit.is tt;
-      never_empty = never_empty c.args.reply.now c.from.result exact;
+      never_empty = never_empty c.args.reply.now c.from-in-Visit.result exact;
     }
 
 -- three groups of fields, one behind another
@@ -104,15 +105,15 @@ returns-in_ok-refusal_text-in-Refused c =
 
 pub returns-in_ok-format-in-Day : goal.returns-in_ok-format-in-Day
 returns-in_ok-format-in-Day c =
-    let exact : c.from-in-Day.result ≡ reply_text c.args.reply.now =
+    let exact : c.from.result ≡ reply_text c.args.reply.now =
     rw c.in-Day.is
-    (alone (reply_fields (Day c.in-Day.day c.in-Day.changed)) c.from-in-Day.result
-    (c.from-in-Day.ensures ∙ simp append_assoc (c.in_ok-format-in-Day.ensures.ok))) in
+    (alone (reply_fields (Day c.in-Day.day c.in-Day.changed)) c.from.result
+    (c.from.ensures ∙ simp append_assoc (c.in_ok-format-in-Day.ensures.ok))) in
     record {
       exact = exact;
-      reads_back = read_again c.args.reply.now c.from-in-Day.result exact;
+      reads_back = read_again c.args.reply.now c.from.result exact;
       texts = rw c.in-Day.is tt;
-      never_empty = never_empty c.args.reply.now c.from-in-Day.result exact;
+      never_empty = never_empty c.args.reply.now c.from.result exact;
     }
 
 pub returns-in_ok-format-in-Removed : goal.returns-in_ok-format-in-Removed
@@ -140,12 +141,14 @@ returns-in_ok-format-in-Origin c =
     let exact : c.from-in-Origin.result ≡ reply_text c.args.reply.now =
     rw c.in-Origin.is
     (c.from-in-Origin.ensures
-    ∙ names_first _ _ _ _ _ (truth_text c.in-Origin.passes) _ _ c.in_ok-texts-in-Origin.ensures.exact
+    ∙ names_first (escaped c.in-Origin.prefix) (escaped c.in-Origin.host) (escaped c.in-Origin.reversed)
+    (decimal c.in-Origin.total) (decimal c.in-Origin.pages) (truth_text c.in-Origin.passes) _ _
+    c.in_ok-names-in-Origin.ensures.exact
     (rw (← c.truth_text-passes.ensures) c.in_ok-format-in-Origin.ensures.ok)) in
     let told =
     tells_origin c.in-Origin.prefix c.in-Origin.host c.in-Origin.reversed c.in-Origin.total c.in-Origin.pages
-    c.in-Origin.passes c.from-in-Origin.result (rw c.in-Origin.is at exact) c.in_ok-texts-in-Origin.ensures.url
-    c.in_ok-texts-in-Origin.ensures.title c.in_ok-texts-in-Origin.ensures.tags in
+    c.in-Origin.passes c.from-in-Origin.result (rw c.in-Origin.is at exact) c.in_ok-names-in-Origin.ensures.url
+    c.in_ok-names-in-Origin.ensures.title c.in_ok-names-in-Origin.ensures.tags in
     record {
       exact = exact;
       reads_back = read_again c.args.reply.now c.from-in-Origin.result exact;
@@ -168,8 +171,10 @@ returns-in_ok-format-in-Stats c =
     let exact : c.from-in-Stats.result ≡ reply_text c.args.reply.now =
     rw c.in-Stats.is
     (c.from-in-Stats.ensures
-    ∙ both_groups _ _ _ _ _ _ _ _ _ _ _ _ _ _ _ c.in_ok-rows-in-Stats.ensures c.in_ok-totals-in-Stats.ensures
-    c.in_ok-format-in-Stats.ensures.ok) in
+    ∙ both_groups (codes "pages") (decimal c.in-Stats.pages) (codes "visits") (decimal c.in-Stats.visits)
+    (codes "items") (decimal c.in-Stats.items) (codes "origins") (decimal c.in-Stats.origins) (codes "sum")
+    (decimal c.in-Stats.sum) (codes "slots") (decimal c.in-Stats.slots) _ _ _ c.in_ok-rows-in-Stats.ensures
+    c.in_ok-totals-in-Stats.ensures c.in_ok-format-in-Stats.ensures.ok) in
     record {
       exact = exact;
       reads_back = read_again c.args.reply.now c.from-in-Stats.result exact;
