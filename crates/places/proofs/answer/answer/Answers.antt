@@ -194,6 +194,12 @@ returns-in_err-next-clause-device_counted g c = let desk = g.D.Desk in
     rw (p.1, p.2) (rose_at (desk.device_faults c.args.desk.now) (desk.device_faults c.commit.new.desk) refl
     c.in_err-next.ensures.counted.0 c.in_err-next.ensures.counted.1)
 
+pub returns-in_err-next-clause-says_counted : goal.returns-in_err-next-clause-says_counted
+returns-in_err-next-clause-says_counted g c = let desk = g.D.Desk in
+    let p = err_from_is_err_and c.from_residual-in_err-next.result c.from_residual-in_err-next.ensures.1 in
+    rw (p.1, p.2) (stood (desk.line_faults c.args.desk.now) (desk.line_faults c.commit.new.desk)
+    (λ same. absurd (cc)) c.commit.ensures.line.faults)
+
 pub returns-in-Ok-clause-says_counted : goal.returns-in-Ok-clause-says_counted
 returns-in-Ok-clause-says_counted g c = let desk = g.D.Desk in
     stood (desk.line_faults c.args.desk.now) (desk.line_faults c.say_all.new.desk) (λ same. absurd (cc))
