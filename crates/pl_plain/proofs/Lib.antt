@@ -12,11 +12,12 @@ pub mod Lists
 pub mod Lookups
 pub mod OlderVisits
 pub mod OneStore
+pub mod OpeningGood
 pub mod OriginTotals
 pub mod OriginsLeft
-pub mod OpeningGood
 pub mod PageDropped
 pub mod Pages
+pub mod PagesButOne
 pub mod RowChanges
 pub mod Searches
 pub mod StoredTexts

@@ -25,7 +25,7 @@ use Rattle.pl_form.specs.declared.stored.StoredVisit.{StoredVisit}
 use Rattle.pl_plain.specs.FlatRows.{IsFlat, left_by}
 use Rattle.pl_plain.proofs.FlatChanges.{slots_of}
 use Rattle.pl_plain.proofs.OriginsLeft.{true_both}
-use Rattle.pl_plain.proofs.PageDropped.{all_pass}
+use Rattle.pl_plain.proofs.PagesButOne.{all_pass}
 
 -- ---- the visits but one
 

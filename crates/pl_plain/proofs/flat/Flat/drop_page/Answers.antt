@@ -6,7 +6,8 @@ use Rattle.pl_plain.specs.Flat.{kept_of}
 use Rattle.pl_plain.specs.FlatRows.{IsFlat, origins_from, page_of, totals_left}
 use Rattle.pl_plain.proofs.FlatChanges.{origins_few}
 use Rattle.pl_plain.proofs.Lookups.{found-there, one-found}
-use Rattle.pl_plain.proofs.PageDropped.{dropped, flat_dropped, in_use, rows_dropped, slots_of_page, slots_there}
+use Rattle.pl_plain.proofs.PagesButOne.{in_use}
+use Rattle.pl_plain.proofs.PageDropped.{dropped, flat_dropped, rows_dropped, slots_of_page, slots_there}
 use Rattle.pl_plain.proofs.PageDropped.{some_name, totals_dropped, used_dropped, without_dropped}
 use Rattle.pl_plain.proofs.Searches.{pages_ascend}
 use Rattle.pl_plain.proofs.flat.Flat.drop_page.Goals as goal
