@@ -10,7 +10,9 @@ use std::process::Abort;
 use std::test::Fail;
 
 const PAGES: u64 = 100;
+
 const VISITS: u64 = 400;
+
 const LAST_DAY: u64 = 120;
 
 // The nth visit: to any page, by any transition, in the first 150 days. A redirect comes from the
