@@ -1,4 +1,6 @@
 // Whole scripts of origins and their totals, and of what the store holds.
+ghost use Rattle.std.specs.Prelude.{◌≤◌};
+
 use super::{expect_said, tried};
 use std::alloc::{AllocError, Global};
 use std::test::Fail;
