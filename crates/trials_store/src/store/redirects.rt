@@ -200,6 +200,37 @@ const ORDERS: [[u8; 3]; 6] = [
 // The page of the source before a redirect has come from it, and since.
 const SOURCE: [Kept; 2] = [(100, 1, false), (25, 1, true)];
 
+// A new store with the visit that the three come from.
+fn with_source(rt: &impl Abort, alloc: Global, desk: &mut MemDesk) -> Result<Session, Fail> {
+    let session = create(alloc, desk)?;
+    let source = visit_from(alloc, A, Transition::Link, 1, 0)?;
+    perform_and_check(rt, alloc, session, &source, desk, &SOURCE[..1])
+}
+
+// The visit to a target at its date.
+fn target_visit(rt: &impl Abort, alloc: Global, target: u8, dates: [u8; 3]) -> Result<Command, Fail>
+    ensures { IfOk result HasDates }
+{
+    let target = usize::from(target);
+    assert!(rt; target < 3);
+    let (url, transition) = TARGETS[target];
+    visit_from(alloc, url, transition, dates[target], 1)
+}
+
+fn perform_target(
+    rt: &impl Abort,
+    alloc: Global,
+    session: Session,
+    command: &Command,
+    desk: &mut MemDesk,
+    has_led: bool,
+) -> Result<Session, Fail>
+    requires { HasDates command.now }
+{
+    let marks = if has_led { &SOURCE[1..] } else { &SOURCE[..1] };
+    perform_and_check(rt, alloc, session, command, desk, marks)
+}
+
 fn check_orders(
     rt: &impl Abort,
     alloc: Global,
@@ -207,18 +238,13 @@ fn check_orders(
     dates: [u8; 3],
 ) -> Result<(), Fail> {
     let mut desk = MemDesk::holding(alloc, &[], &[])?;
-    let mut session = create(alloc, &mut desk)?;
-    let source = visit_from(alloc, A, Transition::Link, 1, 0)?;
-    session = perform_and_check(rt, alloc, session, &source, &mut desk, &SOURCE[..1])?;
+    let mut session = with_source(rt, alloc, &mut desk)?;
     let mut has_led = false;
     for target in arrival {
-        let target = usize::from(target);
-        assert!(rt; target < 3);
-        let (url, transition) = TARGETS[target];
-        let command = visit_from(alloc, url, transition, dates[target], 1)?;
-        has_led = has_led || transition != Transition::Link;
-        let mark = if has_led { &SOURCE[1..] } else { &SOURCE[..1] };
-        session = perform_and_check(rt, alloc, session, &command, &mut desk, mark)?;
+        // The first of them is no redirect.
+        has_led = has_led || target != 0;
+        let command = target_visit(rt, alloc, target, dates)?;
+        session = perform_target(rt, alloc, session, &command, &mut desk, has_led)?;
     }
     Ok(())
 }
