@@ -7,7 +7,7 @@ use Rattle.pl_base.specs.declared.item.ItemKind.TheVariants.{Bookmark as ItemBoo
 use Rattle.pl_base.specs.declared.transition.Transition.{Transition}
 use Rattle.pl_base.specs.declared.transition.Transition.TheVariants.{Link, Typed, RedirectPermanent}
 use Rattle.pl_base.specs.declared.transition.Transition.TheVariants.{RedirectTemporary}
-use Rattle.pl_base.specs.Days.{on_day, pages_moved}
+use Rattle.pl_base.specs.Days.{pages_moved}
 use Rattle.pl_base.specs.Expiration.{expired, stale_pages, trimmed, visits_before}
 use Rattle.pl_base.specs.Frecency.{frecency_of}
 use Rattle.pl_base.specs.Removal.{forgotten, visits_left, without_visits}

@@ -4,9 +4,11 @@ mod HistoryRows
 pub mod IdsLaws
 pub mod ItemLaws
 pub mod ListLaws
+mod Numerals
 pub mod OriginLaws
 pub mod RootsLaws
 pub mod Searches
+pub mod SortLaws
 pub mod TablesLaws
 mod TitleCuts
 mod TotalsRows

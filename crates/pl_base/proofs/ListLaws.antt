@@ -97,6 +97,11 @@ pub from_map : {X Y : Type 0} (P : Y → Type 0) (f : X → Y) (xs : List X) →
 from_map P f [] all = tt
 from_map P f (x ∷ xs) all = (all.0, from_map P f xs all.1)
 
+pub to_map : {X Y : Type 0} (P : Y → Type 0) (f : X → Y) (xs : List X) → AllByRecursion (λ x. P (f x)) xs
+    → AllByRecursion P (map f xs)
+to_map P f [] all = tt
+to_map P f (x ∷ xs) all = (all.0, to_map P f xs all.1)
+
 pub all-filter : {X : Type 0} (P : X → Type 0) (q : X → Bool) (xs : List X) → AllByRecursion P xs
     → AllByRecursion P (filter q xs)
 all-filter P q [] all = tt

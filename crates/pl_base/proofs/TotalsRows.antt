@@ -1,5 +1,5 @@
 -- Worked rows of origins, their totals and groups of hosts: the definitions compute to values that were worked out by hand.
-use Rattle.std.proofs.Common.{◌≡◌, ℕ, Bool, List, [], ◌∷◌, map, true, false, refl}
+use Rattle.std.proofs.Common.{◌≡◌, ℕ, List, [], ◌∷◌, map, true, false, refl}
 use Rattle.std.specs.Prelude.{ℤ, pos, negsuc, codes}
 use Rattle.pl_base.specs.Totals.{Origin, Scored, group_passes, group_total, origins_of, origins_with_total, share}
 use Rattle.pl_base.specs.Totals.{sum_of_totals, total_of, without_www}

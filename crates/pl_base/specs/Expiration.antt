@@ -1,6 +1,6 @@
 -- History that is old: which visits an expiration and a trim take.
-use Rattle.std.specs.Prelude.{ℕ, ◌-◌, ◌==◌, ◌&&◌, ◌||◌, not, Bool, true, false, List, [], ◌∷◌}
-use Rattle.std.specs.Prelude.{length, map, nat_lt, take, Option, Some, None, if◌then◌else◌}
+use Rattle.std.specs.Prelude.{ℕ, ◌-◌, ◌==◌, ◌&&◌, ◌||◌, not, Bool, true, false, List}
+use Rattle.std.specs.Prelude.{length, map, nat_lt, take, Option, Some, None}
 use Rattle.std.specs.List.{filter, list_any}
 use Rattle.pl_base.specs.declared.date.Day.{Day}
 use Rattle.pl_base.specs.declared.date.Micros.{Micros}
@@ -8,12 +8,14 @@ use Rattle.pl_base.specs.declared.id.VisitId.{VisitId}
 use Rattle.pl_base.specs.Date.{day_number}
 use Rattle.pl_base.specs.Marks.{is_referenced, last_date_of}
 use Rattle.pl_base.specs.Removal.{without_visits}
+use Rattle.pl_base.specs.Sorting.{sorted_by}
 use Rattle.pl_base.specs.Store.{Store, Page, Visit}
 
 -- the visits of the days before this one
 abbrev pub visits_before : Day → Store → List VisitId
 visits_before day store =
-    map (λ (v : Visit). v.id) (filter (λ (v : Visit). nat_lt (day_number v.date) day.0) store.visits)
+    map (λ (v : Visit). v.id)
+    (filter (λ (v : Visit). nat_lt (day_number v.date) day.0) store.visits)
 
 -- the store without the visits of the days before this one
 abbrev pub expired : Day → Store → Store
@@ -30,18 +32,12 @@ is_earlier (Some date) (Some other) = nat_lt date.0 other.0
 abbrev pub is_staler : Store → Page → Page → Bool
 is_staler store p q =
     is_earlier (last_date_of store p.id) (last_date_of store q.id)
-    || (not (is_earlier (last_date_of store q.id) (last_date_of store p.id)) && nat_lt p.id.0 q.id.0)
-
--- a page put into its place among pages that stand stalest first
-abbrev pub in_stale_place : Store → Page → List Page → List Page
-in_stale_place store p [] = p ∷ []
-in_stale_place store p (q ∷ qs) =
-    if is_staler store p q then p ∷ q ∷ qs else q ∷ in_stale_place store p qs
+    || (not (is_earlier (last_date_of store q.id) (last_date_of store p.id))
+    && nat_lt p.id.0 q.id.0)
 
 -- the pages sorted, the stalest first
 abbrev pub stalest_first : Store → List Page → List Page
-stalest_first store [] = []
-stalest_first store (p ∷ ps) = in_stale_place store p (stalest_first store ps)
+stalest_first store pages = sorted_by (is_staler store) pages
 
 -- the pages that no item has, the stalest first
 abbrev pub stale_pages : Store → List Page

@@ -8,10 +8,12 @@ pub mod Good
 pub mod ItemKind
 pub mod Live
 pub mod Marks
+pub mod NumberText
 pub mod Redirects
 pub mod Refusal
 pub mod Removal
 pub mod Rows
+pub mod Sorting
 pub mod Store
 pub mod Tables
 pub mod Tags

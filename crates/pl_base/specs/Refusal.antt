@@ -7,7 +7,7 @@ use Rattle.pl_base.specs.declared.refusal.Refusal.TheVariants.{BadUrl, NotRecord
 use Rattle.pl_base.specs.declared.refusal.Refusal.TheVariants.{NoItem, NotAFolder, Fixed}
 use Rattle.pl_base.specs.declared.refusal.Refusal.TheVariants.{BadPlace, Inside, DayBack}
 use Rattle.pl_base.specs.declared.refusal.Refusal.TheVariants.{Full, NoIds, BadLine, BadDate}
-use Rattle.pl_base.specs.declared.refusal.Refusal.TheVariants.{DupTag, BadTag, NoTag}
+use Rattle.pl_base.specs.declared.refusal.Refusal.TheVariants.{BadQuery, DupTag, BadTag, NoTag}
 
 -- the number of a refusal
 abbrev pub refusal_number : Refusal → ℕ
@@ -21,6 +21,7 @@ refusal_number (Fixed id) = 7
 refusal_number (BadPlace position length) = 8
 refusal_number (Inside id) = 9
 refusal_number (DayBack kept) = 10
+refusal_number (BadQuery piece) = 11
 refusal_number (Full slots) = 12
 refusal_number (NoIds kind) = 13
 refusal_number (BadLine column) = 14
@@ -47,6 +48,7 @@ refusal_values (Fixed id) = id.0 ∷ []
 refusal_values (BadPlace position length) = position ∷ length ∷ []
 refusal_values (Inside id) = id.0 ∷ []
 refusal_values (DayBack kept) = kept.0 ∷ []
+refusal_values (BadQuery piece) = piece ∷ []
 refusal_values (Full slots) = slots ∷ []
 refusal_values (NoIds kind) = id_kind_number kind ∷ []
 refusal_values (BadLine column) = column ∷ []

@@ -1,7 +1,7 @@
 -- Tags are items too: the children of the tags root are folders named by tags, and the bookmarks in
 -- such a folder have the pages with that tag.
 use Rattle.std.specs.Prelude.{ℕ, ◌==◌, ◌&&◌, not, Bool, false, List, [], ◌∷◌, ◌++◌, map}
-use Rattle.std.specs.Prelude.{Option, Some, None, if◌then◌else◌}
+use Rattle.std.specs.Prelude.{Option, Some, None}
 use Rattle.std.specs.Cmp.Lexicographic.{slice_cmp}
 use Rattle.std.specs.List.{filter, list_any}
 use Rattle.std.specs.Option.{option_and_then}
@@ -9,6 +9,7 @@ use Rattle.std.specs.Ordering.{is_lt, nat_cmp}
 use Rattle.pl_base.specs.declared.id.ItemId.{ItemId}
 use Rattle.pl_base.specs.declared.id.PageId.{PageId}
 use Rattle.pl_base.specs.Fold.{folded}
+use Rattle.pl_base.specs.Sorting.{sorted_by}
 use Rattle.pl_base.specs.Store.{Store, Item, item_id}
 use Rattle.pl_base.specs.Tree.{child_items, is_page, parent_of}
 
@@ -35,6 +36,11 @@ abbrev pub is_bookmarked : Store → PageId → Bool
 is_bookmarked store page =
     list_any (λ (i : Item). is_page page i.page && not (is_tag_entry store i.id)) store.items
 
+-- a tag entry has the page
+abbrev pub is_tagged : Store → PageId → Bool
+is_tagged store page =
+    list_any (λ (i : Item). is_page page i.page && is_tag_entry store i.id) store.items
+
 -- the page is in the tag folder
 abbrev pub has_tag : Store → PageId → Item → Bool
 has_tag store page tag =
@@ -44,16 +50,9 @@ has_tag store page tag =
 abbrev pub is_before : Item → Item → Bool
 is_before a b = is_lt (slice_cmp nat_cmp (folded a.title) (folded b.title))
 
--- a tag put into its place among tags that stand by the bytes of their folds
-abbrev pub in_fold_order : Item → List Item → List Item
-in_fold_order tag [] = tag ∷ []
-in_fold_order tag (t ∷ ts) =
-    if is_before tag t then tag ∷ t ∷ ts else t ∷ in_fold_order tag ts
-
 -- the tags sorted by the bytes of their folds
 abbrev pub by_fold : List Item → List Item
-by_fold [] = []
-by_fold (t ∷ ts) = in_fold_order t (by_fold ts)
+by_fold tags = sorted_by is_before tags
 
 -- texts joined by commas
 abbrev pub comma_joined : List (List ℕ) → List ℕ

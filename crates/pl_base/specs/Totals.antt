@@ -1,7 +1,7 @@
 -- The totals of origins, and which hosts the address bar fills in: `moz_origins` and its threshold.
 use Rattle.std.specs.Prelude.{ℕ, ◌*◌, ◌==◌, ◌&&◌, not, Bool, List, [], ◌∷◌, map, length}
 use Rattle.std.specs.Prelude.{ℤ, pos, negsuc, bytes_eq, codes, drop, nat_eq, nat_le, nat_lt}
-use Rattle.std.specs.Prelude.{Option, if◌then◌else◌}
+use Rattle.std.specs.Prelude.{if◌then◌else◌}
 use Rattle.std.specs.List.{filter, filter_map, starts_with, sum_by}
 use Rattle.std.specs.Option.{option_map}
 use Rattle.pl_base.specs.Address.{origin_of_url}

@@ -1,4 +1,4 @@
-//! What the whole store speaks of: ids, dates, transitions, texts and refusals, and in
+//! What the whole store speaks of: ids, dates, numbers, transitions, texts and refusals, and in
 //! `specs/` the definitions of the store, its addresses and its frecencies, after the
 //! documentation of Mozilla Places.
 #![tactic(auto)]
@@ -8,6 +8,7 @@ mod fault;
 mod id;
 mod item;
 mod memory;
+mod numbers;
 mod refusal;
 mod row;
 mod rows;
@@ -23,6 +24,7 @@ pub use fault::DeviceFault;
 pub use id::{IdKind, Ids, ItemId, PageId, Slot, VisitId};
 pub use item::{ItemKind, ItemRow, TreeItem};
 pub use memory::NoMemory;
+pub use numbers::{all_digits, number, number_32};
 pub use refusal::Refusal;
 pub use row::{Mark, OriginRow, VisitRow};
 pub use rows::{Rows, SLOT_LIMIT};

@@ -37,6 +37,10 @@ pub enum Refusal {
     /// The day is before the store's, which is this one.
     #[error("the store's day is {}", .0.0)]
     DayBack(Day),
+    /// The text holds no query. The number is that of the piece which is not of its form, counted
+    /// from 1 on, and 0 where the text does not begin with `place:`.
+    #[error("no query, at piece {0}")]
+    BadQuery(u64),
     /// The store would take so many slots of 128 bytes, which is more than it may.
     #[error("the store would take {0} slots")]
     Full(u64),
@@ -76,6 +80,7 @@ impl Refusal {
             Refusal::BadPlace(_, _) => 8,
             Refusal::Inside(_) => 9,
             Refusal::DayBack(_) => 10,
+            Refusal::BadQuery(_) => 11,
             Refusal::Full(_) => 12,
             Refusal::NoIds(_) => 13,
             Refusal::BadLine(_) => 14,

@@ -4,6 +4,7 @@ ghost use Rattle.pl_base.specs.Title.{cut_title};
 
 use crate::NoMemory;
 use std::alloc::Global;
+use std::cmp::Ordering;
 use std::marker::Model;
 
 /// A title has no more bytes.
@@ -69,6 +70,46 @@ impl Eq for Txt {
     ghost use Rattle.std.specs.Cmp.Lexicographic.{nat_list_eq_equiv};
 
     ghost laws = { nat_list_eq_equiv };
+}
+
+// By the order of the bytes.
+impl PartialOrd for Txt {
+    ghost use Rattle.std.specs.Prelude.{Some};
+    ghost use Rattle.std.specs.Cmp.{po};
+    ghost use Rattle.std.specs.Cmp.Lexicographic.{slice_cmp};
+    ghost use Rattle.std.specs.Ordering.{nat_cmp};
+    ghost use Rattle.std.proofs.Common.{sym};
+    ghost use Rattle.std.proofs.lemmas.Cmp.{nat_list_cmp_total};
+    ghost use Rattle.std.proofs.lemmas.Map.Text.{is_eq-slice_cmp};
+
+    ghost partial_cmp = { λ a b. Some (slice_cmp nat_cmp a b) };
+
+    ghost laws = { po nat_list_cmp_total (λ a b. sym (is_eq-slice_cmp a b)) };
+
+    fn partial_cmp(&self, other: &Txt) -> Option<Ordering> {
+        Some(self.cmp(other))
+    }
+}
+
+impl Ord for Txt {
+    ghost use Rattle.std.specs.Prelude.{refl};
+    ghost use Rattle.std.specs.Cmp.Lexicographic.{slice_cmp};
+    ghost use Rattle.std.specs.Ordering.{nat_cmp};
+    ghost use Rattle.std.proofs.Common.{sym};
+    ghost use Rattle.std.proofs.lemmas.Cmp.{nat_list_cmp_total};
+    ghost use Rattle.std.proofs.lemmas.Map.Text.{is_eq-slice_cmp};
+
+    ghost cmp = { slice_cmp nat_cmp };
+
+    ghost total = { nat_list_cmp_total };
+
+    ghost matches_partial_cmp = { λ a b. refl };
+
+    ghost matches_eq = { λ a b. sym (is_eq-slice_cmp a b) };
+
+    fn cmp(&self, other: &Txt) -> Ordering {
+        self.as_str().cmp(other.as_str())
+    }
 }
 
 impl From<String> for Txt {

@@ -3,7 +3,6 @@ pub mod Freshened
 pub mod GoodRows
 pub mod KeptMark
 pub mod NewTotals
-pub mod OneOrder
 pub mod OriginParts
 pub mod PageCounts
 pub mod PageOrder

@@ -17,7 +17,7 @@ use Rattle.pl_base.specs.Date.{IsDate}
 use Rattle.pl_base.specs.Rows.{IsWellKept, Kept, KeptPage, has_page, has_visit, page_visits, store_of, visit_at}
 use Rattle.pl_base.specs.Store.{Store, Visit}
 use Rattle.pl_base.specs.Visits.{in_place, is_later, latest_first, visits_of}
-use Rattle.pl_base.proofs.ListLaws.{AllPairs-map, all-filter, list_any-alike, list_any-map, weaker}
+use Rattle.pl_base.proofs.ListLaws.{AllPairs-map, all-filter, list_any-alike, list_any-map, to_map, weaker}
 use Rattle.pl_base.proofs.VisitsLaws.{Differ, Differ-filter}
 use Rattle.pl_marks.proofs.LookUps.{Apart, apart_ascending, found_some}
 use Rattle.pl_marks.proofs.VisitWalk.{IsVisitOf, differ, visits_stand}
@@ -301,12 +301,10 @@ has_more test kept front page id now more are same pushed =
 apart_ids : (pages : List KeptPage) → Apart (λ (p : KeptPage). p.page.id.0) pages
     → Apart (λ (p : PageId). p.0) (page_ids pages)
 apart_ids [] apart = tt
-apart_ids (p ∷ ps) apart = (to_map p.page.id.0 ps apart.0, apart_ids ps apart.1)
-  where
-    to_map : (n : ℕ) (qs : List KeptPage) → AllByRecursion (λ (q : KeptPage). q.page.id.0 ≢ n) qs
-        → AllByRecursion (λ (q : PageId). q.0 ≢ n) (page_ids qs)
-    to_map n [] others = tt
-    to_map n (q ∷ qs) others = (others.0, to_map n qs others.1)
+apart_ids (p ∷ ps) apart = (
+  to_map (λ (q : PageId). q.0 ≢ p.page.id.0) (λ (q : KeptPage). q.page.id) ps apart.0,
+  apart_ids ps apart.1,
+)
 
 pub kept_apart : (kept : Kept) → IsWellKept kept → Apart (λ (p : PageId). p.0) (page_ids kept.pages)
 kept_apart kept h =

@@ -1,24 +1,25 @@
 -- The pages that a trim takes: each is there, none stands twice, and their visits are those of the definition.
-use Rattle.std.proofs.Common.{◌≡◌, ◌≢◌, ◌∙◌, ◌==◌, ◌&&◌, ◌-◌, ℕ, All, Bool, true, false, List, [], ◌∷◌, Some, ap}
+use Rattle.std.proofs.Common.{◌≡◌, ◌≢◌, ◌∙◌, ◌<◌, ◌==◌, ◌&&◌, ◌-◌, ℕ, All, Bool, true, false, List, [], ◌∷◌, Some, ap}
 use Rattle.std.proofs.Common.{arith, filter, length, map, not, refl, subst, suc, sym, take, zero}
 use Rattle.std.specs.List.{AllByRecursion, AllPairs, list_any}
-use Rattle.std.proofs.lemmas.List.{length-map, take-map}
+use Rattle.std.proofs.lemmas.List.{get_or-take, length-map, length-take, take-map}
 use Rattle.std.proofs.lemmas.List.Elements.{All-from_recursion, recursion_from_All}
-use Rattle.std.proofs.lemmas.List.Kept.{AllPairs-cons, AllPairs-from_increasing}
+use Rattle.std.proofs.lemmas.List.Kept.{AllPairs-filter, AllPairs-from_increasing}
 use Rattle.pl_base.specs.declared.id.PageId.{PageId}
 use Rattle.pl_base.specs.declared.id.VisitId.{VisitId}
-use Rattle.pl_base.specs.Expiration.{stale_pages, trimmed_pages, visits_to}
+use Rattle.pl_base.specs.Expiration.{is_staler, stale_pages, trimmed_pages, visits_to}
 use Rattle.pl_base.specs.Marks.{is_referenced}
 use Rattle.pl_base.specs.Rows.{IsWellKept, Kept, KeptPage, has_page, page_at, store_of}
 use Rattle.pl_base.specs.Store.{Page, Store, Visit}
-use Rattle.pl_base.proofs.ListLaws.{all-filter, list_any-alike, list_any-map, weaker}
+use Rattle.pl_base.proofs.ListLaws.{AllPairs-map, all-filter, list_any-alike, list_any-map, to_map, weaker}
+use Rattle.pl_base.proofs.SortLaws.{all_sorted, apart_sorted}
 use Rattle.pl_marks.proofs.LookUps.{Apart, apart_ascending, found_self, found_some}
 use Rattle.pl_history.specs.declared.trimming.StalePage.{StalePage}
 use Rattle.pl_history.specs.Stale.{stale_page, visits_of_pages}
 use Rattle.pl_history.specs.Taken.{AreThese, ids_of}
 use Rattle.pl_history.proofs.SameVisits.{filter-alike}
 use Rattle.pl_history.proofs.StalePages.{stale_ids}
-use Rattle.pl_history.proofs.StaleSort.{all_sorted, apart_filter, apart_sorted, number, pages_apart, to_map}
+use Rattle.pl_history.proofs.StaleSort.{AreApart, pages_apart}
 use Rattle.pl_history.proofs.TakenVisits.{are_these, eqb-sym, everyone, taken, to_pages}
 
 -- ---- parts of a list
@@ -29,20 +30,11 @@ all_take P zero (x ∷ xs) all = tt
 all_take P (suc n) [] all = tt
 all_take P (suc n) (x ∷ xs) all = (all.0, all_take P n xs all.1)
 
-apart_take : {X : Type 0} (key : X → ℕ) (n : ℕ) (xs : List X) → Apart key xs → Apart key (take n xs)
-apart_take key zero [] apart = tt
-apart_take key zero (x ∷ xs) apart = tt
-apart_take key (suc n) [] apart = tt
-apart_take key (suc n) (x ∷ xs) apart =
-    (all_take (λ y. key y ≢ key x) n xs apart.0, apart_take key n xs apart.1)
-
-apart_pairs : {X : Type 0} (key : X → ℕ) (xs : List X) → Apart key xs → AllPairs (λ x y. key x ≢ key y) xs
-apart_pairs key [] apart = λ i j d before within. absurd (omega arith)
-apart_pairs key (x ∷ xs) apart =
-    AllPairs-cons (λ y z. key y ≢ key z) x xs
-    (All-from_recursion (λ y. key x ≢ key y) xs
-    (weaker (λ y. key y ≢ key x) (λ y. key x ≢ key y) xs (λ y others same. others (sym same)) apart.0))
-    (apart_pairs key xs apart.1)
+pairs_take : {X : Type 0} (R : X → X → Type 0) (n : ℕ) (xs : List X) → AllPairs R xs → AllPairs R (take n xs)
+pairs_take R n xs pairs i j d before within =
+    let cut : j < n = omega (arith, length-take n xs) in
+    let there : j < length xs = omega (arith, length-take n xs) in
+    rw (get_or-take n xs i d (omega arith), get_or-take n xs j d cut) (pairs i j d before there)
 
 pairs_apart : (pages : List StalePage) → AllPairs (λ (p q : StalePage). p.page.0 ≢ q.page.0) pages
     → Apart (λ (p : PageId). p.0) (stale_ids pages)
@@ -112,30 +104,24 @@ trimmed_there kept most pages h are =
     (trimmed_pages most (store_of kept))
     (all_take (λ (p : Page). has_page kept p.id ≡ true) (length (store_of kept).pages - most)
     (stale_pages (store_of kept))
-    (all_sorted (λ (p : Page). has_page kept p.id ≡ true) (store_of kept)
+    (all_sorted (is_staler (store_of kept)) (λ (p : Page). has_page kept p.id ≡ true)
     (filter (λ (p : Page). not (is_referenced (store_of kept) p.id)) (store_of kept).pages)
     (all-filter (λ (p : Page). has_page kept p.id ≡ true)
     (λ (p : Page). not (is_referenced (store_of kept) p.id)) (store_of kept).pages (kept_there kept h))))))
 
-apart_map : (store : Store) (ps : List Page) → Apart number ps
-    → Apart (λ (p : StalePage). p.page.0) (map (stale_page store) ps)
-apart_map store [] apart = tt
-apart_map store (p ∷ ps) apart = (
-  to_map (λ (q : StalePage). q.page.0 ≢ p.id.0) (stale_page store) ps apart.0,
-  apart_map store ps apart.1,
-)
-
 pub trimmed_apart : (kept : Kept) (most : ℕ) (pages : List StalePage) → IsWellKept kept
     → AreTrimmed most (store_of kept) pages → AllPairs (λ (p q : StalePage). p.page.0 ≢ q.page.0) pages
 trimmed_apart kept most pages h are =
-    apart_pairs (λ (p : StalePage). p.page.0) pages
-    (subst (Apart (λ (p : StalePage). p.page.0)) (sym are)
-    (apart_map (store_of kept) (trimmed_pages most (store_of kept))
-    (apart_take number (length (store_of kept).pages - most) (stale_pages (store_of kept))
-    (apart_sorted (store_of kept)
-    (filter (λ (p : Page). not (is_referenced (store_of kept) p.id)) (store_of kept).pages)
-    (apart_filter (λ (p : Page). not (is_referenced (store_of kept) p.id)) (store_of kept).pages
-    (pages_apart kept h))))))
+    let free : List Page = filter (λ (p : Page). not (is_referenced (store_of kept) p.id)) (store_of kept).pages in
+    let sorted : AreApart (stale_pages (store_of kept)) =
+    apart_sorted (is_staler (store_of kept)) (λ (p : Page). p.id.0) free
+    (AllPairs-filter (λ (p q : Page). p.id.0 ≢ q.id.0) (λ (p : Page). not (is_referenced (store_of kept) p.id))
+    (store_of kept).pages (pages_apart kept h)) in
+    subst (AllPairs (λ (p q : StalePage). p.page.0 ≢ q.page.0)) (sym are)
+    (AllPairs-map (λ (p q : StalePage). p.page.0 ≢ q.page.0) (stale_page (store_of kept))
+    (trimmed_pages most (store_of kept))
+    (pairs_take (λ (p q : Page). p.id.0 ≢ q.id.0) (length (store_of kept).pages - most)
+    (stale_pages (store_of kept)) sorted))
 
 -- their visits
 pub trimmed_visits : (most : ℕ) (store : Store) (pages : List StalePage) → AreTrimmed most store pages

@@ -1,11 +1,12 @@
-use Rattle.std.proofs.Common.{filter, not}
+use Rattle.std.proofs.Common.{◌≢◌, filter, not}
+use Rattle.std.proofs.lemmas.List.Kept.{AllPairs-filter}
 use Rattle.pl_base.specs.Marks.{is_referenced}
 use Rattle.pl_base.specs.Rows.{Kept, store_of}
 use Rattle.pl_marks.proofs.PageTurns.{IsPageHere, has_here, page_here, turns_end, turns_go_on, turns_near}
 use Rattle.pl_marks.proofs.PageTurns.{turns_start}
 use Rattle.pl_history.proofs.StalePages.{AreStale, stale_more}
 use Rattle.pl_base.specs.Store.{Page}
-use Rattle.pl_history.proofs.StaleSort.{apart_filter, pages_apart, sorted_is}
+use Rattle.pl_history.proofs.StaleSort.{pages_apart, stalest_is}
 use Rattle.pl_history.proofs.trimming.stale_pages.Goals as goal
 
 pub loop-next-init : goal.loop-next-init
@@ -42,9 +43,10 @@ loop-next-preserved g c =
 pub returns : goal.returns
 returns g c =
     let kept : Kept = g.R.Rows.kept c.args.rows.now in
-    sorted_is (store_of kept) (filter (λ (p : Page). not (is_referenced (store_of kept) p.id)) (store_of kept).pages)
+    stalest_is (store_of kept) (filter (λ (p : Page). not (is_referenced (store_of kept) p.id)) (store_of kept).pages)
     c.loop-next.pages.items c.sort_unstable.new.self.items
-    (apart_filter (λ (p : Page). not (is_referenced (store_of kept) p.id)) (store_of kept).pages
+    (AllPairs-filter (λ (p q : Page). p.id.0 ≢ q.id.0) (λ (p : Page). not (is_referenced (store_of kept) p.id))
+    (store_of kept).pages
     (pages_apart kept (g.met.R.Rows.well_kept c.args.rows.now)))
     (turns_end kept (AreStale (store_of kept) c.loop-next.pages.items) c.loop-next.next c.loop-next.invariant
     (λ id some. c.in_default.not-Some id some))
