@@ -1,12 +1,17 @@
-ghost use Rattle.std.specs.Prelude.{◌≡◌, ◌<◌, ◌≤◌, length, None, Some};
-ghost use Rattle.std.specs.Prelude.{Ok, IfOk, IsErr, IsErrOf, IsOkAnd};
-ghost use Rattle.pl_base.specs.Address.{canon, is_recorded, longest_url, record_of, text_limit};
-ghost use Rattle.url.specs.Parts.{serialize};
+ghost use Rattle.std.specs.Prelude.{◌≡◌, ◌<◌, ◌≤◌, length, nat_eq, None, Some};
+ghost use Rattle.std.specs.Prelude.{Ok, IfOk, IsErr, IsErrOf, IsOkAnd, IsTrue};
+ghost use Rattle.std.specs.List.{starts_with};
+ghost use Rattle.pl_base.specs.Address.{canon, is_place, is_recorded, longest_url, record_of};
+ghost use Rattle.pl_base.specs.Address.{text_limit};
+ghost use Rattle.pl_base.specs.Address as address;
+ghost use Rattle.url.specs.Host.{host_text};
+ghost use Rattle.url.specs.Parts.{host_or_empty, serialize};
 
+use crate::parts::prefix;
 use std::alloc::Global;
 use std::marker::Model;
 use thiserror::Error;
-use url::{ParseError, Url};
+use url::{ParseError, Position, Url};
 
 /// A text of this many bytes or more is not read.
 const TEXT_LIMIT: usize = 16_777_216;
@@ -94,6 +99,29 @@ impl Canon {
                 | "resource"
                 | "view-source"
         )
+    }
+
+    /// Whether the URL holds a query of the store.
+    pub fn is_place(&self) -> bool
+        ensures { IsOkAnd (record_of self.now) (λ found. result ≡ is_place found) }
+    {
+        self.url.scheme() == "place"
+    }
+
+    /// The scheme with `://` where an authority follows, and with `:` elsewhere.
+    pub fn prefix(&self) -> &str
+        ensures value { IsOkAnd (record_of self.now) (λ found. result.now ≡ address.prefix found) }
+        ensures start { IsTrue (starts_with nat_eq self.now result.now) }
+    {
+        prefix(self.record())
+    }
+
+    /// The host without its port. It is often empty.
+    pub fn host(&self) -> &str
+        ensures { IsOkAnd (record_of self.now) (λ found.
+            result.now ≡ host_text (host_or_empty found)) }
+    {
+        self.url.slice(Position::BeforeHost, Position::AfterHost)
     }
 
     // The record of the text.

@@ -37,7 +37,7 @@ pub fn split(alloc: Global, url: &Canon) -> Result<Parts, NoMemory>
     })
 }
 
-fn prefix(url: &Url) -> &str
+pub(crate) fn prefix(url: &Url) -> &str
     ensures { result.now ≡ address.prefix url.now }
 {
     url.slice(Position::BeforeScheme, Position::BeforeUsername)

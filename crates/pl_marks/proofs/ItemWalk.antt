@@ -47,7 +47,7 @@ items_found kept h = found_self (λ (i : Item). i.id.0) kept.items (apart_ids ke
 abbrev pub IsItemOf : Kept → PageId → Item → Type 0
 IsItemOf kept page i = (item_at kept.items i.id ≡ Some i) × (is_page page i.page ≡ true)
 
-items_stand : (kept : Kept) (page : PageId) → IsWellKept kept
+pub items_stand : (kept : Kept) (page : PageId) → IsWellKept kept
     → AllByRecursion (IsItemOf kept page) (having kept.items page)
 items_stand kept page h =
     where_passes (IsItemOf kept page) (λ (i : Item). is_page page i.page) kept.items

@@ -1,15 +1,16 @@
-mod FreshestItem
-mod ItemWalk
+pub mod FreshestItem
+pub mod ItemWalk
 pub mod KeptUrls
-mod LatestVisit
+pub mod LatestVisit
 pub mod LookUps
 pub mod PageRows
 pub mod PageScore
-mod PageTags
+pub mod PageTags
 pub mod PageTurns
 pub mod PageWalk
-mod RedirectSources
-mod TagEntries
+pub mod RedirectSources
+pub mod TagEntries
 pub mod TagTree
-mod ViewsSoFar
+mod TaggedPage
+pub mod ViewsSoFar
 pub mod VisitWalk

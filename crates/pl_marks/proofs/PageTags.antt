@@ -49,7 +49,7 @@ outside_is store id = choose (parent_of store.items id) refl
     choose None within = rw within refl
     choose (Some f) within = above f (parent_of store.items f) refl within
 
-any_filter : (p q r : Item → Bool) (items : List Item) → ((i : Item) → r i ≡ q i)
+pub any_filter : (p q r : Item → Bool) (items : List Item) → ((i : Item) → r i ≡ q i)
     → list_any (λ (i : Item). p i && q i) items ≡ list_any r (filter p items)
 any_filter p q r [] same = refl
 any_filter p q r (i ∷ items) same = choose (p i) (any_filter p q r items same)

@@ -15,9 +15,11 @@ use Rattle.std.proofs.lemmas.List.Elements.{recursion_from_All}
 use Rattle.std.proofs.lemmas.Map.Lookups.{exact_bytes}
 use Rattle.std.proofs.lemmas.Slice.Eq.{bytes_eq-Decides}
 use Rattle.pl_base.specs.Fold.{folded}
+use Rattle.pl_base.specs.Sorting.{put_in_place}
 use Rattle.pl_base.specs.Store.{Item}
-use Rattle.pl_base.specs.Tags.{by_fold, in_fold_order, is_before}
-use Rattle.pl_base.proofs.ListLaws.{map-map, weaker}
+use Rattle.pl_base.specs.Tags.{by_fold, is_before}
+use Rattle.pl_base.proofs.ListLaws.{all-filter, map-map, weaker}
+use Rattle.pl_base.proofs.SortLaws.{all_sorted}
 use Rattle.pl_marks.proofs.LookUps.{both}
 
 -- the order of texts by their bytes
@@ -205,19 +207,8 @@ pub differ_filter : (test : Item → Bool) (ts : List Item) → Differ ts → Di
 differ_filter test [] differ = tt
 differ_filter test (t ∷ ts) differ = choose (test t) (differ_filter test ts differ.1)
   where
-    kept : (us : List Item) → AllByRecursion (λ (u : Item). folded u.title ≢ folded t.title) us
-        → AllByRecursion (λ (u : Item). folded u.title ≢ folded t.title) (filter test us)
-    kept [] all = tt
-    kept (u ∷ us) all = pass (test u) (kept us all.1)
-      where
-        pass : (b : Bool) → AllByRecursion (λ (x : Item). folded x.title ≢ folded t.title) (filter test us)
-            → AllByRecursion (λ (x : Item). folded x.title ≢ folded t.title)
-            (if b then u ∷ filter test us else filter test us)
-        pass true rest = (all.0, rest)
-        pass false rest = rest
-
     choose : (b : Bool) → Differ (filter test ts) → Differ (if b then t ∷ filter test ts else filter test ts)
-    choose true rest = (kept ts differ.0, rest)
+    choose true rest = (all-filter (λ (u : Item). folded u.title ≢ folded t.title) test ts differ.0, rest)
     choose false rest = rest
 
 -- each tag is found by its fold
@@ -233,30 +224,17 @@ tags_found (t ∷ ts) differ = (
       (tags_found ts differ.1),
 )
 
-all-in_order : (P : Item → Type 0) (t : Item) (ts : List Item) → AllByRecursion P ts → P t
-    → AllByRecursion P (in_fold_order t ts)
-all-in_order P t [] all new = (new, tt)
-all-in_order P t (u ∷ us) all new = choose (is_before t u) (all-in_order P t us all.1 new)
-  where
-    choose : (b : Bool) → AllByRecursion P (in_fold_order t us)
-        → AllByRecursion P (if b then t ∷ u ∷ us else u ∷ in_fold_order t us)
-    choose true rest = (new, all)
-    choose false rest = (all.0, rest)
-
-all-by_fold : (P : Item → Type 0) (ts : List Item) → AllByRecursion P ts → AllByRecursion P (by_fold ts)
-all-by_fold P [] all = tt
-all-by_fold P (t ∷ ts) all = all-in_order P t (by_fold ts) (all-by_fold P ts all.1) all.0
-
 -- a tag goes to the same place among the tags as its entry among the entries
 order_inserts : (t : Item) (ts : List Item) → AllByRecursion (λ (u : Item). folded u.title ≢ folded t.title) ts
-    → map tag_entry (in_fold_order t ts) ≡ insert_entry text_cmp (map tag_entry ts) (folded t.title) t.title
+    → map tag_entry (put_in_place is_before t ts) ≡ insert_entry text_cmp (map tag_entry ts) (folded t.title) t.title
 order_inserts t [] differ = refl
 order_inserts t (u ∷ us) differ =
     choose (text_cmp (folded t.title) (folded u.title)) refl (order_inserts t us differ.1)
   where
     choose : (r : Ordering) → text_cmp (folded t.title) (folded u.title) ≡ r
-        → map tag_entry (in_fold_order t us) ≡ insert_entry text_cmp (map tag_entry us) (folded t.title) t.title
-        → map tag_entry (if is_lt r then t ∷ u ∷ us else u ∷ in_fold_order t us)
+        → map tag_entry (put_in_place is_before t us)
+        ≡ insert_entry text_cmp (map tag_entry us) (folded t.title) t.title
+        → map tag_entry (if is_lt r then t ∷ u ∷ us else u ∷ put_in_place is_before t us)
         ≡ match_ordering r (tag_entry t ∷ map tag_entry (u ∷ us)) ((folded u.title, t.title) ∷ map tag_entry us)
         (tag_entry u ∷ insert_entry text_cmp (map tag_entry us) (folded t.title) t.title)
     choose Less is rest = refl
@@ -268,7 +246,7 @@ unfolding IsStrictlySortedBy
 order_ascends [] differ = tt
 order_ascends (t ∷ ts) differ =
     rw (order_inserts t (by_fold ts)
-    (all-by_fold (λ (u : Item). folded u.title ≢ folded t.title) ts differ.0))
+    (all_sorted is_before (λ (u : Item). folded u.title ≢ folded t.title) ts differ.0))
     (ascending_insert (folded t.title) t.title (map tag_entry (by_fold ts)) (order_ascends ts differ.1))
 
 -- the same are found among the tags in order
@@ -277,7 +255,7 @@ pub order_looks : (q : List ℕ) (ts : List Item) → Differ ts
 order_looks q [] differ = refl
 order_looks q (t ∷ ts) differ =
     ap (look q) (order_inserts t (by_fold ts)
-    (all-by_fold (λ (u : Item). folded u.title ≢ folded t.title) ts differ.0))
+    (all_sorted is_before (λ (u : Item). folded u.title ≢ folded t.title) ts differ.0))
     ∙ look_insert q (folded t.title) t.title (map tag_entry (by_fold ts))
     ∙ ap (λ (o : Option (List ℕ)). if bytes_eq (folded t.title) q then Some t.title else o)
     (order_looks q ts differ.1)

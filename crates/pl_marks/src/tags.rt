@@ -126,6 +126,20 @@ pub fn is_bookmarked<R: Rows, L: Ledger>(rows: &R, page: PageId, steps: &mut Ste
     false
 }
 
+/// Whether an item has the page that is in a tag folder.
+pub fn is_tagged<R: Rows, L: Ledger>(rows: &R, page: PageId, steps: &mut Steps<L>) -> bool
+    ensures { result ≡ tags.is_tagged (store_of (R.kept rows.now)) page }
+{
+    let mut next = rows.first_reference(page, steps);
+    while let Some(item) = next {
+        if tag_folder(rows, item, steps).is_some() {
+            return true;
+        }
+        next = rows.next_reference(item, steps);
+    }
+    false
+}
+
 // The tag that the item gives its page joins the others, by its fold.
 fn add_tag<R: Rows, L: Ledger>(
     alloc: Global,

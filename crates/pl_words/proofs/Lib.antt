@@ -1,3 +1,9 @@
+mod BarRows
 mod FoldRows
+mod MatchSteps
+mod PieceRows
+mod PieceSteps
+mod PrefixSteps
 pub mod TagNames
 mod TagRows
+pub mod TagTests

@@ -1,1 +1,3 @@
+pub mod Bar
+pub mod Pieces
 pub mod TagName

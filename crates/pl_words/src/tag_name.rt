@@ -1,7 +1,7 @@
-ghost use Rattle.std.specs.Prelude.{◌≡◌, ◌↔◌, IfOk, IsErrOf, IsTrue};
+ghost use Rattle.std.specs.Prelude.{◌≡◌, ◌↔◌, IfOk, IsErrOf, IsTrue, None, Some};
 ghost use Rattle.pl_base.specs.Good.{IsTagName};
 ghost use Rattle.pl_words.specs.declared.tag_name.TagError.TheVariants as variants;
-ghost use Rattle.pl_words.specs.TagName.{trimmed};
+ghost use Rattle.pl_words.specs.TagName.{tag_named, trimmed};
 
 use pl_base::{NoMemory, Txt};
 use std::alloc::Global;
@@ -49,9 +49,10 @@ impl Model for TagName {
 impl TagName {
     /// The tag that a text names, which may have blanks at both ends.
     pub fn read(alloc: Global, text: &str) -> Result<TagName, TagError>
-        ensures ok { IfOk result (λ name. name ≡ trimmed text.now) }
+        ensures ok { IfOk result (λ name. tag_named text.now ≡ Some name) }
+        ensures trimmed { IfOk result (λ name. name ≡ trimmed text.now) }
         ensures given { IfOk result IsTagName }
-        ensures bad { IsErrOf result TagError.BadTag → ¬ (IsTagName (trimmed text.now)) }
+        ensures bad { IsErrOf result TagError.BadTag → tag_named text.now ≡ None }
 
         // Memory is wanted of a tag's name alone.
         ensures no_memory { IsErrOf result TagError.NoMemory → IsTagName (trimmed text.now) }

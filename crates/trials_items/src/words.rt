@@ -1,7 +1,7 @@
-// Texts whose case is folded, and names of tags.
+// Texts whose case is folded, names of tags, words, and what is typed into the address bar.
 
-use pl_base::NoMemory;
-use pl_words::{TagError, TagName, fold, is_tag_name};
+use pl_base::{NoMemory, Txt};
+use pl_words::{Marks, TagError, TagName, fold, is_tag_name, matches, pieces, searched, tokens};
 use std::alloc::Global;
 use std::process::Abort;
 use std::test::Fail;
@@ -139,5 +139,169 @@ fn reads_tag_names(rt: HostRuntime) -> Result<(), Fail> {
     text.push_str(longest.as_str())?;
     text.push_str("\t")?;
     expect_name(&rt, alloc, text.as_str(), Some(longest.as_str()));
+    Ok(())
+}
+
+// Each text with its words.
+const PIECES: &[(&str, &[&str])] = &[
+    ("", &[]),
+    (" \t\n\x0b\x0c\r", &[]),
+    (
+        "\u{85}\u{a0}\u{1680}\u{2003}\u{2028}\u{202f}\u{205f}\u{3000}",
+        &[],
+    ),
+    ("one", &["one"]),
+    ("  one\t two\n", &["one", "two"]),
+    ("b a b", &["b", "a", "b"]),
+    ("*a # a,b", &["*a", "#", "a,b"]),
+    ("é\u{a0}ü\u{3000}日本", &["é", "ü", "日本"]),
+    // Neither is white space.
+    ("a\u{200b}b \u{feff}", &["a\u{200b}b", "\u{feff}"]),
+];
+
+fn expect_words(rt: &impl Abort, text: &str, words: &[Txt], want: &[&str]) {
+    assert_eq!(rt; words.len(), want.len(), "{text:?}");
+    for (word, wanted) in words.iter().zip(want) {
+        assert_eq!(rt; word.as_str(), *wanted, "{text:?}");
+    }
+}
+
+#[test]
+fn cuts_texts_into_words(rt: HostRuntime) -> Result<(), Fail> {
+    let alloc = rt.alloc();
+    for (text, want) in PIECES {
+        let words = pieces(alloc, &Txt::copied(alloc, text)?)?;
+        expect_words(&rt, text, words.as_slice(), want);
+    }
+    Ok(())
+}
+
+// Each URL with a prefix of it, and the text that is searched.
+const SEARCHED: &[(&str, &str, &str)] = &[
+    ("", "", ""),
+    ("https://", "https://", ""),
+    ("https://www.a.test/B", "https://www.", "a.test/b"),
+    ("https://www.a.test/B", "https://", "www.a.test/b"),
+    ("http://a.test/%41%62C", "http://", "a.test/abc"),
+    (
+        "http://a.test/?q=Stra%c3%9fe",
+        "http://",
+        "a.test/?q=strasse",
+    ),
+    ("%zz%4%", "", "%zz%4%"),
+    ("%%41", "", "%a"),
+    // What an escape stands for begins no other.
+    ("%25%34%31%2541", "", "%41%41"),
+    ("a%FFb", "", "a\u{fffd}b"),
+    ("%E2%82%AC", "", "€"),
+    ("%E2%82", "", "\u{fffd}"),
+    ("%C3%28", "", "\u{fffd}("),
+];
+
+fn expect_searched(
+    rt: &impl Abort,
+    alloc: Global,
+    url: &str,
+    prefix: &str,
+    want: &str,
+) -> Result<(), NoMemory> {
+    assert!(rt; url.as_bytes().starts_with(prefix.as_bytes()), "{url}");
+    let text = searched(alloc, url, prefix)?;
+    assert_eq!(rt; text.as_str(), want, "{url}");
+    Ok(())
+}
+
+#[test]
+fn decodes_urls(rt: HostRuntime) -> Result<(), Fail> {
+    for (url, prefix, want) in SEARCHED {
+        expect_searched(&rt, rt.alloc(), url, prefix, want)?;
+    }
+    Ok(())
+}
+
+// Each text with a word: whether it stands there anywhere, and whether on a boundary.
+const PLACES: &[(&str, &str, bool, bool)] = &[
+    ("cat", "cat", true, true),
+    ("catch", "cat", true, true),
+    ("scat", "cat", true, false),
+    ("ccccat", "cat", true, false),
+    ("scat cat", "cat", true, true),
+    ("cut cup cap", "cap", true, true),
+    ("ca", "cat", false, false),
+    ("cut", "cat", false, false),
+    ("", "cat", false, false),
+    ("", "", true, true),
+    ("ab", "", true, true),
+    // Behind letters of ASCII, and behind the bytes beside them.
+    ("acat", "cat", true, false),
+    ("zcat", "cat", true, false),
+    ("Acat", "cat", true, false),
+    ("Zcat", "cat", true, false),
+    ("`cat", "cat", true, true),
+    ("{cat", "cat", true, true),
+    ("@cat", "cat", true, true),
+    ("[cat", "cat", true, true),
+    ("1cat", "cat", true, true),
+    ("_cat", "cat", true, true),
+    ("écat", "cat", true, true),
+    ("日本語", "本", true, true),
+    // The place on a boundary begins within the one before it.
+    ("xa-a-a", "a-a", true, true),
+    ("a.b", ".b", true, false),
+    ("a..b", ".b", true, true),
+];
+
+#[test]
+fn finds_words(rt: HostRuntime) -> Result<(), Fail> {
+    let alloc = rt.alloc();
+    for (text, word, anywhere, on_boundary) in PLACES {
+        let (searched, sought) = (Txt::copied(alloc, text)?, Txt::copied(alloc, word)?);
+        assert_eq!(rt;
+            matches(&searched, &sought, false),
+            *anywhere,
+            "{word} in {text}"
+        );
+        assert_eq!(rt;
+            matches(&searched, &sought, true),
+            *on_boundary,
+            "{word} in {text}"
+        );
+    }
+    Ok(())
+}
+
+// Each text of the address bar with its marks and its words.
+const TOKENS: &[(&str, &str, &[&str])] = &[
+    ("", "", &[]),
+    ("^ * + # $", "^*+#$", &[]),
+    ("rust # docs", "#", &["rust", "docs"]),
+    ("$ c $ b ^", "^$", &["c", "b"]),
+    ("+", "+", &[]),
+    // A mark that is glued to something is none.
+    ("*rust a^ a+b", "", &["*rust", "a^", "a+b"]),
+    ("## $$ *#", "", &["##", "$$", "*#"]),
+    ("% & ! ? -", "", &["%", "&", "!", "?", "-"]),
+    ("\u{3000}*\u{a0}é", "*", &["é"]),
+    ("b a b", "", &["b", "a", "b"]),
+];
+
+fn marks_in(text: &str) -> Marks {
+    Marks {
+        history: text.contains('^'),
+        bookmark: text.contains('*'),
+        tag: text.contains('+'),
+        title: text.contains('#'),
+        address: text.contains('$'),
+    }
+}
+
+#[test]
+fn reads_the_address_bar(rt: HostRuntime) -> Result<(), Fail> {
+    let alloc = rt.alloc();
+    for (text, marks, want) in TOKENS {
+        let bar = tokens(alloc, &Txt::copied(alloc, text)?)?;
+        assert_eq!(rt; bar.marks, marks_in(marks), "{text:?}");
+        expect_words(&rt, text, bar.words.as_slice(), want);
+    }
     Ok(())
 }
