@@ -1,0 +1,17 @@
+mod CanonicalReads
+mod CanonicalRows
+mod CutPairs
+mod DraftLemmas
+mod Escapes
+mod FineSaid
+mod FirstsLemmas
+mod KeyNames
+mod ListsBack
+mod OneQuery
+mod PlaceRows
+mod ReadBack
+mod ReadOnce
+mod ReadPieces
+mod SaidPairs
+mod ToldBack
+mod ValueLemmas

@@ -1,0 +1,9 @@
+pub mod Canonical
+pub mod Draft
+pub mod FormLaws
+pub mod Keys
+pub mod Kinds
+pub mod PlaceText
+pub mod QueryForm
+pub mod ReadQuery
+pub mod Values
