@@ -1,17 +1,20 @@
 // The totals of origins and of groups of hosts.
-ghost use Rattle.std.specs.Prelude.{◌≡◌, ◌∷◌, ◌++◌, ◌^◌, ◌<◌, [], ℕ, List};
+ghost use Rattle.std.specs.Prelude.{◌≡◌, ◌∷◌, ◌++◌, ◌^◌, ◌<◌, ◌≤◌, [], ℕ, List};
 ghost use Rattle.std.specs.Prelude.{IfOk, OnOk, length};
 ghost use Rattle.std.specs.List.{sum_by};
+ghost use Rattle.std.specs.Option.{option_map};
 ghost use Rattle.pl_base.specs.Live.{slot_limit};
 ghost use Rattle.pl_base.specs.Totals as spec;
 ghost use Rattle.pl_base.specs.Totals.{Scored, group_passes, origins_with_total, share};
 ghost use Rattle.pl_base.specs.Totals.{sum_of_totals, total_of};
 ghost use Rattle.pl_base.specs.View.{scored_views};
+ghost use Rattle.pl_totals.specs.Filling.{best_group};
+ghost use Rattle.pl_totals.specs.Groups.{fills, grouped, is_ahead, is_enough, or_best};
 ghost use Rattle.pl_totals.specs.Standing.{HasRoom, RaisesGroup, RaisesOrigin, StandsFor};
 ghost use Rattle.pl_totals.specs.Standing.{kept_group, kept_total, scored};
 
 use indexmap::{Equivalent, IndexMap};
-use pl_base::{NoMemory, View};
+use pl_base::{NoMemory, Txt, View};
 use std::alloc::Global;
 
 // An origin that has a total.
@@ -64,6 +67,32 @@ pub struct Totals {
     // How many origins have a total.
     count: u32,
     sum: u64,
+}
+
+// A group of hosts, and its total.
+#[derive(Clone, Copy)]
+struct Group<'a> {
+    name: &'a str,
+    total: u64,
+}
+
+impl<'a> Group<'a> {
+    // Whether it has the greater total, or the same and the name that is first.
+    fn is_ahead(self, other: Group) -> bool
+        ensures { result ≡ is_ahead (grouped self.entry) (grouped other.entry) }
+    {
+        self.total > other.total || (self.total == other.total && self.name < other.name)
+    }
+
+    // The group, or the best so far, where it is not ahead of that.
+    fn or_best(self, best: Option<Group<'a>>) -> Group<'a>
+        ensures { grouped result ≡ or_best (grouped self.entry) (option_map grouped best.entry) }
+    {
+        match best {
+            Some(best) if !self.is_ahead(best) => best,
+            _ => self,
+        }
+    }
 }
 
 /// The host without one leading `www.`: the name of its group.
@@ -183,14 +212,20 @@ impl Totals {
         self.kept_total(prefix, host)
     }
 
+    // Whether a group with this total passes.
+    fn is_enough(&self, total: u64) -> bool
+        ensures { result ≡ is_enough self.now total }
+    {
+        total > 0 && u128::from(total) * u128::from(self.count) >= u128::from(self.sum)
+    }
+
     /// Whether the group with this name passes: a host without one leading `www.`, as
     /// `example.org` or `example.org:8080`. The host `www.` makes the group with the empty name.
     pub fn passes(&self, group: &str) -> bool
         ensures { (pages : List Scored) → StandsFor self.now pages
             → result ≡ group_passes pages group.now }
     {
-        let total = self.kept_group(group);
-        total > 0 && u128::from(total) * u128::from(self.count) >= u128::from(self.sum)
+        self.is_enough(self.kept_group(group))
     }
 
     /// How many origins have a positive total, and the sum of these totals.
@@ -201,5 +236,35 @@ impl Totals {
             → result.1 ≡ sum_of_totals pages }
     {
         (self.count, self.sum)
+    }
+
+    // Whether the group passes, and its name begins with the text.
+    fn fills(&self, text: &str, group: Group) -> bool
+        ensures { result ≡ fills self.now text.now (grouped group.entry) }
+    {
+        self.is_enough(group.total) && group.name.starts_with(text)
+    }
+
+    /// Of the groups that pass and whose names begin with this text the one with the greatest
+    /// total, and that total. Of several with the same total it is the one whose name is first,
+    /// byte by byte.
+    pub fn best(&self, alloc: Global, text: &str) -> Result<Option<(Txt, u64)>, NoMemory>
+        ensures { IfOk result (λ best. (pages : List Scored) → StandsFor self.now pages
+            → best ≡ best_group pages text.now) }
+    {
+        let mut best: Option<Group> = None;
+        for (name, total) in self.groups.iter() {
+            let group = Group {
+                name: name.as_str(),
+                total: *total,
+            };
+            if self.fills(text, group) {
+                best = Some(group.or_best(best));
+            }
+        }
+        match best {
+            Some(group) => Ok(Some((Txt::copied(alloc, group.name)?, group.total))),
+            None => Ok(None),
+        }
     }
 }

@@ -1,0 +1,5 @@
+mod Candidates
+mod OfferRows
+mod PageTexts
+mod Ranking
+mod Tiers

@@ -1,0 +1,4 @@
+pub mod AddressBar
+pub mod Filled
+pub mod FoldedTexts
+pub mod RankedPages

@@ -1,0 +1,25 @@
+// The host that the address bar fills in.
+ghost use Rattle.std.specs.Prelude.{◌≡◌, List, IfOk};
+ghost use Rattle.pl_base.specs.Totals.{Scored};
+ghost use Rattle.pl_totals.specs.Standing.{StandsFor};
+ghost use Rattle.pl_bar.specs.Filled.{filled};
+
+use pl_base::{NoMemory, Txt};
+use pl_totals::{Totals, without_www};
+use std::alloc::Global;
+
+/// The group of hosts that is filled in behind a text, and its total: of those that pass and whose
+/// names begin with the text, without regard to the case of ASCII letters and to one leading
+/// `www.`, the one with the greatest total. None where nothing is left of the text.
+pub fn fill(alloc: Global, totals: &Totals, text: &str) -> Result<Option<(Txt, u64)>, NoMemory>
+    ensures { IfOk result (λ group. (pages : List Scored) → StandsFor totals.now pages
+        → group ≡ filled pages text.now) }
+{
+    let mut lower = String::from_str(alloc, text)?;
+    lower.make_ascii_lowercase();
+    let host = without_www(lower.as_str());
+    if host.is_empty() {
+        return Ok(None);
+    }
+    totals.best(alloc, host)
+}

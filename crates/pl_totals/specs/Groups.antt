@@ -1,0 +1,33 @@
+-- Groups of hosts with their totals, as they are gone through.
+use Rattle.std.specs.Prelude.{ℕ, ◌*◌, ◌==◌, ◌&&◌, ◌||◌, Bool, List, nat_eq, nat_le, nat_lt}
+use Rattle.std.specs.Prelude.{Option, Some, None, if◌then◌else◌}
+use Rattle.std.specs.Cmp.Lexicographic.{slice_cmp}
+use Rattle.std.specs.List.{starts_with}
+use Rattle.std.specs.Ordering.{is_lt, nat_cmp}
+use Rattle.pl_totals.specs.declared.totals.Group.{Group}
+use Rattle.pl_totals.specs.declared.totals.Totals.{Totals}
+
+-- a group of hosts, and its total
+abbrev pub Grouped : Type 0
+Grouped = List ℕ × ℕ
+
+-- a group as its name and its total
+abbrev pub grouped : Group → Grouped
+grouped group = (group.name.now, group.total)
+
+-- a total that is no less than the mean of those of the origins
+abbrev pub is_enough : Totals → ℕ → Bool
+is_enough totals total = nat_lt 0 total && nat_le totals.sum (total * totals.count)
+
+-- a group passes, and its name begins with the text
+abbrev pub fills : Totals → List ℕ → Grouped → Bool
+fills totals text group = is_enough totals group.1 && starts_with nat_eq group.0 text
+
+-- a group has the greater total, or the same and the name that is first in the order of bytes
+abbrev pub is_ahead : Grouped → Grouped → Bool
+is_ahead a b = nat_lt b.1 a.1 || ((a.1 == b.1) && is_lt (slice_cmp nat_cmp a.0 b.0))
+
+-- a group, or the best so far, where it is not ahead of that
+abbrev pub or_best : Grouped → Option Grouped → Grouped
+or_best group None = group
+or_best group (Some best) = if is_ahead group best then group else best
