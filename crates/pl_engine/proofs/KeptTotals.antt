@@ -5,7 +5,8 @@ use Rattle.std.proofs.lemmas.Bool.{not-false}
 use Rattle.pl_base.specs.declared.refusal.Refusal.{Refusal}
 use Rattle.pl_engine.specs.declared.reply.Reply.{Reply}
 use Rattle.pl_engine.specs.declared.reply.Reply.TheVariants.{Day, Visit, Done, Page, Origin, Stats}
-use Rattle.pl_engine.specs.declared.reply.Reply.TheVariants.{Removed, Item, List, Refused}
+use Rattle.pl_engine.specs.declared.reply.Reply.TheVariants.{Removed, Item, List, Rows, Place, Bar}
+use Rattle.pl_engine.specs.declared.reply.Reply.TheVariants.{Fill, NoFill, Refused}
 use Rattle.pl_engine.specs.declared.command.Command.{Command}
 use Rattle.pl_engine.specs.Refused.{has_changed, is_refused}
 use Rattle.pl_engine.specs.Step.{is_change}
@@ -21,6 +22,11 @@ refusal_in (Stats pages visits items origins sum slots) is = absurd (cc)
 refusal_in (Removed visits pages) is = absurd (cc)
 refusal_in (Item id) is = absurd (cc)
 refusal_in (List rows) is = absurd (cc)
+refusal_in (Rows rows) is = absurd (cc)
+refusal_in (Place text) is = absurd (cc)
+refusal_in (Bar rows) is = absurd (cc)
+refusal_in (Fill group total) is = absurd (cc)
+refusal_in NoFill is = absurd (cc)
 refusal_in (Refused refusal) is = (refusal, refl)
 
 -- what held of the rows before a refused command holds of them behind it

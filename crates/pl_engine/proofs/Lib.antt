@@ -13,6 +13,7 @@ mod Listed
 mod LiveAfter
 mod LiveTitled
 mod LostItems
+mod Offered
 mod PageSlots
 mod PageTold
 mod ReadyPage

@@ -1,6 +1,6 @@
 -- What the views of a store tell of its origins.
-use Rattle.std.proofs.Common.{◌≡◌, ◌≢◌, ◌∙◌, ◌<◌, ◌≤◌, ◌+◌, ◌==◌, ℕ, List, [], ◌∷◌, Some, None, ap, arith, eq-eqb, filter_map}
-use Rattle.std.proofs.Common.{if◌then◌else◌, length, map, refl, subst, suc, sym, Ok, Err, Bool, true, false, ◌^◌, ℤ}
+use Rattle.std.proofs.Common.{◌≡◌, ◌≢◌, ◌∙◌, ◌<◌, ◌≤◌, ◌==◌, ℕ, List, [], ◌∷◌, Some, ap, arith, eq-eqb, filter_map}
+use Rattle.std.proofs.Common.{if◌then◌else◌, length, refl, subst, suc, sym, Ok, Err, Bool, ◌^◌}
 use Rattle.std.specs.List.{sum_by}
 use Rattle.std.specs.Option.{option_map}
 use Rattle.std.specs.Result.{IsOkAnd}
@@ -14,8 +14,8 @@ use Rattle.pl_base.specs.declared.view.View.{View}
 use Rattle.pl_base.specs.Address.{origin_of_url}
 use Rattle.pl_base.specs.Frecency.{frecency_of}
 use Rattle.pl_base.specs.Good.{IsGood}
-use Rattle.pl_base.specs.Live.{live_slots, slot_limit}
-use Rattle.pl_base.specs.Rows.{IsWellKept, Kept, KeptPage, store_of}
+use Rattle.pl_base.specs.Live.{slot_limit}
+use Rattle.pl_base.specs.Rows.{IsWellKept, Kept, store_of}
 use Rattle.pl_base.specs.Store.{Item, Page, Store, item_id, root_folder, top_folders}
 use Rattle.pl_base.specs.Tree.{item_at}
 use Rattle.pl_base.specs.Totals.{Origin, Scored, is_origin, scored_pages, share, total_of}

@@ -3,7 +3,8 @@ use Rattle.std.specs.Prelude.{◌&&◌, not, Bool, true, false}
 use Rattle.pl_engine.specs.declared.command.Command.{Command}
 use Rattle.pl_engine.specs.declared.reply.Reply.{Reply}
 use Rattle.pl_engine.specs.declared.reply.Reply.TheVariants.{Day, Visit, Done, Page, Origin, Stats}
-use Rattle.pl_engine.specs.declared.reply.Reply.TheVariants.{Removed, Item, List, Refused}
+use Rattle.pl_engine.specs.declared.reply.Reply.TheVariants.{Removed, Item, List, Rows, Place, Bar}
+use Rattle.pl_engine.specs.declared.reply.Reply.TheVariants.{Fill, NoFill, Refused}
 use Rattle.pl_engine.specs.Step.{is_change}
 
 -- the reply is a refusal
@@ -17,6 +18,11 @@ is_refused (Stats pages visits items origins sum slots) = false
 is_refused (Removed visits pages) = false
 is_refused (Item id) = false
 is_refused (List rows) = false
+is_refused (Rows rows) = false
+is_refused (Place text) = false
+is_refused (Bar rows) = false
+is_refused (Fill group total) = false
+is_refused NoFill = false
 is_refused (Refused refusal) = true
 
 -- the command is of a kind that may change the store, and was not refused

@@ -1,5 +1,5 @@
 -- One step of the machine: what a command answers and what it leaves of the store.
-use Rattle.std.specs.Prelude.{◌≡◌, ℕ, ◌+◌, ◌-◌, ◌==◌, ◌&&◌, ◌||◌, not, Bool, true, false, List}
+use Rattle.std.specs.Prelude.{◌≡◌, ℕ, ◌+◌, ◌-◌, ◌==◌, ◌&&◌, not, Bool, true, false, List}
 use Rattle.std.specs.Prelude.{[], ◌∷◌, length, map, nat_lt, bytes_eq}
 use Rattle.std.specs.Prelude.{is_none, Option, Some, None, Ok, Err, if◌then◌else◌}
 use Rattle.std.specs.List.{count_by, find}
@@ -16,16 +16,17 @@ use Rattle.pl_base.specs.declared.refusal.Refusal.{Refusal}
 use Rattle.pl_base.specs.declared.refusal.Refusal.TheVariants.{NotRecorded, NoVisit, NoPage}
 use Rattle.pl_base.specs.declared.refusal.Refusal.TheVariants.{DayBack, Full, NoIds, DupTag, NoTag}
 use Rattle.pl_base.specs.declared.transition.Transition.{Transition}
-use Rattle.pl_base.specs.Address.{host_and_port, is_unrecorded_url, prefix, record_of, reversed_host}
+use Rattle.pl_base.specs.Address.{host_and_port, is_unrecorded_url, prefix, record_of}
+use Rattle.pl_base.specs.Address.{reversed_host}
 use Rattle.pl_base.specs.Date.{IsDate, IsDay}
 use Rattle.pl_base.specs.Days.{on_day, pages_moved}
 use Rattle.pl_base.specs.Expiration.{expired, trimmed}
 use Rattle.pl_base.specs.Frecency.{frecency_of}
 use Rattle.pl_base.specs.Good.{end_of_ids}
 use Rattle.pl_base.specs.Live.{live_slots}
-use Rattle.pl_base.specs.Marks.{is_hidden, is_typed, last_date_of, visit_count}
+use Rattle.pl_base.specs.Marks.{is_hidden, last_date_of, visit_count}
 use Rattle.pl_base.specs.Redirects.{visit_by_id}
-use Rattle.pl_base.specs.Store.{Store, Page, Visit, Item, item_id}
+use Rattle.pl_base.specs.Store.{Store, Page, Item, item_id}
 use Rattle.pl_base.specs.Tags.{is_bookmarked, tag_text}
 use Rattle.pl_base.specs.Removal.{forgotten, without_idle_pages, without_visits}
 use Rattle.pl_base.specs.Title.{cut_title}
@@ -42,6 +43,11 @@ use Rattle.pl_tree.specs.declared.tree_change.TreeChange.TheVariants.{Remove}
 use Rattle.pl_tree.specs.Changes.{with_moved, with_new, with_removed}
 use Rattle.pl_tree.specs.Refused.{folder_refusal, refusal}
 use Rattle.pl_tree.specs.Tagged.{new_items, tag_entry, tagged_items, untagged_items}
+use Rattle.pl_bar.specs.AddressBar.{offered}
+use Rattle.pl_bar.specs.Filled.{filled}
+use Rattle.pl_place.specs.declared.query.Query.{Query}
+use Rattle.pl_place.specs.Canonical.{canonical}
+use Rattle.pl_query.specs.QueryAnswer.{answer, told_row}
 use Rattle.pl_engine.specs.declared.command.Command.{Command}
 use Rattle.pl_engine.specs.declared.command.Command.TheVariants.{Day as DayCommand}
 use Rattle.pl_engine.specs.declared.command.Command.TheVariants.{Visit as VisitCommand}
@@ -62,6 +68,11 @@ use Rattle.pl_engine.specs.declared.command.Command.TheVariants.{Remove as Remov
 use Rattle.pl_engine.specs.declared.command.Command.TheVariants.{List as ListCommand}
 use Rattle.pl_engine.specs.declared.command.Command.TheVariants.{Tag as TagCommand}
 use Rattle.pl_engine.specs.declared.command.Command.TheVariants.{Untag as UntagCommand}
+use Rattle.pl_engine.specs.declared.command.Command.TheVariants.{Query as QueryCommand}
+use Rattle.pl_engine.specs.declared.command.Command.TheVariants.{Place as PlaceCommand}
+use Rattle.pl_engine.specs.declared.command.Command.TheVariants.{Bar as BarCommand}
+use Rattle.pl_engine.specs.declared.command.Command.TheVariants.{Fill as FillCommand}
+use Rattle.pl_engine.specs.declared.reply.BarRow.{BarRow}
 use Rattle.pl_engine.specs.declared.reply.ListRow.{ListRow}
 use Rattle.pl_engine.specs.declared.reply.Reply.{Reply}
 use Rattle.pl_engine.specs.declared.reply.Reply.TheVariants.{Visit as VisitReply}
@@ -71,6 +82,9 @@ use Rattle.pl_engine.specs.declared.reply.Reply.TheVariants.{Day as DayReply}
 use Rattle.pl_engine.specs.declared.reply.Reply.TheVariants.{Origin as OriginReply}
 use Rattle.pl_engine.specs.declared.reply.Reply.TheVariants.{Stats as StatsReply}
 use Rattle.pl_engine.specs.declared.reply.Reply.TheVariants.{Removed as RemovedReply}
+use Rattle.pl_engine.specs.declared.reply.Reply.TheVariants.{Rows as RowsReply, NoFill}
+use Rattle.pl_engine.specs.declared.reply.Reply.TheVariants.{Place as PlaceReply}
+use Rattle.pl_engine.specs.declared.reply.Reply.TheVariants.{Bar as BarReply, Fill as FillReply}
 use Rattle.pl_engine.specs.Parsed.{Parsed}
 
 -- a refused command changes nothing
@@ -322,6 +336,26 @@ list_row store i =
 abbrev pub list_reply : Store → ItemId → Reply
 list_reply store id = ListReply (map (list_row store) (child_items store.items id))
 
+-- ---- queries and the address bar
+
+-- the rows that answer a query
+abbrev pub query_reply : Store → Query → Reply
+query_reply store query = RowsReply (map (told_row store) (answer store query))
+
+-- what is told of a page that the address bar offers: its own title, whichever was searched
+abbrev pub bar_row : Store → Page → BarRow
+bar_row store p =
+    record { id = p.id; frecency = frecency_of store p; url = p.url; title = p.title }
+
+-- the pages that it offers
+abbrev pub bar_reply : Store → ℕ → List ℕ → Reply
+bar_reply store most text = BarReply (map (bar_row store) (offered store text most))
+
+-- the group that it fills in, if there is one
+abbrev pub group_reply : Option (List ℕ × ℕ) → Reply
+group_reply None = NoFill
+group_reply (Some group) = FillReply group.0 group.1
+
 -- ---- the step
 
 -- the dates and days of a command are in range
@@ -345,6 +379,10 @@ HasDates (RemoveCommand item) = Unit {0}
 HasDates (ListCommand item) = Unit {0}
 HasDates (TagCommand url name date) = IsDate date
 HasDates (UntagCommand url name) = Unit {0}
+HasDates (QueryCommand query) = Unit {0}
+HasDates (PlaceCommand query) = Unit {0}
+HasDates (BarCommand most text) = Unit {0}
+HasDates (FillCommand text) = Unit {0}
 
 -- any command may want memory but a move, and a visit that is not recorded
 abbrev pub MayWantMemory : Command → Type 0
@@ -367,6 +405,10 @@ MayWantMemory (RemoveCommand item) = Unit {0}
 MayWantMemory (ListCommand item) = Unit {0}
 MayWantMemory (TagCommand url name date) = Unit {0}
 MayWantMemory (UntagCommand url name) = Unit {0}
+MayWantMemory (QueryCommand query) = Unit {0}
+MayWantMemory (PlaceCommand query) = Unit {0}
+MayWantMemory (BarCommand most text) = Unit {0}
+MayWantMemory (FillCommand text) = Unit {0}
 
 -- a command of a kind that may change the store
 abbrev pub is_change : Command → Bool
@@ -389,6 +431,10 @@ is_change (RemoveCommand item) = true
 is_change (ListCommand item) = false
 is_change (TagCommand url name date) = true
 is_change (UntagCommand url name) = true
+is_change (QueryCommand query) = false
+is_change (PlaceCommand query) = false
+is_change (BarCommand most text) = false
+is_change (FillCommand text) = false
 
 -- on a store that takes at most so many slots
 abbrev pub perform : ℕ → Store → Command → Reply × Store
@@ -437,6 +483,10 @@ perform limit store (UntagCommand url name) =
     (Done, after_untag (page_for store url).id name store)
 perform limit store (ListCommand item) =
     unless_refused (folder_refusal store.items item) store (list_reply store item, store)
+perform limit store (QueryCommand query) = (query_reply store query, store)
+perform limit store (PlaceCommand query) = (PlaceReply (canonical query), store)
+perform limit store (BarCommand most text) = (bar_reply store most text, store)
+perform limit store (FillCommand text) = (group_reply (filled (scored_pages store) text), store)
 
 -- the reply to an entry of the script, and the store after it
 abbrev pub step : ℕ → Store → Parsed Command → Reply × Store

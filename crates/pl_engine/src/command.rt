@@ -3,6 +3,7 @@ ghost use Rattle.pl_engine.specs.Step.{is_change};
 
 use pl_base::{Day, ItemId, Micros, Transition, Txt, VisitId};
 use pl_link::Canon;
+use pl_place::Query;
 use pl_tree::Place;
 use pl_words::TagName;
 
@@ -105,6 +106,23 @@ pub enum Command {
     List {
         item: ItemId,
     },
+    /// The rows that answer a query.
+    Query {
+        query: Query,
+    },
+    /// The canonical text of a query.
+    Place {
+        query: Query,
+    },
+    /// The pages that the address bar offers for a text, so many at the most.
+    Bar {
+        max: u32,
+        text: Txt,
+    },
+    /// The group of hosts that the address bar fills in behind a text.
+    Fill {
+        text: Txt,
+    },
 }
 
 impl Command {
@@ -128,8 +146,14 @@ impl Command {
             | Command::Remove { .. }
             | Command::Tag { .. }
             | Command::Untag { .. } => true,
-            Command::Page { .. } | Command::Origin { .. } | Command::Stats | Command::List { .. } =>
-                false,
+            Command::Page { .. }
+            | Command::Origin { .. }
+            | Command::Stats
+            | Command::List { .. }
+            | Command::Query { .. }
+            | Command::Place { .. }
+            | Command::Bar { .. }
+            | Command::Fill { .. } => false,
         }
     }
 }

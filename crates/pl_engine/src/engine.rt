@@ -1,3 +1,4 @@
+mod bar;
 mod bookmark;
 mod change;
 mod history;
@@ -5,6 +6,7 @@ mod insert;
 mod list;
 mod origin;
 mod page;
+mod query;
 mod remove;
 mod slots;
 mod tag;
@@ -22,6 +24,7 @@ ghost use Rattle.pl_engine.specs.Refused.{has_changed};
 ghost use Rattle.pl_engine.specs.Step as spec;
 
 use crate::command::Command;
+use crate::engine::bar::{bar, fill};
 use crate::engine::bookmark::bookmark;
 use crate::engine::change::{move_item, retitle};
 use crate::engine::history::{day, expire, forget, trim, unvisit};
@@ -29,6 +32,7 @@ use crate::engine::insert::{folder, separator};
 use crate::engine::list::list;
 use crate::engine::origin::{origin, stats};
 use crate::engine::page::page;
+use crate::engine::query::{place, query};
 use crate::engine::remove::remove;
 use crate::engine::tag::{tag, untag};
 use crate::engine::title::title;
@@ -183,6 +187,10 @@ impl<R: Rows + Drop> Engine<R> {
             }
             Command::Untag { url, name } => untag(alloc, &mut rows, url, name, steps)?,
             Command::List { item } => list(alloc, &rows, *item, steps)?,
+            Command::Query { query: asked } => query(alloc, &rows, asked, steps)?,
+            Command::Place { query } => place(alloc, query)?,
+            Command::Bar { max, text } => bar(alloc, &rows, *max, text, steps)?,
+            Command::Fill { text } => fill(alloc, &rows, text, steps)?,
         };
         keep_totals(&mut rows, command, &reply, steps);
         Ok((Engine { alloc, rows, limit }, reply))

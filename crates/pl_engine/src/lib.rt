@@ -8,4 +8,4 @@ mod reply;
 
 pub use command::Command;
 pub use engine::Engine;
-pub use reply::{ListRow, Reply};
+pub use reply::{BarRow, ListRow, Reply};

@@ -2,6 +2,7 @@ ghost use Rattle.std.specs.Prelude.{◌≡◌};
 ghost use Rattle.pl_engine.specs.Refused.{is_refused};
 
 use pl_base::{Day, ItemId, ItemKind, Micros, PageId, Refusal, Seq, Txt, VisitId};
+use pl_query::ResultRow;
 
 /// The answer to a command.
 #[derive(Debug, PartialEq, Eq, Drop)]
@@ -72,6 +73,19 @@ pub enum Reply {
     Item(ItemId),
     /// The children of a folder, in order.
     List(Seq<ListRow>),
+    /// The rows that answer a query, in order.
+    Rows(Seq<ResultRow>),
+    /// The canonical text of a query.
+    Place(Txt),
+    /// The pages that the address bar offers, the best first.
+    Bar(Seq<BarRow>),
+    /// A group of hosts, by its name, and the sum of the totals of its origins.
+    Fill {
+        group: Txt,
+        total: u64,
+    },
+    /// No group of hosts begins with the text.
+    NoFill,
     Refused(Refusal),
 }
 
@@ -92,4 +106,14 @@ pub struct ListRow {
     pub title: Txt,
     /// The address of a bookmark.
     pub url: Option<Txt>,
+}
+
+/// A page that the address bar offers.
+#[derive(Debug, PartialEq, Eq, Drop)]
+pub struct BarRow {
+    pub id: PageId,
+    pub frecency: i64,
+    pub url: Txt,
+    /// The page's own title.
+    pub title: Txt,
 }

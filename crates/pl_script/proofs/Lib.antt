@@ -1,9 +1,10 @@
 mod ConstantRows
 mod Escapes
 mod FieldLemmas
-mod Numbers
 mod ReplyLines
+mod RowLines
 mod TagTexts
 mod Words
 mod WorkedDays
+mod WorkedQueries
 mod WorkedScripts

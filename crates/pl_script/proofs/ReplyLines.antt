@@ -17,12 +17,16 @@ use Rattle.pl_base.specs.declared.id.PageId.{PageId}
 use Rattle.pl_base.specs.declared.item.ItemKind.{ItemKind}
 use Rattle.pl_base.specs.declared.item.ItemKind.TheVariants.{Bookmark, Folder, Separator}
 use Rattle.pl_base.specs.Refusal.{refusal_number, refusal_values}
+use Rattle.pl_engine.specs.declared.reply.BarRow.{BarRow}
 use Rattle.pl_engine.specs.declared.reply.ListRow.{ListRow}
 use Rattle.pl_engine.specs.declared.reply.Reply.{Reply}
 use Rattle.pl_engine.specs.declared.reply.Reply.TheVariants.{Day, Visit, Done, Page, Origin, Stats}
 use Rattle.pl_engine.specs.declared.reply.Reply.TheVariants.{Removed, Item, Refused}
+use Rattle.pl_engine.specs.declared.reply.Reply.TheVariants.{Rows, Place, Bar, Fill, NoFill}
 use Rattle.pl_engine.specs.declared.reply.Reply.TheVariants.{List as ListReply}
-use Rattle.pl_script.specs.Reply.{AreLinesOf, IsReadAgain, IsToldAgain, TellsTexts}
+use Rattle.pl_query.specs.declared.result_row.ResultRow.{ResultRow}
+use Rattle.pl_script.specs.Reply.{AreLinesOf, IsFoundAgain, IsOfferedAgain, IsReadAgain, IsToldAgain, TellsTexts}
+use Rattle.pl_script.specs.Reply.{bar_fields, found_fields, found_in, found_texts}
 use Rattle.pl_script.specs.Reply.{date_text, fields_in, kind_word, line_text, more_fields, reply_fields, reply_lines}
 use Rattle.pl_script.specs.Reply.{reply_text, row_fields, told_texts, told_title, told_url, truth_text}
 use Rattle.pl_script.specs.Script.{escape_of, escaped, escaped_as, fields_of, text_of}
@@ -181,6 +185,19 @@ of_rows (row ∷ rows) =
     (of_text (told_title row.kind row.title), (of_text (told_url row.kind row.url), tt)) in
     ((of_kind row.kind, (of_number row.id.0, texts)), of_rows rows)
 
+of_found : (rows : List ResultRow) → AreLines (map found_fields rows)
+of_found [] = tt
+of_found (row ∷ rows) =
+    let numbers : Are (date_text row.date ∷ decimal row.count ∷ signed_decimal row.frecency ∷ escaped row.tags ∷ []) =
+    (of_date row.date, (of_number row.count, (of_signed row.frecency, (of_text row.tags, tt)))) in
+    ((of_word (codes "row") refl, (of_number row.id, (of_text row.url, (of_text row.title, numbers)))), of_found rows)
+
+of_bar : (rows : List BarRow) → AreLines (map bar_fields rows)
+of_bar [] = tt
+of_bar (row ∷ rows) =
+    let texts : Are (escaped row.url ∷ escaped row.title ∷ []) = (of_text row.url, (of_text row.title, tt)) in
+    ((of_word (codes "page") refl, (of_number row.id.0, (of_signed row.frecency, texts))), of_bar rows)
+
 of_reply : (reply : Reply) → AreLines (reply_lines reply)
 of_reply (Day day changed) =
     let moved : Are (codes "changed" ∷ decimal changed ∷ []) =
@@ -229,6 +246,11 @@ of_reply (Removed visits pages) =
     ((of_word (codes "removed") refl, (of_word (codes "visits") refl, (of_number visits, gone))), tt)
 of_reply (Item id) = ((of_word (codes "item") refl, (of_number id.0, tt)), tt)
 of_reply (ListReply rows) = ((of_word (codes "rows") refl, (of_number (length rows), tt)), of_rows rows)
+of_reply (Rows rows) = ((of_word (codes "rows") refl, (of_number (length rows), tt)), of_found rows)
+of_reply (Place text) = ((of_word (codes "place") refl, (of_text text, tt)), tt)
+of_reply (Bar rows) = ((of_word (codes "rows") refl, (of_number (length rows), tt)), of_bar rows)
+of_reply (Fill group total) = ((of_word (codes "fill") refl, (of_text group, (of_number total, tt))), tt)
+of_reply NoFill = ((of_word (codes "nofill") refl, tt), tt)
 of_reply (Refused refusal) =
     ((of_word (codes "refused") refl, (of_number (refusal_number refusal), of_numbers (refusal_values refusal))), tt)
 
@@ -279,3 +301,49 @@ pub tells_rows : (rows : List ListRow) (text : List ℕ) → text ≡ reply_text
 tells_rows rows text is told =
     ap (λ all. map (λ fields. map text_of (drop 2 fields)) (drop 1 all)) (read_again (ListReply rows) text is)
     ∙ told_again rows told
+
+found_again : (rows : List ResultRow) → All IsFoundAgain rows
+    → map (λ fields. map text_of (found_in fields)) (map found_fields rows)
+    ≡ map (λ row. map (λ told. Some told) (found_texts row)) rows
+found_again [] told = refl
+found_again (row ∷ rows) told =
+    let first = All-head IsFoundAgain row rows told in
+    rw (first.url, first.title, first.tags)
+    (ap (λ more. (Some row.url ∷ Some row.title ∷ Some row.tags ∷ []) ∷ more)
+    (found_again rows (All-tail IsFoundAgain row rows told)))
+
+-- those of the rows that answer a query
+pub tells_found : (rows : List ResultRow) (text : List ℕ) → text ≡ reply_text (Rows rows) → All IsFoundAgain rows
+    → TellsTexts (Rows rows) text
+tells_found rows text is told =
+    ap (λ all. map (λ fields. map text_of (found_in fields)) (drop 1 all)) (read_again (Rows rows) text is)
+    ∙ found_again rows told
+
+offered_again : (rows : List BarRow) → All IsOfferedAgain rows
+    → map (λ fields. map text_of (drop 3 fields)) (map bar_fields rows)
+    ≡ map (λ (row : BarRow). Some row.url ∷ Some row.title ∷ []) rows
+offered_again [] told = refl
+offered_again (row ∷ rows) told =
+    let first = All-head IsOfferedAgain row rows told in
+    rw (first.url, first.title)
+    (ap (λ more. (Some row.url ∷ Some row.title ∷ []) ∷ more)
+    (offered_again rows (All-tail IsOfferedAgain row rows told)))
+
+-- those of the pages that the address bar offers
+pub tells_offered : (rows : List BarRow) (text : List ℕ) → text ≡ reply_text (Bar rows) → All IsOfferedAgain rows
+    → TellsTexts (Bar rows) text
+tells_offered rows text is told =
+    ap (λ all. map (λ fields. map text_of (drop 3 fields)) (drop 1 all)) (read_again (Bar rows) text is)
+    ∙ offered_again rows told
+
+-- a canonical text
+pub tells_place : (canonical text : List ℕ) → text ≡ reply_text (Place canonical) → IsReadAgain canonical
+    → TellsTexts (Place canonical) text
+tells_place canonical text is again =
+    ap (map (λ fields. map text_of (drop 1 fields))) (read_again (Place canonical) text is) ∙ rw again refl
+
+-- a group of hosts
+pub tells_fill : (group : List ℕ) (total : ℕ) (text : List ℕ) → text ≡ reply_text (Fill group total)
+    → IsReadAgain group → TellsTexts (Fill group total) text
+tells_fill group total text is again =
+    ap (map (λ fields. map text_of (take 1 (drop 1 fields)))) (read_again (Fill group total) text is) ∙ rw again refl

@@ -12,7 +12,7 @@ use Rattle.pl_base.specs.declared.date.Day.{Day}
 use Rattle.pl_base.specs.declared.refusal.Refusal.TheVariants.{BadDate}
 use Rattle.pl_base.specs.Date.{last_day}
 use Rattle.pl_engine.specs.Parsed.{Parsed}
-use Rattle.pl_script.specs.NumberText.{number_of}
+use Rattle.pl_base.specs.NumberText.{number_of}
 
 -- the day with this number, unless it is later than the last one
 abbrev pub day_at : ℕ → Option Day

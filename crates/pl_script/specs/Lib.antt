@@ -1,7 +1,6 @@
 pub mod DayText
 pub mod Fields
 pub mod LineError
-pub mod NumberText
 pub mod Reply
 pub mod Script
 pub mod TagText

@@ -4,6 +4,8 @@ use Rattle.std.specs.Prelude.{◌≡◌, ◌≤◌, ℕ, List, length, Option, S
 use Rattle.pl_base.specs.declared.refusal.Refusal.TheVariants as refusal
 use Rattle.pl_link.specs.declared.canon.CanonError.{CanonError}
 use Rattle.pl_link.specs.declared.canon.CanonError.TheVariants as canon
+use Rattle.pl_place.specs.declared.reader.QueryError.{QueryError}
+use Rattle.pl_place.specs.declared.reader.QueryError.TheVariants as query
 use Rattle.pl_words.specs.declared.tag_name.TagError.{TagError}
 use Rattle.pl_words.specs.declared.tag_name.TagError.TheVariants as tag
 use Rattle.pl_engine.specs.declared.command.Command.{Command}
@@ -58,6 +60,10 @@ HasTexts word.Remove = ⊥
 HasTexts word.Tag = Unit {0}
 HasTexts word.Untag = Unit {0}
 HasTexts word.List = ⊥
+HasTexts word.Query = Unit {0}
+HasTexts word.Place = Unit {0}
+HasTexts word.Bar = Unit {0}
+HasTexts word.Fill = Unit {0}
 
 -- a word was read, and the lines with it have texts
 abbrev pub ReadsTexts : Parsed (Word × Fields) → Type 0
@@ -78,3 +84,8 @@ BecomesLineError canon.NoMemory e = e ≡ NoMemory
 abbrev pub TagBecomesLineError : TagError → LineError → Type 0
 TagBecomesLineError tag.BadTag e = e ≡ Refused refusal.BadTag
 TagBecomesLineError tag.NoMemory e = e ≡ NoMemory
+
+-- the error of a line whose text holds no query
+abbrev pub QueryBecomesLineError : QueryError → LineError → Type 0
+QueryBecomesLineError (query.BadQuery piece) e = e ≡ Refused (refusal.BadQuery piece)
+QueryBecomesLineError query.NoMemory e = e ≡ NoMemory

@@ -1,7 +1,7 @@
 -- The script: one command a line, its fields apart by one TAB.
-use Rattle.std.specs.Prelude.{ℕ, ◌+◌, ◌-◌, ◌^◌, ◌==◌, Bool, true, false}
+use Rattle.std.specs.Prelude.{ℕ, ◌+◌, ◌-◌, ◌==◌, ◌&&◌, Bool, true, false}
 use Rattle.std.specs.Prelude.{List, [], ◌∷◌, length, codes, bytes_eq, nat_lt}
-use Rattle.std.specs.Prelude.{nat_le, Option, Some, None, Ok, Err, if◌then◌else◌}
+use Rattle.std.specs.Prelude.{nat_le, Option, Some, None, Result, Ok, Err, if◌then◌else◌}
 use Rattle.std.specs.List.{filter_map, find, flat_map, slice_split}
 use Rattle.std.specs.Option.{ok_or, option_and_then, option_map}
 use Rattle.std.specs.Str.{is_utf8}
@@ -10,11 +10,15 @@ use Rattle.pl_base.specs.declared.date.Micros.{Micros}
 use Rattle.pl_base.specs.declared.id.ItemId.{ItemId}
 use Rattle.pl_base.specs.declared.id.VisitId.{VisitId}
 use Rattle.pl_base.specs.declared.refusal.Refusal.TheVariants.{BadUrl, BadLine, BadDate}
+use Rattle.pl_base.specs.declared.refusal.Refusal.TheVariants.{BadQuery}
 use Rattle.pl_base.specs.declared.transition.Transition.{Transition}
 use Rattle.pl_base.specs.Address.{canon}
 use Rattle.pl_base.specs.Date.{last_date}
+use Rattle.pl_base.specs.NumberText.{number_32_of, number_of}
 use Rattle.pl_base.specs.Transition.{transition_at}
-use Rattle.pl_tree.specs.declared.place.Place.{Place}
+use Rattle.pl_place.specs.declared.query.Query.{Query as PlaceQuery}
+use Rattle.pl_place.specs.ReadQuery.{read_as}
+use Rattle.pl_tree.specs.declared.place.Place.{Place as ItemPlace}
 use Rattle.pl_tree.specs.declared.place.Place.TheVariants.{End, Number}
 use Rattle.pl_engine.specs.declared.command.Command.{Command}
 use Rattle.pl_engine.specs.declared.command.Command.TheVariants.{Day, Visit, Title, Page}
@@ -24,8 +28,8 @@ use Rattle.pl_engine.specs.declared.command.Command.TheVariants.{Folder, Bookmar
 use Rattle.pl_engine.specs.declared.command.Command.TheVariants.{Move, Retitle, Remove}
 use Rattle.pl_engine.specs.declared.command.Command.TheVariants.{Tag, Untag}
 use Rattle.pl_engine.specs.declared.command.Command.TheVariants.{List as ListItems}
+use Rattle.pl_engine.specs.declared.command.Command.TheVariants.{Query, Place, Bar, Fill}
 use Rattle.pl_engine.specs.Parsed.{Parsed}
-use Rattle.pl_script.specs.NumberText.{number_of}
 use Rattle.pl_script.specs.DayText.{day_in_range, day_of}
 use Rattle.pl_script.specs.TagText.{tag_of}
 use Rattle.pl_script.specs.declared.word.Word.{Word}
@@ -93,15 +97,7 @@ transition_of field = option_and_then transition_at (number_of field)
 abbrev pub date_of : List ℕ → Option Micros
 date_of field = option_map (λ n. record { 0 = n }) (number_of field)
 
--- the number, where it is one of 32 bits
-abbrev if_32_bits : ℕ → Option ℕ
-if_32_bits n = if nat_lt n (2 ^ 32) then Some n else None
-
--- a number of at most 32 bits
-abbrev pub number_32_of : List ℕ → Option ℕ
-number_32_of field = option_and_then if_32_bits (number_of field)
-
--- the id of a visit is such a number
+-- the id of a visit is a number of at most 32 bits
 abbrev pub visit_id_of : List ℕ → Option VisitId
 visit_id_of field = option_map (λ id. record { 0 = id }) (number_32_of field)
 
@@ -110,9 +106,21 @@ abbrev pub item_id_of : List ℕ → Option ItemId
 item_id_of field = option_map (λ id. record { 0 = id }) (number_32_of field)
 
 -- a place in a folder is `end`, or such a number: of the items that come before it
-abbrev pub place_of : List ℕ → Option Place
+abbrev pub place_of : List ℕ → Option ItemPlace
 place_of field =
     if bytes_eq field (codes "end") then Some End else option_map Number (number_32_of field)
+
+-- the most pages that the address bar may be asked for
+abbrev pub most_offered : ℕ
+most_offered = 1_000
+
+-- the number, where it is from 1 to that
+abbrev pub if_offered : ℕ → Option ℕ
+if_offered n = if nat_le 1 n && nat_le n most_offered then Some n else None
+
+-- how many pages the address bar is asked for
+abbrev pub max_of : List ℕ → Option ℕ
+max_of field = option_and_then if_offered (number_of field)
 
 -- ---- the fields of a line
 
@@ -180,7 +188,9 @@ words =
     ∷ (codes "folder", word.Folder) ∷ (codes "bookmark", word.Bookmark)
     ∷ (codes "separator", word.Separator) ∷ (codes "move", word.Move)
     ∷ (codes "retitle", word.Retitle) ∷ (codes "remove", word.Remove)
-    ∷ (codes "tag", word.Tag) ∷ (codes "untag", word.Untag) ∷ (codes "list", word.List) ∷ []
+    ∷ (codes "tag", word.Tag) ∷ (codes "untag", word.Untag) ∷ (codes "list", word.List)
+    ∷ (codes "query", word.Query) ∷ (codes "place", word.Place) ∷ (codes "bar", word.Bar)
+    ∷ (codes "fill", word.Fill) ∷ []
 
 -- the word that a line begins with
 abbrev pub word_of : List ℕ → Option Word
@@ -366,6 +376,46 @@ list_line fields = do
   end ← no_more_fields item.1
   Ok (ListItems item.0)
 
+-- what a text reads as, or the refusal of the piece that is not of its form
+abbrev pub query_or_refusal : Result PlaceQuery ℕ → Parsed PlaceQuery
+query_or_refusal (Ok query) = Ok query
+query_or_refusal (Err piece) = Err (BadQuery piece)
+
+-- the query that a text reads as
+abbrev pub query_of : List ℕ → Parsed PlaceQuery
+query_of text = query_or_refusal (read_as text)
+
+-- `query` and a text that holds a query
+abbrev pub query_line : Fields → Parsed Command
+query_line fields = do
+  text ← next_field text_of fields
+  end ← no_more_fields text.1
+  query ← query_of text.0
+  Ok (Query query)
+
+-- `place` and such a text
+abbrev pub place_line : Fields → Parsed Command
+place_line fields = do
+  text ← next_field text_of fields
+  end ← no_more_fields text.1
+  query ← query_of text.0
+  Ok (Place query)
+
+-- `bar`, how many pages at the most, and what is typed
+abbrev pub bar_line : Fields → Parsed Command
+bar_line fields = do
+  most ← next_field max_of fields
+  text ← next_field text_of most.1
+  end ← no_more_fields text.1
+  Ok (Bar most.0 text.0)
+
+-- `fill` and what is typed
+abbrev pub fill_line : Fields → Parsed Command
+fill_line fields = do
+  text ← next_field text_of fields
+  end ← no_more_fields text.1
+  Ok (Fill text.0)
+
 -- the rest of a line by its word
 abbrev pub line_of : Word → Fields → Parsed Command
 line_of word.Day fields = day_line fields
@@ -387,6 +437,10 @@ line_of word.Remove fields = remove_line fields
 line_of word.Tag fields = tag_line fields
 line_of word.Untag fields = untag_line fields
 line_of word.List fields = list_line fields
+line_of word.Query fields = query_line fields
+line_of word.Place fields = place_line fields
+line_of word.Bar fields = bar_line fields
+line_of word.Fill fields = fill_line fields
 
 -- the bytes of the longest line that is read
 abbrev pub longest_line : ℕ

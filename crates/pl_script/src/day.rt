@@ -3,9 +3,8 @@ ghost use Rattle.std.specs.Prelude.{◌≡◌, ◌≤ℤ◌, pos, IfSome};
 ghost use Rattle.pl_base.specs.Date.{IsDay, last_day};
 ghost use Rattle.pl_script.specs.DayText as spec;
 
-use crate::field::{all_digits, number};
 use jiff_fmt::temporal::parse_date;
-use pl_base::Day;
+use pl_base::{Day, all_digits, number};
 
 /// The day of a field that is of its form, and none within where no day of the range has that
 /// number or date.

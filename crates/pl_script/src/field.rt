@@ -1,16 +1,17 @@
 // What one field stands for.
 ghost use Rattle.std.specs.Prelude.{◌≡◌, ◌++◌, false, Some, IfOk, OnOk, encode_utf8};
-ghost use Rattle.std.specs.Char.{is_ascii_digit};
-ghost use Rattle.std.specs.List.{list_all};
 ghost use Rattle.std.specs.Option.{option_map};
 ghost use Rattle.std.specs.String.{string_bytes};
-ghost use Rattle.pl_script.specs.NumberText as numbers;
+ghost use Rattle.pl_script.specs.Reply.{date_text};
 ghost use Rattle.pl_script.specs.Script as spec;
 
 use crate::word::Word;
-use pl_base::{ItemId, Micros, NoMemory, Transition, Txt, VisitId};
+use pl_base::{ItemId, Micros, NoMemory, Transition, Txt, VisitId, number, number_32};
 use pl_tree::Place;
 use std::alloc::Global;
+
+/// The address bar is asked for no more pages.
+const MOST_OFFERED: u32 = 1_000;
 
 /// The word of a field, where it begins a line that is known.
 pub fn word(field: &[u8]) -> Option<Word>
@@ -36,6 +37,10 @@ pub fn word(field: &[u8]) -> Option<Word>
         b"tag" => Some(Word::Tag),
         b"untag" => Some(Word::Untag),
         b"list" => Some(Word::List),
+        b"query" => Some(Word::Query),
+        b"place" => Some(Word::Place),
+        b"bar" => Some(Word::Bar),
+        b"fill" => Some(Word::Fill),
         _ => None,
     }
 }
@@ -125,33 +130,14 @@ fn escape_of(c: char) -> Option<char>
     }
 }
 
-/// The number of a field, in decimal digits without sign or leading zero.
-pub fn number(field: &[u8]) -> Option<u64>
-    ensures { result ≡ numbers.number_of field.now }
+/// A date as replies write it, or `-` where there is none.
+pub fn date_text(alloc: Global, date: Option<Micros>) -> Result<String, NoMemory>
+    ensures { IfOk result (λ text. string_bytes text ≡ date_text date) }
 {
-    if !is_numeral(field) {
-        return None;
-    }
-    let Ok(digits) = str::from_utf8(field) else {
-        return None;
-    };
-    digits.parse().ok()
-}
-
-fn is_numeral(field: &[u8]) -> bool
-    ensures { result ≡ numbers.is_numeral field.now }
-{
-    match field {
-        [] => false,
-        [b'0', rest @ ..] => rest.is_empty(),
-        [_, ..] => all_digits(field),
-    }
-}
-
-pub fn all_digits(field: &[u8]) -> bool
-    ensures { result ≡ list_all is_ascii_digit field.now }
-{
-    field.iter().all(|byte| byte.is_ascii_digit())
+    Ok(match date {
+        Some(date) => format!(in alloc; "{}", date.0)?,
+        None => String::from_str(alloc, "-")?,
+    })
 }
 
 pub fn transition(field: &[u8]) -> Option<Transition>
@@ -165,12 +151,6 @@ pub fn date(field: &[u8]) -> Option<Micros>
     ensures { result ≡ spec.date_of field.now }
 {
     Some(Micros(number(field)?))
-}
-
-pub fn number_32(field: &[u8]) -> Option<u32>
-    ensures { result ≡ spec.number_32_of field.now }
-{
-    u32::try_from(number(field)?).ok()
 }
 
 pub fn visit_id(field: &[u8]) -> Option<VisitId>
@@ -192,5 +172,15 @@ pub fn place(field: &[u8]) -> Option<Place>
     match field {
         b"end" => Some(Place::End),
         _ => Some(Place::Number(number_32(field)?)),
+    }
+}
+
+/// How many pages the address bar is asked for: at least one.
+pub fn max(field: &[u8]) -> Option<u32>
+    ensures { result ≡ spec.max_of field.now }
+{
+    match number_32(field)? {
+        most @ 1..=MOST_OFFERED => Some(most),
+        _ => None,
     }
 }

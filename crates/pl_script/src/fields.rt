@@ -4,6 +4,7 @@ ghost use Rattle.std.specs.Prelude.{IfSome};
 ghost use Rattle.std.specs.Option.{ok_or};
 ghost use Rattle.std.specs.List.{position, position_or_len};
 ghost use Rattle.pl_base.specs.Date.{IsDay};
+ghost use Rattle.pl_base.specs.NumberText.{number_32_of};
 ghost use Rattle.pl_script.specs.DayText.{day_of};
 ghost use Rattle.pl_script.specs.Fields.{GivesField, TakesField};
 ghost use Rattle.pl_script.specs.LineError.{ReadsAs, ReadsInPlace};
@@ -12,7 +13,7 @@ ghost use Rattle.pl_script.specs.Script as spec;
 use crate::lines::LineError;
 use crate::word::Word;
 use crate::{day, field};
-use pl_base::{Day, ItemId, Micros, Refusal, Transition, Txt, VisitId};
+use pl_base::{Day, ItemId, Micros, Refusal, Transition, Txt, VisitId, number_32};
 use pl_tree::Place;
 use std::alloc::Global;
 use std::marker::Model;
@@ -153,10 +154,19 @@ impl<'a> Fields<'a> {
     /// A number of at most 32 bits.
     pub fn number(&mut self) -> Result<u32, LineError>
         ensures { ReadsInPlace (λ number. (number, self.new)) result
-            (spec.next_field spec.number_32_of self.old) }
+            (spec.next_field number_32_of self.old) }
     {
         let (column, bytes) = self.next()?;
-        formed(field::number_32(bytes), column)
+        formed(number_32(bytes), column)
+    }
+
+    /// How many pages the address bar is asked for.
+    pub fn max(&mut self) -> Result<u32, LineError>
+        ensures { ReadsInPlace (λ most. (most, self.new)) result
+            (spec.next_field spec.max_of self.old) }
+    {
+        let (column, bytes) = self.next()?;
+        formed(field::max(bytes), column)
     }
 
     /// The visit that the last field names, which the line may lack.

@@ -2,6 +2,7 @@
 //! `specs/` the grammar of both.
 #![tactic(auto)]
 
+mod bar_lines;
 mod day;
 mod field;
 mod fields;
@@ -9,6 +10,7 @@ mod history_lines;
 mod item_lines;
 mod lines;
 mod origin_lines;
+mod query_lines;
 mod reply;
 mod rows;
 mod tag_lines;

@@ -4,22 +4,26 @@ ghost use Rattle.pl_engine.specs.Step.{HasDates};
 ghost use Rattle.pl_base.specs.Date.{IsDate, IsDay};
 ghost use Rattle.pl_script.specs.DayText as days;
 ghost use Rattle.pl_script.specs.LineError.{BecomesLineError, MayHaveTexts, ReadsAs, ReadsEntry};
-ghost use Rattle.pl_script.specs.LineError.{ReadsInPlace, TagBecomesLineError};
+ghost use Rattle.pl_script.specs.LineError.{QueryBecomesLineError, ReadsInPlace};
+ghost use Rattle.pl_script.specs.LineError.{TagBecomesLineError};
 ghost use Rattle.pl_script.specs.Script as spec;
 ghost use Rattle.pl_script.specs.declared.lines.LineError.TheVariants.{Refused};
 ghost use Rattle.pl_script.specs.declared.lines.LineError.TheVariants.{NoMemory as OutOfMemory};
 
+use crate::bar_lines::{bar_line, fill_line};
 use crate::fields::{Fields, LONGEST_LINE};
 use crate::history_lines::{day_line, expire_line, forget_line, trim_line, unvisit_line};
 use crate::item_lines::{
     bookmark_line, folder_line, list_line, move_line, remove_line, retitle_line, separator_line,
 };
 use crate::origin_lines::{origin_line, stats_line};
+use crate::query_lines::{place_line, query_line};
 use crate::tag_lines::{tag_line, untag_line};
 use crate::word::Word;
 use pl_base::{Day, Micros, NoMemory, Refusal};
 use pl_engine::Command;
 use pl_link::{Canon, CanonError};
+use pl_place::QueryError;
 use pl_words::TagError;
 use std::alloc::Global;
 use thiserror::Error;
@@ -62,6 +66,17 @@ impl From<TagError> for LineError {
         match error {
             TagError::BadTag => LineError::Refused(Refusal::BadTag),
             TagError::NoMemory => LineError::NoMemory,
+        }
+    }
+}
+
+impl From<QueryError> for LineError {
+    ghost from_gives = { QueryBecomesLineError };
+
+    fn from(error: QueryError) -> Self {
+        match error {
+            QueryError::BadQuery(piece) => LineError::Refused(Refusal::BadQuery(piece)),
+            QueryError::NoMemory => LineError::NoMemory,
         }
     }
 }
@@ -109,6 +124,10 @@ fn command_line(alloc: Global, bytes: &[u8]) -> Result<Command, LineError>
         Word::Tag => tag_line(alloc, fields),
         Word::Untag => untag_line(alloc, fields),
         Word::List => list_line(fields),
+        Word::Query => query_line(alloc, fields),
+        Word::Place => place_line(alloc, fields),
+        Word::Bar => bar_line(alloc, fields),
+        Word::Fill => fill_line(alloc, fields),
     }
 }
 

@@ -6,8 +6,8 @@ ghost use Rattle.std.specs.String.{string_bytes};
 ghost use Rattle.pl_script.specs.Reply as spec;
 ghost use Rattle.pl_script.specs.Script.{escaped as escaped_text};
 
-use crate::field::escaped;
-use crate::rows::list_text;
+use crate::field::{date_text, escaped};
+use crate::rows::{bar_text, found_text, list_text};
 use pl_base::{Micros, NoMemory, PageId, Refusal, Txt};
 use pl_engine::Reply;
 use std::alloc::Global;
@@ -79,6 +79,11 @@ pub fn reply_text(alloc: Global, reply: &Reply) -> Result<Txt, NoMemory>
         )?)),
         Reply::Item(id) => Ok(Txt::from(format!(in alloc; "item\t{}\n", id.0)?)),
         Reply::List(rows) => Ok(Txt::from(list_text(alloc, rows.as_slice())?)),
+        Reply::Rows(rows) => Ok(Txt::from(found_text(alloc, rows.as_slice())?)),
+        Reply::Place(text) => Ok(Txt::from(place_text(alloc, text)?)),
+        Reply::Bar(rows) => Ok(Txt::from(bar_text(alloc, rows.as_slice())?)),
+        Reply::Fill { group, total } => Ok(Txt::from(fill_text(alloc, group, *total)?)),
+        Reply::NoFill => Txt::copied(alloc, "nofill\n"),
         Reply::Refused(refusal) => Ok(Txt::from(refusal_text(alloc, refusal)?)),
     }
 }
@@ -141,14 +146,24 @@ fn texts(alloc: Global, url: &Txt, title: &Txt, tags: &Txt) -> Result<String, No
     Ok(format!(in alloc; "{url}\t{title}\t{tags}")?)
 }
 
-// A date, or `-` where there is none.
-fn date_text(alloc: Global, date: Option<Micros>) -> Result<String, NoMemory>
-    ensures { IfOk result (λ text. string_bytes text ≡ spec.date_text date) }
+// The line of a query's canonical text.
+fn place_text(alloc: Global, text: &Txt) -> Result<String, NoMemory>
+    ensures exact { IfOk result (λ written. string_bytes written
+        ≡ spec.line_text (spec.reply_fields (Reply.Place text.now))) }
+    ensures read_again { IfOk result (λ _. spec.IsReadAgain text.now) }
 {
-    Ok(match date {
-        Some(date) => format!(in alloc; "{}", date.0)?,
-        None => String::from_str(alloc, "-")?,
-    })
+    let text = escaped(alloc, text.as_str())?;
+    Ok(format!(in alloc; "place\t{text}\n")?)
+}
+
+// The line of a group of hosts that is filled in.
+fn fill_text(alloc: Global, group: &Txt, total: u64) -> Result<String, NoMemory>
+    ensures exact { IfOk result (λ written. string_bytes written
+        ≡ spec.line_text (spec.reply_fields (Reply.Fill group.now total))) }
+    ensures read_again { IfOk result (λ _. spec.IsReadAgain group.now) }
+{
+    let group = escaped(alloc, group.as_str())?;
+    Ok(format!(in alloc; "fill\t{group}\t{total}\n")?)
 }
 
 fn truth_text(value: bool) -> &'static str
@@ -171,6 +186,7 @@ fn refusal_text(alloc: Global, refusal: &Refusal) -> Result<String, NoMemory>
             format!(in alloc; "refused\t{number}\t{position}\t{length}\n")?
         }
         Refusal::NoIds(kind) => format!(in alloc; "refused\t{number}\t{}\n", kind.number())?,
+        Refusal::BadQuery(piece) => format!(in alloc; "refused\t{number}\t{piece}\n")?,
         Refusal::Full(slots) => format!(in alloc; "refused\t{number}\t{slots}\n")?,
         Refusal::BadLine(column) => format!(in alloc; "refused\t{number}\t{column}\n")?,
         Refusal::BadUrl

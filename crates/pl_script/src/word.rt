@@ -20,4 +20,8 @@ pub enum Word {
     Tag,
     Untag,
     List,
+    Query,
+    Place,
+    Bar,
+    Fill,
 }

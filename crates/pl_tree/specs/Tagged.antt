@@ -1,4 +1,4 @@
--- Tags that pages get and lose: entries in tag folders, which are found by the folds of their names.
+-- Tags that pages get and lose: entries in tag folders, which are found by their names' folds.
 use Rattle.std.specs.Prelude.{ℕ, ◌+◌, ◌-◌, List, [], ◌∷◌, bytes_eq, unwrap_or}
 use Rattle.std.specs.Prelude.{Option, Some, None, if◌then◌else◌}
 use Rattle.std.specs.List.{find}

@@ -1,9 +1,10 @@
 // The answer to one line.
-ghost use Rattle.std.specs.Prelude.{◌≡◌, ℕ, List, [], ◌∷◌, Some, Err, false, IfOk, IfErr, OnOk};
+ghost use Rattle.std.specs.Prelude.{◌≡◌, ℕ, List, [], ◌∷◌, Some, Ok, Err, false, IfOk, IfErr, OnOk};
 ghost use Rattle.pl_desk.specs.Shown.{ShowsOnly};
 ghost use Rattle.pl_desk.specs.Counts.{CountsAt};
 ghost use Rattle.pl_desk.specs.Calls.{LeavesFile};
 ghost use Rattle.pl_engine.specs.Run.{replies, after};
+ghost use Rattle.pl_engine.specs.Step.{HasDates};
 ghost use Rattle.pl_store.specs.Keeper.{IsKept, is_file, keeper_limit, keeper_store};
 ghost use Rattle.pl_script.specs.Reply.{reply_text as text_of_reply};
 ghost use Rattle.places.specs.Lines.{entries_in};
@@ -15,7 +16,7 @@ use crate::answer_error::AnswerError;
 use crate::say::say_all;
 use pl_base::Refusal;
 use pl_desk::Desk;
-use pl_engine::Reply;
+use pl_engine::{Command, Reply};
 use pl_script::{LineError, line, reply_text};
 use pl_store::Keeper;
 use std::alloc::Global;
@@ -64,7 +65,46 @@ pub fn answer<D: Desk>(
         }
         Err(LineError::NoMemory) => return Err(AnswerError::NoMemory),
     };
-    let (ready, reply) = keeper.prepare(&command)?;
+    perform(alloc, keeper, &command, desk)
+}
+
+// Answers a command: the store makes its step, the file takes it, and the reply is said. The
+// reply's text is made before the file takes the step.
+fn perform<D: Desk>(
+    alloc: Global,
+    keeper: Keeper,
+    command: &Command,
+    desk: &mut D,
+) -> Result<Keeper, AnswerError>
+    requires dates { HasDates command.now }
+    ensures store { IfOk result (λ next. keeper_store next
+        ≡ after (keeper_limit keeper) (keeper_store keeper) (Ok command.now ∷ [])) }
+    ensures limit { IfOk result (λ next. keeper_limit next ≡ keeper_limit keeper) }
+    ensures kind { IfOk result (λ next. is_file next ≡ is_file keeper) }
+    ensures kept { IfOk result (λ next. StaysKept D.Desk keeper desk.old next desk.new) }
+    ensures said { OnOk result (Says (D.said desk.old)
+        (texts (replies (keeper_limit keeper) (keeper_store keeper) (Ok command.now ∷ [])))
+        (D.said desk.new)) }
+    ensures stopped { IfErr result (λ error. SaysOfAnswer error
+        (replies (keeper_limit keeper) (keeper_store keeper) (Ok command.now ∷ []))
+        (D.said desk.old)
+        (D.said desk.new)) }
+    ensures left { IfErr result (λ error. (first : D) → IsKept D.Desk keeper first desk.old
+        → LeavesOfAnswer D.Desk error (is_file keeper) first (keeper_store keeper)
+        (after (keeper_limit keeper) (keeper_store keeper) (Ok command.now ∷ [])) desk.new) }
+    ensures shows { (first : D) (before : List ℕ) → D.said desk.old ≡ Some before
+        → IsKept D.Desk keeper first desk.old
+        → ShowsOnly D.Desk desk.old desk.new (ShowsAnswer D.Desk
+        (is_file keeper) first (keeper_limit keeper) (keeper_store keeper) (Ok command.now ∷ [])
+        before) }
+    ensures alone { is_file keeper ≡ false → LeavesFile D.Desk desk.old desk.new }
+    ensures no_memory { result ≡ Err AnswerError.NoMemory → desk.new ≡ desk.old }
+    ensures says_counted { CountsAt (result ≡ Err AnswerError.SayFault)
+        (D.line_faults desk.old) (D.line_faults desk.new) }
+    ensures device_counted { CountsAt (result ≡ Err AnswerError.DeviceFault)
+        (D.device_faults desk.old) (D.device_faults desk.new) }
+{
+    let (ready, reply) = keeper.prepare(command)?;
     let text = reply_text(alloc, &reply)?;
     let next = ready.commit(desk)?;
     match say_all(desk, text.as_str().as_bytes()) {

@@ -62,3 +62,18 @@ pub returns-in-title : goal.returns-in-title
 returns-in-title c =
     let ends : EndsIn c.args.field.now 0 (codes "title") = search rules in
     is_word c.args.field.now (codes "title") ends
+
+pub returns-in-visit : goal.returns-in-visit
+returns-in-visit c =
+    let ends : EndsIn c.args.field.now 0 (codes "visit") = search rules in
+    is_word c.args.field.now (codes "visit") ends
+
+pub returns-in-query : goal.returns-in-query
+returns-in-query c =
+    let ends : EndsIn c.args.field.now 0 (codes "query") = search rules in
+    is_word c.args.field.now (codes "query") ends
+
+pub returns-in-place : goal.returns-in-place
+returns-in-place c =
+    let ends : EndsIn c.args.field.now 0 (codes "place") = search rules in
+    is_word c.args.field.now (codes "place") ends

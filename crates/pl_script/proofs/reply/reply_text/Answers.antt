@@ -4,11 +4,14 @@ use Rattle.std.specs.List.{All, join_with_byte}
 use Rattle.std.specs.Prelude.{codes, decimal}
 use Rattle.std.specs.Fmt.{signed_decimal}
 use Rattle.std.proofs.lemmas.Int.{to_z-of_z}
-use Rattle.pl_engine.specs.declared.reply.Reply.TheVariants.{Day, Visit, Origin, Stats, Removed, Item}
+use Rattle.pl_engine.specs.declared.reply.Reply.TheVariants.{Day, Visit, Removed, Item}
+use Rattle.pl_engine.specs.declared.reply.Reply.TheVariants.{Rows, Place, Bar, Fill}
 use Rattle.pl_engine.specs.declared.reply.Reply.TheVariants.{List as ListReply, Refused}
 use Rattle.pl_script.specs.Script.{escaped}
-use Rattle.pl_script.specs.Reply.{IsToldAgain, date_text, line_text, reply_fields, reply_text, truth_text}
-use Rattle.pl_script.proofs.ReplyLines.{never_empty, read_again, tells_origin, tells_rows, tells_texts}
+use Rattle.pl_script.specs.Reply.{IsFoundAgain, IsOfferedAgain, IsToldAgain}
+use Rattle.pl_script.specs.Reply.{date_text, line_text, reply_fields, reply_text, truth_text}
+use Rattle.pl_script.proofs.ReplyLines.{never_empty, read_again, tells_fill, tells_found, tells_offered}
+use Rattle.pl_script.proofs.ReplyLines.{tells_origin, tells_place, tells_rows, tells_texts}
 use Rattle.pl_script.proofs.reply.reply_text.Goals as goal
 
 -- a text of one line
@@ -180,4 +183,65 @@ returns-in_ok-format-in-Stats c =
       reads_back = read_again c.args.reply.now c.from-in-Stats.result exact;
       texts = rw c.in-Stats.is tt;
       never_empty = never_empty c.args.reply.now c.from-in-Stats.result exact;
+    }
+
+pub returns-in_ok-found_text-in-Rows : goal.returns-in_ok-found_text-in-Rows
+returns-in_ok-found_text-in-Rows c =
+    let rows = c.in-Rows.rows in
+    let lines : c.from-in-Rows.result ≡ reply_text (Rows rows) =
+    c.from-in-Rows.ensures ∙ c.in_ok-found_text-in-Rows.ensures.exact
+    ∙ ap (λ l. reply_text (Rows l)) c.as_slice-in-Rows.ensures in
+    let told = subst (All IsFoundAgain) c.as_slice-in-Rows.ensures c.in_ok-found_text-in-Rows.ensures.read_again in
+    let exact : c.from-in-Rows.result ≡ reply_text c.args.reply.now = rw c.in-Rows.is lines in
+    record {
+      exact = exact;
+      reads_back = read_again c.args.reply.now c.from-in-Rows.result exact;
+      texts = rw c.in-Rows.is (tells_found rows c.from-in-Rows.result lines told);
+      never_empty = never_empty c.args.reply.now c.from-in-Rows.result exact;
+    }
+
+pub returns-in_ok-bar_text-in-Bar : goal.returns-in_ok-bar_text-in-Bar
+returns-in_ok-bar_text-in-Bar c =
+    let rows = c.in-Bar.rows in
+    let lines : c.from-in-Bar.result ≡ reply_text (Bar rows) =
+    c.from-in-Bar.ensures ∙ c.in_ok-bar_text-in-Bar.ensures.exact
+    ∙ ap (λ l. reply_text (Bar l)) c.as_slice-in-Bar.ensures in
+    let told = subst (All IsOfferedAgain) c.as_slice-in-Bar.ensures c.in_ok-bar_text-in-Bar.ensures.read_again in
+    let exact : c.from-in-Bar.result ≡ reply_text c.args.reply.now = rw c.in-Bar.is lines in
+    record {
+      exact = exact;
+      reads_back = read_again c.args.reply.now c.from-in-Bar.result exact;
+      texts = rw c.in-Bar.is (tells_offered rows c.from-in-Bar.result lines told);
+      never_empty = never_empty c.args.reply.now c.from-in-Bar.result exact;
+    }
+
+pub returns-in_ok-place_text-in-Place : goal.returns-in_ok-place_text-in-Place
+returns-in_ok-place_text-in-Place c =
+    let text = c.in-Place.text in
+    let lines : c.from-in-Place.result ≡ reply_text (Place text) =
+    alone (reply_fields (Place text)) c.from-in-Place.result
+    (c.from-in-Place.ensures ∙ c.in_ok-place_text-in-Place.ensures.exact) in
+    let exact : c.from-in-Place.result ≡ reply_text c.args.reply.now = rw c.in-Place.is lines in
+    record {
+      exact = exact;
+      reads_back = read_again c.args.reply.now c.from-in-Place.result exact;
+      texts = rw c.in-Place.is
+          (tells_place text c.from-in-Place.result lines c.in_ok-place_text-in-Place.ensures.read_again);
+      never_empty = never_empty c.args.reply.now c.from-in-Place.result exact;
+    }
+
+pub returns-in_ok-fill_text-in-Fill : goal.returns-in_ok-fill_text-in-Fill
+returns-in_ok-fill_text-in-Fill c =
+    let group = c.in-Fill.group in
+    let total = c.in-Fill.total in
+    let lines : c.from-in-Fill.result ≡ reply_text (Fill group total) =
+    alone (reply_fields (Fill group total)) c.from-in-Fill.result
+    (c.from-in-Fill.ensures ∙ c.in_ok-fill_text-in-Fill.ensures.exact) in
+    let exact : c.from-in-Fill.result ≡ reply_text c.args.reply.now = rw c.in-Fill.is lines in
+    record {
+      exact = exact;
+      reads_back = read_again c.args.reply.now c.from-in-Fill.result exact;
+      texts = rw c.in-Fill.is
+          (tells_fill group total c.from-in-Fill.result lines c.in_ok-fill_text-in-Fill.ensures.read_again);
+      never_empty = never_empty c.args.reply.now c.from-in-Fill.result exact;
     }

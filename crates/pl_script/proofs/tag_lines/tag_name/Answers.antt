@@ -12,4 +12,3 @@ returns-in_err-read c =
 pub returns : goal.returns
 returns c =
     tag_read c.args.text.now c.as_str.result.now c.in_ok-read.field-0 c.as_str.ensures c.in_ok-read.ensures.ok
-    c.in_ok-read.ensures.given

@@ -25,6 +25,9 @@ use Rattle.pl_engine.proofs.engine.Engine.apply.Goals.{in-Stats+in_ok-reply-in-S
 use Rattle.pl_engine.proofs.engine.Engine.apply.Goals.{in-Unvisit+in_ok-reply-in-Unvisit}
 use Rattle.pl_engine.proofs.engine.Engine.apply.Goals.{in-Forget+in_ok-reply-in-Forget}
 use Rattle.pl_engine.proofs.engine.Engine.apply.Goals.{in-Expire+in_ok-reply-in-Expire}
+use Rattle.pl_engine.proofs.engine.Engine.apply.Goals.{in-Query+in_ok-reply-in-Query}
+use Rattle.pl_engine.proofs.engine.Engine.apply.Goals.{in-Place+in_ok-reply-in-Place}
+use Rattle.pl_engine.proofs.engine.Engine.apply.Goals.{in-Bar+in_ok-reply-in-Bar, in-Fill+in_ok-reply-in-Fill}
 use Rattle.pl_engine.proofs.engine.Engine.apply.Goals as goal
 
 -- whichever command it is
@@ -59,6 +62,22 @@ sound g c =
       | in-Untag+in_ok-reply-in-Untag w ↦ rw w.rows-is w.in_ok-reply-in-Untag.ensures.sound
       | in-Remove+in_ok-reply-in-Remove w ↦ rw w.rows-is w.in_ok-reply-in-Remove.ensures.sound
       | in-List+in_ok-reply-in-List w ↦ rw w.rows-is (record {
+        good = c.args.self.good;
+        right = c.args.self.right;
+      })
+      | in-Query+in_ok-reply-in-Query w ↦ rw w.rows-is (record {
+        good = c.args.self.good;
+        right = c.args.self.right;
+      })
+      | in-Place+in_ok-reply-in-Place w ↦ rw w.rows-is (record {
+        good = c.args.self.good;
+        right = c.args.self.right;
+      })
+      | in-Bar+in_ok-reply-in-Bar w ↦ rw w.rows-is (record {
+        good = c.args.self.good;
+        right = c.args.self.right;
+      })
+      | in-Fill+in_ok-reply-in-Fill w ↦ rw w.rows-is (record {
         good = c.args.self.good;
         right = c.args.self.right;
       })
@@ -108,6 +127,14 @@ step g c =
           (w.in_ok-reply-in-Remove.ensures.step c.args.self.limit)
       | in-List+in_ok-reply-in-List w ↦ rw (w.rows-is, w.reply-is, w.in-List.is)
           (w.in_ok-reply-in-List.ensures c.args.self.limit)
+      | in-Query+in_ok-reply-in-Query w ↦ rw (w.rows-is, w.reply-is, w.in-Query.is)
+          (ap (λ (r : Reply). (r, store_of (g.R.Rows.kept c.args.self.rows))) w.in_ok-reply-in-Query.ensures)
+      | in-Place+in_ok-reply-in-Place w ↦ rw (w.rows-is, w.reply-is, w.in-Place.is)
+          (ap (λ (r : Reply). (r, store_of (g.R.Rows.kept c.args.self.rows))) w.in_ok-reply-in-Place.ensures)
+      | in-Bar+in_ok-reply-in-Bar w ↦ rw (w.rows-is, w.reply-is, w.in-Bar.is)
+          (ap (λ (r : Reply). (r, store_of (g.R.Rows.kept c.args.self.rows))) w.in_ok-reply-in-Bar.ensures)
+      | in-Fill+in_ok-reply-in-Fill w ↦ rw (w.rows-is, w.reply-is, w.in-Fill.is)
+          (ap (λ (r : Reply). (r, store_of (g.R.Rows.kept c.args.self.rows))) w.in_ok-reply-in-Fill.ensures)
     ]
 
 -- the rows of a command that changed nothing have their totals still
@@ -150,6 +177,10 @@ kept g c same =
       | in-Origin+in_ok-reply-in-Origin w ↦ rw w.rows-is c.args.self.totals
       | in-Stats+in_ok-reply-in-Stats w ↦ rw w.rows-is c.args.self.totals
       | in-List+in_ok-reply-in-List w ↦ rw w.rows-is c.args.self.totals
+      | in-Query+in_ok-reply-in-Query w ↦ rw w.rows-is c.args.self.totals
+      | in-Place+in_ok-reply-in-Place w ↦ rw w.rows-is c.args.self.totals
+      | in-Bar+in_ok-reply-in-Bar w ↦ rw w.rows-is c.args.self.totals
+      | in-Fill+in_ok-reply-in-Fill w ↦ rw w.rows-is c.args.self.totals
     ]
 
 -- a refused command leaves the very same rows
@@ -176,6 +207,10 @@ refused g c refusal is =
       | in-Origin+in_ok-reply-in-Origin w ↦ w.rows-is
       | in-Stats+in_ok-reply-in-Stats w ↦ w.rows-is
       | in-List+in_ok-reply-in-List w ↦ w.rows-is
+      | in-Query+in_ok-reply-in-Query w ↦ w.rows-is
+      | in-Place+in_ok-reply-in-Place w ↦ w.rows-is
+      | in-Bar+in_ok-reply-in-Bar w ↦ w.rows-is
+      | in-Fill+in_ok-reply-in-Fill w ↦ w.rows-is
     ]
 
 -- and so does one of a kind that changes nothing
@@ -202,6 +237,10 @@ unchanged g c none =
       | in-Origin+in_ok-reply-in-Origin w ↦ w.rows-is
       | in-Stats+in_ok-reply-in-Stats w ↦ w.rows-is
       | in-List+in_ok-reply-in-List w ↦ w.rows-is
+      | in-Query+in_ok-reply-in-Query w ↦ w.rows-is
+      | in-Place+in_ok-reply-in-Place w ↦ w.rows-is
+      | in-Bar+in_ok-reply-in-Bar w ↦ w.rows-is
+      | in-Fill+in_ok-reply-in-Fill w ↦ w.rows-is
     ]
 
 pub keep_totals-requires-clause-sound : goal.keep_totals-requires-clause-sound

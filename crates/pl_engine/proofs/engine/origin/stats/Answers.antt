@@ -1,4 +1,4 @@
-use Rattle.std.proofs.Common.{◌≡◌, ◌<◌, ◌∙◌, arith, length, refl, subst, sym, List}
+use Rattle.std.proofs.Common.{◌≡◌, ◌<◌, arith, length, refl, subst, sym, List}
 use Rattle.pl_base.specs.declared.view.View.{View}
 use Rattle.pl_base.specs.Live.{slot_limit}
 use Rattle.pl_base.specs.Rows.{Kept, store_of}

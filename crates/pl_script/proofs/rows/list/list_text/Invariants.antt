@@ -3,7 +3,7 @@ use Rattle.std.specs.List.{All, flat_map}
 use Rattle.std.specs.String.{string_bytes}
 use Rattle.pl_engine.specs.declared.reply.Reply.TheVariants.{List as ListReply}
 use Rattle.pl_script.specs.Reply.{IsToldAgain, line_text, reply_fields, row_fields}
-use Rattle.pl_script.proofs.rows.list_text.Given as goal
+use Rattle.pl_script.proofs.rows.list.list_text.Given as goal
 
 -- the first line, and one for each row so far, of which each is read again
 abbrev pub invariant-loop-row : goal.invariant-loop-row

@@ -1,0 +1,13 @@
+use Rattle.std.proofs.Common.{◌≡◌, ◌++◌, take}
+use Rattle.std.specs.List.{All, flat_map}
+use Rattle.std.specs.String.{string_bytes}
+use Rattle.pl_engine.specs.declared.reply.Reply.TheVariants.{Bar}
+use Rattle.pl_script.specs.Reply.{IsOfferedAgain, bar_fields, line_text, reply_fields}
+use Rattle.pl_script.proofs.rows.bar.bar_text.Given as goal
+
+-- the first line, and one for each row so far, of which each is read again
+abbrev pub invariant-loop-row : goal.invariant-loop-row
+invariant-loop-row l =
+    (string_bytes l.text ≡ line_text (reply_fields (Bar l.rows))
+    ++ flat_map (λ row. line_text (bar_fields row)) (take l.row-index l.rows))
+    × All IsOfferedAgain (take l.row-index l.rows)

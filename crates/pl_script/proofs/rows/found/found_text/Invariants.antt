@@ -1,0 +1,13 @@
+use Rattle.std.proofs.Common.{◌≡◌, ◌++◌, take}
+use Rattle.std.specs.List.{All, flat_map}
+use Rattle.std.specs.String.{string_bytes}
+use Rattle.pl_engine.specs.declared.reply.Reply.TheVariants.{Rows}
+use Rattle.pl_script.specs.Reply.{IsFoundAgain, found_fields, line_text, reply_fields}
+use Rattle.pl_script.proofs.rows.found.found_text.Given as goal
+
+-- the first line, and one for each row so far, of which each is read again
+abbrev pub invariant-loop-row : goal.invariant-loop-row
+invariant-loop-row l =
+    (string_bytes l.text ≡ line_text (reply_fields (Rows l.rows))
+    ++ flat_map (λ row. line_text (found_fields row)) (take l.row-index l.rows))
+    × All IsFoundAgain (take l.row-index l.rows)
