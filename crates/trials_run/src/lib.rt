@@ -1,5 +1,5 @@
-//! Tests of whole runs, by public names. There is nothing else here, since a crate with tests of its
-//! own is proved twice.
+//! Tests of whole runs, by public names. There is nothing else here, since a crate with tests of
+//! its own is proved twice.
 #![tactic(auto)]
 
 #[cfg(test)]

@@ -258,6 +258,8 @@ const REFUSALS: &[(Refusal, &str)] = &[
     (Refusal::Fixed(ItemId(4)), "refused\t7\t4\n"),
     (Refusal::BadPlace(9, 3), "refused\t8\t9\t3\n"),
     (Refusal::Inside(ItemId(7)), "refused\t9\t7\n"),
+    (Refusal::BadQuery(0), "refused\t11\t0\n"),
+    (Refusal::BadQuery(3), "refused\t11\t3\n"),
     (Refusal::Full(10), "refused\t12\t10\n"),
     (Refusal::NoIds(IdKind::Visit), "refused\t13\t2\n"),
     (Refusal::NoIds(IdKind::Item), "refused\t13\t3\n"),

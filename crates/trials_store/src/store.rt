@@ -1,10 +1,8 @@
 // Sessions over files in memory, and stores without a file.
-ghost use Rattle.std.specs.Prelude.{◌≡◌, ◌<◌, IfOk};
-ghost use Rattle.pl_base.specs.Date.{IsDate};
+ghost use Rattle.std.specs.Prelude.{◌≡◌, ◌<◌};
 ghost use Rattle.pl_engine.specs.Step.{HasDates};
 
 mod openings;
-mod redirects;
 mod stops;
 
 use pl_base::{
@@ -20,57 +18,7 @@ use std::marker::Brand;
 use std::process::Abort;
 use std::sync::ledger::{Blank, Ledger};
 use std::test::Fail;
-
-fn visit(url: Canon, transition: Transition, date: Micros, source: Option<VisitId>) -> Command
-    requires { IsDate date }
-    ensures { HasDates result }
-{
-    Command::Visit {
-        url,
-        transition,
-        date,
-        source,
-    }
-}
-
-fn first(alloc: Global) -> Result<Command, Fail>
-    ensures { IfOk result HasDates }
-{
-    let url = Canon::read(alloc, "https://a.example/")?;
-    Ok(visit(url, Transition::Typed, Micros(0), None))
-}
-
-fn second(alloc: Global) -> Result<Command, Fail>
-    ensures { IfOk result HasDates }
-{
-    let url = Canon::read(alloc, "https://b.example/")?;
-    Ok(visit(url, Transition::Link, Micros(1), None))
-}
-
-const FIRST_REPLY: Reply = Reply::Visit {
-    visit: VisitId(1),
-    page: PageId(1),
-    frecency: 2000,
-};
-
-const SECOND_REPLY: Reply = Reply::Visit {
-    visit: VisitId(2),
-    page: PageId(2),
-    frecency: 100,
-};
-
-// Performs a command and commits it.
-fn perform(
-    session: Session,
-    command: &Command,
-    desk: &mut MemDesk,
-) -> Result<(Session, Reply), Fail>
-    requires { HasDates command.now }
-{
-    let (prepared, reply) = session.prepare(command)?;
-    let session = prepared.commit(desk)?;
-    Ok((session, reply))
-}
+use trials_sessions::{FIRST_REPLY, SECOND_REPLY, first, perform, second};
 
 // An engine over rows that have given all ids of pages.
 fn without_page_ids(alloc: Global) -> Result<Engine<Flat>, Fail> {

@@ -1,4 +1,4 @@
-use Rattle.trials_store.proofs.store.redirects.perform_and_check.Given as goal
+use Rattle.trials_redirects.proofs.redirects.perform_and_check.Given as goal
 
 -- the ledger is the one of the blank
 abbrev pub ghosts-check_file : goal.ghosts-check_file

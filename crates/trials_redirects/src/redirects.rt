@@ -2,8 +2,18 @@
 ghost use Rattle.std.specs.Prelude.{◌≡◌, ◌<◌, IfOk};
 ghost use Rattle.pl_engine.specs.Step.{HasDates};
 
-use super::*;
-use pl_base::Rows;
+use pl_base::{Micros, PageId, Refusal, Rows, Steps, Transition, VisitId};
+use pl_desk::MemDesk;
+use pl_engine::{Command, Reply};
+use pl_link::Canon;
+use pl_plain::Flat;
+use pl_store::{Memory, SLOT_LIMIT, Session, create};
+use std::alloc::Global;
+use std::marker::Brand;
+use std::process::Abort;
+use std::sync::ledger::{Blank, Ledger};
+use std::test::Fail;
+use trials_sessions::{FIRST_REPLY, first, perform, visit};
 
 // What is kept of a page: its frecency, its `visit_count`, and whether it is hidden.
 type Kept = (i64, u32, bool);
