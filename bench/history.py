@@ -1,0 +1,173 @@
+"""A store of history, bookmarks and tags, as a file by the form of `docs/FORMAT.md` and as tables of sqlite3, with the same rows."""
+import math
+import pathlib
+import random
+import sqlite3
+import struct
+import subprocess
+import sys
+import tempfile
+import time
+
+PAGE_SIZE = 1024
+BOOKMARK, FOLDER = 1, 2
+LINK, TYPED = 1, 2
+TAGS_ROOT = 4
+DATES = 86_400_000_000
+
+WORDS = ("alpha bravo charlie delta echo foxtrot golf hotel india juliett kilo lima mike november oscar papa quebec "
+         "romeo sierra tango uniform victor whiskey xray yankee zulu").split()
+
+SCHEMA = """
+CREATE TABLE places (id INTEGER PRIMARY KEY, url TEXT UNIQUE, title TEXT, host TEXT, count INTEGER, frecency INTEGER, last INTEGER);
+CREATE TABLE visits (id INTEGER PRIMARY KEY, page INTEGER, date INTEGER, transition INTEGER);
+CREATE TABLE items (id INTEGER PRIMARY KEY, kind INTEGER, page INTEGER, parent INTEGER, title TEXT, added INTEGER, modified INTEGER);
+CREATE INDEX places_frecency ON places (frecency);
+CREATE INDEX visits_page ON visits (page, date);
+CREATE INDEX visits_date ON visits (date);
+CREATE INDEX items_page ON items (page);
+CREATE INDEX items_parent ON items (parent);
+"""
+
+
+class History:
+    """So many pages, each with one to five visits of the first day; one in five is bookmarked, and one in seven tagged."""
+
+    def __init__(self, pages, seed=1):
+        chance = random.Random(seed)
+        self.pages, self.visits, self.items = [], [], []
+        folder, tags = 7, range(8, 12)
+        self.children = {1: range(2, 7), 2: [folder], 3: [], TAGS_ROOT: tags, 5: [], 6: [], folder: []}
+        self.children.update((tag, []) for tag in tags)
+        self.rows = {item: (FOLDER, 0, "", 0, 0) for item in range(1, 7)}
+        self.rows[folder] = (FOLDER, 0, "kept", 0, 0)
+        self.rows.update((tag, (FOLDER, 0, name, 0, 0)) for tag, name in zip(tags, ("Blue", "Green", "Red", "Work")))
+        for page in range(1, pages + 1):
+            self.add_page(page, chance, folder, tags)
+
+    def add_page(self, page, chance, folder, tags):
+        host = f"{chance.choice(WORDS)}.{chance.choice(WORDS)}.example"
+        url = f"https://{host}/{chance.choice(WORDS)}/{page}"
+        title = " ".join(chance.choice(WORDS).capitalize() for _ in range(4)) if page % 9 else ""
+        for _ in range(chance.randint(1, 5)):
+            transition = TYPED if chance.random() < 0.1 else LINK
+            self.visits.append((len(self.visits) + 1, page, chance.randrange(DATES), transition))
+        if page % 5 == 0:
+            kept = chance.choice(WORDS).capitalize() if page % 10 else ""
+            self.add_item(folder, page, kept, chance.randrange(DATES))
+        if page % 7 == 0:
+            self.add_item(chance.choice(tags), page, "", 0)
+        self.pages.append((page, url, title, host))
+
+    def add_item(self, parent, page, title, date):
+        item = len(self.rows) + 1
+        self.rows[item] = (BOOKMARK, page, title, date, date)
+        self.children[parent].append(item)
+        self.children[item] = []
+
+    def frecencies(self):
+        """By page: the frecency and the `visit_count`. All weights are 100, and every visit counts."""
+        referenced = {page for kind, page, *_ in self.rows.values() if kind == BOOKMARK}
+        bonuses = {}
+        for _, page, _, transition in self.visits:
+            bonuses.setdefault(page, []).append((2000 if transition == TYPED else 100) + 75 * (page in referenced))
+        return {page: (math.ceil(len(some) * sum(some) / len(some)), len(some)) for page, some in bonuses.items()}
+
+    # ---- the file
+
+    def file_bytes(self):
+        kept, typed = self.frecencies(), {page for _, page, _, transition in self.visits if transition == TYPED}
+        plain = [numbers(0, len(self.pages) + 1, len(self.visits) + 1, len(self.rows) + 1), numbers(len(self.pages))]
+        for page, url, title, _ in self.pages:
+            plain.append(numbers(page) + struct.pack("<Bq", page in typed, kept[page][0]) + text(url) + text(title))
+        plain.append(numbers(len(self.visits)))
+        for visit, page, date, transition in self.visits:
+            plain.append(numbers(visit, page, 0) + struct.pack("<QB", date, transition))
+        plain.append(numbers(len(self.rows)))
+        for item, (kind, page, title, added, modified) in sorted(self.rows.items()):
+            children = list(self.children[item])
+            plain.append(numbers(item, page) + bytes([kind]) + struct.pack("<QQ", added, modified) + text(title)
+                         + numbers(len(children), *children))
+        plain = b"".join(plain)
+        pages = padded(plain)
+        header = b"PLFLAT01" + numbers(2 + len(pages) // PAGE_SIZE) + struct.pack("<Q", len(plain))
+        return bytes(PAGE_SIZE) + padded(header) + pages
+
+    # ---- the tables
+
+    def database(self):
+        kept = self.frecencies()
+        last = {}
+        for _, page, date, _ in self.visits:
+            last[page] = max(date, last.get(page, 0))
+        parents = {child: parent for parent, children in self.children.items() for child in children}
+        base = sqlite3.connect(":memory:", cached_statements=1000)
+        base.executescript(SCHEMA)
+        base.executemany("INSERT INTO places VALUES (?, ?, ?, ?, ?, ?, ?)",
+                         [(page, url, title, host, kept[page][1], kept[page][0], last[page]) for page, url, title, host in self.pages])
+        base.executemany("INSERT INTO visits VALUES (?, ?, ?, ?)", self.visits)
+        base.executemany("INSERT INTO items VALUES (?, ?, ?, ?, ?, ?, ?)",
+                         [(item, kind, page or None, parents.get(item), title, added, modified)
+                          for item, (kind, page, title, added, modified) in self.rows.items()])
+        base.execute("ANALYZE")
+        return base
+
+
+def numbers(*values):
+    return struct.pack(f"<{len(values)}I", *values)
+
+
+def text(some):
+    return numbers(len(some.encode())) + some.encode()
+
+
+def padded(some):
+    return some + bytes(-len(some) % PAGE_SIZE)
+
+
+# ---- the runs
+
+def said(places, store, lines):
+    """What a run of the lines says."""
+    run = subprocess.run([places, "run", store], input="".join(lines).encode(), capture_output=True)
+    if run.returncode:
+        sys.exit(f"status {run.returncode}: {run.stderr!r}")
+    return run.stdout.decode()
+
+
+def wall(task):
+    start = time.monotonic()
+    task()
+    return time.monotonic() - start
+
+
+def line_time(places, store, line, times):
+    """The wall time of a line in seconds, without that of the run around it: the least of three."""
+    bare = min(wall(lambda: said(places, store, [])) for _ in range(3))
+    return (min(wall(lambda: said(places, store, [line] * times)) for _ in range(3)) - bare) / times
+
+
+def select_time(base, select, values, times):
+    """The same of a statement, which is prepared once."""
+    def selected():
+        for _ in range(times):
+            base.execute(select, values).fetchall()
+    return min(wall(selected) for _ in range(3)) / times
+
+
+def compare(places, kinds, rows_of, pages=3000, times=20):
+    """For each kind (a name, a line, a statement and its values) the replies, and then the times, beside sqlite3's."""
+    history = History(pages)
+    base = history.database()
+    with tempfile.TemporaryDirectory() as folder:
+        store = str(pathlib.Path(folder) / "store")
+        pathlib.Path(store).write_bytes(history.file_bytes())
+        print(f"{pages} pages, {len(history.visits)} visits, {len(history.rows)} items; sqlite3 {sqlite3.sqlite_version}")
+        print("| What is asked | Rows | `places run`, ms | sqlite3, ms |\n|---|---|---|---|")
+        for name, line, select, values in kinds:
+            rows = rows_of(said(places, store, [line]))
+            wanted = [tuple("-" if value is None else str(value) for value in row) for row in base.execute(select, values)]
+            if rows != wanted:
+                sys.exit(f"{name}: {len(rows)} rows and {len(wanted)}; {rows[:3]} and {wanted[:3]}")
+            ours, theirs = line_time(places, store, line, times), select_time(base, select, values, times)
+            print(f"| {name} | {len(rows)} | {ours * 1000:.2f} | {theirs * 1000:.2f} |", flush=True)
