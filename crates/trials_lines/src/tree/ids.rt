@@ -1,9 +1,10 @@
 // Stores whose ids or slots are spent: which cause is told first.
 ghost use Rattle.std.specs.Prelude.{◌≡◌, ◌<◌, ◌≤◌};
 ghost use Rattle.pl_base.specs.Live.{slot_limit};
+ghost use Rattle.pl_engine.specs.Step.{HasDates};
 
-use pl_base::{Ids, Steps};
-use pl_engine::Engine;
+use pl_base::{Ids, Steps, Txt};
+use pl_engine::{Command, Engine};
 use pl_plain::Flat;
 use pl_script::{line, reply_text};
 use pl_store::SLOT_LIMIT;
@@ -12,6 +13,36 @@ use std::marker::Brand;
 use std::process::Abort;
 use std::sync::ledger::{Blank, Ledger};
 use std::test::Fail;
+
+// The engine after a command, and the text of the reply.
+fn performed<L: Ledger>(
+    alloc: Global,
+    engine: Engine<Flat>,
+    command: &Command,
+    steps: &mut Steps<L>,
+) -> Result<(Engine<Flat>, Txt), Fail>
+    requires { HasDates command.now }
+{
+    let (engine, reply) = engine.apply(command, steps)?;
+    let text = reply_text(alloc, &reply)?;
+    Ok((engine, text))
+}
+
+// The engine after a line, and the text of the reply, which a comment has not.
+fn answered<L: Ledger>(
+    alloc: Global,
+    engine: Engine<Flat>,
+    text: &[u8],
+    steps: &mut Steps<L>,
+) -> Result<(Engine<Flat>, Option<Txt>), Fail> {
+    match line(alloc, text)? {
+        Some(command) => {
+            let (engine, reply) = performed(alloc, engine, &command, steps)?;
+            Ok((engine, Some(reply)))
+        }
+        None => Ok((engine, None)),
+    }
+}
 
 // The engine after a line, which has this reply.
 fn told<L: Ledger>(
@@ -22,12 +53,10 @@ fn told<L: Ledger>(
     reply: &str,
     steps: &mut Steps<L>,
 ) -> Result<Engine<Flat>, Fail> {
-    let Some(command) = line(alloc, text)? else {
-        return Ok(engine);
-    };
-    let (engine, answer) = engine.apply(&command, steps)?;
-    let answer = reply_text(alloc, &answer)?;
-    assert_eq!(rt; answer.as_str(), reply);
+    let (engine, answer) = answered(alloc, engine, text, steps)?;
+    if let Some(answer) = answer {
+        assert_eq!(rt; answer.as_str(), reply);
+    }
     Ok(engine)
 }
 
