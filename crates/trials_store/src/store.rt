@@ -46,14 +46,48 @@ fn expect_no_page_ids<L: Ledger>(
     Ok(())
 }
 
+// The store after a command, which has this reply.
+fn expect_step(
+    rt: &impl Abort,
+    memory: Memory,
+    command: &Command,
+    reply: &Reply,
+) -> Result<Memory, Fail>
+    requires { HasDates command.now }
+{
+    let (memory, answer) = memory.step(command)?;
+    assert!(rt; answer == *reply);
+    Ok(memory)
+}
+
+fn expect_first(
+    rt: &impl Abort,
+    alloc: Global,
+    memory: Memory,
+    reply: &Reply,
+) -> Result<Memory, Fail> {
+    let command = first(alloc)?;
+    expect_step(rt, memory, &command, reply)
+}
+
+fn expect_second(
+    rt: &impl Abort,
+    alloc: Global,
+    memory: Memory,
+    reply: &Reply,
+) -> Result<Memory, Fail> {
+    let command = second(alloc)?;
+    expect_step(rt, memory, &command, reply)
+}
+
 // A new store takes 6 slots. The visit adds an origin, a page, a slot for its URL and itself.
+const FULL: Reply = Reply::Refused(Refusal::Full(10));
+
 #[test]
 fn a_store_in_memory_has_a_limit(rt: HostRuntime) -> Result<(), Fail> {
     let alloc = rt.alloc();
-    let (_, reply) = Memory::opening(alloc, 8)?.step(&first(alloc)?)?;
-    assert_eq!(rt; reply, Reply::Refused(Refusal::Full(10)));
-    let (_, reply) = Memory::opening(alloc, 10)?.step(&first(alloc)?)?;
-    assert_eq!(rt; reply, FIRST_REPLY);
+    let _ = expect_first(&rt, alloc, Memory::opening(alloc, 8)?, &FULL)?;
+    let _ = expect_first(&rt, alloc, Memory::opening(alloc, 10)?, &FIRST_REPLY)?;
     Ok(())
 }
 
@@ -61,10 +95,8 @@ fn a_store_in_memory_has_a_limit(rt: HostRuntime) -> Result<(), Fail> {
 fn a_store_in_memory_answers(rt: HostRuntime) -> Result<(), Fail> {
     let alloc = rt.alloc();
     let memory = Memory::opening(alloc, SLOT_LIMIT)?;
-    let (memory, reply) = memory.step(&first(alloc)?)?;
-    assert_eq!(rt; reply, FIRST_REPLY);
-    let (_, reply) = memory.step(&second(alloc)?)?;
-    assert_eq!(rt; reply, SECOND_REPLY);
+    let memory = expect_first(&rt, alloc, memory, &FIRST_REPLY)?;
+    let _ = expect_second(&rt, alloc, memory, &SECOND_REPLY)?;
     Ok(())
 }
 
@@ -73,6 +105,21 @@ fn an_engine_without_ids_refuses(rt: HostRuntime) -> Result<(), Fail> {
     let alloc = rt.alloc();
     let command = first(alloc)?;
     expect_no_page_ids::<Brand>(&rt, without_page_ids(alloc)?, &command, Blank::new(1))
+}
+
+// The session after a command, which has this reply.
+fn expect_performed(
+    rt: &impl Abort,
+    session: Session,
+    command: &Command,
+    reply: &Reply,
+    desk: &mut MemDesk,
+) -> Result<Session, Fail>
+    requires { HasDates command.now }
+{
+    let (session, answer) = perform(session, command, desk)?;
+    assert!(rt; answer == *reply);
+    Ok(session)
 }
 
 // A refused command leaves nothing to commit.

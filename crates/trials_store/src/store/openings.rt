@@ -63,13 +63,22 @@ fn a_new_store_opens_with_each_call(rt: HostRuntime) -> Result<(), Fail> {
     Ok(())
 }
 
+fn commit_second(
+    rt: &impl Abort,
+    alloc: Global,
+    session: Session,
+    desk: &mut MemDesk,
+) -> Result<(), Fail> {
+    let command = second(alloc)?;
+    let _ = expect_performed(rt, session, &command, &SECOND_REPLY, desk)?;
+    Ok(())
+}
+
 // How many calls a session over the file makes in all for the second command.
 fn calls_for_second(rt: &impl Abort, alloc: Global, bytes: &[u8]) -> Result<u32, Fail> {
-    let command = second(alloc)?;
     let mut desk = MemDesk::holding(alloc, bytes, &[])?;
     let session = reopen(alloc, &mut desk, SLOT_LIMIT)?;
-    let (_, reply) = perform(session, &command, &mut desk)?;
-    assert!(rt; reply == SECOND_REPLY);
+    commit_second(rt, alloc, session, &mut desk)?;
     Ok(desk.calls())
 }
 

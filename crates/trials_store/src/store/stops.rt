@@ -47,25 +47,46 @@ fn expect_committed(
     Ok(())
 }
 
-// The session performs a command, and a stop within each call of its commit leaves the commands
-// before it or that one too.
+// The session performs a command with this reply, and a stop within each call of its commit leaves
+// the commands before it or that one too.
 fn expect_whole(
     rt: &impl Abort,
     alloc: Global,
     session: Session,
     command: &Command,
+    reply: &Reply,
     desk: &mut MemDesk,
     committed: u32,
-) -> Result<(Session, Reply), Fail>
+) -> Result<Session, Fail>
     requires { HasDates command.now }
 {
     let before = desk.calls();
-    let done = perform(session, command, desk)?;
+    let session = expect_performed(rt, session, command, reply, desk)?;
     assert!(rt; before < desk.calls());
     for call in before..desk.calls() {
         expect_committed(rt, alloc, desk, call, committed)?;
     }
-    Ok(done)
+    Ok(session)
+}
+
+fn first_whole(
+    rt: &impl Abort,
+    alloc: Global,
+    session: Session,
+    desk: &mut MemDesk,
+) -> Result<Session, Fail> {
+    let command = first(alloc)?;
+    expect_whole(rt, alloc, session, &command, &FIRST_REPLY, desk, 0)
+}
+
+fn second_whole(
+    rt: &impl Abort,
+    alloc: Global,
+    session: Session,
+    desk: &mut MemDesk,
+) -> Result<Session, Fail> {
+    let command = second(alloc)?;
+    expect_whole(rt, alloc, session, &command, &SECOND_REPLY, desk, 1)
 }
 
 #[test]
@@ -73,10 +94,8 @@ fn a_stop_leaves_a_command_or_not(rt: HostRuntime) -> Result<(), Fail> {
     let alloc = rt.alloc();
     let mut desk = MemDesk::holding(alloc, &[], &[])?;
     let session = create(alloc, &mut desk)?;
-    let (session, reply) = expect_whole(&rt, alloc, session, &first(alloc)?, &mut desk, 0)?;
-    assert_eq!(rt; reply, FIRST_REPLY);
-    let (_, reply) = expect_whole(&rt, alloc, session, &second(alloc)?, &mut desk, 1)?;
-    assert_eq!(rt; reply, SECOND_REPLY);
+    let session = first_whole(&rt, alloc, session, &mut desk)?;
+    let _ = second_whole(&rt, alloc, session, &mut desk)?;
     assert_eq!(rt; commands_in(alloc, &mut desk)?, 2);
     Ok(())
 }
