@@ -1,94 +1,15 @@
--- Lists in which each member stands once, where it stood first.
-use Rattle.std.proofs.Common.{◌≡◌, ◌∙◌, ◌||◌, ℕ, Bool, true, false, not, List, [], ◌∷◌, ◌++◌, ap, eq-eqb, eqb-true}
-use Rattle.std.proofs.Common.{map, get_or, length, nat_lt, refl, sym, take, ◌+◌, ◌<◌}
-use Rattle.std.proofs.Common.{if◌then◌else◌}
-use Rattle.std.specs.List.{filter, list_any, list_all}
-use Rattle.std.proofs.lemmas.Bool.{and_from, and_parts, cond-false, cond-true, not-true, true≢false}
-use Rattle.pl_base.proofs.ListLaws.{list_any-map}
-use Rattle.std.proofs.lemmas.Slice.Eq.{bytes_eq-Decides}
-use Rattle.std.proofs.lemmas.List.{append-nil, map-append, take_more}
-use Rattle.std.proofs.lemmas.List.Elements.{filter-append}
-use Rattle.std.specs.Prelude.{bytes_eq}
+-- Items in their order, each one once: where it stands first.
+use Rattle.std.proofs.Common.{◌≡◌, ◌∙◌, ℕ, true, false, List, [], ◌∷◌, ◌++◌, ap, eq-eqb, eqb-true}
+use Rattle.std.proofs.Common.{get_or, length, sym, take, ◌+◌, ◌<◌}
+use Rattle.std.specs.List.{list_any}
+use Rattle.std.proofs.lemmas.List.{take_more}
 use Rattle.pl_base.specs.declared.id.ItemId.{ItemId}
-use Rattle.pl_base.specs.Fold.{folded}
-use Rattle.pl_base.specs.declared.transition.Transition.{Transition}
-use Rattle.pl_base.specs.Transition.{transition_number, transitions}
-use Rattle.pl_place.specs.PlaceText.{by_number, firsts, is_among}
-use Rattle.pl_place.specs.QueryForm.{ascend, each_once, is_same_item, is_same_tag}
-
-module _ {A : Type 0} (same : A → A → Bool) where
-  -- what is left out, being the same as y, is not the same as x
-  any_kept : ((a b c : A) → same a b ≡ true → same b c ≡ true → same a c ≡ true) → (y x : A) → same y x ≡ false
-      → (xs : List A) → list_any (λ z. same z x) (filter (λ z. not (same y z)) xs) ≡ list_any (λ z. same z x) xs
-  any_kept chain y x differs [] = refl
-  any_kept chain y x differs (z ∷ zs) =
-      choose (same y z) (same z x) refl refl (any_kept chain y x differs zs)
-    where
-      choose : (v w : Bool) → same y z ≡ v → same z x ≡ w
-          → list_any (λ u. same u x) (filter (λ u. not (same y u)) zs) ≡ list_any (λ u. same u x) zs
-          → list_any (λ u. same u x) (filter (λ u. not (same y u)) (z ∷ zs)) ≡ list_any (λ u. same u x) (z ∷ zs)
-      choose true true is here rest = absurd (true≢false (sym (chain y z x is here) ∙ differs))
-      choose true false is here rest = rw (is, here) rest
-      choose false w is here rest = rw is (ap (λ b. same z x || b) rest)
-
-  kept_more : (y x : A) (xs : List A) (v : Bool) → same y x ≡ v
-      → filter (λ z. not (same y z)) (xs ++ x ∷ []) ≡ (if v then filter (λ z. not (same y z)) xs
-      else filter (λ z. not (same y z)) xs ++ x ∷ [])
-  kept_more y x xs true is = filter-append (λ z. not (same y z)) xs (x ∷ []) ∙ rw is (append-nil _)
-  kept_more y x xs false is = filter-append (λ z. not (same y z)) xs (x ∷ []) ∙ rw is
-
-  -- one more that is told
-  pub firsts-more : ((a b c : A) → same a b ≡ true → same b c ≡ true → same a c ≡ true) → (xs : List A) (x : A)
-      → firsts same (xs ++ x ∷ []) ≡ (if list_any (λ y. same y x) (firsts same xs) then firsts same xs
-      else firsts same xs ++ x ∷ [])
-  firsts-more chain [] x = refl
-  firsts-more chain (y ∷ ys) x =
-      choose (same y x) (list_any (λ z. same z x) (firsts same ys)) refl refl (firsts-more chain ys x)
-    where
-      kept : List A
-      kept = filter (λ z. not (same y z)) (firsts same ys)
-
-      choose : (v w : Bool) → same y x ≡ v → list_any (λ z. same z x) (firsts same ys) ≡ w
-          → firsts same (ys ++ x ∷ []) ≡ (if list_any (λ z. same z x) (firsts same ys) then firsts same ys
-          else firsts same ys ++ x ∷ [])
-          → firsts same (y ∷ ys ++ x ∷ []) ≡ (if list_any (λ z. same z x) (firsts same (y ∷ ys))
-          then firsts same (y ∷ ys) else firsts same (y ∷ ys) ++ x ∷ [])
-      choose true true is any rest = let e : firsts same (ys ++ x ∷ []) ≡ firsts same ys = rw any at rest in rw (is, e)
-      choose true false is any rest =
-          let e : firsts same (ys ++ x ∷ []) ≡ firsts same ys ++ x ∷ [] = rw any at rest in
-          rw (is, e, kept_more y x (firsts same ys) true is)
-      choose false true is any rest =
-          let e : firsts same (ys ++ x ∷ []) ≡ firsts same ys = rw any at rest in
-          rw (is, e, any_kept chain y x is (firsts same ys), any)
-      choose false false is any rest =
-          let e : firsts same (ys ++ x ∷ []) ≡ firsts same ys ++ x ∷ [] = rw any at rest in
-          rw (is, e, any_kept chain y x is (firsts same ys), any, kept_more y x (firsts same ys) false is)
-
-module _ {A : Type 0} (same : A → A → Bool) (chain : (a b c : A) → same a b ≡ true → same b c ≡ true → same a c ≡ true)
-    (xs : List A) (x : A) where
-  pub firsts-known : list_any (λ y. same y x) (firsts same xs) ≡ true → firsts same (xs ++ x ∷ []) ≡ firsts same xs
-  firsts-known known = firsts-more same chain xs x ∙ cond-true _ _ _ known
-
-  pub firsts-new : list_any (λ y. same y x) (firsts same xs) ≡ false
-      → firsts same (xs ++ x ∷ []) ≡ firsts same xs ++ x ∷ []
-  firsts-new new = firsts-more same chain xs x ∙ cond-false _ _ _ new
-
--- ---- items and tags
+use Rattle.pl_words.proofs.TagListLaws.{firsts-known, firsts-new}
+use Rattle.pl_words.specs.TagLists.{firsts}
+use Rattle.pl_place.specs.QueryForm.{is_same_item}
 
 pub same_items : (a b c : ItemId) → is_same_item a b ≡ true → is_same_item b c ≡ true → is_same_item a c ≡ true
 same_items a b c ab bc = eq-eqb a.0 c.0 (eqb-true a.0 b.0 ab ∙ eqb-true b.0 c.0 bc)
-
-pub same_tags : (a b c : List ℕ) → is_same_tag a b ≡ true → is_same_tag b c ≡ true → is_same_tag a c ≡ true
-same_tags a b c ab bc =
-    (bytes_eq-Decides (folded a) (folded c)).1
-    ((bytes_eq-Decides (folded a) (folded b)).0 ab ∙ (bytes_eq-Decides (folded b) (folded c)).0 bc)
-
--- a fold is among those of some tags where the tag is the same as one of them
-pub fold_known : (tags folds : List (List ℕ)) (tag fold : List ℕ) → folds ≡ map folded tags → fold ≡ folded tag
-    → list_any (λ y. bytes_eq y fold) folds ≡ list_any (λ t. is_same_tag t tag) tags
-fold_known tags folds tag fold all this =
-    ap (list_any (λ y. bytes_eq y fold)) all ∙ list_any-map (λ y. bytes_eq y fold) folded tags
-    ∙ ap (λ f. list_any (λ t. bytes_eq (folded t) f) tags) this
 
 module _ (told items : List ItemId) (i : ℕ) (d : ItemId) (within : i < length told)
     (is : items ≡ firsts is_same_item (take i told)) where
@@ -106,20 +27,3 @@ module _ (told items : List ItemId) (i : ℕ) (d : ItemId) (within : i < length 
       ∙ sym (firsts-new is_same_item same_items (take i told) (get_or told i d)
       (ap (list_any (λ y. is_same_item y (get_or told i d))) (sym is) ∙ sym new))
       ∙ ap (firsts is_same_item) (sym (take_more told i d within))
-
-module _ (told tags folds : List (List ℕ)) (tag fold : List ℕ) (is : tags ≡ firsts is_same_tag told)
-    (all : folds ≡ map folded tags) (this : fold ≡ folded tag) where
-  pub tags_known : true ≡ list_any (λ y. bytes_eq y fold) folds → tags ≡ firsts is_same_tag (told ++ tag ∷ [])
-  tags_known known =
-      is ∙ sym (firsts-known is_same_tag same_tags told tag
-      (ap (list_any (λ y. is_same_tag y tag)) (sym is) ∙ sym (fold_known tags folds tag fold all this) ∙ sym known))
-
-  pub tags_new : false ≡ list_any (λ y. bytes_eq y fold) folds
-      → tags ++ tag ∷ [] ≡ firsts is_same_tag (told ++ tag ∷ [])
-  tags_new new =
-      ap (λ l. l ++ tag ∷ []) is ∙ sym (firsts-new is_same_tag same_tags told tag
-      (ap (list_any (λ y. is_same_tag y tag)) (sym is) ∙ sym (fold_known tags folds tag fold all this) ∙ sym new))
-
-  pub folds_new : folds ++ fold ∷ [] ≡ map folded (tags ++ tag ∷ [])
-  folds_new = sym (map-append folded tags (tag ∷ []) ∙ ap (λ l. l ++ folded tag ∷ []) (sym all)
-      ∙ ap (λ f. folds ++ f ∷ []) (sym this))

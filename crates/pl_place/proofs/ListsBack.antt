@@ -10,8 +10,9 @@ use Rattle.pl_base.specs.declared.transition.Transition.TheVariants.{Link}
 use Rattle.pl_base.specs.declared.transition.Transition.{Transition}
 use Rattle.pl_base.specs.Transition.{transition_at, transition_number, transitions}
 use Rattle.pl_place.specs.Canonical.{ReadsBack}
-use Rattle.pl_place.specs.PlaceText.{by_number, firsts}
-use Rattle.pl_place.specs.QueryForm.{ascend, each_once}
+use Rattle.pl_words.specs.TagLists.{each_once, firsts}
+use Rattle.pl_place.specs.PlaceText.{by_number}
+use Rattle.pl_place.specs.QueryForm.{ascend}
 
 pub read_back : {A : Type 0} (form : List ℕ → Option A) (text : A → List ℕ) (xs : List A)
     → ByRecursion (ReadsBack form text) xs

@@ -8,8 +8,9 @@ use Rattle.pl_place.specs.declared.key.Key.TheVariants as key
 use Rattle.pl_place.specs.declared.query.Query.{Query}
 use Rattle.pl_place.specs.Canonical.{ReadsAlone}
 use Rattle.pl_place.specs.PlaceText.{Reads, is_told, pieces_of, told, with_time}
-use Rattle.pl_place.specs.QueryForm.{are_terms, ascend, each_once, has_domain, has_tags, has_time, is_count, is_domain}
-use Rattle.pl_place.specs.QueryForm.{is_same_item, is_same_tag}
+use Rattle.pl_words.specs.TagLists.{each_once, is_same_tag}
+use Rattle.pl_place.specs.QueryForm.{are_terms, ascend, has_domain, has_tags, has_time, is_count, is_domain}
+use Rattle.pl_place.specs.QueryForm.{is_same_item}
 use Rattle.pl_place.specs.Values.{time_ref_of}
 
 -- two queries that a text reads as agree in each field

@@ -13,7 +13,8 @@ use Rattle.pl_place.specs.declared.kinds.TimeRef.TheVariants.{Epoch, Today}
 use Rattle.pl_place.specs.declared.sort.Direction.TheVariants.{Descending}
 use Rattle.pl_place.specs.declared.sort.Sort.TheVariants.{By}
 use Rattle.pl_place.specs.declared.sort.SortKey.TheVariants.{Frecency}
-use Rattle.pl_place.specs.PlaceText.{all_told, by_number, firsts, is_told, pieces_of, refused_piece, told, with_time}
+use Rattle.pl_words.specs.TagLists.{firsts}
+use Rattle.pl_place.specs.PlaceText.{all_told, by_number, is_told, pieces_of, refused_piece, told, with_time}
 use Rattle.pl_place.specs.QueryForm.{is_same_item}
 use Rattle.pl_place.specs.Values.{count_asked, count_of, domain_of, parent_of, sort_of, text_of, time_of}
 use Rattle.pl_place.specs.Values.{time_ref_of, transition_of}

@@ -30,9 +30,10 @@ use Rattle.pl_place.specs.declared.sort.SortKey.TheVariants.{Title}
 use Rattle.pl_place.specs.Canonical.{ReadsBack, ReadsId, ReadsTime, id_text, itself, number_text, time_text}
 use Rattle.pl_place.specs.Canonical.{transition_text}
 use Rattle.pl_place.specs.Kinds.{query_type_number, result_type_number, sort_number, time_ref_number}
-use Rattle.pl_place.specs.PlaceText.{Reads, by_number, firsts, is_told, last_text, pieces_of, with_time}
-use Rattle.pl_place.specs.QueryForm.{are_terms, ascend, each_once, has_time, is_count, is_domain}
-use Rattle.pl_place.specs.QueryForm.{is_same_item, is_same_tag}
+use Rattle.pl_words.specs.TagLists.{each_once, firsts, is_same_tag}
+use Rattle.pl_place.specs.PlaceText.{Reads, by_number, is_told, last_text, pieces_of, with_time}
+use Rattle.pl_place.specs.QueryForm.{are_terms, ascend, has_time, is_count, is_domain}
+use Rattle.pl_place.specs.QueryForm.{is_same_item}
 use Rattle.pl_place.specs.Values.{count_asked, count_of, domain_of, parent_of, query_type_of, result_type_of, sort_of}
 use Rattle.pl_place.specs.Values.{terms_asked, text_of, time_of, time_ref_of, transition_of, truth_of, uri_of}
 use Rattle.pl_place.proofs.FineSaid.{IsReadBack, count_back}

@@ -13,8 +13,8 @@ use Rattle.pl_base.specs.declared.transition.Transition.{Transition}
 use Rattle.pl_base.specs.NumberText.{number_of}
 use Rattle.pl_base.specs.Transition.{transition_number, transitions}
 use Rattle.pl_place.specs.declared.kinds.TimeRef.{TimeRef}
-use Rattle.pl_place.specs.PlaceText.{by_number, firsts, is_among, with_time}
-use Rattle.pl_place.specs.QueryForm.{are_terms, ascend, each_once, has_domain, has_tags, has_time}
+use Rattle.pl_place.specs.PlaceText.{by_number, is_among, with_time}
+use Rattle.pl_place.specs.QueryForm.{are_terms, ascend, has_domain, has_tags, has_time}
 use Rattle.pl_place.specs.QueryForm.{is_count, is_domain}
 use Rattle.pl_place.specs.Values.{count_asked, count_of, domain_of, negative, positive, terms_asked}
 use Rattle.pl_place.specs.Values.{text_of}
@@ -111,54 +111,6 @@ either false false = refl
 pub tags_formed : (tags : List (List ℕ)) (told : Bool)
     → has_tags tags (not (length tags == 0) && told) ≡ true
 tags_formed tags told = either (length tags == 0) told
-
--- ---- members each once
-
-module _ {A : Type 0} (same : A → A → Bool) where
-  -- none of a list that holds none but those that differ from a is the same as a
-  none_same : (a : A) (xs : List A) → list_any (same a) (filter (λ y. not (same a y)) xs) ≡ false
-  none_same a [] = refl
-  none_same a (x ∷ xs) = choose (same a x) refl (none_same a xs)
-    where
-      choose : (v : Bool) → same a x ≡ v
-          → list_any (same a) (filter (λ y. not (same a y)) xs) ≡ false
-          → list_any (same a) (filter (λ y. not (same a y)) (x ∷ xs)) ≡ false
-      choose true is rest = rw is rest
-      choose false is rest = rw (is, is) rest
-
-  any_less : (p q : A → Bool) (xs : List A) → list_any p xs ≡ false
-      → list_any p (filter q xs) ≡ false
-  any_less p q [] none = refl
-  any_less p q (x ∷ xs) none = choose (q x) (p x) refl refl (λ e. any_less p q xs e)
-    where
-      choose : (v w : Bool) → q x ≡ v → p x ≡ w → (list_any p xs ≡ false
-          → list_any p (filter q xs) ≡ false)
-          → list_any p (filter q (x ∷ xs)) ≡ false
-      choose v true is here rest = absurd (true≢false (rw here at none))
-      choose true false is here rest = rw (is, here) (rest (rw here at none))
-      choose false false is here rest = rw is (rest (rw here at none))
-
-  once_less : (q : A → Bool) (xs : List A) → each_once same xs ≡ true
-      → each_once same (filter q xs) ≡ true
-  once_less q [] once = refl
-  once_less q (x ∷ xs) once = choose (q x) refl (once_less q xs parts.1)
-    where
-      parts : (not (list_any (same x) xs) ≡ true) × (each_once same xs ≡ true)
-      parts = and_parts _ _ once
-
-      choose : (v : Bool) → q x ≡ v → each_once same (filter q xs) ≡ true
-          → each_once same (filter q (x ∷ xs)) ≡ true
-      choose true is rest =
-          rw is (and_from _ _ (ap not (any_less (same x) q xs (not-true (list_any
-          (same x) xs) parts.0))) rest)
-      choose false is rest = rw is rest
-
-  -- what is told is each once
-  pub once-firsts : (xs : List A) → each_once same (firsts same xs) ≡ true
-  once-firsts [] = refl
-  once-firsts (x ∷ xs) =
-      and_from _ _ (ap not (none_same x (firsts same xs)))
-      (once_less (λ y. not (same x y)) (firsts same xs) (once-firsts xs))
 
 -- ---- transitions
 

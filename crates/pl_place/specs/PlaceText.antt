@@ -9,6 +9,7 @@ use Rattle.percent_encoding.specs.Percent.{percent_decode}
 use Rattle.pl_base.specs.declared.transition.Transition.{Transition}
 use Rattle.pl_base.specs.NumberText.{number_32_of}
 use Rattle.pl_base.specs.Transition.{transition_number, transitions}
+use Rattle.pl_words.specs.TagLists.{firsts, is_same_tag}
 use Rattle.pl_words.specs.TagName.{tag_named}
 use Rattle.pl_place.specs.declared.key.Key.{Key}
 use Rattle.pl_place.specs.declared.key.Key.TheVariants as key
@@ -19,7 +20,7 @@ use Rattle.pl_place.specs.declared.kinds.TimeRef.TheVariants.{Epoch}
 use Rattle.pl_place.specs.declared.query.Query.{Query}
 use Rattle.pl_place.specs.declared.sort.Sort.TheVariants.{Unsorted}
 use Rattle.pl_place.specs.Keys.{key_name, key_named}
-use Rattle.pl_place.specs.QueryForm.{is_same_item, is_same_tag}
+use Rattle.pl_place.specs.QueryForm.{is_same_item}
 use Rattle.pl_place.specs.Values.{count_asked, count_of, domain_of, is_value, parent_of}
 use Rattle.pl_place.specs.Values.{query_type_of, result_type_of, sort_of, terms_asked, text_of}
 use Rattle.pl_place.specs.Values.{time_of, time_ref_of, transition_of, truth_of, uri_of}
@@ -120,11 +121,6 @@ is_told k pieces = unwrap_or (told truth_of k pieces) false
 abbrev pub with_time : Option ℤ → Option TimeRef → TimeRef
 with_time None reference = Epoch
 with_time (Some time) reference = unwrap_or reference Epoch
-
--- members in their order, each one once: where it stands first
-abbrev pub firsts : {A : Type 0} → (A → A → Bool) → List A → List A
-firsts same [] = []
-firsts same (x ∷ xs) = x ∷ filter (λ y. not (same x y)) (firsts same xs)
 
 -- the transition is one of these
 abbrev pub is_among : List Transition → Transition → Bool

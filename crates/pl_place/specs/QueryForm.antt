@@ -6,7 +6,6 @@ use Rattle.std.specs.List.{list_all, list_any}
 use Rattle.std.specs.Prelude.{nat_lt}
 use Rattle.pl_base.specs.declared.id.ItemId.{ItemId}
 use Rattle.pl_base.specs.declared.transition.Transition.{Transition}
-use Rattle.pl_base.specs.Fold.{folded}
 use Rattle.pl_base.specs.Transition.{transition_number}
 use Rattle.pl_place.specs.declared.kinds.TimeRef.{TimeRef}
 use Rattle.pl_place.specs.declared.kinds.TimeRef.TheVariants.{Epoch, Today, Now}
@@ -44,18 +43,9 @@ is_domain (Some domain) = not (list_any is_ascii_uppercase domain)
 abbrev pub has_domain : Option (List ℕ) → Bool → Bool
 has_domain domain is_host = is_some domain || not is_host
 
--- no member is the same as one behind it
-abbrev pub each_once : {A : Type 0} → (A → A → Bool) → List A → Bool
-each_once same [] = true
-each_once same (x ∷ xs) = not (list_any (same x) xs) && each_once same xs
-
 -- two items are the same
 abbrev pub is_same_item : ItemId → ItemId → Bool
 is_same_item a b = a.0 == b.0
-
--- two tags have the same name: their folds are equal
-abbrev pub is_same_tag : List ℕ → List ℕ → Bool
-is_same_tag a b = bytes_eq (folded a) (folded b)
 
 -- nothing is asked of tags where there are none
 abbrev pub has_tags : List (List ℕ) → Bool → Bool

@@ -3,17 +3,19 @@ use Rattle.std.specs.Prelude.{◌==◌, ◌&&◌, ℕ, not, List, length, unwrap
 use Rattle.std.specs.Prelude.{is_some, Result, Ok, Err}
 use Rattle.std.specs.Option.{option_and_then}
 use Rattle.pl_base.specs.NumberText.{number_32_of}
+use Rattle.pl_words.proofs.TagListLaws.{once-firsts}
+use Rattle.pl_words.specs.TagLists.{firsts, is_same_tag}
 use Rattle.pl_words.specs.TagName.{tag_named}
 use Rattle.pl_place.specs.declared.key.Key.TheVariants as key
 use Rattle.pl_place.specs.declared.kinds.QueryType.TheVariants.{History}
 use Rattle.pl_place.specs.declared.kinds.ResultType.TheVariants.{Pages}
 use Rattle.pl_place.specs.declared.query.Query.{Query}
 use Rattle.pl_place.specs.declared.sort.Sort.TheVariants.{Unsorted}
-use Rattle.pl_place.specs.FormLaws.{ascend-by_number, domain_formed, host_formed, once-firsts}
+use Rattle.pl_place.specs.FormLaws.{ascend-by_number, domain_formed, host_formed}
 use Rattle.pl_place.specs.FormLaws.{tags_formed, terms_formed, timed, visits_formed}
-use Rattle.pl_place.specs.PlaceText.{Piece, all_told, by_number, firsts, is_told, last_text}
+use Rattle.pl_place.specs.PlaceText.{Piece, all_told, by_number, is_told, last_text}
 use Rattle.pl_place.specs.PlaceText.{pieces_of, refused_piece, told, values, with_time}
-use Rattle.pl_place.specs.QueryForm.{is_same_item, is_same_tag}
+use Rattle.pl_place.specs.QueryForm.{is_same_item}
 use Rattle.pl_place.specs.Values.{count_asked, count_of, domain_of, parent_of, query_type_of}
 use Rattle.pl_place.specs.Values.{result_type_of, sort_of, terms_asked, text_of, time_of}
 use Rattle.pl_place.specs.Values.{time_ref_of, transition_of, uri_of}

@@ -6,7 +6,7 @@ ghost use Rattle.pl_place.specs.PlaceText.{Reads, pieces_of, refused_piece};
 ghost use Rattle.pl_place.specs.QueryForm.{is_domain};
 ghost use Rattle.pl_place.specs.Values.{is_value};
 
-use crate::firsts::{by_number, first_items, first_tags};
+use crate::firsts::{by_number, first_items};
 use crate::gathered::Gathered;
 use crate::key::Key;
 use crate::kinds::{QueryType, ResultType, TimeRef};
@@ -15,7 +15,7 @@ use crate::sort::Sort;
 use crate::{asked, value};
 use pl_base::{ItemId, NoMemory, Transition, Txt, number_32};
 use pl_link::Canon;
-use pl_words::TagName;
+use pl_words::{TagName, first_tags};
 use std::alloc::Global;
 
 /// What the pieces so far say of each key: the last one, or all where a key gathers its values.

@@ -2,11 +2,11 @@
 ghost use Rattle.std.specs.Prelude.{◌≡◌, true, IfOk};
 ghost use Rattle.std.specs.List.{filter, list_any};
 ghost use Rattle.pl_place.specs.PlaceText as spec;
-ghost use Rattle.pl_place.specs.PlaceText.{firsts, is_among};
-ghost use Rattle.pl_place.specs.QueryForm.{ascend, each_once, is_same_item, is_same_tag};
+ghost use Rattle.pl_words.specs.TagLists.{each_once, firsts};
+ghost use Rattle.pl_place.specs.PlaceText.{is_among};
+ghost use Rattle.pl_place.specs.QueryForm.{ascend, is_same_item};
 
 use pl_base::{ItemId, NoMemory, Seq, Transition};
-use pl_words::{TagName, fold};
 use std::alloc::Global;
 
 /// All transitions, by their numbers.
@@ -40,24 +40,6 @@ fn is_known_item(items: &[ItemId], item: ItemId) -> bool
     ensures { result ≡ list_any (λ known. is_same_item known item) items.now }
 {
     items.iter().any(|known| known.0 == item.0)
-}
-
-/// Tags are the same where their folds are.
-pub(crate) fn first_tags(alloc: Global, told: Vec<TagName>) -> Result<Seq<TagName>, NoMemory>
-    ensures value { IfOk result (λ tags. tags ≡ firsts is_same_tag told.items) }
-    ensures form { IfOk result (λ tags. each_once is_same_tag tags ≡ true) }
-{
-    let mut tags = Vec::new(alloc);
-    let mut folds = Vec::new(alloc);
-    for tag in told {
-        let fold = fold(alloc, tag.text())?;
-        if folds.contains(&fold) {
-            continue;
-        }
-        tags.push(tag)?;
-        folds.push(fold)?;
-    }
-    Ok(Seq::from(tags))
 }
 
 /// The transitions, by their numbers.

@@ -1,7 +1,7 @@
 ghost use Rattle.std.specs.Prelude.{◌≡◌, true};
-ghost use Rattle.pl_place.specs.QueryForm.{are_terms, ascend, each_once, has_domain, has_tags};
+ghost use Rattle.pl_words.specs.TagLists.{each_once, is_same_tag};
+ghost use Rattle.pl_place.specs.QueryForm.{are_terms, ascend, has_domain, has_tags};
 ghost use Rattle.pl_place.specs.QueryForm.{has_time, is_count, is_domain, is_same_item};
-ghost use Rattle.pl_place.specs.QueryForm.{is_same_tag};
 
 use crate::kinds::{QueryType, ResultType, TimeRef};
 use crate::sort::Sort;

@@ -23,7 +23,7 @@ use Rattle.pl_words.specs.Pieces.{in_address, occurs, pieces}
 use Rattle.pl_place.specs.declared.kinds.TimeRef.{TimeRef}
 use Rattle.pl_place.specs.declared.kinds.TimeRef.TheVariants.{Epoch, Today, Now}
 use Rattle.pl_place.specs.declared.query.Query.{Query}
-use Rattle.pl_place.specs.QueryForm.{is_same_tag}
+use Rattle.pl_words.specs.TagLists.{is_same_tag}
 
 -- ---- of a date
 

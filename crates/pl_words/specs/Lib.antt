@@ -1,3 +1,4 @@
 pub mod Bar
 pub mod Pieces
+pub mod TagLists
 pub mod TagName

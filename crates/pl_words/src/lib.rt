@@ -4,10 +4,12 @@
 
 mod bar_text;
 mod folds;
+mod tag_list;
 mod tag_name;
 mod words;
 
 pub use bar_text::{BarText, Marks, tokens};
 pub use folds::fold;
+pub use tag_list::first_tags;
 pub use tag_name::{TagError, TagName, is_tag_name};
 pub use words::{matches, pieces, searched};

@@ -1,6 +1,7 @@
 use Rattle.std.proofs.Common.{◌∙◌, ap, take}
-use Rattle.pl_place.specs.QueryForm.{each_once, is_same_item}
-use Rattle.pl_place.specs.FormLaws.{once-firsts}
+use Rattle.pl_words.proofs.TagListLaws.{once-firsts}
+use Rattle.pl_words.specs.TagLists.{each_once}
+use Rattle.pl_place.specs.QueryForm.{is_same_item}
 use Rattle.pl_place.proofs.FirstsLemmas.{items_known, items_new}
 use Rattle.pl_place.proofs.firsts.first_items.Goals as goal
 

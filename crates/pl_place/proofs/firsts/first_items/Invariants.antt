@@ -1,5 +1,5 @@
 use Rattle.std.proofs.Common.{◌≡◌, take}
-use Rattle.pl_place.specs.PlaceText.{firsts}
+use Rattle.pl_words.specs.TagLists.{firsts}
 use Rattle.pl_place.specs.QueryForm.{is_same_item}
 use Rattle.pl_place.proofs.firsts.first_items.Given as goal
 

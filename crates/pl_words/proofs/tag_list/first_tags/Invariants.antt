@@ -1,8 +1,7 @@
 use Rattle.std.proofs.Common.{◌≡◌, map}
 use Rattle.pl_base.specs.Fold.{folded}
-use Rattle.pl_place.specs.PlaceText.{firsts}
-use Rattle.pl_place.specs.QueryForm.{is_same_tag}
-use Rattle.pl_place.proofs.firsts.first_tags.Given as goal
+use Rattle.pl_words.specs.TagLists.{firsts, is_same_tag}
+use Rattle.pl_words.proofs.tag_list.first_tags.Given as goal
 
 abbrev pub invariant-loop-tag : goal.invariant-loop-tag
 invariant-loop-tag l = record {

@@ -1,9 +1,8 @@
 use Rattle.std.proofs.Common.{◌∙◌, ap}
 use Rattle.pl_base.specs.Fold.{folded}
-use Rattle.pl_place.specs.QueryForm.{each_once, is_same_tag}
-use Rattle.pl_place.specs.FormLaws.{once-firsts}
-use Rattle.pl_place.proofs.FirstsLemmas.{folds_new, tags_known, tags_new}
-use Rattle.pl_place.proofs.firsts.first_tags.Goals as goal
+use Rattle.pl_words.specs.TagLists.{each_once, is_same_tag}
+use Rattle.pl_words.proofs.TagListLaws.{folds_new, once-firsts, tags_known, tags_new}
+use Rattle.pl_words.proofs.tag_list.first_tags.Goals as goal
 
 pub loop-tag-preserved-then-contains : goal.loop-tag-preserved-then-contains
 loop-tag-preserved-then-contains c =
