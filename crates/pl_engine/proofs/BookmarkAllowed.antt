@@ -21,7 +21,8 @@ use Rattle.pl_history.specs.declared.find.Target.{Target}
 use Rattle.pl_history.specs.declared.find.Target.TheVariants.{Known, New}
 use Rattle.pl_engine.specs.declared.reply.Reply.{Reply}
 use Rattle.pl_engine.specs.declared.reply.Reply.TheVariants.{Item as ItemReply, Refused}
-use Rattle.pl_engine.specs.Room.{item_room, page_item}
+use Rattle.pl_engine.specs.Room.{item_room}
+use Rattle.pl_history.specs.Marked.{page_item}
 use Rattle.pl_engine.specs.Step.{after_bookmark, after_insert, is_full, new_bookmark}
 use Rattle.pl_base.specs.Visiting.{find_page}
 use Rattle.pl_base.specs.Visiting.{page_for, with_page_for}
@@ -29,7 +30,7 @@ use Rattle.pl_engine.specs.Step.{perform}
 use Rattle.pl_history.specs.Target.{HasRoom, IsTargetOf, WithTarget, is_new}
 use Rattle.pl_engine.proofs.ItemStep.{insert_done, insert_refused, live_inserted}
 use Rattle.pl_engine.proofs.PageSlots.{AreSlots, few_slots, new_is, next_item, page_room, visit_slots}
-use Rattle.pl_engine.proofs.VisitMade.{target_page, target_store}
+use Rattle.pl_history.proofs.VisitMade.{target_page, target_store}
 
 -- ---- slots
 

@@ -13,7 +13,7 @@ use Rattle.pl_base.proofs.ListLaws.{list_any-map, weaker}
 use Rattle.pl_tree.specs.Tagged.{entry_in, tag_entry, tag_named}
 use Rattle.pl_marks.proofs.PageWalk.{not_equal}
 use Rattle.pl_engine.proofs.ChildItems.{children_too}
-use Rattle.pl_engine.proofs.ReadyPage.{id_below, ids_below}
+use Rattle.pl_history.proofs.ReadyPage.{id_below, ids_below}
 
 none_found : (test : Item → Bool) (items : List Item) → AllByRecursion (λ (i : Item). test i ≡ false) items
     → find test items ≡ None

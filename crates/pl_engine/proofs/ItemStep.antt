@@ -1,4 +1,4 @@
--- What a new item makes of the rows: its slots, the step's store and its reply.
+-- What a new item makes of a store: its slots, the step's store and its reply.
 use Rattle.std.proofs.Common.{◌≡◌, ◌+◌, ◌==◌, ◌∙◌, if◌then◌else◌, ℕ, Bool, true, false, List, Option, Some, None}
 use Rattle.std.proofs.Common.{ap, arith, get_or, refl, sym}
 use Rattle.std.specs.List.{sum_by}
@@ -6,26 +6,19 @@ use Rattle.std.specs.Option.{option_or}
 use Rattle.std.proofs.lemmas.List.{length-map, length_push}
 use Rattle.std.proofs.lemmas.List.Sums.{sum_by_push}
 use Rattle.pl_base.specs.declared.id.ItemId.{ItemId}
-use Rattle.pl_base.specs.declared.id.PageId.{PageId}
 use Rattle.pl_base.specs.declared.refusal.Refusal.{Refusal}
-use Rattle.pl_base.specs.Good.{HasGoodItems}
 use Rattle.pl_base.specs.Live.{chunks, live_slots}
-use Rattle.pl_base.specs.Rows.{IsWellKept, Kept, store_of}
 use Rattle.pl_base.specs.Store.{Item, Store, item_id}
-use Rattle.pl_base.specs.Tree.{is_page}
 use Rattle.pl_tree.specs.declared.new_item.NewItem.{NewItem}
 use Rattle.pl_tree.specs.declared.place.Place.{Place}
 use Rattle.pl_tree.specs.declared.tree_change.TreeChange.TheVariants.{Insert}
-use Rattle.pl_tree.specs.Changes.{item_of, put, with_child, with_inserted, with_new}
+use Rattle.pl_tree.specs.Changes.{item_of, put, with_child}
 use Rattle.pl_tree.specs.Refused.{refusal}
 use Rattle.pl_engine.specs.declared.reply.Reply.{Reply}
 use Rattle.pl_engine.specs.declared.reply.Reply.TheVariants.{Item as ItemReply, Refused}
-use Rattle.pl_history.specs.Sound.{IsSound}
 use Rattle.pl_engine.specs.Room.{item_room}
 use Rattle.pl_engine.specs.Step.{after_insert, insert_step, unless_refused}
 use Rattle.pl_base.proofs.ListLaws.{sum_by-agree, sum_by-map}
-use Rattle.pl_engine.proofs.ItemMarks.{has_reference, reference_changed, sound_alike}
-use Rattle.pl_history.proofs.RightAfter.{any_last}
 
 -- ---- slots
 
@@ -58,25 +51,6 @@ live_inserted parent place new store =
       sum_by_push (λ (i : Item). chunks i.title) items (item_of id new),
       titles_still parent place id store.items,
     )
-
--- ---- pages
-
--- a page that the new item has not is among the items or not as before
-pub reference_inserted : (id parent : ItemId) (place : Place) (new : NewItem) (items : List Item) (page : PageId)
-    → is_page page new.page ≡ false
-    → has_reference (with_new id parent place new items) page ≡ has_reference items page
-reference_inserted id parent place new items page other =
-    any_last (λ (i : Item). is_page page i.page) (with_child parent place id items) (item_of id new) other
-    ∙ reference_changed parent (λ (i : Item). record i { children = put place id i.children }) items page (λ i. refl)
-
-pub sound_inserted : (kept now : Kept) (parent : ItemId) (place : Place) (new : NewItem) → new.page ≡ None
-    → now ≡ with_inserted parent place new kept → IsWellKept now → HasGoodItems (store_of now) → IsSound kept
-    → IsSound now
-sound_inserted kept now parent place new none is h good s =
-    sound_alike kept now (record kept.ids { item = kept.ids.item + 1 })
-    (with_new (item_id kept.ids.item) parent place new kept.items) is h good
-    (λ page. reference_inserted (item_id kept.ids.item) parent place new kept.items page (ap (is_page page) none))
-    s
 
 -- ---- the step
 

@@ -21,7 +21,7 @@ use Rattle.pl_engine.specs.declared.reply.Reply.TheVariants.{Done, Refused}
 use Rattle.pl_history.specs.Sound.{IsSound}
 use Rattle.pl_engine.specs.Step.{after_retitle, is_full, perform}
 use Rattle.pl_base.proofs.ItemLaws.{once}
-use Rattle.pl_engine.proofs.ItemMarks.{reference_changed, sound_alike}
+use Rattle.pl_history.proofs.ItemMarks.{reference_changed, sound_alike}
 use Rattle.pl_engine.proofs.ItemStep.{done_reply, refused_reply}
 use Rattle.pl_engine.proofs.LiveTitled.{sum_changed}
 

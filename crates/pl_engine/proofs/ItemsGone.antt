@@ -8,7 +8,7 @@ use Rattle.pl_base.specs.Store.{Item}
 use Rattle.pl_history.specs.Sound.{AreStanding, IsSound}
 use Rattle.pl_history.specs.Settled.{AreSettledBut}
 use Rattle.pl_history.proofs.GoodRows.{standing_of}
-use Rattle.pl_engine.proofs.ItemMarks.{has_reference, right_alike}
+use Rattle.pl_history.proofs.ItemMarks.{has_reference, right_alike}
 
 pub settled_with : (old : Kept) (items : List Item) (lost : List PageId) → IsSound old
     → All (λ (id : PageId). IsTrue (has_page old id)) lost → AllPairs (λ (a b : PageId). a.0 ≢ b.0) lost

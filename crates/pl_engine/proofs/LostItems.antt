@@ -22,7 +22,7 @@ use Rattle.pl_marks.proofs.LookUps.{none_pass}
 use Rattle.pl_history.specs.Sound.{IsSound}
 use Rattle.pl_history.specs.Settled.{AreSettledBut}
 use Rattle.pl_history.proofs.Dropped.{any_left}
-use Rattle.pl_engine.proofs.ItemMarks.{has_reference}
+use Rattle.pl_history.proofs.ItemMarks.{has_reference}
 use Rattle.pl_engine.proofs.ItemsGone.{settled_with}
 
 -- ---- a page that lost no item

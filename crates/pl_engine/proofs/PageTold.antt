@@ -15,7 +15,7 @@ use Rattle.pl_engine.specs.declared.reply.Reply.TheVariants.{Page as PageReply}
 use Rattle.pl_base.specs.Visiting.{find_page}
 use Rattle.pl_engine.specs.Step.{told_page}
 use Rattle.pl_history.specs.Target.{IsTargetOf}
-use Rattle.pl_engine.proofs.KnownPage.{IsKnown, known}
+use Rattle.pl_history.proofs.KnownPage.{IsKnown, known}
 use Rattle.pl_marks.proofs.PageRows.{AreTold, right_mark, told_at}
 use Rattle.pl_marks.proofs.PageWalk.{found_at}
 

@@ -16,7 +16,7 @@ use Rattle.pl_marks.proofs.LookUps.{found_some}
 use Rattle.pl_engine.specs.declared.reply.Reply.{Reply}
 use Rattle.pl_engine.specs.declared.reply.Reply.TheVariants.{Removed as RemovedReply}
 use Rattle.pl_engine.specs.Step.{forget_step}
-use Rattle.pl_engine.proofs.KnownPage.{IsKnown, known}
+use Rattle.pl_history.proofs.KnownPage.{IsKnown, known}
 
 -- a visit that was found stands among the rows
 stands : (kept : Kept) (id : VisitId) (row : Option VisitRow) → row ≡ option_map row_of (visit_at kept id)

@@ -28,14 +28,14 @@ use Rattle.pl_base.specs.Visiting.{after_visit, find_page, page_for}
 use Rattle.pl_engine.specs.Step.{tag_refusal, tagged_store, unless_refused}
 use Rattle.pl_base.specs.Visiting.{with_page_for}
 use Rattle.pl_history.specs.Target.{HasRoom, IsTargetOf, WithTarget, is_new}
-use Rattle.pl_engine.specs.Target.{has_tag}
+use Rattle.pl_history.specs.Marked.{has_tag}
 use Rattle.pl_engine.proofs.FreshPage.{no_entry}
-use Rattle.pl_engine.proofs.LiveAfter.{live_visited}
+use Rattle.pl_history.proofs.LiveAfter.{live_visited}
 use Rattle.pl_engine.proofs.PageSlots.{AreSlots, few_slots, new_is, next_item, page_room, visit_slots}
 use Rattle.pl_engine.proofs.TagMade.{folder_slots, live_tagged}
-use Rattle.pl_engine.proofs.Targets.{IsFound, found_page}
+use Rattle.pl_history.proofs.Targets.{IsFound, found_page}
 use Rattle.pl_engine.proofs.VisitAllowed.{grows}
-use Rattle.pl_engine.proofs.VisitMade.{target_page, target_store}
+use Rattle.pl_history.proofs.VisitMade.{target_page, target_store}
 use Rattle.pl_history.proofs.VisitRows.{grown_store}
 
 -- ---- slots

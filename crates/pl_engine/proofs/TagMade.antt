@@ -1,5 +1,5 @@
--- The items with a new tag of a page: what they have of pages, and their slots.
-use Rattle.std.proofs.Common.{◌≡◌, ◌+◌, ◌-◌, if◌then◌else◌, ℕ, Bool, true, false, List, arith, refl}
+-- The slots of the items with a new tag of a page.
+use Rattle.std.proofs.Common.{◌≡◌, ◌+◌, ◌-◌, if◌then◌else◌, ℕ, Bool, true, false, List, arith}
 use Rattle.std.specs.Option.{is_none}
 use Rattle.pl_base.specs.declared.date.Micros.{Micros}
 use Rattle.pl_base.specs.declared.id.ItemId.{ItemId}
@@ -9,32 +9,9 @@ use Rattle.pl_base.specs.Store.{Item, Store, item_id}
 use Rattle.pl_base.specs.Tags.{tags_root}
 use Rattle.pl_tree.specs.declared.place.Place.TheVariants.{End}
 use Rattle.pl_tree.specs.Changes.{with_new}
-use Rattle.pl_tree.specs.Tagged.{new_entry, new_items, new_tag, tag_id, tag_named, tagged_items, with_tag}
+use Rattle.pl_tree.specs.Tagged.{new_entry, new_items, new_tag, tag_id, tag_named, with_tag}
 use Rattle.pl_engine.specs.Step.{tagged_store}
-use Rattle.pl_engine.proofs.GrownItems.{Adds, adds_new}
-use Rattle.pl_engine.proofs.ItemMarks.{has_reference}
-use Rattle.pl_engine.proofs.ItemStep.{live_inserted, reference_inserted}
-
--- ---- pages
-
--- a tag folder has no page
-folder_still : (next : ℕ) (name : List ℕ) (date : Micros) (items : List Item) (page : PageId)
-    → has_reference (with_tag next name date items) page ≡ has_reference items page
-folder_still next name date items page = choose (is_none (tag_named name items))
-  where
-    choose : (b : Bool)
-        → has_reference (if b then with_new (item_id next) tags_root End (new_tag name date) items else items) page
-        ≡ has_reference items page
-    choose true = reference_inserted (item_id next) tags_root End (new_tag name date) items page refl
-    choose false = refl
-
-pub adds_tagged : (next : ℕ) (page : PageId) (name : List ℕ) (date : Micros) (items : List Item)
-    → Adds page items (tagged_items next page name date items)
-adds_tagged next page name date items =
-    adds_new (item_id (next + (new_items name items - 1))) (tag_id next name items) End (new_entry page date) page items
-    (with_tag next name date items) refl (λ other. folder_still next name date items other)
-
--- ---- slots
+use Rattle.pl_engine.proofs.ItemStep.{live_inserted}
 
 -- the slots of a folder for the tag, where it is new
 abbrev pub folder_slots : List ℕ → List Item → ℕ

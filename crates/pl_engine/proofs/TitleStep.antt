@@ -14,7 +14,7 @@ use Rattle.pl_engine.specs.declared.reply.Reply.TheVariants.{Done, Refused}
 use Rattle.pl_engine.specs.Step.{after_title, is_full, perform, unless_refused}
 use Rattle.pl_history.specs.Target.{IsTargetOf}
 use Rattle.pl_engine.specs.Titled.{within_slots}
-use Rattle.pl_engine.proofs.KnownPage.{known}
+use Rattle.pl_history.proofs.KnownPage.{known}
 use Rattle.pl_engine.proofs.Titled.{store_titled}
 
 either : (b : Bool) (refusal : Refusal) (before after : Store)

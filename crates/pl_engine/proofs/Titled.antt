@@ -26,7 +26,7 @@ use Rattle.pl_engine.specs.Step.{after_title, title_page}
 use Rattle.pl_base.specs.Visiting.{find_page}
 use Rattle.pl_history.specs.Target.{IsTargetOf}
 use Rattle.pl_history.proofs.GoodRows.{good_of, items_of, items_still, standing_of}
-use Rattle.pl_engine.proofs.KnownPage.{IsKnown, known, only_known}
+use Rattle.pl_history.proofs.KnownPage.{IsKnown, known, only_known}
 use Rattle.pl_marks.proofs.LookUps.{both}
 use Rattle.pl_marks.proofs.PageWalk.{part}
 use Rattle.pl_base.proofs.ListLaws.{list_any-alike, list_any-map}

@@ -24,7 +24,7 @@ use Rattle.pl_history.specs.Settled.{AreSettledBut}
 use Rattle.pl_engine.proofs.ChildItems.{children_hold, children_too}
 use Rattle.pl_history.proofs.Dropped.{any_left, not_both}
 use Rattle.pl_history.proofs.GoodRows.{items_of}
-use Rattle.pl_engine.proofs.ItemMarks.{has_reference}
+use Rattle.pl_history.proofs.ItemMarks.{has_reference}
 use Rattle.pl_engine.proofs.ItemsGone.{settled_with}
 use Rattle.pl_history.proofs.RightAfter.{other_way}
 

@@ -22,9 +22,9 @@ use Rattle.pl_history.specs.declared.find.Target.TheVariants.{Known, New}
 use Rattle.pl_base.specs.Visiting.{after_visit, find_page}
 use Rattle.pl_engine.specs.Step.{is_full, source_refusal, visit_refusal}
 use Rattle.pl_history.specs.Target.{HasRoom, IsTargetOf, WithTarget}
-use Rattle.pl_engine.proofs.LiveAfter.{live_page}
+use Rattle.pl_history.proofs.LiveAfter.{live_page}
 use Rattle.pl_marks.proofs.LookUps.{found_some}
-use Rattle.pl_engine.proofs.Targets.{has_origin, slots_known, slots_new}
+use Rattle.pl_history.proofs.Targets.{has_origin, slots_known, slots_new}
 use Rattle.pl_history.proofs.VisitRows.{store-with_page, store_with_page}
 
 -- ---- no cause to refuse it

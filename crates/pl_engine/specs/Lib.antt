@@ -3,5 +3,4 @@ pub mod Refused
 pub mod Room
 pub mod Run
 pub mod Step
-pub mod Target
 pub mod Titled

@@ -3,9 +3,7 @@ use Rattle.std.specs.Prelude.{ℕ, ◌+◌, ◌==◌, ◌&&◌, Bool, List, Opti
 use Rattle.std.specs.Prelude.{if◌then◌else◌}
 use Rattle.pl_base.specs.declared.date.Micros.{Micros}
 use Rattle.pl_base.specs.declared.id.IdKind.TheVariants.{Item as ItemIds, Page as PageIds}
-use Rattle.pl_base.specs.declared.id.PageId.{PageId}
 use Rattle.pl_base.specs.declared.item.ItemKind.{ItemKind}
-use Rattle.pl_base.specs.declared.item.ItemKind.TheVariants.{Bookmark}
 use Rattle.pl_base.specs.declared.refusal.Refusal.{Refusal}
 use Rattle.pl_base.specs.declared.refusal.Refusal.TheVariants.{Full, NoIds}
 use Rattle.pl_base.specs.Good.{end_of_ids}
@@ -32,8 +30,3 @@ tag_room limit store with_page with_folder slots =
 -- a new item with no page
 abbrev pub plain_item : ItemKind → List ℕ → Micros → NewItem
 plain_item kind title date = record { kind = kind; title = title; page = None; date = date }
-
--- a new bookmark of a page
-abbrev pub page_item : PageId → List ℕ → Micros → NewItem
-page_item page title date =
-    record { kind = Bookmark; title = title; page = Some page; date = date }

@@ -1,11 +1,17 @@
 pub mod Dropped
 pub mod Freshened
 pub mod GoodRows
+pub mod GrownItems
+pub mod ItemMarks
+pub mod ItemPages
 pub mod KeptMark
+pub mod KnownPage
+pub mod LiveAfter
 pub mod NewTotals
 pub mod OriginParts
 pub mod PageCounts
 pub mod PageOrder
+pub mod ReadyPage
 pub mod RemovedRows
 pub mod RemovedVisits
 pub mod RightAfter
@@ -20,7 +26,9 @@ pub mod StaleSort
 pub mod StandingPages
 pub mod TakenVisits
 pub mod TargetWalk
+pub mod Targets
 pub mod TrimmedPages
+pub mod VisitMade
 pub mod VisitRows
 pub mod VisitedPages
 pub mod VisitsLeft

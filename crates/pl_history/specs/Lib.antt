@@ -1,5 +1,8 @@
+pub mod Added
 pub mod Borne
 pub mod Fresh
+pub mod Marked
+pub mod Ready
 pub mod Settled
 pub mod Sound
 pub mod Stale

@@ -1,22 +1,31 @@
-//! History, changed over any rows: pages are found by their URLs, visits go one by one or because
-//! they are old, pages go that nothing keeps any longer, and the day goes on. What is computed of
-//! each page that a change bears on is right behind it.
+//! History, changed over any rows: pages are found by their URLs or made, visits are added, and go
+//! one by one or because they are old, pages get bookmarks and tags, pages go that nothing keeps any
+//! longer, and the day goes on. What is computed of each page that a change bears on is right behind
+//! it.
 #![tactic(auto)]
 
+mod bookmarks;
 mod counts;
 mod days;
 mod expiration;
 mod find;
 mod removal;
 mod settle;
+mod slots;
+mod tags;
 mod totals;
 mod trimming;
+mod visiting;
 
+pub use bookmarks::add_bookmark;
 pub use counts::visit_count;
 pub use days::set_day;
 pub use expiration::{expire, forget};
 pub use find::{Target, find_page, find_target, is_place};
 pub use removal::{Removed, remove_visits};
 pub use settle::settle_all;
+pub use slots::{chunks, slots_after};
+pub use tags::{add_tag, is_tagged};
 pub use totals::total_up;
 pub use trimming::trim;
+pub use visiting::{AddedVisit, add_visit, page_for};

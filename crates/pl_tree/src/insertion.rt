@@ -10,7 +10,7 @@ ghost use Rattle.pl_tree.specs.Refused.{insert_refusal};
 
 use crate::refusals::may_insert;
 use crate::{NewItem, Place, TreeError};
-use pl_base::{IdKind, Ids, ItemId, ItemKind, ItemRow, Refusal, Rows, Steps};
+use pl_base::{IdKind, Ids, ItemId, ItemKind, ItemRow, NoMemory, Refusal, Rows, Steps};
 use std::sync::ledger::Ledger;
 
 /// A new item with the next id, at a place among the children of a folder.
@@ -54,4 +54,33 @@ pub fn insert<R: Rows, L: Ledger>(
         modified: item.date,
     };
     Ok(rows.insert_item(&row, item.title.as_str(), after, steps)?)
+}
+
+/// A new item with the next id, which nothing refuses.
+pub fn insert_allowed<R: Rows, L: Ledger>(
+    rows: &mut R,
+    parent: ItemId,
+    place: Place,
+    item: &NewItem,
+    steps: &mut Steps<L>,
+) -> Result<ItemId, NoMemory>
+    requires good { HasGoodItems (store_of (R.kept rows.old)) }
+    requires page { IfSome item.now.page (λ id. has_page (R.kept rows.old) id ≡ true) }
+    requires bookmark { IsSome item.now.page ↔ (item.now.kind ≡ ItemKind.Bookmark) }
+    requires title { length item.now.title ≤ longest_title }
+    requires date { IsDate item.now.date }
+    requires live { live_slots (store_of (R.kept rows.old)) + 1 + chunks item.now.title
+        ≤ slot_limit }
+    requires allowed { insert_refusal parent place (R.kept rows.old) ≡ None }
+    ensures item { IfOk result (λ id. id.0 ≡ (R.kept rows.old).ids.item) }
+    ensures kept { OnOk result (R.kept rows.new
+        ≡ with_inserted parent place item.now (R.kept rows.old)) }
+    ensures good { OnOk result (HasGoodItems (store_of (R.kept rows.new))) }
+    ensures base { OnOk result ((bytes : List ℕ) → R.base rows.old bytes → R.base rows.new bytes) }
+{
+    match insert(rows, parent, place, item, steps) {
+        Ok(id) => Ok(id),
+        Err(TreeError::NoMemory) => Err(NoMemory),
+        Err(TreeError::Refused(_)) => unreachable!(),
+    }
 }

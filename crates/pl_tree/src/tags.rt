@@ -257,6 +257,33 @@ pub fn tag<R: Rows, L: Ledger>(
     Ok(())
 }
 
+/// The page gets the tag, which nothing refuses.
+pub fn tag_allowed<R: Rows, L: Ledger>(
+    alloc: Global,
+    rows: &mut R,
+    page: PageId,
+    name: &TagName,
+    date: Micros,
+    steps: &mut Steps<L>,
+) -> Result<(), NoMemory>
+    requires good { HasGoodItems (store_of (R.kept rows.old)) }
+    requires page { has_page (R.kept rows.old) page ≡ true }
+    requires date { IsDate date }
+    requires live { live_slots (store_of
+        (spec.with_tagged page name.now date (R.kept rows.old))) ≤ slot_limit }
+    requires allowed { refused.tag_refusal page name.now (R.kept rows.old) ≡ None }
+    ensures kept { OnOk result (R.kept rows.new
+        ≡ spec.with_tagged page name.now date (R.kept rows.old)) }
+    ensures good { OnOk result (HasGoodItems (store_of (R.kept rows.new))) }
+    ensures base { OnOk result ((bytes : List ℕ) → R.base rows.old bytes → R.base rows.new bytes) }
+{
+    match tag(alloc, rows, page, name, date, steps) {
+        Ok(()) => Ok(()),
+        Err(TreeError::NoMemory) => Err(NoMemory),
+        Err(TreeError::Refused(_)) => unreachable!(),
+    }
+}
+
 /// The page loses the tag: its entry goes, and the tag folder with its last entry.
 ///
 /// Refused is a tag that the page has not.

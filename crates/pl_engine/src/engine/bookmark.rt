@@ -1,64 +1,20 @@
 // A new bookmark, with a page for it.
-ghost use Rattle.std.specs.Prelude.{◌≡◌, ◌≤◌, ◌+◌, ℕ, List, None, length, IfOk, OnOk};
+ghost use Rattle.std.specs.Prelude.{◌≡◌, ◌≤◌, ℕ, List, IfOk, OnOk};
 ghost use Rattle.pl_base.specs.Date.{IsDate};
-ghost use Rattle.pl_base.specs.Good.{longest_title};
-ghost use Rattle.pl_base.specs.Live as live;
-ghost use Rattle.pl_base.specs.Live.{live_slots, slot_limit};
+ghost use Rattle.pl_base.specs.Live.{slot_limit};
 ghost use Rattle.pl_base.specs.Rows.{store_of};
-ghost use Rattle.pl_tree.specs.Refused.{insert_refusal};
 ghost use Rattle.pl_history.specs.Sound.{IsSound};
-ghost use Rattle.pl_engine.specs.Room.{page_item};
 ghost use Rattle.pl_engine.specs.Step as spec;
-ghost use Rattle.pl_engine.specs.Target.{IsReady};
 
 use crate::command::Command;
-use crate::engine::insert::{insert_item, room_refusal};
-use crate::engine::slots::chunks;
-use crate::engine::visit::{page_for, slots_after};
+use crate::engine::insert::room_refusal;
 use crate::reply::Reply;
-use pl_base::{ItemId, ItemKind, Micros, NoMemory, PageId, Refusal, Rows, Steps, Txt, cut_title};
-use pl_history::find_target;
+use pl_base::{ItemId, Micros, NoMemory, Refusal, Rows, Steps, Txt, cut_title};
+use pl_history::{add_bookmark, chunks, find_target, page_for, slots_after};
 use pl_link::{Canon, split};
-use pl_marks::refresh;
-use pl_tree::{NewItem, Place, TreeChange};
+use pl_tree::{Place, TreeChange};
 use std::alloc::Global;
 use std::sync::ledger::Ledger;
-
-// The bookmark of a page with the next id, and what is computed afresh of the page.
-fn add_bookmark<R: Rows, L: Ledger>(
-    alloc: Global,
-    rows: &mut R,
-    parent: ItemId,
-    place: Place,
-    page: PageId,
-    title: &str,
-    date: Micros,
-    is_place: bool,
-    steps: &mut Steps<L>,
-) -> Result<ItemId, NoMemory>
-    requires ready { IsReady page is_place (R.kept rows.old) }
-    requires allowed { insert_refusal parent place (R.kept rows.old) ≡ None }
-    requires title { length title.now ≤ longest_title }
-    requires date { IsDate date }
-    requires live { live_slots (store_of (R.kept rows.old)) + 1 + live.chunks title.now
-        ≤ slot_limit }
-    ensures item { IfOk result (λ id. id.0 ≡ (R.kept rows.old).ids.item) }
-    ensures store { OnOk result (store_of (R.kept rows.new) ≡ spec.after_insert parent place
-        (page_item page title.now date) (store_of (R.kept rows.old))) }
-    ensures sound { OnOk result (IsSound (R.kept rows.new)) }
-    ensures base { OnOk result ((bytes : List ℕ) → R.base rows.old bytes → R.base rows.new bytes) }
-{
-    let item = NewItem {
-        kind: ItemKind::Bookmark,
-        title: Txt::copied(alloc, title)?,
-        page: Some(page),
-        date,
-    };
-    let id = insert_item(rows, parent, place, &item, steps)?;
-    let mark = rows.page_at(page, steps).unwrap();
-    refresh(alloc, rows, page, mark, is_place, steps)?;
-    Ok(id)
-}
 
 /// A new bookmark of the URL on rows that may take so many slots.
 pub fn bookmark<R: Rows, L: Ledger>(

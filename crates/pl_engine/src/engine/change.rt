@@ -9,9 +9,10 @@ ghost use Rattle.pl_history.specs.Sound.{IsSound};
 ghost use Rattle.pl_engine.specs.Step as spec;
 
 use crate::command::Command;
-use crate::engine::slots::{chunks, is_full};
+use crate::engine::slots::is_full;
 use crate::reply::Reply;
 use pl_base::{ItemId, Micros, NoMemory, Refusal, Rows, Steps, Txt, cut_title};
+use pl_history::chunks;
 use pl_tree::{Place, TreeChange, TreeError};
 use std::sync::ledger::Ledger;
 

@@ -1,24 +1,21 @@
 // A new folder or separator, and what any new item waits for.
-ghost use Rattle.std.specs.Prelude.{◌≡◌, ◌≢◌, ◌≤◌, ◌<◌, ◌+◌, ◌↔◌, ℕ, List, None, false, true};
-ghost use Rattle.std.specs.Prelude.{length, IfOk, IfSome, IsSome, OnOk};
+ghost use Rattle.std.specs.Prelude.{◌≡◌, ◌≢◌, ◌≤◌, ℕ, List, false, length, IfOk, OnOk};
 ghost use Rattle.pl_base.specs.Date.{IsDate};
-ghost use Rattle.pl_base.specs.Good.{HasGoodItems, longest_title};
-ghost use Rattle.pl_base.specs.Live as live;
-ghost use Rattle.pl_base.specs.Live.{live_slots, slot_limit};
-ghost use Rattle.pl_base.specs.Rows.{has_page, store_of};
-ghost use Rattle.pl_tree.specs.Changes.{with_inserted};
-ghost use Rattle.pl_tree.specs.Refused.{insert_refusal};
+ghost use Rattle.pl_base.specs.Good.{longest_title};
+ghost use Rattle.pl_base.specs.Live.{slot_limit};
+ghost use Rattle.pl_base.specs.Rows.{store_of};
 ghost use Rattle.pl_history.specs.Sound.{IsSound};
 ghost use Rattle.pl_engine.specs.Room.{item_room, plain_item};
 ghost use Rattle.pl_engine.specs.Step as spec;
 
 use crate::command::Command;
-use crate::engine::slots::{chunks, is_full};
+use crate::engine::slots::is_full;
 use crate::reply::Reply;
 use pl_base::{
     IdKind, Ids, ItemId, ItemKind, Micros, NoMemory, Refusal, Rows, Steps, Txt, cut_title,
 };
-use pl_tree::{NewItem, Place, TreeChange, TreeError};
+use pl_history::chunks;
+use pl_tree::{NewItem, Place, TreeChange, insert_allowed};
 use std::alloc::Global;
 use std::sync::ledger::Ledger;
 
@@ -42,35 +39,6 @@ pub fn room_refusal<R: Rows, L: Ledger>(
         Some(Refusal::Full(slots))
     } else {
         None
-    }
-}
-
-/// A new item with the next id, which nothing refuses.
-pub fn insert_item<R: Rows, L: Ledger>(
-    rows: &mut R,
-    parent: ItemId,
-    place: Place,
-    item: &NewItem,
-    steps: &mut Steps<L>,
-) -> Result<ItemId, NoMemory>
-    requires good { HasGoodItems (store_of (R.kept rows.old)) }
-    requires page { IfSome item.now.page (λ id. has_page (R.kept rows.old) id ≡ true) }
-    requires bookmark { IsSome item.now.page ↔ (item.now.kind ≡ ItemKind.Bookmark) }
-    requires title { length item.now.title ≤ longest_title }
-    requires date { IsDate item.now.date }
-    requires live { live_slots (store_of (R.kept rows.old)) + 1 + live.chunks item.now.title
-        ≤ slot_limit }
-    requires allowed { insert_refusal parent place (R.kept rows.old) ≡ None }
-    ensures item { IfOk result (λ id. id.0 ≡ (R.kept rows.old).ids.item) }
-    ensures kept { OnOk result (R.kept rows.new
-        ≡ with_inserted parent place item.now (R.kept rows.old)) }
-    ensures good { OnOk result (HasGoodItems (store_of (R.kept rows.new))) }
-    ensures base { OnOk result ((bytes : List ℕ) → R.base rows.old bytes → R.base rows.new bytes) }
-{
-    match pl_tree::insert(rows, parent, place, item, steps) {
-        Ok(id) => Ok(id),
-        Err(TreeError::NoMemory) => Err(NoMemory),
-        Err(TreeError::Refused(_)) => unreachable!(),
     }
 }
 
@@ -114,7 +82,7 @@ fn insert_plain<R: Rows, L: Ledger>(
         page: None,
         date,
     };
-    let id = insert_item(rows, parent, place, &item, steps)?;
+    let id = insert_allowed(rows, parent, place, &item, steps)?;
     Ok(Reply::Item(id))
 }
 

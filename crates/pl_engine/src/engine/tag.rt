@@ -1,49 +1,28 @@
 // Tags that the page of a URL gets and loses.
-ghost use Rattle.std.specs.Prelude.{◌≡◌, ◌≤◌, ◌+◌, ℕ, List, None, Some, true, if◌then◌else◌};
+ghost use Rattle.std.specs.Prelude.{◌≡◌, ◌≤◌, ◌+◌, ℕ, List, if◌then◌else◌};
 ghost use Rattle.std.specs.Prelude.{IfOk, OnOk};
 ghost use Rattle.pl_base.specs.Date.{IsDate};
 ghost use Rattle.pl_base.specs.Good.{HasGoodItems};
 ghost use Rattle.pl_base.specs.Live as live;
 ghost use Rattle.pl_base.specs.Live.{live_slots, slot_limit};
-ghost use Rattle.pl_base.specs.Rows.{has_page, store_of};
-ghost use Rattle.pl_tree.specs.Refused as refused;
-ghost use Rattle.pl_tree.specs.Tagged as tagged;
+ghost use Rattle.pl_base.specs.Rows.{store_of};
 ghost use Rattle.pl_history.specs.Sound.{IsSound};
 ghost use Rattle.pl_engine.specs.Room.{tag_room};
 ghost use Rattle.pl_engine.specs.Step as spec;
-ghost use Rattle.pl_engine.specs.Target.{IsReady, has_tag};
 ghost use Rattle.pl_history.specs.Target.{IsTargetOf};
 
 use crate::command::Command;
-use crate::engine::slots::{chunks, is_full};
-use crate::engine::visit::{page_for, slots_after};
+use crate::engine::slots::is_full;
 use crate::reply::Reply;
-use pl_base::{IdKind, Ids, Micros, NoMemory, PageId, Refusal, Rows, Steps};
-use pl_history::{Target, find_page, find_target, settle_all};
+use pl_base::{IdKind, Ids, Micros, NoMemory, Refusal, Rows, Steps};
+use pl_history::{
+    Target, add_tag, chunks, find_page, find_target, is_tagged, page_for, settle_all, slots_after,
+};
 use pl_link::{Canon, split};
-use pl_marks::refresh;
-use pl_tree::{TreeError, tag_entry, tag_folder};
+use pl_tree::{TreeError, tag_folder};
 use pl_words::TagName;
 use std::alloc::Global;
 use std::sync::ledger::Ledger;
-
-// Whether the page is known and has the tag.
-fn is_tagged<R: Rows, L: Ledger>(
-    alloc: Global,
-    rows: &R,
-    target: Target,
-    name: &TagName,
-    steps: &mut Steps<L>,
-) -> Result<bool, NoMemory>
-    requires good { HasGoodItems (store_of (R.kept rows.now)) }
-    ensures { IfOk result (λ has. has ≡ has_tag target name.now (R.kept rows.now).items) }
-{
-    let Target::Known(page) = target else {
-        return Ok(false);
-    };
-    let entry = tag_entry(alloc, rows, page, name, steps)?;
-    Ok(entry.is_some())
-}
 
 // The slots of a folder for the tag, where it is new.
 fn folder_slots(name: &TagName, is_new: bool) -> u64
@@ -101,59 +80,6 @@ fn tag_refusal<R: Rows, L: Ledger>(
     // The entry takes as many slots as a visit.
     let slots = slots_after(rows, url, target, steps) + folder_slots(name, with_folder);
     Ok(room_refusal(rows, limit, target.is_new(), with_folder, slots, steps))
-}
-
-// The page gets the tag, which nothing refuses.
-fn give_tag<R: Rows, L: Ledger>(
-    alloc: Global,
-    rows: &mut R,
-    page: PageId,
-    name: &TagName,
-    date: Micros,
-    steps: &mut Steps<L>,
-) -> Result<(), NoMemory>
-    requires good { HasGoodItems (store_of (R.kept rows.old)) }
-    requires page { has_page (R.kept rows.old) page ≡ true }
-    requires date { IsDate date }
-    requires live { live_slots (store_of
-        (tagged.with_tagged page name.now date (R.kept rows.old))) ≤ slot_limit }
-    requires allowed { refused.tag_refusal page name.now (R.kept rows.old) ≡ None }
-    ensures kept { OnOk result (R.kept rows.new
-        ≡ tagged.with_tagged page name.now date (R.kept rows.old)) }
-    ensures good { OnOk result (HasGoodItems (store_of (R.kept rows.new))) }
-    ensures base { OnOk result ((bytes : List ℕ) → R.base rows.old bytes → R.base rows.new bytes) }
-{
-    match pl_tree::tag(alloc, rows, page, name, date, steps) {
-        Ok(()) => Ok(()),
-        Err(TreeError::NoMemory) => Err(NoMemory),
-        Err(TreeError::Refused(_)) => unreachable!(),
-    }
-}
-
-// The page gets the tag, and what is computed of it is computed afresh.
-fn add_tag<R: Rows, L: Ledger>(
-    alloc: Global,
-    rows: &mut R,
-    page: PageId,
-    name: &TagName,
-    date: Micros,
-    is_place: bool,
-    steps: &mut Steps<L>,
-) -> Result<(), NoMemory>
-    requires ready { IsReady page is_place (R.kept rows.old) }
-    requires date { IsDate date }
-    requires live { live_slots (store_of
-        (tagged.with_tagged page name.now date (R.kept rows.old))) ≤ slot_limit }
-    requires allowed { refused.tag_refusal page name.now (R.kept rows.old) ≡ None }
-    ensures store { OnOk result (store_of (R.kept rows.new)
-        ≡ spec.tagged_store page name.now date (store_of (R.kept rows.old))) }
-    ensures sound { OnOk result (IsSound (R.kept rows.new)) }
-    ensures base { OnOk result ((bytes : List ℕ) → R.base rows.old bytes → R.base rows.new bytes) }
-{
-    give_tag(alloc, rows, page, name, date, steps)?;
-    let mark = rows.page_at(page, steps).unwrap();
-    refresh(alloc, rows, page, mark, is_place, steps)?;
-    Ok(())
 }
 
 /// The page of the URL gets the tag, on rows that may take so many slots.

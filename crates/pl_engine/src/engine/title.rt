@@ -8,10 +8,10 @@ ghost use Rattle.pl_engine.specs.Step as spec;
 ghost use Rattle.pl_engine.specs.Titled.{within_slots};
 
 use crate::command::Command;
-use crate::engine::slots::{chunks, is_full};
+use crate::engine::slots::is_full;
 use crate::reply::Reply;
 use pl_base::{NoMemory, PageId, Refusal, Rows, Steps, Txt, cut_title};
-use pl_history::find_page;
+use pl_history::{chunks, find_page};
 use pl_link::Canon;
 use std::sync::ledger::Ledger;
 

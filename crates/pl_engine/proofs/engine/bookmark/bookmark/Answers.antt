@@ -8,7 +8,7 @@ use Rattle.pl_engine.proofs.BookmarkAllowed.{bookmark_done, bookmark_refused, it
 use Rattle.pl_engine.proofs.BookmarkAllowed.{none_refused, room_item, room_page}
 use Rattle.pl_history.proofs.OriginParts.{is_place-by_parts}
 use Rattle.pl_engine.proofs.PageSlots.{are_slots}
-use Rattle.pl_engine.proofs.ReadyPage.{ready}
+use Rattle.pl_history.proofs.ReadyPage.{ready}
 use Rattle.pl_engine.proofs.Titled.{cut_title-le}
 use Rattle.pl_engine.proofs.engine.bookmark.bookmark.Goals as goal
 

@@ -1,5 +1,5 @@
 use Rattle.pl_tree.specs.Changes.{with_moved}
-use Rattle.pl_engine.proofs.ItemMarks.{reference_moved, sound_alike}
+use Rattle.pl_history.proofs.ItemMarks.{reference_moved, sound_alike}
 use Rattle.pl_engine.proofs.engine.change.move_item.Goals as goal
 
 pub returns-in-Ok-clause-sound : goal.returns-in-Ok-clause-sound

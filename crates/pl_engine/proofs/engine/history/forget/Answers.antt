@@ -1,4 +1,4 @@
-use Rattle.pl_engine.proofs.KnownPage.{has_target}
+use Rattle.pl_history.proofs.KnownPage.{has_target}
 use Rattle.pl_engine.proofs.Removals.{forgets}
 use Rattle.pl_engine.proofs.engine.history.forget.Goals as goal
 

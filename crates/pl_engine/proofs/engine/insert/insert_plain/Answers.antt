@@ -4,7 +4,8 @@ use Rattle.pl_base.specs.Store.{Store}
 use Rattle.pl_tree.specs.declared.new_item.NewItem.{NewItem}
 use Rattle.pl_engine.specs.Room.{plain_item}
 use Rattle.pl_engine.specs.Step.{after_insert}
-use Rattle.pl_engine.proofs.ItemStep.{insert_done, insert_refused, live_inserted, sound_inserted}
+use Rattle.pl_engine.proofs.ItemStep.{insert_done, insert_refused, live_inserted}
+use Rattle.pl_history.proofs.ItemPages.{sound_inserted}
 use Rattle.pl_engine.proofs.engine.insert.insert_plain.Goals as goal
 
 pub returns-in-Some-room_refusal-clause-step : goal.returns-in-Some-room_refusal-clause-step
@@ -22,7 +23,7 @@ returns-clause-step g c =
     let store : Store = store_of (g.R.Rows.kept c.args.rows.now) in
     let new : NewItem = plain_item c.args.kind c.args.title.now c.args.date in
     insert_done c.args.limit store c.args.parent c.args.place false (after_insert c.args.parent c.args.place new store)
-    (store_of (g.R.Rows.kept c.insert_item.new.rows)) (c.live.result + 1 + c.chunks.result) c.room_refusal.result
+    (store_of (g.R.Rows.kept c.insert_allowed.new.rows)) (c.live.result + 1 + c.chunks.result) c.room_refusal.result
     c.in_ok-id.id (sym c.refused.ensures ∙ c.in_default.is)
     (omega (arith, c.live.ensures.live, c.chunks.ensures, live_inserted c.args.parent c.args.place new store))
     c.room_refusal.ensures c.in_default-room_refusal.is c.in_ok-id.ensures.item
@@ -32,6 +33,6 @@ returns-clause-step g c =
 
 pub returns-clause-sound : goal.returns-clause-sound
 returns-clause-sound g c =
-    sound_inserted (g.R.Rows.kept c.args.rows.now) (g.R.Rows.kept c.insert_item.new.rows) c.args.parent c.args.place
+    sound_inserted (g.R.Rows.kept c.args.rows.now) (g.R.Rows.kept c.insert_allowed.new.rows) c.args.parent c.args.place
     (plain_item c.args.kind c.in_ok-copied.field-0 c.args.date) refl c.in_ok-id.ensures.kept
-    (g.met.R.Rows.well_kept c.insert_item.new.rows) c.in_ok-id.ensures.good c.requires.sound
+    (g.met.R.Rows.well_kept c.insert_allowed.new.rows) c.in_ok-id.ensures.good c.requires.sound

@@ -2,7 +2,7 @@ use Rattle.std.proofs.Common.{◌∙◌, sym}
 use Rattle.pl_base.specs.Rows.{store_of}
 use Rattle.pl_history.proofs.GoodRows.{items_of}
 use Rattle.pl_history.proofs.OriginParts.{is_place-by_parts}
-use Rattle.pl_engine.proofs.ReadyPage.{ready}
+use Rattle.pl_history.proofs.ReadyPage.{ready}
 use Rattle.pl_engine.proofs.TagAllowed.{tag_allowed, tag_done, tag_live, tag_page}
 use Rattle.pl_engine.proofs.engine.tag.tag.Goals as goal
 

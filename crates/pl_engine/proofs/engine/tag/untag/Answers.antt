@@ -1,4 +1,4 @@
-use Rattle.pl_engine.proofs.KnownPage.{has_target}
+use Rattle.pl_history.proofs.KnownPage.{has_target}
 use Rattle.pl_engine.proofs.Untagged.{untagged_settled}
 use Rattle.pl_engine.proofs.engine.tag.untag.Goals as goal
 

@@ -1,13 +1,13 @@
-use Rattle.std.proofs.Common.{◌≡◌, ◌∙◌, None, sym}
-use Rattle.std.proofs.lemmas.Result.{IfOk-weaker}
+use Rattle.std.proofs.Common.{◌≡◌, ◌∙◌, ℤ, None, ap, rules, sym, w64}
+use Rattle.std.proofs.lemmas.Int.{to_z-of_z}
 use Rattle.pl_base.specs.declared.row.VisitRow.{VisitRow}
 use Rattle.pl_base.specs.Rows.{store_of}
+use Rattle.pl_engine.specs.declared.reply.Reply.TheVariants.{Visit as VisitReply}
 use Rattle.pl_engine.specs.Step.{visit_refusal}
-use Rattle.pl_engine.specs.Target.{AddsVisit}
 use Rattle.pl_history.proofs.OriginParts.{is_place-by_parts}
-use Rattle.pl_engine.proofs.ReadyPage.{ready}
+use Rattle.pl_history.proofs.ReadyPage.{ready}
 use Rattle.pl_engine.proofs.VisitAllowed.{has_id, has_room, has_slot, has_source}
-use Rattle.pl_engine.proofs.VisitMade.{step_after}
+use Rattle.pl_engine.proofs.VisitStep.{step_after}
 use Rattle.pl_engine.proofs.engine.visit.visit.Goals as goal
 
 pub page_for-requires-clause-room : goal.page_for-requires-clause-room
@@ -55,10 +55,11 @@ returns-clause-step g c =
       transition = c.args.transition;
       source = c.args.source;
     } in
-    IfOk-weaker c.add_visit.result
-    (AddsVisit row (store_of (g.R.Rows.kept c.page_for.new.rows)) (store_of (g.R.Rows.kept c.add_visit.new.rows))) _
-    (λ reply added.
-    step_after c.args.limit (g.R.Rows.kept c.args.rows.now) (g.R.Rows.kept c.page_for.new.rows)
-    (g.R.Rows.kept c.add_visit.new.rows) c.args.url.now c.in_ok-target.target row reply c.in_ok-target.ensures
-    c.in_ok-page.ensures.page allowed added)
-    c.add_visit.ensures.added
+    ap (λ (z : ℤ). (
+      VisitReply c.in_ok-added.added.visit c.in_ok-added.added.page z,
+      store_of (g.R.Rows.kept c.add_visit.new.rows),
+    ))
+    (to_z-of_z w64 c.in_ok-added.added.frecency (search rules))
+    ∙ step_after c.args.limit (g.R.Rows.kept c.args.rows.now) (g.R.Rows.kept c.page_for.new.rows)
+    (g.R.Rows.kept c.add_visit.new.rows) c.args.url.now c.in_ok-target.target row c.in_ok-added.added
+    c.in_ok-target.ensures c.in_ok-page.ensures.page allowed c.in_ok-added.ensures.added

@@ -3,14 +3,13 @@ use Rattle.std.proofs.lemmas.Int.{to_z-of_z}
 use Rattle.pl_base.specs.declared.row.VisitRow.{VisitRow}
 use Rattle.pl_base.specs.Marks.{visit_count}
 use Rattle.pl_base.specs.Rows.{Kept, KeptPage, has_page, mark_of, store_of, with_visit}
-use Rattle.pl_engine.specs.declared.reply.Reply.TheVariants.{Visit as VisitReply}
 use Rattle.pl_marks.specs.Refreshed.{Refreshes}
-use Rattle.pl_engine.specs.Target.{AddsVisit}
+use Rattle.pl_history.specs.Added.{AddsVisit}
 use Rattle.pl_history.proofs.RightAfter.{counts_refreshed, counts_visited}
 use Rattle.pl_marks.proofs.LookUps.{found_where}
 use Rattle.pl_history.proofs.KeptMark.{count_told, few_counted, mark_made}
-use Rattle.pl_engine.proofs.VisitMade.{added_after, afresh_made, right_still, sound_after}
-use Rattle.pl_engine.proofs.engine.visit.add_visit.Goals as goal
+use Rattle.pl_history.proofs.VisitMade.{added_after, afresh_made, right_still, sound_after}
+use Rattle.pl_history.proofs.visiting.add_visit.Goals as goal
 
 pub unwrap-mark-requires : goal.unwrap-mark-requires
 unwrap-mark-requires g c =
@@ -62,7 +61,7 @@ returns-clause-added g c =
     let old : Kept = g.R.Rows.kept c.args.rows.now in
     let new : Kept = g.R.Rows.kept c.refresh_source.new.rows in
     let row : VisitRow = c.args.row.now in
-    subst (λ (z : ℤ). AddsVisit row (store_of old) (store_of new) (VisitReply c.in_ok-visit.visit row.page z))
+    subst (λ (z : ℤ). AddsVisit row (store_of old) (store_of new) (record { visit = c.in_ok-visit.visit; page = row.page; frecency = z }))
     (sym (to_z-of_z w64 c.in_ok-frecency.frecency (search rules)))
     (added_after old (g.R.Rows.kept c.refresh.new.rows) new row c.in_ok-visit.visit c.in_ok-frecency.frecency
     (afresh_made old (g.R.Rows.kept c.insert_visit.new.self) (g.R.Rows.kept c.refresh.new.rows) row c.args.is_place

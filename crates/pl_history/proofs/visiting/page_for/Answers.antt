@@ -2,8 +2,8 @@ use Rattle.std.proofs.Common.{subst, ◌∙◌, ap, List, ℕ}
 use Rattle.pl_base.specs.Rows.{store_of}
 use Rattle.pl_base.specs.Visiting.{find_page}
 use Rattle.pl_history.specs.Target.{IsTargetOf}
-use Rattle.pl_engine.proofs.Targets.{absent}
-use Rattle.pl_engine.proofs.engine.visit.page_for.Goals as goal
+use Rattle.pl_history.proofs.Targets.{absent}
+use Rattle.pl_history.proofs.visiting.page_for.Goals as goal
 
 pub insert_page-requires-clause-absent : goal.insert_page-requires-clause-absent
 insert_page-requires-clause-absent g c =

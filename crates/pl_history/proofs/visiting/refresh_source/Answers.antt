@@ -4,7 +4,7 @@ use Rattle.pl_base.specs.Store.{Visit}
 use Rattle.pl_history.proofs.KeptMark.{count_at, mark_at}
 use Rattle.pl_history.proofs.SourcePage.{page_there, source_right, source_store}
 use Rattle.pl_marks.proofs.LookUps.{found_where}
-use Rattle.pl_engine.proofs.engine.visit.refresh_source.Goals as goal
+use Rattle.pl_history.proofs.visiting.refresh_source.Goals as goal
 
 pub unwrap-requires : goal.unwrap-requires
 unwrap-requires g c =

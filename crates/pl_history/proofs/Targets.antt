@@ -20,7 +20,7 @@ use Rattle.pl_history.specs.declared.find.Target.TheVariants.{Known, New}
 use Rattle.pl_base.specs.Visiting.{after_visit, find_page}
 use Rattle.pl_history.specs.Target.{IsTargetOf}
 use Rattle.pl_base.proofs.ListLaws.{list_any-map}
-use Rattle.pl_engine.proofs.LiveAfter.{live_found, live_new}
+use Rattle.pl_history.proofs.LiveAfter.{live_found, live_new}
 
 -- ---- look-ups
 

@@ -14,7 +14,7 @@ use Rattle.pl_base.specs.Visiting.{find_page}
 use Rattle.pl_history.specs.Target.{IsTargetOf}
 use Rattle.pl_base.proofs.ListLaws.{weaker}
 use Rattle.pl_marks.proofs.PageWalk.{Ascend, ascend, part, there}
-use Rattle.pl_engine.proofs.Targets.{IsFound, found_page}
+use Rattle.pl_history.proofs.Targets.{IsFound, found_page}
 
 record Split (test : Page → Bool) (ps : List KeptPage) (found : Page) : Type 0 where
   pub front : List KeptPage

@@ -1,13 +1,11 @@
 -- What holds of the rows after a visit.
-use Rattle.std.proofs.Common.{◌≡◌, ◌∙◌, ◌==◌, ◌||◌, ℕ, ℤ, All, Bool, true, false, bytes_eq, eq-eqb}
-use Rattle.std.proofs.Common.{List, [], Option, Some, None, ap, if◌then◌else◌, is_none}
+use Rattle.std.proofs.Common.{◌≡◌, ◌∙◌, ◌==◌, ◌||◌, ℕ, ℤ, All, Bool, true, false, eq-eqb}
+use Rattle.std.proofs.Common.{List, [], Option, Some, ap, if◌then◌else◌, is_none}
 use Rattle.std.proofs.Common.{get_or, option_to_list, refl, subst, sym, unwrap_or}
 use Rattle.std.specs.Option.{option_map}
-use Rattle.std.specs.List.{AllByRecursion}
-use Rattle.std.proofs.lemmas.List.Elements.{All-map, All-weaker, recursion_from_All}
+use Rattle.std.proofs.lemmas.List.Elements.{All-map, All-weaker}
 use Rattle.pl_base.specs.declared.id.PageId.{PageId}
 use Rattle.pl_base.specs.declared.id.VisitId.{VisitId}
-use Rattle.pl_base.specs.declared.refusal.Refusal.{Refusal}
 use Rattle.pl_base.specs.declared.row.Mark.{Mark}
 use Rattle.pl_base.specs.declared.row.VisitRow.{VisitRow}
 use Rattle.pl_base.specs.Frecency.{frecency_of}
@@ -15,25 +13,19 @@ use Rattle.pl_base.specs.Marks.{is_typed}
 use Rattle.pl_base.specs.Rows.{IsWellKept, Kept, KeptPage}
 use Rattle.pl_base.specs.Rows.{mark_of, page_at, store_of, with_mark, with_visit}
 use Rattle.pl_base.specs.Store.{Page, Store}
-use Rattle.pl_engine.specs.declared.command.Command.TheVariants.{Visit as VisitCommand}
 use Rattle.pl_history.specs.declared.find.Target.{Target}
 use Rattle.pl_history.specs.declared.find.Target.TheVariants.{Known, New}
-use Rattle.pl_engine.specs.declared.reply.Reply.{Reply}
-use Rattle.pl_engine.specs.declared.reply.Reply.TheVariants.{Visit as VisitReply}
 use Rattle.pl_base.specs.Good.{HasGoodItems}
 use Rattle.pl_history.specs.Sound.{AreStanding, IsSound}
 use Rattle.pl_marks.specs.Refreshed.{AreRightBut, Refreshes, source_page, visited_mark}
-use Rattle.pl_base.specs.Visiting.{after_visit, find_page, new_page, page_for}
-use Rattle.pl_engine.specs.Step.{perform, unless_refused}
+use Rattle.pl_base.specs.Visiting.{new_page, page_for}
 use Rattle.pl_base.specs.Visiting.{visit_page, visited_page, visited_store, with_page_for}
-use Rattle.pl_engine.specs.Step.{visit_refusal, visit_reply}
-use Rattle.pl_engine.specs.Target.{AddsVisit, IsReady}
+use Rattle.pl_history.specs.Added.{AddsVisit}
+use Rattle.pl_history.specs.Ready.{IsReady}
 use Rattle.pl_history.specs.Target.{IsTargetOf, WithTarget}
 use Rattle.pl_history.proofs.GoodRows.{good_of, items_still}
-use Rattle.pl_marks.proofs.LookUps.{found_holds}
-use Rattle.pl_marks.proofs.PageWalk.{part}
 use Rattle.pl_history.proofs.RightAfter.{right_refreshed, right_visited}
-use Rattle.pl_engine.proofs.Targets.{IsFound, found_page}
+use Rattle.pl_history.proofs.Targets.{IsFound, found_page}
 use Rattle.pl_history.proofs.VisitRows.{grown_store, store_visited, store_with_page}
 use Rattle.pl_history.proofs.KeptMark.{IsMarkAt, count_told, mark_made, typed_at}
 use Rattle.pl_history.proofs.VisitedPages.{standing_after, standing_alike, typed_by, typed_still}
@@ -166,19 +158,20 @@ sound_after old now new row is_place frecency r a h same right =
 
 pub added_after : (old now new : Kept) (row : VisitRow) (visit : VisitId) (frecency : ℤ)
     → IsAfresh row old now frecency → store_of new ≡ store_of now → visit.0 ≡ old.ids.visit
-    → AddsVisit row (store_of old) (store_of new) (VisitReply visit row.page frecency)
+    → AddsVisit row (store_of old) (store_of new)
+    (record { visit = visit; page = row.page; frecency = frecency })
 added_after old now new row visit frecency a same given =
     record {
       store = same ∙ a.store;
-      frecency = frecency;
-      tells = ap (λ (n : ℕ). VisitReply (record { 0 = n }) row.page frecency) given;
+      visit = ap (λ (n : ℕ). record { 0 = n }) given;
+      page = refl;
       scored =
           λ k d within id. a.scored k d within id
           ∙ ap (λ (s : Store). frecency_of s (visited_page row.transition (get_or (store_of old).pages k d)))
           (sym same);
     }
 
--- ---- the step
+-- ---- the page
 
 -- the rows with the page are those of the step
 pub target_page : (kept mid : Kept) (url : List ℕ) (target : Target) (page : PageId) → IsTargetOf kept url target
@@ -199,62 +192,3 @@ target_store kept mid url (Known id) page of with =
 target_store kept mid url (New origin) page of with =
     store_with_page kept mid url origin with.1
     ∙ sym (ap (λ (o : Option Page). if is_none o then grown_store (store_of kept) url else store_of kept) of.0)
-
-next_visit_same : (store : Store) (url : List ℕ) → (with_page_for store url).ids.visit ≡ store.ids.visit
-next_visit_same store url = choose (is_none (find_page url store.pages))
-  where
-    choose : (b : Bool) → (if b then grown_store store url else store).ids.visit ≡ store.ids.visit
-    choose true = refl
-    choose false = refl
-
--- what holds of each page holds of that of a visit
-page_for_holds : (P : Page → Type 0) (store : Store) (url : List ℕ) → All P (with_page_for store url).pages
-    → P (page_for store url)
-page_for_holds P store url all =
-    choose (find_page url store.pages) refl (recursion_from_All P (with_page_for store url).pages all)
-  where
-    choose : (found : Option Page) → find_page url store.pages ≡ found
-        → AllByRecursion P (if is_none found then grown_store store url else store).pages
-        → P (unwrap_or found (new_page store url))
-    choose None at each = part P store.pages (new_page store url) [] each
-    choose (Some p) at each = found_holds P (λ (q : Page). bytes_eq q.url url) store.pages p each at
-
-step_made : (store mid new : Store) (url : List ℕ) (row : VisitRow) (reply : Reply)
-    → (page_for store url).id ≡ row.page → mid ≡ with_page_for store url → AddsVisit row mid new reply
-    → ◌≡◌ {A = Reply × Store} (reply, new)
-    (visit_reply store url row.transition row.date row.source, after_visit store url row.transition row.date row.source)
-step_made store mid new url row reply is grown added =
-    let after : Store = after_visit store url row.transition row.date row.source in
-    let p : Page = visited_page row.transition (page_for store url) in
-    let made : new ≡ after =
-    added.store
-    ∙ ap (visited_store row.page row.transition row.date row.source) grown
-    ∙ ap (λ (id : PageId). visited_store id row.transition row.date row.source (with_page_for store url)) (sym is) in
-    let next : mid.ids.visit ≡ store.ids.visit = ap (λ (s : Store). s.ids.visit) grown ∙ next_visit_same store url in
-    let told : reply ≡ visit_reply store url row.transition row.date row.source =
-    added.tells
-    ∙ ap (λ (n : ℕ). VisitReply (record { 0 = n }) row.page added.frecency) next
-    ∙ ap (λ (id : PageId). VisitReply (record { 0 = store.ids.visit }) id added.frecency) (sym is)
-    ∙ ap (λ (z : ℤ). VisitReply (record { 0 = store.ids.visit }) (page_for store url).id z)
-    (page_for_holds (λ (q : Page). q.id ≡ row.page → added.frecency ≡ frecency_of new (visited_page row.transition q))
-    store url (subst (λ (s : Store). All (λ (q : Page). q.id ≡ row.page
-    → added.frecency ≡ frecency_of new (visited_page row.transition q)) s.pages) grown added.scored) is
-    ∙ ap (λ (s : Store). frecency_of s p) made) in
-    ap (λ (r : Reply). (r, new)) told
-    ∙ ap (λ (s : Store). (visit_reply store url row.transition row.date row.source, s)) made
-
-pub step_after : (limit : ℕ) (kept mid new : Kept) (url : List ℕ) (target : Target) (row : VisitRow) (reply : Reply)
-    → IsTargetOf kept url target → WithTarget url target kept mid row.page
-    → visit_refusal limit (store_of kept) url row.transition row.date row.source ≡ None
-    → AddsVisit row (store_of mid) (store_of new) reply
-    → ◌≡◌ {A = Reply × Store} (reply, store_of new)
-    (perform limit (store_of kept) (VisitCommand url row.transition row.date row.source))
-step_after limit kept mid new url target row reply of with allowed added =
-    let store : Store = store_of kept in
-    step_made store (store_of mid) (store_of new) url row reply (target_page kept mid url target row.page of with)
-    (target_store kept mid url target row.page of with) added
-    ∙ ap (λ (o : Option Refusal). unless_refused o store (
-      visit_reply store url row.transition row.date row.source,
-      after_visit store url row.transition row.date row.source,
-    ))
-    (sym allowed)

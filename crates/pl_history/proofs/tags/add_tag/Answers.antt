@@ -2,42 +2,41 @@ use Rattle.std.proofs.Common.{◌+◌, ◌==◌, ◌∙◌, ap, sym}
 use Rattle.pl_base.specs.Rows.{Kept, KeptPage, has_page, mark_of, store_of}
 use Rattle.pl_tree.specs.Tagged.{new_items, tagged_items}
 use Rattle.pl_marks.proofs.LookUps.{found_where}
-use Rattle.pl_engine.proofs.GrownItems.{mark_counted, sound_grown}
+use Rattle.pl_history.proofs.GrownItems.{adds_tagged, mark_counted, sound_grown}
 use Rattle.pl_history.proofs.SourcePage.{source_store}
-use Rattle.pl_engine.proofs.TagMade.{adds_tagged}
-use Rattle.pl_engine.proofs.engine.tag.add_tag.Goals as goal
+use Rattle.pl_history.proofs.tags.add_tag.Goals as goal
 
 pub unwrap-mark-requires : goal.unwrap-mark-requires
 unwrap-mark-requires g c =
-    found_where (λ (p : KeptPage). p.page.id.0 == c.args.page.0) mark_of (g.R.Rows.kept c.give_tag.new.rows).pages
+    found_where (λ (p : KeptPage). p.page.id.0 == c.args.page.0) mark_of (g.R.Rows.kept c.tag_allowed.new.rows).pages
     c.page_at.result
-    (ap (λ (k : Kept). has_page k c.args.page) c.in_ok-give_tag.ensures.kept ∙ c.requires.ready.there)
+    (ap (λ (k : Kept). has_page k c.args.page) c.in_ok-tag_allowed.ensures.kept ∙ c.requires.ready.there)
     c.page_at.ensures.mark
 
 pub refresh-requires-clause-count : goal.refresh-requires-clause-count
 refresh-requires-clause-count g c =
     let kept : Kept = g.R.Rows.kept c.args.rows.now in
-    mark_counted kept (g.R.Rows.kept c.give_tag.new.rows)
+    mark_counted kept (g.R.Rows.kept c.tag_allowed.new.rows)
     (record kept.ids { item = kept.ids.item + new_items c.args.name.now kept.items })
     (tagged_items kept.ids.item c.args.page c.args.name.now c.args.date kept.items) c.args.page c.args.is_place
-    c.unwrap-mark.result c.requires.ready c.in_ok-give_tag.ensures.kept
+    c.unwrap-mark.result c.requires.ready c.in_ok-tag_allowed.ensures.kept
     (sym c.unwrap-mark.ensures ∙ c.page_at.ensures.mark)
 
 pub returns-clause-store : goal.returns-clause-store
 returns-clause-store g c =
-    source_store (g.R.Rows.kept c.give_tag.new.rows) (g.R.Rows.kept c.refresh.new.rows) c.args.page
-    c.unwrap-mark.result c.args.is_place c.in_ok-refresh.field-0 (g.met.R.Rows.well_kept c.give_tag.new.rows)
+    source_store (g.R.Rows.kept c.tag_allowed.new.rows) (g.R.Rows.kept c.refresh.new.rows) c.args.page
+    c.unwrap-mark.result c.args.is_place c.in_ok-refresh.field-0 (g.met.R.Rows.well_kept c.tag_allowed.new.rows)
     (sym c.unwrap-mark.ensures ∙ c.page_at.ensures.mark) c.in_ok-refresh.ensures.refreshed
-    ∙ ap store_of c.in_ok-give_tag.ensures.kept
+    ∙ ap store_of c.in_ok-tag_allowed.ensures.kept
 
 pub returns-clause-sound : goal.returns-clause-sound
 returns-clause-sound g c =
     let kept : Kept = g.R.Rows.kept c.args.rows.now in
-    sound_grown kept (g.R.Rows.kept c.give_tag.new.rows) (g.R.Rows.kept c.refresh.new.rows)
+    sound_grown kept (g.R.Rows.kept c.tag_allowed.new.rows) (g.R.Rows.kept c.refresh.new.rows)
     (record kept.ids { item = kept.ids.item + new_items c.args.name.now kept.items })
     (tagged_items kept.ids.item c.args.page c.args.name.now c.args.date kept.items) c.args.page c.args.is_place
     c.unwrap-mark.result c.in_ok-refresh.field-0
     (adds_tagged kept.ids.item c.args.page c.args.name.now c.args.date kept.items) c.requires.ready
-    c.in_ok-give_tag.ensures.kept (g.met.R.Rows.well_kept c.give_tag.new.rows) c.in_ok-give_tag.ensures.good
+    c.in_ok-tag_allowed.ensures.kept (g.met.R.Rows.well_kept c.tag_allowed.new.rows) c.in_ok-tag_allowed.ensures.good
     (sym c.unwrap-mark.ensures ∙ c.page_at.ensures.mark) c.in_ok-refresh.ensures.refreshed
     (g.met.R.Rows.well_kept c.refresh.new.rows)

@@ -19,10 +19,10 @@ use Rattle.pl_history.specs.declared.find.Target.TheVariants.{Known, New}
 use Rattle.pl_history.specs.Sound.{AreStanding, IsSound, IsTypedRight}
 use Rattle.pl_base.specs.Removal.{is_standing}
 use Rattle.pl_marks.specs.Refreshed.{IsRightPage}
-use Rattle.pl_engine.specs.Target.{IsReady}
+use Rattle.pl_history.specs.Ready.{IsReady}
 use Rattle.pl_history.specs.Target.{IsTargetOf, WithTarget}
 use Rattle.pl_history.proofs.GoodRows.{items_of, items_still, standing_of}
-use Rattle.pl_engine.proofs.KnownPage.{IsKnown, has_known, known, only_known}
+use Rattle.pl_history.proofs.KnownPage.{IsKnown, has_known, known, only_known}
 use Rattle.pl_base.proofs.ListLaws.{All-from_map, list_any-map, list_any_last, list_any_push}
 use Rattle.pl_marks.proofs.PageWalk.{not_equal}
 

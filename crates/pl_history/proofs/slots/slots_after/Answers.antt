@@ -1,7 +1,7 @@
 use Rattle.std.proofs.Common.{arith, subst}
 use Rattle.pl_history.specs.Target.{IsTargetOf}
-use Rattle.pl_engine.proofs.Targets.{slots_known, slots_new}
-use Rattle.pl_engine.proofs.engine.visit.slots_after.Goals as goal
+use Rattle.pl_history.proofs.Targets.{slots_known, slots_new}
+use Rattle.pl_history.proofs.slots.slots_after.Goals as goal
 
 pub overflow_add-result-in-New : goal.overflow_add-result-in-New
 overflow_add-result-in-New g c =

@@ -1,8 +1,9 @@
 -- What holds of the rows with new items that have one page or none, once that page is refreshed.
-use Rattle.std.proofs.Common.{◌≡◌, ◌∙◌, ◌==◌, ◌||◌, ℤ, Bool, true, false, IsTrue, List, [], ◌∷◌}
+use Rattle.std.proofs.Common.{◌≡◌, ◌∙◌, ◌+◌, ◌-◌, ◌==◌, ◌||◌, ℕ, ℤ, Bool, true, false, IsTrue, List, [], ◌∷◌}
 use Rattle.std.proofs.Common.{Some, ap, eq-eqb, get_or, refl, subst, sym}
 use Rattle.std.specs.Option.{option_map}
 use Rattle.std.proofs.lemmas.Bool.{or_parts, or_right}
+use Rattle.pl_base.specs.declared.date.Micros.{Micros}
 use Rattle.pl_base.specs.declared.id.Ids.{Ids}
 use Rattle.pl_base.specs.declared.id.ItemId.{ItemId}
 use Rattle.pl_base.specs.declared.id.PageId.{PageId}
@@ -10,20 +11,22 @@ use Rattle.pl_base.specs.declared.row.Mark.{Mark}
 use Rattle.pl_base.specs.Good.{HasGoodItems, is_visited}
 use Rattle.pl_base.specs.Marks.{visit_count}
 use Rattle.pl_base.specs.Rows.{IsWellKept, Kept, mark_of, page_at, store_of}
-use Rattle.pl_base.specs.Store.{Item}
+use Rattle.pl_base.specs.Store.{Item, item_id}
 use Rattle.pl_base.specs.Tree.{is_page}
 use Rattle.pl_base.proofs.IdsLaws.{same_page}
 use Rattle.pl_base.proofs.ListLaws.{list_any_last}
 use Rattle.pl_tree.specs.declared.new_item.NewItem.{NewItem}
 use Rattle.pl_tree.specs.declared.place.Place.{Place}
+use Rattle.pl_tree.specs.declared.place.Place.TheVariants.{End}
 use Rattle.pl_tree.specs.Changes.{item_of, with_child, with_new}
+use Rattle.pl_tree.specs.Tagged.{new_entry, new_items, tag_id, tagged_items, with_tag}
 use Rattle.pl_history.specs.Sound.{AreStanding, IsSound}
 use Rattle.pl_base.specs.Removal.{is_standing}
-use Rattle.pl_engine.specs.Target.{IsReady}
+use Rattle.pl_history.specs.Ready.{IsReady}
 use Rattle.pl_marks.specs.Refreshed.{AreRightBut, HaveCounts, Refreshes}
 use Rattle.pl_history.proofs.GoodRows.{good_of}
-use Rattle.pl_engine.proofs.ItemMarks.{has_reference, right_alike, with_tree}
-use Rattle.pl_engine.proofs.ItemStep.{reference_inserted}
+use Rattle.pl_history.proofs.ItemMarks.{has_reference, right_alike, with_tree}
+use Rattle.pl_history.proofs.ItemPages.{folder_still, reference_inserted}
 use Rattle.pl_history.proofs.KeptMark.{count_at, mark_at}
 use Rattle.pl_history.proofs.RightAfter.{other_way, right_refreshed}
 use Rattle.pl_history.proofs.SourcePage.{source_store}
@@ -48,6 +51,13 @@ adds_new id parent place new page old items has same =
           reference_inserted id parent place new items other (ap (is_page other) has ∙ other_way other page apart)
           ∙ same other;
     }
+
+-- the entry of a new tag
+pub adds_tagged : (next : ℕ) (page : PageId) (name : List ℕ) (date : Micros) (items : List Item)
+    → Adds page items (tagged_items next page name date items)
+adds_tagged next page name date items =
+    adds_new (item_id (next + (new_items name items - 1))) (tag_id next name items) End (new_entry page date) page items
+    (with_tag next name date items) refl (λ other. folder_still next name date items other)
 
 module _ (old : Kept) (ids : Ids) (items : List Item) (page : PageId) (is_place : Bool)
     (adds : Adds page old.items items) (r : IsReady page is_place old) where

@@ -1,0 +1,105 @@
+// A visit that is added, and the page that it goes to.
+ghost use Rattle.std.specs.Prelude.{◌≡◌, ◌<◌, ℕ, List, [], true, IfOk, IfSome, OnOk};
+ghost use Rattle.std.specs.Option.{option_to_list};
+ghost use Rattle.pl_base.specs.Date.{IsDate};
+ghost use Rattle.pl_base.specs.Good.{end_of_ids};
+ghost use Rattle.pl_base.specs.Live.{live_slots, slot_limit};
+ghost use Rattle.pl_base.specs.Rows.{has_visit, store_of};
+ghost use Rattle.pl_marks.specs.Refreshed.{AreRightBut, HaveCounts, source_page};
+ghost use Rattle.pl_history.specs.Added.{AddsVisit};
+ghost use Rattle.pl_history.specs.Ready.{IsReady};
+ghost use Rattle.pl_history.specs.Sound.{IsSound};
+ghost use Rattle.pl_history.specs.Target.{HasRoom, IsTargetOf, WithTarget};
+
+use crate::{Target, is_place};
+use pl_base::{NoMemory, PageId, Rows, Steps, VisitId, VisitRow};
+use pl_link::Canon;
+use pl_marks::{refresh, visited_mark};
+use std::alloc::Global;
+use std::sync::ledger::Ledger;
+
+/// A visit that was added, its page, and the page's frecency from then on.
+#[derive(Clone, Copy, Debug, PartialEq, Eq)]
+pub struct AddedVisit {
+    pub visit: VisitId,
+    pub page: PageId,
+    pub frecency: i64,
+}
+
+/// The page where a visit goes: the known one, or a new one with the URL and the next id.
+pub fn page_for<R: Rows, L: Ledger>(
+    rows: &mut R,
+    url: &Canon,
+    target: Target,
+    steps: &mut Steps<L>,
+) -> Result<PageId, NoMemory>
+    requires target { IsTargetOf (R.kept rows.old) url.now target }
+    requires room { HasRoom url.now target (R.kept rows.old) }
+    ensures page { IfOk result (WithTarget url.now target (R.kept rows.old) (R.kept rows.new)) }
+    ensures base { OnOk result ((bytes : List ℕ) → R.base rows.old bytes → R.base rows.new bytes) }
+{
+    match target {
+        Target::Known(page) => Ok(page),
+        Target::New(origin) => rows.insert_page(url.text(), origin, steps),
+    }
+}
+
+// A redirect bears on the page of its source too.
+fn refresh_source<R: Rows, L: Ledger>(
+    alloc: Global,
+    rows: &mut R,
+    row: &VisitRow,
+    steps: &mut Steps<L>,
+) -> Result<(), NoMemory>
+    requires source { IfSome row.now.source (λ id. has_visit (R.kept rows.old) id ≡ true) }
+    requires counts { HaveCounts (R.kept rows.old) }
+    requires right { AreRightBut (option_to_list (source_page (R.kept rows.old) row.now))
+        (R.kept rows.old) }
+    ensures right { OnOk result (AreRightBut [] (R.kept rows.new)) }
+    ensures store { OnOk result (store_of (R.kept rows.new) ≡ store_of (R.kept rows.old)) }
+    ensures base { OnOk result ((bytes : List ℕ) → R.base rows.old bytes → R.base rows.new bytes) }
+{
+    if !row.transition.is_redirect() {
+        return Ok(());
+    }
+    let Some(source) = row.source else {
+        return Ok(());
+    };
+    let page = rows.visit_at(source, steps).unwrap().page;
+    let mark = rows.page_at(page, steps).unwrap();
+    let is_place = is_place(alloc, rows, page, steps)?;
+    refresh(alloc, rows, page, mark, is_place, steps)?;
+    Ok(())
+}
+
+/// The visit with the next id, to a page that is there. What is computed of it is computed afresh,
+/// and so is what is computed of the page that a redirect came from.
+pub fn add_visit<R: Rows, L: Ledger>(
+    alloc: Global,
+    rows: &mut R,
+    row: &VisitRow,
+    is_place: bool,
+    steps: &mut Steps<L>,
+) -> Result<AddedVisit, NoMemory>
+    requires ready { IsReady row.now.page is_place (R.kept rows.old) }
+    requires date { IsDate row.now.date }
+    requires source { IfSome row.now.source (λ id. has_visit (R.kept rows.old) id ≡ true) }
+    requires id { (R.kept rows.old).ids.visit < end_of_ids }
+    requires live { live_slots (store_of (R.kept rows.old)) < slot_limit }
+    ensures added { IfOk result (AddsVisit row.now
+        (store_of (R.kept rows.old)) (store_of (R.kept rows.new))) }
+    ensures sound { OnOk result (IsSound (R.kept rows.new)) }
+    ensures base { OnOk result ((bytes : List ℕ) → R.base rows.old bytes → R.base rows.new bytes) }
+{
+    let visit = rows.insert_visit(row, steps)?;
+    let page = row.page;
+    let mark = rows.page_at(page, steps).unwrap();
+    let told = visited_mark(mark, row.transition);
+    let frecency = refresh(alloc, rows, page, told, is_place, steps)?;
+    refresh_source(alloc, rows, row, steps)?;
+    Ok(AddedVisit {
+        visit,
+        page,
+        frecency,
+    })
+}
