@@ -1,5 +1,5 @@
 // Sessions over files in memory, and stores without a file.
-ghost use Rattle.std.specs.Prelude.{◌≡◌, ◌<◌};
+ghost use Rattle.std.specs.Prelude.{◌≡◌, ◌<◌, IfOk};
 ghost use Rattle.pl_engine.specs.Step.{HasDates};
 
 mod openings;
@@ -100,11 +100,15 @@ fn a_store_in_memory_answers(rt: HostRuntime) -> Result<(), Fail> {
     Ok(())
 }
 
+fn refuse_first(rt: &impl Abort, alloc: Global, engine: Engine<Flat>) -> Result<(), Fail> {
+    let command = first(alloc)?;
+    expect_no_page_ids::<Brand>(rt, engine, &command, Blank::new(1))
+}
+
 #[test]
 fn an_engine_without_ids_refuses(rt: HostRuntime) -> Result<(), Fail> {
-    let alloc = rt.alloc();
-    let command = first(alloc)?;
-    expect_no_page_ids::<Brand>(&rt, without_page_ids(alloc)?, &command, Blank::new(1))
+    let engine = without_page_ids(rt.alloc())?;
+    refuse_first(&rt, rt.alloc(), engine)
 }
 
 // The session after a command, which has this reply.
@@ -122,6 +126,27 @@ fn expect_performed(
     Ok(session)
 }
 
+fn perform_first(
+    rt: &impl Abort,
+    alloc: Global,
+    session: Session,
+    reply: &Reply,
+    desk: &mut MemDesk,
+) -> Result<Session, Fail> {
+    let command = first(alloc)?;
+    expect_performed(rt, session, &command, reply, desk)
+}
+
+fn perform_second(
+    rt: &impl Abort,
+    alloc: Global,
+    session: Session,
+    desk: &mut MemDesk,
+) -> Result<Session, Fail> {
+    let command = second(alloc)?;
+    expect_performed(rt, session, &command, &SECOND_REPLY, desk)
+}
+
 // A refused command leaves nothing to commit.
 #[test]
 fn a_refusal_makes_no_call(rt: HostRuntime) -> Result<(), Fail> {
@@ -130,16 +155,17 @@ fn a_refusal_makes_no_call(rt: HostRuntime) -> Result<(), Fail> {
     let _ = create(alloc, &mut desk)?;
     let session = reopen(alloc, &mut desk, 8)?;
     let calls = desk.calls();
-    let (_, reply) = perform(session, &first(alloc)?, &mut desk)?;
-    assert_eq!(rt; reply, Reply::Refused(Refusal::Full(10)));
+    let _ = perform_first(&rt, alloc, session, &FULL, &mut desk)?;
     assert_eq!(rt; desk.calls(), calls);
     Ok(())
 }
 
-fn titling(url: Canon, text: Txt) -> Command
-    ensures { HasDates result }
+fn title_command(alloc: Global) -> Result<Command, Fail>
+    ensures { IfOk result HasDates }
 {
-    Command::Title { url, text }
+    let url = Canon::read(alloc, "https://a.example/")?;
+    let text = Txt::copied(alloc, "A")?;
+    Ok(Command::Title { url, text })
 }
 
 // The first page gets a title.
@@ -149,11 +175,28 @@ fn give_title(
     session: Session,
     desk: &mut MemDesk,
 ) -> Result<Session, Fail> {
+    let command = title_command(alloc)?;
+    expect_performed(rt, session, &command, &Reply::Done, desk)
+}
+
+fn page_command(alloc: Global) -> Result<Command, Fail>
+    ensures { IfOk result HasDates }
+{
     let url = Canon::read(alloc, "https://a.example/")?;
-    let command = titling(url, Txt::copied(alloc, "A")?);
-    let (session, reply) = perform(session, &command, desk)?;
-    assert!(rt; reply == Reply::Done);
-    Ok(session)
+    Ok(Command::Page { url })
+}
+
+fn expect_page(
+    rt: &impl Abort,
+    session: Session,
+    command: &Command,
+    desk: &mut MemDesk,
+) -> Result<(), Fail>
+    requires { HasDates command.now }
+{
+    let (_, reply) = perform(session, command, desk)?;
+    assert!(rt; matches!(reply, Reply::Page { .. }));
+    Ok(())
 }
 
 fn ask_page(
@@ -162,10 +205,8 @@ fn ask_page(
     session: Session,
     desk: &mut MemDesk,
 ) -> Result<(), Fail> {
-    let url = Canon::read(alloc, "https://a.example/")?;
-    let (_, reply) = perform(session, &Command::Page { url }, desk)?;
-    assert!(rt; matches!(reply, Reply::Page { .. }));
-    Ok(())
+    let command = page_command(alloc)?;
+    expect_page(rt, session, &command, desk)
 }
 
 // A title that stands already is no change, and what is asked of a page is none.
@@ -174,7 +215,7 @@ fn what_changes_nothing_makes_no_call(rt: HostRuntime) -> Result<(), Fail> {
     let alloc = rt.alloc();
     let mut desk = MemDesk::holding(alloc, &[], &[])?;
     let session = create(alloc, &mut desk)?;
-    let (session, _) = perform(session, &first(alloc)?, &mut desk)?;
+    let session = perform_first(&rt, alloc, session, &FIRST_REPLY, &mut desk)?;
     let session = give_title(&rt, alloc, session, &mut desk)?;
     let calls = desk.calls();
     let session = give_title(&rt, alloc, session, &mut desk)?;

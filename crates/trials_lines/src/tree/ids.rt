@@ -20,12 +20,12 @@ fn performed<L: Ledger>(
     engine: Engine<Flat>,
     command: &Command,
     steps: &mut Steps<L>,
-) -> Result<(Engine<Flat>, Txt), Fail>
+) -> Result<(Engine<Flat>, Option<Txt>), Fail>
     requires { HasDates command.now }
 {
     let (engine, reply) = engine.apply(command, steps)?;
     let text = reply_text(alloc, &reply)?;
-    Ok((engine, text))
+    Ok((engine, Some(text)))
 }
 
 // The engine after a line, and the text of the reply, which a comment has not.
@@ -36,10 +36,7 @@ fn answered<L: Ledger>(
     steps: &mut Steps<L>,
 ) -> Result<(Engine<Flat>, Option<Txt>), Fail> {
     match line(alloc, text)? {
-        Some(command) => {
-            let (engine, reply) = performed(alloc, engine, &command, steps)?;
-            Ok((engine, Some(reply)))
-        }
+        Some(command) => performed(alloc, engine, &command, steps),
         None => Ok((engine, None)),
     }
 }

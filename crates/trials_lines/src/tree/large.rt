@@ -36,12 +36,23 @@ fn with_item(rt: &impl Abort, memory: Memory, command: &Command, id: u32) -> Res
     Ok(memory)
 }
 
+fn with_folder(
+    rt: &impl Abort,
+    alloc: Global,
+    memory: Memory,
+    parent: u32,
+    id: u32,
+) -> Result<Memory, Fail> {
+    let command = folder(alloc, parent)?;
+    with_item(rt, memory, &command, id)
+}
+
 // Each folder holds the next one.
 fn deep(rt: &impl Abort, alloc: Global) -> Result<Memory, Fail> {
     let memory = Memory::opening(alloc, SLOT_LIMIT)?;
-    let mut memory = with_item(rt, memory, &folder(alloc, 2)?, 7)?;
+    let mut memory = with_folder(rt, alloc, memory, 2, 7)?;
     for id in 8..=LAST {
-        memory = with_item(rt, memory, &folder(alloc, id - 1)?, id)?;
+        memory = with_folder(rt, alloc, memory, id - 1, id)?;
     }
     Ok(memory)
 }
@@ -49,7 +60,7 @@ fn deep(rt: &impl Abort, alloc: Global) -> Result<Memory, Fail> {
 // Folder 7 holds bookmarks of one page.
 fn wide(rt: &impl Abort, alloc: Global) -> Result<Memory, Fail> {
     let memory = Memory::opening(alloc, SLOT_LIMIT)?;
-    let mut memory = with_item(rt, memory, &folder(alloc, 2)?, 7)?;
+    let mut memory = with_folder(rt, alloc, memory, 2, 7)?;
     for id in 8..=LAST {
         memory = with_bookmark(rt, alloc, memory, id)?;
     }

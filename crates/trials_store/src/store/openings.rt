@@ -63,22 +63,11 @@ fn a_new_store_opens_with_each_call(rt: HostRuntime) -> Result<(), Fail> {
     Ok(())
 }
 
-fn commit_second(
-    rt: &impl Abort,
-    alloc: Global,
-    session: Session,
-    desk: &mut MemDesk,
-) -> Result<(), Fail> {
-    let command = second(alloc)?;
-    let _ = expect_performed(rt, session, &command, &SECOND_REPLY, desk)?;
-    Ok(())
-}
-
 // How many calls a session over the file makes in all for the second command.
 fn calls_for_second(rt: &impl Abort, alloc: Global, bytes: &[u8]) -> Result<u32, Fail> {
     let mut desk = MemDesk::holding(alloc, bytes, &[])?;
     let session = reopen(alloc, &mut desk, SLOT_LIMIT)?;
-    commit_second(rt, alloc, session, &mut desk)?;
+    let _ = perform_second(rt, alloc, session, &mut desk)?;
     Ok(desk.calls())
 }
 
@@ -87,7 +76,8 @@ fn calls_for_second(rt: &impl Abort, alloc: Global, bytes: &[u8]) -> Result<u32,
 fn a_store_opens_before_a_tail(rt: HostRuntime) -> Result<(), Fail> {
     let alloc = rt.alloc();
     let mut desk = MemDesk::holding(alloc, &[], &[])?;
-    let _ = perform(create(alloc, &mut desk)?, &first(alloc)?, &mut desk)?;
+    let session = create(alloc, &mut desk)?;
+    let _ = perform_first(&rt, alloc, session, &FIRST_REPLY, &mut desk)?;
     let mut bytes = desk.bytes().to_vec(alloc)?;
     let calls = calls_for_second(&rt, alloc, &bytes)?;
     bytes.extend_from_slice(&[0x5a; 3 * PAGE_SIZE + 1])?;

@@ -21,11 +21,15 @@ fn next_visit(session: Session, command: &Command) -> Result<VisitId, Fail>
     Ok(visit_in(&reply).ok_or("no visit")?)
 }
 
+fn next_first(alloc: Global, session: Session) -> Result<VisitId, Fail> {
+    let command = first(alloc)?;
+    next_visit(session, &command)
+}
+
 // How many commands the file holds, by the id of the visit that a session over it answers next.
 fn commands_in(alloc: Global, desk: &mut MemDesk) -> Result<u32, Fail> {
-    let command = first(alloc)?;
     let session = reopen(alloc, desk, SLOT_LIMIT)?;
-    let next = next_visit(session, &command)?;
+    let next = next_first(alloc, session)?;
     Ok(next.0.saturating_sub(1))
 }
 
