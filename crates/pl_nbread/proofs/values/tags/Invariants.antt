@@ -1,0 +1,6 @@
+use Rattle.std.proofs.Common.{◌≡◌}
+use Rattle.pl_nbread.proofs.ValueSteps.{tags_of}
+use Rattle.pl_nbread.proofs.values.tags.Given as goal
+
+abbrev pub invariant-loop-name : goal.invariant-loop-name
+invariant-loop-name l = l.tags.items ≡ tags_of l.yielded
