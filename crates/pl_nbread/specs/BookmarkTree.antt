@@ -223,7 +223,8 @@ title_in text = decoded (trimmed text)
 abbrev pub title : Content → List ℕ
 title behind = title_in (title_text behind)
 
--- what stands here, behind a heading whose list has not begun: its children stand there
+-- what stands here, behind a heading whose list has not begun: its children stand there. Lists are
+-- `Inner` content, so their tags by themselves say nothing
 abbrev pub made : Place → Option Place → Content → List Made
 made here pending Nothing = []
 made here pending (Inner inner behind) =
