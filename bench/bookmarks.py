@@ -3,8 +3,8 @@
 
     bench/bookmarks.py [PROGRAM]
 
-PROGRAM is that of `crates/nbread_main`, by default the one that the gate left. The file has 15 MB: bookmarks with dates,
-tags and icons in folders, which end in turn. Both count folders, bookmarks and separators; the counts are compared.
+PROGRAM is that of `crates/nbread_main`, by default the one that `rt run` in that folder left, or the gate where it proved
+it. The file has 15 MB: bookmarks with dates, tags and icons in folders, which end in turn. Both count folders, bookmarks and separators; the counts are compared.
 Of three runs the least time is told, with the peak of memory of that program.
 """
 import html.parser

@@ -1,6 +1,6 @@
 // Bytes that hold no bookmarks, and files that do harm to a careless reader.
-use crate::shown::{DOCTYPE, expect_tree};
-use pl_nbread::{ReadError, read};
+use crate::shown::{DOCTYPE, expect_tree, read_file};
+use pl_nbread::ReadError;
 use std::alloc::Global;
 use std::process::Abort;
 use std::test::Fail;
@@ -36,7 +36,7 @@ const REFUSED: &[(&[u8], u64)] = &[
 fn other_bytes_are_refused(rt: HostRuntime) -> Result<(), Fail> {
     for (bytes, offset) in REFUSED {
         assert!(rt;
-            matches!(read(rt.alloc(), bytes), Err(ReadError::NotBookmarks(at)) if at == *offset)
+            matches!(read_file(rt.alloc(), bytes), Err(ReadError::NotBookmarks(at)) if at == *offset)
         );
     }
     Ok(())
@@ -63,7 +63,7 @@ fn expect_refused_before(
     bytes: &[u8],
     offset: u64,
 ) -> Result<(), Fail> {
-    let Err(ReadError::NotBookmarks(at)) = read(alloc, bytes) else {
+    let Err(ReadError::NotBookmarks(at)) = read_file(alloc, bytes) else {
         return Err("not refused")?;
     };
     assert!(rt; at <= offset && offset <= at.saturating_add(2));
@@ -88,7 +88,7 @@ fn a_hundred_thousand_lists_may_be_open(rt: HostRuntime) -> Result<(), Fail> {
     expect_tree(&rt, alloc, file.as_bytes(), "|m0s[]")?;
     let mut file = repeated(alloc, "<H3><DL>", 100_000)?;
     file.push_str("<HR>")?;
-    let tree = read(alloc, file.as_bytes())?;
+    let tree = read_file(alloc, file.as_bytes())?;
     let last = tree.menu.as_slice().last().ok_or("no nodes")?;
     assert_eq!(rt; last.depth, 100_000);
     assert_eq!(rt; tree.menu.as_slice().len(), 100_001);
@@ -128,7 +128,7 @@ fn a_title_of_millions_of_bytes_is_read(rt: HostRuntime) -> Result<(), Fail> {
     for _ in 0..2_000_000 {
         file.push_str("&#<")?;
     }
-    let tree = read(alloc, file.as_bytes())?;
+    let tree = read_file(alloc, file.as_bytes())?;
     let node = tree.menu.as_slice().first().ok_or("no nodes")?;
     assert_eq!(rt; node.title.as_str().len(), 6_000_000);
     Ok(())

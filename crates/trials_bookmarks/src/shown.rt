@@ -1,6 +1,6 @@
 // Trees of bookmarks as texts, so that tables can tell them by hand.
 use pl_base::{ItemKind, Micros};
-use pl_nbread::{Node, Tree, read};
+use pl_nbread::{FILE_LIMIT, Node, ReadError, Tree, read};
 use std::alloc::Global;
 use std::process::Abort;
 use std::test::Fail;
@@ -79,9 +79,17 @@ fn shown(alloc: Global, tree: &Tree) -> Result<String, Fail> {
     Ok(text)
 }
 
+// The tree of the bytes, or why there is none. More bytes than a file may have are never tried.
+pub fn read_file(alloc: Global, bytes: &[u8]) -> Result<Tree, ReadError> {
+    if bytes.len() >= FILE_LIMIT {
+        return Err(ReadError::NoMemory);
+    }
+    read(alloc, bytes)
+}
+
 // The bytes hold this tree.
 pub fn expect_tree(rt: &impl Abort, alloc: Global, bytes: &[u8], tree: &str) -> Result<(), Fail> {
-    let read = read(alloc, bytes)?;
+    let read = read_file(alloc, bytes)?;
     let text = shown(alloc, &read)?;
     assert_eq!(rt; text.as_str(), tree);
     Ok(())

@@ -1,6 +1,6 @@
 // A file with everything in it, and each front of it.
-use crate::shown::{DOCTYPE, expect_tree};
-use pl_nbread::{ReadError, read};
+use crate::shown::{DOCTYPE, expect_tree, read_file};
+use pl_nbread::ReadError;
 use std::test::Fail;
 
 const WORKED: &str = "<!DOCTYPE NETSCAPE-Bookmark-file-1>\n\
@@ -45,7 +45,7 @@ fn the_worked_file_is_read(rt: HostRuntime) -> Result<(), Fail> {
 fn each_front_is_read(rt: HostRuntime) -> Result<(), Fail> {
     let alloc = rt.alloc();
     for (end, _) in WORKED.as_bytes().iter().enumerate() {
-        let read = read(alloc, &WORKED.as_bytes()[..end]);
+        let read = read_file(alloc, &WORKED.as_bytes()[..end]);
         if end < DOCTYPE.len() {
             assert!(rt; matches!(read, Err(ReadError::NotBookmarks(0))));
         } else {
