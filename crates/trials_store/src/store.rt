@@ -100,15 +100,11 @@ fn a_store_in_memory_answers(rt: HostRuntime) -> Result<(), Fail> {
     Ok(())
 }
 
-fn refuse_first(rt: &impl Abort, alloc: Global, engine: Engine<Flat>) -> Result<(), Fail> {
-    let command = first(alloc)?;
-    expect_no_page_ids::<Brand>(rt, engine, &command, Blank::new(1))
-}
-
 #[test]
 fn an_engine_without_ids_refuses(rt: HostRuntime) -> Result<(), Fail> {
-    let engine = without_page_ids(rt.alloc())?;
-    refuse_first(&rt, rt.alloc(), engine)
+    let alloc = rt.alloc();
+    let command = first(alloc)?;
+    expect_no_page_ids::<Brand>(&rt, without_page_ids(alloc)?, &command, Blank::new(1))
 }
 
 // The session after a command, which has this reply.
