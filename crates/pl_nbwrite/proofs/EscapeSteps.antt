@@ -1,0 +1,102 @@
+-- How texts and titles are escaped, character by character.
+use Rattle.std.proofs.Common.{◌≡◌, ◌≢◌, ◌∙◌, ◌<◌, ◌≤◌, ℕ, suc, List, [], ◌∷◌, ◌++◌, ⊎_elim}
+use Rattle.std.proofs.Common.{ap, append-nil, append_assoc, arith, get_or, length, map, refl, sym}
+use Rattle.std.specs.Prelude.{chars, codes, encode_utf8, encode_utf8_all}
+use Rattle.std.specs.Str.{IsUtf8}
+use Rattle.std.proofs.lemmas.Bool.{cases_lt, ne_eqb}
+use Rattle.std.proofs.lemmas.Grind.{flat_map-append}
+use Rattle.std.proofs.lemmas.List.{map-id}
+use Rattle.std.proofs.lemmas.Str.{encode_ascii, encodes-append, encodes-chars, inside_one}
+use Rattle.pl_base.specs.Tags.{comma_joined}
+use Rattle.pl_nbwrite.specs.BookmarkText.{edge, escape, escaped, title_end, title_text}
+use Rattle.pl_nbwrite.specs.Written.{comma_before}
+
+-- ---- characters
+
+pub escape-plain : (b : ℕ) → b ≢ 38 → b ≢ 60 → b ≢ 62 → b ≢ 34 → b ≢ 39 → b ≢ 9 → b ≢ 10 → b ≢ 12 → b ≢ 13
+    → escape b ≡ b ∷ []
+escape-plain b amp lt gt quot apos tab lf ff cr =
+    rw (
+      ne_eqb b 38 amp,
+      ne_eqb b 60 lt,
+      ne_eqb b 62 gt,
+      ne_eqb b 34 quot,
+      ne_eqb b 39 apos,
+      ne_eqb b 9 tab,
+      ne_eqb b 10 lf,
+      ne_eqb b 12 ff,
+      ne_eqb b 13 cr,
+    ) refl
+
+-- no byte beyond ASCII is escaped
+pub escape-high : (b : ℕ) → 128 ≤ b → escape b ≡ b ∷ []
+escape-high b high =
+    escape-plain b (omega arith) (omega arith) (omega arith) (omega arith) (omega arith) (omega arith) (omega arith)
+    (omega arith) (omega arith)
+
+pub escaped-high : (bytes : List ℕ) → ((k : ℕ) → k < length bytes → 128 ≤ get_or bytes k 0) → escaped bytes ≡ bytes
+escaped-high [] high = refl
+escaped-high (b ∷ bytes) high =
+    ap (λ (x : List ℕ). x ++ escaped bytes) (escape-high b (high 0 (omega arith)))
+    ∙ ap (λ (more : List ℕ). b ∷ more) (escaped-high bytes (λ k within. high (suc k) (omega arith)))
+
+-- a character that is not escaped is written as it is
+pub escaped-plain : (c : ℕ) → escape c ≡ c ∷ [] → escaped (encode_utf8 c) ≡ encode_utf8 c
+escaped-plain c plain =
+    ⊎_elim
+    (λ low. let one = encode_ascii c low in
+    ap escaped one ∙ ap (λ (e : List ℕ). e ++ []) plain ∙ sym one)
+    (λ high. escaped-high (encode_utf8 c) (λ k within.
+    ⊎_elim
+    (λ low. let same = inside_one c [] (encode_utf8 c) k (sym (append-nil (encode_utf8 c))) within low in
+    absurd (omega arith))
+    (λ far. far) (cases_lt (get_or (encode_utf8 c) k 0) 128)))
+    (cases_lt c 128)
+
+pub escaped-low : (c : ℕ) → c < 128 → escaped (encode_utf8 c) ≡ escape c
+escaped-low c low = ap escaped (encode_ascii c low) ∙ append-nil (escape c)
+
+-- one character more
+pub escaped-push : (cs : List ℕ) (c : ℕ)
+    → escaped (encode_utf8_all (cs ++ c ∷ [])) ≡ escaped (encode_utf8_all cs) ++ escaped (encode_utf8 c)
+escaped-push cs c =
+    ap escaped (encodes-append cs (c ∷ []) ∙ ap (λ (more : List ℕ). encode_utf8_all cs ++ more) (append-nil (encode_utf8 c)))
+    ∙ flat_map-append escape (encode_utf8_all cs) (encode_utf8 c)
+
+-- all characters
+pub escaped-chars : (text cs : List ℕ) → IsUtf8 text → map (λ (c : ℕ). c) cs ≡ chars text
+    → escaped (encode_utf8_all cs) ≡ escaped text
+escaped-chars text cs utf8 all =
+    ap (λ (l : List ℕ). escaped (encode_utf8_all l)) (sym (map-id cs) ∙ all) ∙ ap escaped (encodes-chars text utf8)
+
+-- ---- titles
+
+pub title-other : (title : List ℕ) → ((rest : List ℕ) → title ≢ 32 ∷ rest) → title_text title ≡ title_end title
+title-other [] other = refl
+title-other (b ∷ []) other = append-nil (edge b)
+title-other (b ∷ c ∷ bytes) other =
+    let plain : b ≢ 32 = λ is. other (c ∷ bytes) (ap (λ (x : ℕ). x ∷ c ∷ bytes) is) in
+    rw (ne_eqb b 32 plain) refl
+
+pub title_end-space : (front : List ℕ) → title_end (front ++ 32 ∷ []) ≡ escaped front ++ codes "&#32;"
+title_end-space [] = refl
+title_end-space (b ∷ []) = ap (λ (x : List ℕ). x ++ codes "&#32;") (sym (append-nil (escape b)))
+title_end-space (b ∷ c ∷ front) =
+    ap (λ (x : List ℕ). escape b ++ x) (title_end-space (c ∷ front))
+    ∙ sym (append_assoc (escape b) (escaped (c ∷ front)) (codes "&#32;"))
+
+pub title_end-other : (text : List ℕ) → ((front : List ℕ) → text ≢ front ++ 32 ∷ []) → title_end text ≡ escaped text
+title_end-other [] other = refl
+title_end-other (b ∷ []) other =
+    let plain : b ≢ 32 = λ is. other [] (ap (λ (x : ℕ). x ∷ []) is) in
+    rw (ne_eqb b 32 plain) (sym (append-nil (escape b)))
+title_end-other (b ∷ c ∷ bytes) other =
+    ap (λ (x : List ℕ). escape b ++ x)
+    (title_end-other (c ∷ bytes) (λ front is. other (b ∷ front) (ap (λ (x : List ℕ). b ∷ x) is)))
+
+-- ---- tags
+
+pub names-step : (tag : List ℕ) (tags : List (List ℕ))
+    → escaped (comma_joined (tag ∷ tags)) ≡ escaped tag ++ (comma_before tags ++ escaped (comma_joined tags))
+names-step tag [] = sym (append-nil (escaped tag))
+names-step tag (next ∷ tags) = flat_map-append escape tag (44 ∷ comma_joined (next ∷ tags))

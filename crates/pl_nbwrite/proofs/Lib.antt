@@ -1,0 +1,4 @@
+mod Appended
+mod EscapeSteps
+mod ListSteps
+mod TextRows

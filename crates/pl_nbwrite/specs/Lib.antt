@@ -1,0 +1,2 @@
+pub mod BookmarkText
+pub mod Written
