@@ -1,4 +1,4 @@
-//! Tests of bookmark files. There is nothing else here, since a crate with tests of its own is
+//! Tests of bookmark files, read and written. There is nothing else here, since a crate with tests of its own is
 //! proved twice.
 #![tactic(auto)]
 
@@ -18,3 +18,5 @@ mod trees;
 mod values;
 #[cfg(test)]
 mod worked;
+#[cfg(test)]
+mod written;

@@ -1,4 +1,7 @@
 // Trees of bookmarks as texts, so that tables can tell them by hand.
+ghost use Rattle.std.specs.Prelude.{IfOk};
+ghost use Rattle.pl_nbread.specs.WellFormed.{AreWellFormed};
+
 use pl_base::{ItemKind, Micros};
 use pl_nbread::{FILE_LIMIT, Node, ReadError, Tree, read};
 use std::alloc::Global;
@@ -66,7 +69,8 @@ fn add_tags(text: &mut String, node: &Node) -> Result<(), Fail> {
     Ok(())
 }
 
-fn shown(alloc: Global, tree: &Tree) -> Result<String, Fail> {
+// The tree as a text.
+pub fn shown(alloc: Global, tree: &Tree) -> Result<String, Fail> {
     let mut text = String::new(alloc);
     add_list(alloc, &mut text, 'm', tree.menu.as_slice())?;
     add_list(alloc, &mut text, 't', tree.toolbar.as_slice())?;
@@ -80,7 +84,9 @@ fn shown(alloc: Global, tree: &Tree) -> Result<String, Fail> {
 }
 
 // The tree of the bytes, or why there is none. More bytes than a file may have are never tried.
-pub fn read_file(alloc: Global, bytes: &[u8]) -> Result<Tree, ReadError> {
+pub fn read_file(alloc: Global, bytes: &[u8]) -> Result<Tree, ReadError>
+    ensures { IfOk result AreWellFormed }
+{
     if bytes.len() >= FILE_LIMIT {
         return Err(ReadError::NoMemory);
     }

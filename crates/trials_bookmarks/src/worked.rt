@@ -3,7 +3,7 @@ use crate::shown::{DOCTYPE, expect_tree, read_file};
 use pl_nbread::ReadError;
 use std::test::Fail;
 
-const WORKED: &str = "<!DOCTYPE NETSCAPE-Bookmark-file-1>\n\
+pub const WORKED: &str = "<!DOCTYPE NETSCAPE-Bookmark-file-1>\n\
     <!-- This is an automatically generated file.\n\
     It will be read and overwritten.\n\
     DO NOT EDIT! -->\n\
