@@ -1,2 +1,3 @@
 pub mod BookmarkText
+pub mod Plain
 pub mod Written
