@@ -3,8 +3,8 @@ ghost use Rattle.std.specs.Prelude.{◌≡◌, ◌*◌, ◌++◌, [], OnOk, code
 ghost use Rattle.std.specs.String.{string_bytes};
 ghost use Rattle.pl_base.specs.Tags.{comma_joined};
 ghost use Rattle.pl_nbwrite.specs.BookmarkText as spec;
-ghost use Rattle.pl_nbwrite.specs.BookmarkText.{dates, escaped, heading, link, list_end, list_start};
-ghost use Rattle.pl_nbwrite.specs.BookmarkText.{lines_of, tags_text};
+ghost use Rattle.pl_nbwrite.specs.BookmarkText.{dates, escaped, heading, link, list_end};
+ghost use Rattle.pl_nbwrite.specs.BookmarkText.{lines_of, list_start, tags_text};
 ghost use Rattle.pl_nbwrite.specs.Written.{comma_before};
 
 use crate::escape::{push_escaped, push_title};

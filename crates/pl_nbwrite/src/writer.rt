@@ -1,6 +1,9 @@
 // The text of a tree.
-ghost use Rattle.std.specs.Prelude.{◌≡◌, IfOk};
+ghost use Rattle.std.specs.Prelude.{◌≡◌, IfOk, None};
+ghost use Rattle.pl_nbread.specs.BookmarkFile.{offset};
+ghost use Rattle.pl_nbread.specs.BookmarkTree.{tree_of};
 ghost use Rattle.pl_nbwrite.specs.BookmarkText.{file_text};
+ghost use Rattle.pl_nbwrite.specs.Plain.{IsPlain};
 
 use crate::lists::{push_nodes, push_root};
 use pl_base::{NoMemory, Txt};
@@ -22,6 +25,10 @@ const MOBILE: &str = " MOBILE_BOOKMARKS_FOLDER=\"true\"";
 /// The bookmark file of a tree, as Firefox writes it.
 pub fn text(alloc: Global, tree: &Tree) -> Result<Txt, NoMemory>
     ensures text { IfOk result (λ text. text ≡ file_text tree.now) }
+
+    // It is read, and gives the tree again if that has nothing that a file cannot keep.
+    ensures taken { IfOk result (λ text. offset text ≡ None) }
+    ensures reads { IfOk result (λ text. IsPlain tree.now → tree_of text ≡ tree.now) }
 {
     let mut file = String::from_str(alloc, HEADER)?;
     push_nodes(&mut file, 1, tree.menu.as_slice())?;

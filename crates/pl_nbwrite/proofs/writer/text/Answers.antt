@@ -1,11 +1,17 @@
 use Rattle.std.proofs.Common.{◌≡◌, ◌∙◌, ◌++◌, List, ℕ, ap, sym}
 use Rattle.std.specs.Prelude.{codes}
+use Rattle.std.specs.Prelude.{true}
+use Rattle.std.specs.Str.{is_utf8}
 use Rattle.std.specs.String.{string_bytes}
+use Rattle.std.proofs.lemmas.Str.{IsUtf8-string_bytes, is_utf8-from_IsUtf8}
+use Rattle.pl_nbread.specs.BookmarkFile.{offset}
+use Rattle.pl_nbread.specs.BookmarkTree.{tree_of}
 use Rattle.pl_nbread.specs.declared.tree.Node.{Node}
-use Rattle.pl_nbwrite.specs.BookmarkText.{attribute, header, list_end, nodes_text, root_text}
+use Rattle.pl_nbwrite.specs.BookmarkText.{attribute, file_text, header, list_end, nodes_text, root_text}
 use Rattle.pl_nbwrite.specs.Written.{root_list}
 use Rattle.pl_nbwrite.proofs.Appended.{grown}
 use Rattle.pl_nbwrite.proofs.ListSteps.{root-list}
+use Rattle.pl_nbwrite.proofs.ReadsBack.{reads_back, taken_as_text}
 use Rattle.pl_nbwrite.proofs.writer.text.Goals as goal
 
 -- a root that was pushed, of a list that equals the tree's
@@ -38,6 +44,12 @@ returns c =
     let to_toolbar = grown s1 s2 _ _ to_menu toolbar in
     let to_unfiled = grown s2 s3 _ _ to_toolbar unfiled in
     let to_mobile = grown s3 s4 _ _ to_unfiled mobile in
+    let written : c.from.result ≡ file_text tree =
+    c.from.ensures ∙ grown s4 s5 _ (list_end 0) to_mobile c.in_ok-push_str.ensures.bytes in
+    let utf8 : is_utf8 c.from.result ≡ true =
+    ap is_utf8 c.from.ensures ∙ is_utf8-from_IsUtf8 s5 (IsUtf8-string_bytes c.push_str.new.self) in
     record {
-      text = c.from.ensures ∙ grown s4 s5 _ (list_end 0) to_mobile c.in_ok-push_str.ensures.bytes;
+      text = written;
+      taken = ap offset written ∙ taken_as_text tree (ap is_utf8 (sym written) ∙ utf8);
+      reads = λ plain. ap tree_of written ∙ reads_back tree plain;
     }

@@ -1,0 +1,169 @@
+-- What attributes say, as they are written.
+use Rattle.std.proofs.Common.{◌≡◌, ◌≢◌, ◌∙◌, ◌*◌, ◌/◌, ◌<◌, ◌≤◌, ◌^◌, ◌==◌, ℕ, zero, suc, Bool, true}
+use Rattle.std.proofs.Common.{false, not, List, [], ◌∷◌, All, Some, Option, ap, arith, cond, decimal, get_or}
+use Rattle.std.proofs.Common.{nat_eq, refl, sym}
+use Rattle.std.specs.Prelude.{codes, unwrap_or}
+use Rattle.std.specs.Char.{is_ascii_digit}
+use Rattle.std.specs.List.{filter, filter_map, list_all, list_any, slice_split, cons_option}
+use Rattle.std.specs.Option.{option_and_then}
+use Rattle.std.specs.Str.Parse.{AllDigits, IsNumeral, digits_value}
+use Rattle.std.proofs.lemmas.Bool.{and_from, and_parts, cond-false, cond-true, eqb-true, leb-true, lt-ltb, ne_eqb, not-true}
+use Rattle.std.proofs.lemmas.Bool.{or_parts}
+use Rattle.std.proofs.lemmas.Bool.Decides.{nat_tests}
+use Rattle.std.proofs.lemmas.Fmt.{decimal_digit, decimal_is_IsNumeral, first_decimal}
+use Rattle.std.proofs.lemmas.List.Splits.{slice_split_at, slice_split_none}
+use Rattle.std.proofs.lemmas.Str.{IsUtf8-nil, is_utf8-from_IsUtf8}
+use Rattle.std.proofs.lemmas.Str.Parse.{digit_from_value}
+use Rattle.pl_base.specs.declared.date.Micros.{Micros}
+use Rattle.pl_base.specs.Good.{IsTagName}
+use Rattle.pl_base.specs.NumberText.{is_numeral, number_of}
+use Rattle.pl_base.specs.Tags.{comma_joined}
+use Rattle.pl_words.specs.TagLists.{each_once, firsts, is_same_tag}
+use Rattle.pl_words.specs.TagName.{is_tag_name, tag_named}
+use Rattle.pl_words.proofs.TagNames.{name_trimmed}
+use Rattle.pl_words.proofs.TagTests.{named_by_test, tag_is_named}
+use Rattle.pl_nbread.specs.BookmarkTree as read
+use Rattle.pl_nbread.specs.BookmarkTree.{if_date, micros, seconds_limit, tags_in}
+use Rattle.pl_nbread.specs.References.{decoded}
+use Rattle.pl_nbread.specs.Tokens.{Attribute, is_less}
+use Rattle.pl_nbread.specs.WellFormed.{is_date}
+use Rattle.pl_nbwrite.specs.BookmarkText.{escaped, seconds}
+use Rattle.pl_nbwrite.specs.Plain.{is_whole}
+use Rattle.pl_nbwrite.proofs.DecodedBack.{decoded-digits, decoded-escaped, is_calm}
+use Rattle.pl_nbwrite.proofs.TokenSteps.{lacks, named}
+
+-- ---- tests of bytes
+
+-- where one test passes each byte, so does a weaker one
+pub weaker : (p q : ℕ → Bool) → ((b : ℕ) → p b ≡ true → q b ≡ true) → (text : List ℕ) → list_all p text ≡ true
+    → list_all q text ≡ true
+weaker p q leads [] all = refl
+weaker p q leads (b ∷ text) all =
+    let parts = and_parts (p b) (list_all p text) all in
+    and_from (q b) (list_all q text) (leads b parts.0) (weaker p q leads text parts.1)
+
+calm_quote : (b : ℕ) → is_calm b ≡ true → not (nat_eq 34 b) ≡ true
+calm_quote b calm = grind (arith, nat_tests)
+
+digit_quote : (b : ℕ) → is_ascii_digit b ≡ true → not (nat_eq 34 b) ≡ true
+digit_quote b digit = grind (arith, nat_tests)
+
+pub no_quote : (text : List ℕ) → list_all is_calm text ≡ true → lacks (nat_eq 34) text ≡ true
+no_quote text calm = weaker is_calm (λ b. not (nat_eq 34 b)) calm_quote text calm
+
+pub no_less : (text : List ℕ) → list_all is_calm text ≡ true → lacks is_less text ≡ true
+no_less text calm = weaker is_calm (λ b. not (is_less b)) (λ b own. (and_parts _ _ own).0) text calm
+
+-- ---- numbers
+
+all_digits : (text : List ℕ) → AllDigits 10 text → list_all is_ascii_digit text ≡ true
+all_digits [] digits = refl
+all_digits (b ∷ text) digits =
+    let digit = digit_from_value b digits.0 in
+    and_from (is_ascii_digit b) (list_all is_ascii_digit text) (grind (arith, nat_tests)) (all_digits text digits.1)
+
+-- a text of digits whose first is not `0`
+digits_numeral : (text : List ℕ) → IsNumeral 10 text → 48 < get_or text 0 0 → is_numeral text ≡ true
+digits_numeral [] digits first = absurd (omega arith)
+digits_numeral (b ∷ text) digits first =
+    let other : b ≢ 48 = (λ is. omega arith) in
+    cond-false (b == 48) _ _ (ne_eqb b 48 other) ∙ all_digits (b ∷ text) digits.1
+
+decimal_numeral : (n : ℕ) → n < 2 ^ 64 → is_numeral (decimal n) ≡ true
+decimal_numeral zero fits = ap is_numeral (decimal_digit 0 (omega arith))
+decimal_numeral (suc n) fits =
+    digits_numeral (decimal (suc n)) (decimal_is_IsNumeral (suc n) fits).0 (first_decimal (suc n) (omega arith) fits)
+
+number_back : (n : ℕ) → n < 2 ^ 64 → number_of (decimal n) ≡ Some n
+number_back n fits =
+    let value : digits_value 10 (decimal n) ≡ n = (decimal_is_IsNumeral n fits).1 in
+    cond-true _ _ _
+    (and_from _ _ (decimal_numeral n fits) (lt-ltb (digits_value 10 (decimal n)) (2 ^ 64) (omega arith)))
+    ∙ ap Some value
+
+decimal_digits : (n : ℕ) → n < 2 ^ 64 → list_all is_ascii_digit (decimal n) ≡ true
+decimal_digits n fits = all_digits (decimal n) (decimal_is_IsNumeral n fits).0.1
+
+-- ---- dates
+
+module _ (date : Micros) (own : is_date date ≡ true) where
+  in_range : date.0 ≤ 253_402_300_799_999_999
+  in_range = leb-true date.0 253_402_300_799_999_999 own
+
+  few : date.0 / 1_000_000 < 253_402_300_800
+  few = let most = in_range in omega arith
+
+  fits : date.0 / 1_000_000 < 2 ^ 64
+  fits = let less = few in omega arith
+
+  pub digits_date : list_all is_ascii_digit (seconds date) ≡ true
+  digits_date = decimal_digits (date.0 / 1_000_000) fits
+
+  pub no_quote_date : lacks (nat_eq 34) (seconds date) ≡ true
+  no_quote_date = weaker is_ascii_digit (λ b. not (nat_eq 34 b)) digit_quote (seconds date) digits_date
+
+  pub seconds_back : read.seconds (decoded (seconds date)) ≡ Some (date.0 / 1_000_000)
+  seconds_back =
+      ap read.seconds (decoded-digits (seconds date) digits_date)
+      ∙ ap (option_and_then if_date) (number_back (date.0 / 1_000_000) fits)
+      ∙ cond-true _ _ _ (lt-ltb (date.0 / 1_000_000) seconds_limit few)
+
+  pub date_back : is_whole date ≡ true → micros (date.0 / 1_000_000) ≡ date
+  date_back whole = λ i. record { 0 = eqb-true (date.0 / 1_000_000 * 1_000_000) date.0 whole i }
+
+-- ---- tags
+
+no_comma : (tag : List ℕ) → IsTagName tag → All (λ b. (b == 44) ≡ false) tag
+no_comma tag own = λ k d within. ne_eqb _ _ (own.no_comma k d within)
+
+split_back : (tag : List ℕ) (tags : List (List ℕ)) → list_all is_tag_name (tag ∷ tags) ≡ true
+    → slice_split (λ b. b == 44) (comma_joined (tag ∷ tags)) ≡ tag ∷ tags
+split_back tag [] own =
+    slice_split_none (λ b. b == 44) tag (no_comma tag (named_by_test tag (and_parts _ _ own).0))
+split_back tag (next ∷ tags) own =
+    let parts = and_parts (is_tag_name tag) (list_all is_tag_name (next ∷ tags)) own in
+    slice_split_at (λ b. b == 44) tag 44 (comma_joined (next ∷ tags)) (no_comma tag (named_by_test tag parts.0)) refl
+    ∙ ap (λ (more : List (List ℕ)). tag ∷ more) (split_back next tags parts.1)
+
+names_back : (tags : List (List ℕ)) → list_all is_tag_name tags ≡ true → filter_map tag_named tags ≡ tags
+names_back [] own = refl
+names_back (tag ∷ tags) own =
+    let parts = and_parts (is_tag_name tag) (list_all is_tag_name tags) own in
+    let name = named_by_test tag parts.0 in
+    ap (λ (o : Option (List ℕ)). cons_option o (filter_map tag_named tags))
+    (tag_is_named tag tag (sym (name_trimmed tag name)) name)
+    ∙ ap (λ (more : List (List ℕ)). tag ∷ more) (names_back tags parts.1)
+
+none_out : (tag : List ℕ) (tags : List (List ℕ)) → list_any (is_same_tag tag) tags ≡ false
+    → filter (λ y. not (is_same_tag tag y)) tags ≡ tags
+none_out tag [] none = refl
+none_out tag (other ∷ tags) none =
+    let parts = or_parts (is_same_tag tag other) (list_any (is_same_tag tag) tags) none in
+    ap (λ (v : Bool). cond (not v) (other ∷ filter (λ y. not (is_same_tag tag y)) tags)
+    (filter (λ y. not (is_same_tag tag y)) tags)) parts.0
+    ∙ ap (λ (more : List (List ℕ)). other ∷ more) (none_out tag tags parts.1)
+
+once_back : (tags : List (List ℕ)) → each_once is_same_tag tags ≡ true → firsts is_same_tag tags ≡ tags
+once_back [] once = refl
+once_back (tag ∷ tags) once =
+    let parts = and_parts (not (list_any (is_same_tag tag) tags)) (each_once is_same_tag tags) once in
+    ap (λ (more : List (List ℕ)). tag ∷ filter (λ y. not (is_same_tag tag y)) more) (once_back tags parts.1)
+    ∙ ap (λ (more : List (List ℕ)). tag ∷ more) (none_out tag tags (not-true _ parts.0))
+
+-- the attribute of tags, where there are any
+abbrev pub tags_said : List (List ℕ) → List Attribute
+tags_said [] = []
+tags_said (tag ∷ tags) = named (codes "TAGS") (escaped (comma_joined (tag ∷ tags))) ∷ []
+
+no_tags : tags_in [] ≡ []
+no_tags = rw (is_utf8-from_IsUtf8 [] IsUtf8-nil) refl
+
+-- the tags that are read are those
+pub tags_back : (tags : List (List ℕ)) → list_all is_tag_name tags ≡ true → each_once is_same_tag tags ≡ true
+    → tags_in (decoded (unwrap_or (read.raw (codes "tags") (tags_said tags)) [])) ≡ tags
+tags_back [] own once = no_tags
+tags_back (tag ∷ tags) own once =
+    ap tags_in (decoded-escaped (comma_joined (tag ∷ tags)))
+    ∙ ap (λ (parts : List (List ℕ)). firsts is_same_tag (filter_map tag_named parts)) (split_back tag tags own)
+    ∙ ap (firsts is_same_tag) (names_back (tag ∷ tags) own)
+    ∙ once_back (tag ∷ tags) once
