@@ -8,6 +8,7 @@ use Rattle.pl_base.specs.declared.refusal.Refusal.TheVariants.{NoItem, NotAFolde
 use Rattle.pl_base.specs.declared.refusal.Refusal.TheVariants.{BadPlace, Inside, DayBack}
 use Rattle.pl_base.specs.declared.refusal.Refusal.TheVariants.{Full, NoIds, BadLine, BadDate}
 use Rattle.pl_base.specs.declared.refusal.Refusal.TheVariants.{BadQuery, DupTag, BadTag, NoTag}
+use Rattle.pl_base.specs.declared.refusal.Refusal.TheVariants.{TooMany}
 
 -- the number of a refusal
 abbrev pub refusal_number : Refusal → ℕ
@@ -29,6 +30,7 @@ refusal_number DupTag = 15
 refusal_number BadDate = 16
 refusal_number BadTag = 17
 refusal_number NoTag = 18
+refusal_number (TooMany rows) = 19
 
 -- the number of what an id names
 abbrev pub id_kind_number : IdKind → ℕ
@@ -56,3 +58,4 @@ refusal_values DupTag = []
 refusal_values BadDate = []
 refusal_values BadTag = []
 refusal_values NoTag = []
+refusal_values (TooMany rows) = rows ∷ []

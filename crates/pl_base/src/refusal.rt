@@ -62,6 +62,9 @@ pub enum Refusal {
     /// The page has not the tag.
     #[error("the page has not the tag")]
     NoTag,
+    /// An import has so many bookmarks, folders and separators, which is more than it may.
+    #[error("{0} rows to import")]
+    TooMany(u64),
 }
 
 impl Refusal {
@@ -88,6 +91,7 @@ impl Refusal {
             Refusal::BadDate => 16,
             Refusal::BadTag => 17,
             Refusal::NoTag => 18,
+            Refusal::TooMany(_) => 19,
         }
     }
 }

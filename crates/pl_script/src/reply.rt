@@ -187,6 +187,7 @@ fn refusal_text(alloc: Global, refusal: &Refusal) -> Result<String, NoMemory>
         }
         Refusal::NoIds(kind) => format!(in alloc; "refused\t{number}\t{}\n", kind.number())?,
         Refusal::BadQuery(piece) => format!(in alloc; "refused\t{number}\t{piece}\n")?,
+        Refusal::TooMany(rows) => format!(in alloc; "refused\t{number}\t{rows}\n")?,
         Refusal::Full(slots) => format!(in alloc; "refused\t{number}\t{slots}\n")?,
         Refusal::BadLine(column) => format!(in alloc; "refused\t{number}\t{column}\n")?,
         Refusal::BadUrl

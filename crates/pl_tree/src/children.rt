@@ -67,7 +67,7 @@ fn first_children<R: Rows, L: Ledger>(
 }
 
 /// The last child of a folder.
-pub(crate) fn last_child<R: Rows, L: Ledger>(
+pub fn last_child<R: Rows, L: Ledger>(
     rows: &R,
     parent: ItemId,
     steps: &mut Steps<L>,

@@ -16,7 +16,7 @@ mod tags;
 mod titles;
 mod tree_change;
 
-pub use children::child_at;
+pub use children::{child_at, last_child};
 pub use count::item_count;
 pub use error::TreeError;
 pub use insertion::{insert, insert_allowed};

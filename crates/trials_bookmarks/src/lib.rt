@@ -1,5 +1,5 @@
-//! Tests of bookmark files, read and written. There is nothing else here, since a crate with tests of its own is
-//! proved twice.
+//! Tests of bookmark files, read and written. There is nothing else here, since a crate with tests
+//! of its own is proved twice.
 #![tactic(auto)]
 
 #[cfg(test)]

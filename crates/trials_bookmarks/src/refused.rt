@@ -35,9 +35,8 @@ const REFUSED: &[(&[u8], u64)] = &[
 #[test]
 fn other_bytes_are_refused(rt: HostRuntime) -> Result<(), Fail> {
     for (bytes, offset) in REFUSED {
-        assert!(rt;
-            matches!(read_file(rt.alloc(), bytes), Err(ReadError::NotBookmarks(at)) if at == *offset)
-        );
+        let read = read_file(rt.alloc(), bytes);
+        assert!(rt; matches!(read, Err(ReadError::NotBookmarks(at)) if at == *offset));
     }
     Ok(())
 }
