@@ -31,6 +31,13 @@ use Rattle.pl_tree.proofs.TreeLaws.{child_once}
 
 -- ---- a new item
 
+-- neither the parent nor the place is refused
+pub takes_item : (kept : Kept) (parent : ItemId) (place : Place) → insert_refusal parent place kept ≡ None
+    → None ≡ refusal kept.items (Insert parent place)
+takes_item kept parent place none =
+    sym (or_none (refusal kept.items (Insert parent place))
+    (if kept.ids.item == end_of_ids then Some (NoIds ItemIds) else None) none).0
+
 pub insert_allowed : (kept : Kept) (parent : ItemId) (place : Place) → None ≡ refusal kept.items (Insert parent place)
     → (kept.ids.item ≡ end_of_ids → ⊥) → insert_refusal parent place kept ≡ None
 insert_allowed kept parent place none some =

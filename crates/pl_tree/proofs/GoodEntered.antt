@@ -23,6 +23,7 @@ use Rattle.pl_tree.proofs.InsertedChildren.{from_children}
 use Rattle.pl_tree.proofs.InsertedRows.{IsFolderAt, inserted_rows}
 use Rattle.pl_tree.proofs.LookedUp.{item_key, same_id}
 use Rattle.pl_tree.proofs.MappedItems.{changed_other}
+use Rattle.pl_tree.proofs.PutPlaces.{row_of_new}
 use Rattle.pl_tree.proofs.RootItems.{no_root_below, no_tags, top_folder}
 use Rattle.pl_tree.proofs.TagItems.{not_empty}
 use Rattle.pl_tree.proofs.TaggedRows.{rows_with_entry}
@@ -95,6 +96,6 @@ module _ (old : Store) (ids : Ids) (id : ItemId) (page : PageId) (date : Micros)
   pub entered_good : IsDate date → IsTrue (has_page_at old page) → HasGoodItems store
   entered_good dated has =
       with_tags store
-      (inserted_rows old ids id tag.id End (new_entry page date) up good folder fresh late
-      (IsUtf8-nil, omega arith) dated (λ _. refl, λ _. refl) has)
+      (inserted_rows old ids id tag.id End (row_of_new tag.id (new_entry page date)) [] up good folder fresh late
+      (IsUtf8-nil, omega arith) dated dated (λ _. refl, λ _. refl) has)
       (has_tags store new_rows still_used)

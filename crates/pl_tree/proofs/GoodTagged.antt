@@ -36,6 +36,7 @@ use Rattle.pl_tree.proofs.InsertedChildren.{ascends_new, from_children, rows_new
 use Rattle.pl_tree.proofs.InsertedRows.{inserted_rows}
 use Rattle.pl_tree.proofs.LookedUp.{found_at, found_in, id_key, item_key, none_found}
 use Rattle.pl_tree.proofs.MappedItems.{changed_other}
+use Rattle.pl_tree.proofs.PutPlaces.{row_of_new}
 use Rattle.pl_tree.proofs.RootItems.{top_folder}
 use Rattle.pl_tree.proofs.TagItems.{among_children}
 use Rattle.pl_tree.proofs.TaggedRows.{rows_with_folder}
@@ -118,9 +119,10 @@ module _ (old : Store) (ids : Ids) (next : ℕ) (page : PageId) (name : List ℕ
 
   mid_good : HasGoodRows mid
   mid_good =
-      inserted_rows old old.ids id tags_root End (new_tag name date) up (good_rows old good)
+      inserted_rows old old.ids id tags_root End (row_of_new tags_root (new_tag name date)) name up
+      (good_rows old good)
       (record { folder = root.0; there = root.1; kind = root.2; not_first = λ same. omega arith })
-      fresh late (is_title name named) dated (λ some. absurd (cc), λ same. absurd (cc)) tt
+      fresh late (is_title name named) dated dated (λ some. absurd (cc), λ same. absurd (cc)) tt
 
   mid_rows : tag_named name items ≡ None → HasTagRows mid.items
   mid_rows none =

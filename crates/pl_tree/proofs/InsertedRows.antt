@@ -7,15 +7,15 @@ use Rattle.std.proofs.lemmas.Bool.{eqb-true, ne_eqb}
 use Rattle.pl_base.specs.declared.id.Ids.{Ids}
 use Rattle.pl_base.specs.declared.id.ItemId.{ItemId}
 use Rattle.pl_base.specs.declared.item.ItemKind.TheVariants.{Bookmark, Folder}
+use Rattle.pl_base.specs.declared.item.ItemRow.{ItemRow}
 use Rattle.pl_base.specs.Date.{IsDate}
 use Rattle.pl_base.specs.Good.{HasRoots, IsGoodItem, IsTitle, IsTree, child_ids, has_page_at}
 use Rattle.pl_base.specs.Store.{Item, Store, item_id}
-use Rattle.pl_base.specs.Tree.{has_item, item_at}
+use Rattle.pl_base.specs.Tree.{has_item, item_at, new_item}
 use Rattle.pl_base.proofs.ItemLaws.{bare}
 use Rattle.pl_base.proofs.ListLaws.{list_any_push}
-use Rattle.pl_tree.specs.declared.new_item.NewItem.{NewItem}
 use Rattle.pl_tree.specs.declared.place.Place.{Place}
-use Rattle.pl_tree.specs.Changes.{item_of, put, with_new}
+use Rattle.pl_tree.specs.Changes.{put, with_child}
 use Rattle.pl_tree.proofs.Among.{Ascends, In, Once, count, count-append, from_map, in_back}
 use Rattle.pl_tree.proofs.Among.{in_either, in_front, in_map, not_counted}
 use Rattle.pl_tree.proofs.ChildLists.{bare_grown, count_grown, from_grown, grown, grown_id, grown_new, grown_old}
@@ -34,7 +34,7 @@ pub record IsFolderAt (items : List Item) (id : ItemId) : Type 0 where
   pub kind : folder.kind ≡ Folder
   pub not_first : id.0 ≢ 1
 
-module _ (old : Store) (ids : Ids) (id parent : ItemId) (place : Place) (new : NewItem)
+module _ (old : Store) (ids : Ids) (id parent : ItemId) (place : Place) (row : ItemRow) (title : List ℕ)
     (up : Ascends item_key old.items) (good : HasGoodRows old) (t : IsFolderAt old.items parent)
     (fresh : (i : Item) → In i old.items → i.id.0 < id.0) (late : 7 ≤ id.0) where
   abbrev pub items : List Item
@@ -43,19 +43,19 @@ module _ (old : Store) (ids : Ids) (id parent : ItemId) (place : Place) (new : N
   abbrev pub grow : Item → Item
   grow = grown parent place id
 
-  abbrev pub row : Item
-  row = item_of id new
+  abbrev pub new : Item
+  new = new_item id row title
 
   abbrev pub news : List Item
-  news = map grow items ++ row ∷ []
+  news = map grow items ++ new ∷ []
 
   abbrev pub store : Store
-  store = record old { ids = ids; items = with_new id parent place new items }
+  store = record old { ids = ids; items = with_child parent place id items ++ new ∷ [] }
 
   -- an item that is not the folder
   pub found_as_before : (x : ItemId) → x.0 < id.0 → x.0 ≢ parent.0 → item_at news x ≡ item_at items x
   found_as_before x below other =
-      at_push (map grow items) row x (ne_eqb id.0 x.0 (λ same. omega arith))
+      at_push (map grow items) new x (ne_eqb id.0 x.0 (λ same. omega arith))
       ∙ same_at grow (grown_id parent place id) items x (λ i h e.
       changed_other parent (λ (j : Item). record j { children = put place id j.children }) i
       (ne_eqb i.id.0 parent.0 (λ same. other (ap id_key (sym e) ∙ same))))
@@ -68,7 +68,7 @@ module _ (old : Store) (ids : Ids) (id parent : ItemId) (place : Place) (new : N
       (found_as_before (item_id 1) (omega arith) (λ same. t.not_first (sym same)))
       (λ n h.
       let range = top_range n h in
-      ap (option_map bare) (at_push (map grow items) row (item_id n) (ne_eqb id.0 n (λ same. omega arith)))
+      ap (option_map bare) (at_push (map grow items) new (item_id n) (ne_eqb id.0 n (λ same. omega arith)))
       ∙ bare_at grow (grown_id parent place id) items (item_id n) (λ i _ _. bare_grown parent place id i))
       good.roots
 
@@ -76,17 +76,17 @@ module _ (old : Store) (ids : Ids) (id parent : ItemId) (place : Place) (new : N
 
   has_old : (c : ItemId) → has_item items c ≡ true → has_item news c ≡ true
   has_old c has =
-      list_any_push (λ (i : Item). i.id.0 == c.0) (map grow items) row
+      list_any_push (λ (i : Item). i.id.0 == c.0) (map grow items) new
       (has_map grow (grown_id parent place id) items c ∙ has)
 
   has_new : has_item news id ≡ true
-  has_new = has_in news row (in_back (map grow items) (row ∷ []) row (inl refl))
+  has_new = has_in news new (in_back (map grow items) (new ∷ []) new (inl refl))
 
   known : (c : ItemId) → In c (child_ids news) → has_item news c ≡ true
   known c h =
       let r = from_child_ids news c h in
       let j : Item = r.0 in
-      elim (in_either (map grow items) (row ∷ []) j r.1) as (λ _. has_item news c ≡ true) [
+      elim (in_either (map grow items) (new ∷ []) j r.1) as (λ _. has_item news c ≡ true) [
         | inl g ↦
             let s = from_map grow items j g in
             let i : Item = s.0 in
@@ -99,12 +99,12 @@ module _ (old : Store) (ids : Ids) (id parent : ItemId) (place : Place) (new : N
         | inr (inr g) ↦ absurd g
       ]
 
-  child_ids_new : (k : ℕ) (is : List Item) → count id_key k (child_ids (is ++ row ∷ [])) ≡ count id_key k (child_ids is)
+  child_ids_new : (k : ℕ) (is : List Item) → count id_key k (child_ids (is ++ new ∷ [])) ≡ count id_key k (child_ids is)
   child_ids_new k [] = refl
   child_ids_new k (i ∷ is) =
       omega (
         arith,
-        count-append id_key k i.children (child_ids (is ++ row ∷ [])),
+        count-append id_key k i.children (child_ids (is ++ new ∷ [])),
         count-append id_key k i.children (child_ids is),
         child_ids_new k is,
       )
@@ -121,10 +121,10 @@ module _ (old : Store) (ids : Ids) (id parent : ItemId) (place : Place) (new : N
   reach holds one closed j h =
       let before : (i : Item) → In i items → holds i.id ≡ true =
       reaches items good.tree holds one (λ i g there c f.
-      closed (grow i) (in_front (map grow items) (row ∷ []) (grow i) (in_map grow items i g))
+      closed (grow i) (in_front (map grow items) (new ∷ []) (grow i) (in_map grow items i g))
       (ap holds (grown_id parent place id i) ∙ there) c (grown_old parent place id i c f))
       in
-      elim (in_either (map grow items) (row ∷ []) j h) as (λ _. holds j.id ≡ true) [
+      elim (in_either (map grow items) (new ∷ []) j h) as (λ _. holds j.id ≡ true) [
         | inl g ↦
             let s = from_map grow items j g in
             let i : Item = s.0 in
@@ -133,7 +133,7 @@ module _ (old : Store) (ids : Ids) (id parent : ItemId) (place : Place) (new : N
             let found = found_at items parent t.folder t.there in
             ap (λ (k : Item). holds k.id) e
             ∙ closed (grow t.folder)
-            (in_front (map grow items) (row ∷ []) (grow t.folder) (in_map grow items t.folder found.0))
+            (in_front (map grow items) (new ∷ []) (grow t.folder) (in_map grow items t.folder found.0))
             (ap holds (grown_id parent place id t.folder) ∙ before t.folder found.0) id
             (grown_new parent place id t.folder found.1)
         | inr (inr g) ↦ absurd g
@@ -159,14 +159,15 @@ module _ (old : Store) (ids : Ids) (id parent : ItemId) (place : Place) (new : N
           (good_item old i good.items h)
       choose false is = good_still old store i refl (good_item old i good.items h)
 
-  pub inserted_rows : IsTitle new.title → IsDate new.date → (IsSome new.page ↔ (new.kind ≡ Bookmark))
-      → IfSome new.page (λ page. IsTrue (has_page_at old page)) → HasGoodRows store
-  inserted_rows named dated bookmark page =
-      let row_good : IsGoodItem store row =
+  pub inserted_rows : IsTitle title → IsDate row.added → IsDate row.modified
+      → (IsSome row.page ↔ (row.kind ≡ Bookmark)) → IfSome row.page (λ page. IsTrue (has_page_at old page))
+      → HasGoodRows store
+  inserted_rows named added modified bookmark page =
+      let new_good : IsGoodItem store new =
       record {
         title = named;
-        added = dated;
-        modified = dated;
+        added = added;
+        modified = modified;
         bookmark = bookmark;
         page = page;
         children = λ some. absurd (some refl);
@@ -175,11 +176,11 @@ module _ (old : Store) (ids : Ids) (id parent : ItemId) (place : Place) (new : N
       record {
         items =
             all_good store (λ j h.
-            elim (in_either (map grow items) (row ∷ []) j h) as (λ _. IsGoodItem store j) [
+            elim (in_either (map grow items) (new ∷ []) j h) as (λ _. IsGoodItem store j) [
               | inl g ↦
                   let s = from_map grow items j g in
                   subst (IsGoodItem store) (sym s.2) (good_grown s.0 s.1)
-              | inr (inl e) ↦ subst (IsGoodItem store) (sym e) row_good
+              | inr (inl e) ↦ subst (IsGoodItem store) (sym e) new_good
               | inr (inr g) ↦ absurd g
             ]);
         roots = roots;

@@ -9,12 +9,13 @@ use Rattle.pl_base.specs.declared.item.ItemRow.{ItemRow}
 use Rattle.pl_base.specs.Good.{IsTree}
 use Rattle.pl_base.specs.Rows.{IsWellKept, Kept, with_item}
 use Rattle.pl_base.specs.Store.{Item, item_id}
-use Rattle.pl_base.specs.Tree.{adopting, children_of, leaving, moved, put_behind}
+use Rattle.pl_base.specs.Tree.{adopted, adopting, children_of, leaving, moved, new_item, put_behind}
 use Rattle.pl_base.specs.Tree.{without_id}
 use Rattle.pl_base.proofs.ListLaws.{all-filter}
 use Rattle.pl_tree.specs.declared.new_item.NewItem.{NewItem}
 use Rattle.pl_tree.specs.declared.place.Place.{Place}
-use Rattle.pl_tree.specs.Changes.{item_of, position, put, taken_out, with_child, with_inserted}
+use Rattle.pl_tree.specs.declared.place.Place.TheVariants.{End}
+use Rattle.pl_tree.specs.Changes.{position, put, taken_out, with_appended, with_child, with_inserted}
 use Rattle.pl_tree.specs.Places.{before, last_item}
 use Rattle.pl_tree.proofs.Among.{Ascends, In, all_from_in, at_in, in_front, in_take}
 use Rattle.pl_tree.proofs.ChildWalk.{apart_numbers, children_once}
@@ -107,19 +108,45 @@ its_children items parent ascend =
     all_from_in (λ (i : Item). (i.id.0 == parent.0) ≡ true → i.children ≡ children_of items parent) items
     (λ i within is. ap children_in (sym (at_id items i parent ascend within (same_item i.id parent is))))
 
+-- the rows with the item of a row, at a place of this folder
+abbrev pub with_put : ItemId → Place → ItemRow → List ℕ → Kept → Kept
+with_put parent place row title kept =
+    record kept {
+      ids = record kept.ids { item = kept.ids.item + 1 };
+      items =
+          with_child parent place (item_id kept.ids.item) kept.items
+          ++ new_item (item_id kept.ids.item) row title ∷ [];
+    }
+
+pub item_put : (kept : Kept) (parent : ItemId) (place : Place) (row : ItemRow) (title : List ℕ)
+    → row.parent ≡ Some parent → IsWellKept kept → IsTree kept.items
+    → with_item row title (before place (children_of kept.items parent)) kept ≡ with_put parent place row title kept
+item_put kept parent place row title is h tree =
+    let id : ItemId = item_id kept.ids.item in
+    let ids : List ItemId = children_of kept.items parent in
+    ap (λ (items : List Item).
+    record kept {
+      ids = record kept.ids { item = kept.ids.item + 1 };
+      items = items ++ new_item id row title ∷ [];
+    })
+    (ap (λ (p : Option ItemId). adopted p (before place ids) id kept.items) is
+    ∙ child_put kept.items parent place id ids (children_once kept.items parent tree)
+    (its_children kept.items parent (ids_ascend kept.items h.item_ids.ascending)))
+
+-- behind the last child is at the end
+pub item_appended : (kept now : Kept) (parent : ItemId) (last : Option ItemId) (row : ItemRow) (title : List ℕ)
+    → row.parent ≡ Some parent → last ≡ before End (children_of kept.items parent) → IsWellKept kept
+    → IsTree kept.items → now ≡ with_item row title last kept → now ≡ with_appended parent row title kept
+item_appended kept now parent last row title is last_is h tree made =
+    made
+    ∙ ap (λ (after : Option ItemId). with_item row title after kept) last_is
+    ∙ item_put kept parent End row title is h tree
+
 pub item_inserted : (kept : Kept) (parent : ItemId) (place : Place) (new : NewItem) → IsWellKept kept
     → IsTree kept.items
     → with_item (row_of_new parent new) new.title (before place (children_of kept.items parent)) kept
     ≡ with_inserted parent place new kept
-item_inserted kept parent place new h tree =
-    ap (λ (items : List Item).
-    record kept {
-      ids = record kept.ids { item = kept.ids.item + 1 };
-      items = items ++ item_of (item_id kept.ids.item) new ∷ [];
-    })
-    (child_put kept.items parent place (item_id kept.ids.item) (children_of kept.items parent)
-    (children_once kept.items parent tree)
-    (its_children kept.items parent (ids_ascend kept.items h.item_ids.ascending)))
+item_inserted kept parent place new h tree = item_put kept parent place (row_of_new parent new) new.title refl h tree
 
 -- ---- a move
 

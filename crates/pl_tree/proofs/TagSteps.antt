@@ -1,5 +1,5 @@
 -- What is told of a tag where its folder was looked up.
-use Rattle.std.proofs.Common.{◌≡◌, ◌∙◌, ◌+◌, ◌-◌, ◌≤◌, ◌==◌, ℕ, Bool, true, false, List, [], ◌∷◌}
+use Rattle.std.proofs.Common.{◌≡◌, ◌∙◌, ◌+◌, ◌-◌, ◌<◌, ◌≤◌, ◌==◌, ℕ, Bool, true, false, List, [], ◌∷◌}
 use Rattle.std.proofs.Common.{Option, Some, None, ap, arith, find, if◌then◌else◌, refl}
 use Rattle.std.specs.Prelude.{bytes_eq, unwrap_or}
 use Rattle.std.specs.Option.{is_none, option_and_then, option_map}
@@ -9,6 +9,7 @@ use Rattle.pl_base.specs.declared.date.Micros.{Micros}
 use Rattle.pl_base.specs.declared.id.ItemId.{ItemId}
 use Rattle.pl_base.specs.declared.id.PageId.{PageId}
 use Rattle.pl_base.specs.Fold.{folded}
+use Rattle.pl_base.specs.Good.{end_of_ids}
 use Rattle.pl_base.specs.Live.{chunks, live_slots, slot_limit}
 use Rattle.pl_base.specs.Rows.{Kept, store_of}
 use Rattle.pl_base.specs.Store.{Item, item_id}
@@ -19,6 +20,7 @@ use Rattle.pl_tree.specs.declared.new_item.NewItem.{NewItem}
 use Rattle.pl_tree.specs.declared.place.Place.{Place}
 use Rattle.pl_tree.specs.declared.place.Place.TheVariants.{End}
 use Rattle.pl_tree.specs.Changes.{item_of, put, with_child, with_inserted, with_new}
+use Rattle.pl_tree.specs.Refused.{tag_refusal}
 use Rattle.pl_tree.specs.Tagged.{entry_in, new_entry, new_tag, tag_entry, tag_named, with_tagged}
 use Rattle.pl_tree.proofs.LookedUp.{found_at, found_in, from_filter_map, has_in}
 
@@ -63,6 +65,16 @@ folder_there items name folder is = choose (tag_named name items) refl is
         let made = from_filter_map (item_at items) (children_of items tags_root) t found.0 in
         let at = found_at items made.0 t made.2 in
         ap (has_item items) same ∙ has_in items t at.0
+
+-- ---- the ids that it wants
+
+pub id_left : (kept : Kept) (page : PageId) (name : List ℕ) → tag_refusal page name kept ≡ None
+    → kept.ids.item < end_of_ids
+id_left kept page name none = grind arith
+
+pub ids_left : (kept : Kept) (page : PageId) (name : List ℕ) → None ≡ its_id (tag_named name kept.items)
+    → tag_refusal page name kept ≡ None → kept.ids.item + 1 < end_of_ids
+ids_left kept page name is none = grind arith
 
 -- ---- the rows where the page has the tag
 

@@ -5,9 +5,10 @@ use Rattle.std.specs.List.{filter, list_any}
 use Rattle.pl_base.specs.declared.date.Micros.{Micros}
 use Rattle.pl_base.specs.declared.id.ItemId.{ItemId}
 use Rattle.pl_base.specs.declared.id.PageId.{PageId}
+use Rattle.pl_base.specs.declared.item.ItemRow.{ItemRow}
 use Rattle.pl_base.specs.Rows.{Kept}
 use Rattle.pl_base.specs.Store.{Item, item_id}
-use Rattle.pl_base.specs.Tree.{is_page, leaving, redated, with_changed}
+use Rattle.pl_base.specs.Tree.{is_page, leaving, new_item, redated, with_changed}
 use Rattle.pl_tree.specs.declared.place.Place.{Place}
 use Rattle.pl_tree.specs.declared.place.Place.TheVariants.{End, Number}
 use Rattle.pl_tree.specs.declared.new_item.NewItem.{NewItem}
@@ -58,6 +59,15 @@ with_inserted parent place new kept =
     record kept {
       ids = record kept.ids { item = kept.ids.item + 1 };
       items = with_new (item_id kept.ids.item) parent place new kept.items;
+    }
+
+-- the rows with the item of a row at the end of this folder; it has the next id
+abbrev pub with_appended : ItemId → ItemRow → List ℕ → Kept → Kept
+with_appended parent row title kept =
+    record kept {
+      ids = record kept.ids { item = kept.ids.item + 1 };
+      items = with_child parent End (item_id kept.ids.item) kept.items
+          ++ new_item (item_id kept.ids.item) row title ∷ [];
     }
 
 -- ---- a move

@@ -5,7 +5,9 @@ ghost use Rattle.pl_base.specs.Date.{IsDate};
 ghost use Rattle.pl_base.specs.Good.{HasGoodItems, longest_title};
 ghost use Rattle.pl_base.specs.Live.{chunks, live_slots, slot_limit};
 ghost use Rattle.pl_base.specs.Rows.{has_page, store_of};
-ghost use Rattle.pl_tree.specs.Changes.{with_inserted};
+ghost use Rattle.pl_base.specs.Tree.{children_of};
+ghost use Rattle.pl_tree.specs.Changes.{with_appended, with_inserted};
+ghost use Rattle.pl_tree.specs.Places.{before};
 ghost use Rattle.pl_tree.specs.Refused.{insert_refusal};
 
 use crate::refusals::may_insert;
@@ -83,4 +85,33 @@ pub fn insert_allowed<R: Rows, L: Ledger>(
         Err(TreeError::NoMemory) => Err(NoMemory),
         Err(TreeError::Refused(_)) => unreachable!(),
     }
+}
+
+/// An item of the row, with the next id, behind the last child of its parent, which nothing
+/// refuses.
+pub fn append<R: Rows, L: Ledger>(
+    rows: &mut R,
+    parent: ItemId,
+    last: Option<ItemId>,
+    row: &ItemRow,
+    title: &str,
+    steps: &mut Steps<L>,
+) -> Result<ItemId, NoMemory>
+    requires good { HasGoodItems (store_of (R.kept rows.old)) }
+    requires parent { row.now.parent ≡ Some parent }
+    requires last { last ≡ before Place.End (children_of (R.kept rows.old).items parent) }
+    requires page { IfSome row.now.page (λ id. has_page (R.kept rows.old) id ≡ true) }
+    requires bookmark { IsSome row.now.page ↔ (row.now.kind ≡ ItemKind.Bookmark) }
+    requires title { length title.now ≤ longest_title }
+    requires added { IsDate row.now.added }
+    requires modified { IsDate row.now.modified }
+    requires allowed { insert_refusal parent Place.End (R.kept rows.old) ≡ None }
+    requires live { live_slots (store_of (R.kept rows.old)) + 1 + chunks title.now ≤ slot_limit }
+    ensures item { IfOk result (λ id. id.0 ≡ (R.kept rows.old).ids.item) }
+    ensures kept { OnOk result (R.kept rows.new
+        ≡ with_appended parent row.now title.now (R.kept rows.old)) }
+    ensures good { OnOk result (HasGoodItems (store_of (R.kept rows.new))) }
+    ensures base { OnOk result ((bytes : List ℕ) → R.base rows.old bytes → R.base rows.new bytes) }
+{
+    rows.insert_item(row, title, last, steps)
 }

@@ -1,6 +1,6 @@
 // Tags that pages get and lose.
 ghost use Rattle.std.specs.Prelude.{◌≡◌, ◌≤◌, ◌<◌, ◌+◌, ℕ, List, Err, None, Some, true, bytes_eq};
-ghost use Rattle.std.specs.Prelude.{length, IfOk, OnOk};
+ghost use Rattle.std.specs.Prelude.{length, unwrap_or, IfOk, OnOk};
 ghost use Rattle.std.specs.List.{find};
 ghost use Rattle.std.specs.Option.{option_map};
 ghost use Rattle.pl_base.specs.Date.{IsDate};
@@ -11,8 +11,9 @@ ghost use Rattle.pl_base.specs.Rows.{has_page, store_of, with_items};
 ghost use Rattle.pl_base.specs.Store.{Item, item_id};
 ghost use Rattle.pl_base.specs.Tags.{tags_root};
 ghost use Rattle.pl_base.specs.Tree as tree;
-ghost use Rattle.pl_base.specs.Tree.{has_item, item_at};
+ghost use Rattle.pl_base.specs.Tree.{children_of, has_item, item_at};
 ghost use Rattle.pl_tree.specs.Changes.{with_inserted};
+ghost use Rattle.pl_tree.specs.Places.{before};
 ghost use Rattle.pl_tree.specs.Refused as refused;
 ghost use Rattle.pl_tree.specs.Tagged as spec;
 
@@ -175,12 +176,14 @@ fn row_in(folder: ItemId, kind: ItemKind, page: Option<PageId>, date: Micros) ->
 fn add_entry<R: Rows, L: Ledger>(
     rows: &mut R,
     folder: ItemId,
+    after: Option<ItemId>,
     page: PageId,
     date: Micros,
     steps: &mut Steps<L>,
 ) -> Result<(), NoMemory>
     requires good { HasGoodItems (store_of (R.kept rows.old)) }
     requires folder { has_item (R.kept rows.old).items folder ≡ true }
+    requires after { after ≡ before Place.End (children_of (R.kept rows.old).items folder) }
     requires page { has_page (R.kept rows.old) page ≡ true }
     requires date { IsDate date }
     requires id { (R.kept rows.old).ids.item < end_of_ids }
@@ -190,7 +193,6 @@ fn add_entry<R: Rows, L: Ledger>(
     ensures base { OnOk result ((bytes : List ℕ) → R.base rows.old bytes → R.base rows.new bytes) }
 {
     let row = row_in(folder, ItemKind::Bookmark, Some(page), date);
-    let after = last_child(rows, folder, steps);
     rows.insert_item(&row, "", after, steps)?;
     Ok(())
 }
@@ -198,12 +200,14 @@ fn add_entry<R: Rows, L: Ledger>(
 // A tag folder with this title at the end of the tags root, and an entry of the page in it.
 fn add_folder<R: Rows, L: Ledger>(
     rows: &mut R,
+    after: Option<ItemId>,
     page: PageId,
     title: &str,
     date: Micros,
     steps: &mut Steps<L>,
 ) -> Result<(), NoMemory>
     requires good { HasGoodItems (store_of (R.kept rows.old)) }
+    requires after { after ≡ before Place.End (children_of (R.kept rows.old).items tags_root) }
     requires page { has_page (R.kept rows.old) page ≡ true }
     requires title { length title.now ≤ longest_title }
     requires date { IsDate date }
@@ -215,11 +219,43 @@ fn add_folder<R: Rows, L: Ledger>(
     ensures base { OnOk result ((bytes : List ℕ) → R.base rows.old bytes → R.base rows.new bytes) }
 {
     let row = row_in(ItemId::TAGS, ItemKind::Folder, None, date);
-    let after = last_child(rows, ItemId::TAGS, steps);
     let folder = rows.insert_item(&row, title, after, steps)?;
     let entry = row_in(folder, ItemKind::Bookmark, Some(page), date);
     rows.insert_item(&entry, "", None, steps)?;
     Ok(())
+}
+
+/// The page gets the tag, which nothing refuses, where the tag folder with this name is known, and
+/// the last child of it; where there is no such folder, the last child of the tags root.
+pub fn enter<R: Rows, L: Ledger>(
+    rows: &mut R,
+    page: PageId,
+    name: &TagName,
+    folder: Option<ItemId>,
+    last: Option<ItemId>,
+    date: Micros,
+    steps: &mut Steps<L>,
+) -> Result<(), NoMemory>
+    requires good { HasGoodItems (store_of (R.kept rows.old)) }
+    requires page { has_page (R.kept rows.old) page ≡ true }
+    requires date { IsDate date }
+    requires folder { folder ≡ option_map (λ (t : Item). t.id)
+        (spec.tag_named name.now (R.kept rows.old).items) }
+    requires last { last ≡ before Place.End
+        (children_of (R.kept rows.old).items (unwrap_or folder tags_root)) }
+    requires live { live_slots (store_of (spec.with_tagged page name.now date (R.kept rows.old)))
+        ≤ slot_limit }
+    requires allowed { refused.tag_refusal page name.now (R.kept rows.old) ≡ None }
+    ensures kept { OnOk result (R.kept rows.new
+        ≡ spec.with_tagged page name.now date (R.kept rows.old)) }
+    ensures good { OnOk result (HasGoodItems (store_of (R.kept rows.new))) }
+    ensures base { OnOk result ((bytes : List ℕ) → R.base rows.old bytes → R.base rows.new bytes) }
+{
+    let title = name.text();
+    match folder {
+        Some(folder) => add_entry(rows, folder, last, page, date, steps),
+        None => add_folder(rows, last, page, title, date, steps),
+    }
 }
 
 /// The page gets the tag: an entry at the end of the tag folder with this name, which is made at
@@ -249,11 +285,9 @@ pub fn tag<R: Rows, L: Ledger>(
     ensures good { OnOk result (HasGoodItems (store_of (R.kept rows.new))) }
     ensures base { OnOk result ((bytes : List ℕ) → R.base rows.old bytes → R.base rows.new bytes) }
 {
-    let title = name.text();
-    match may_tag(alloc, rows, page, name, steps)? {
-        Some(folder) => add_entry(rows, folder, page, date, steps)?,
-        None => add_folder(rows, page, title, date, steps)?,
-    }
+    let folder = may_tag(alloc, rows, page, name, steps)?;
+    let last = last_child(rows, folder.unwrap_or(ItemId::TAGS), steps);
+    enter(rows, page, name, folder, last, date, steps)?;
     Ok(())
 }
 
