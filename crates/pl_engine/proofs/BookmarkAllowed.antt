@@ -16,17 +16,17 @@ use Rattle.pl_base.specs.Title.{cut_title}
 use Rattle.pl_tree.specs.declared.place.Place.{Place}
 use Rattle.pl_tree.specs.declared.tree_change.TreeChange.TheVariants.{Insert}
 use Rattle.pl_tree.specs.Refused.{insert_refusal, refusal}
-use Rattle.pl_engine.specs.declared.command.Command.TheVariants.{Bookmark as BookmarkCommand}
+use Rattle.pl_step.specs.declared.command.Command.TheVariants.{Bookmark as BookmarkCommand}
 use Rattle.pl_history.specs.declared.find.Target.{Target}
 use Rattle.pl_history.specs.declared.find.Target.TheVariants.{Known, New}
-use Rattle.pl_engine.specs.declared.reply.Reply.{Reply}
-use Rattle.pl_engine.specs.declared.reply.Reply.TheVariants.{Item as ItemReply, Refused}
+use Rattle.pl_step.specs.declared.reply.Reply.{Reply}
+use Rattle.pl_step.specs.declared.reply.Reply.TheVariants.{Item as ItemReply, Refused}
 use Rattle.pl_engine.specs.Room.{item_room}
 use Rattle.pl_history.specs.Marked.{page_item}
-use Rattle.pl_engine.specs.Step.{after_bookmark, after_insert, is_full, new_bookmark}
+use Rattle.pl_step.specs.Step.{after_bookmark, after_insert, is_full, new_bookmark}
 use Rattle.pl_base.specs.Visiting.{find_page}
 use Rattle.pl_base.specs.Visiting.{page_for, with_page_for}
-use Rattle.pl_engine.specs.Step.{perform}
+use Rattle.pl_step.specs.Step.{perform}
 use Rattle.pl_history.specs.Target.{HasRoom, IsTargetOf, WithTarget, is_new}
 use Rattle.pl_engine.proofs.ItemStep.{insert_done, insert_refused, live_inserted}
 use Rattle.pl_engine.proofs.PageSlots.{AreSlots, few_slots, new_is, next_item, page_room, visit_slots}

@@ -14,10 +14,10 @@ use Rattle.pl_tree.specs.declared.place.Place.{Place}
 use Rattle.pl_tree.specs.declared.tree_change.TreeChange.TheVariants.{Insert}
 use Rattle.pl_tree.specs.Changes.{item_of, put, with_child}
 use Rattle.pl_tree.specs.Refused.{refusal}
-use Rattle.pl_engine.specs.declared.reply.Reply.{Reply}
-use Rattle.pl_engine.specs.declared.reply.Reply.TheVariants.{Item as ItemReply, Refused}
+use Rattle.pl_step.specs.declared.reply.Reply.{Reply}
+use Rattle.pl_step.specs.declared.reply.Reply.TheVariants.{Item as ItemReply, Refused}
+use Rattle.pl_step.specs.Step.{after_insert, insert_step, unless_refused}
 use Rattle.pl_engine.specs.Room.{item_room}
-use Rattle.pl_engine.specs.Step.{after_insert, insert_step, unless_refused}
 use Rattle.pl_base.proofs.ListLaws.{sum_by-agree, sum_by-map}
 
 -- ---- slots

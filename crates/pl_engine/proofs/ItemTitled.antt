@@ -15,11 +15,11 @@ use Rattle.pl_base.specs.Title.{cut_title}
 use Rattle.pl_base.specs.Tree.{item_at, item_title, retitled}
 use Rattle.pl_tree.specs.declared.tree_change.TreeChange.TheVariants.{Retitle}
 use Rattle.pl_tree.specs.Refused.{refusal}
-use Rattle.pl_engine.specs.declared.command.Command.TheVariants.{Retitle as RetitleCommand}
-use Rattle.pl_engine.specs.declared.reply.Reply.{Reply}
-use Rattle.pl_engine.specs.declared.reply.Reply.TheVariants.{Done, Refused}
+use Rattle.pl_step.specs.declared.command.Command.TheVariants.{Retitle as RetitleCommand}
+use Rattle.pl_step.specs.declared.reply.Reply.{Reply}
+use Rattle.pl_step.specs.declared.reply.Reply.TheVariants.{Done, Refused}
 use Rattle.pl_history.specs.Sound.{IsSound}
-use Rattle.pl_engine.specs.Step.{after_retitle, is_full, perform}
+use Rattle.pl_step.specs.Step.{after_retitle, is_full, perform}
 use Rattle.pl_base.proofs.ItemLaws.{once}
 use Rattle.pl_history.proofs.ItemMarks.{reference_changed, sound_alike}
 use Rattle.pl_engine.proofs.ItemStep.{done_reply, refused_reply}

@@ -5,7 +5,6 @@ mod IdWalk
 mod ItemStep
 mod ItemTitled
 mod ItemsGone
-mod KeptTotals
 mod Listed
 mod LiveTitled
 mod LostItems

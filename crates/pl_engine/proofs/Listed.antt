@@ -13,9 +13,9 @@ use Rattle.pl_base.specs.Rows.{Kept, KeptPage, has_page, store_of, url_of}
 use Rattle.pl_base.specs.Store.{Item, Page, Store, item_id}
 use Rattle.pl_base.specs.Tree.{children_of, has_child, has_item, item_at, item_behind, item_row}
 use Rattle.pl_base.specs.Tree.{item_title, sibling_behind}
-use Rattle.pl_engine.specs.declared.reply.ListRow.{ListRow}
+use Rattle.pl_step.specs.declared.reply.ListRow.{ListRow}
+use Rattle.pl_step.specs.Step.{list_row, page_url}
 use Rattle.pl_engine.proofs.IdWalk.{IsIdHere}
-use Rattle.pl_engine.specs.Step.{list_row, page_url}
 use Rattle.pl_base.proofs.ListLaws.{list_any-map}
 use Rattle.pl_marks.proofs.LookUps.{found_holds, found_passes, front as in_front}
 use Rattle.pl_marks.proofs.PageWalk.{part, there}

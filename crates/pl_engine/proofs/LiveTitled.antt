@@ -16,9 +16,9 @@ use Rattle.pl_base.specs.Live.{chunks, live_slots, origin_count, slot_limit}
 use Rattle.pl_base.specs.Rows.{IsWellKept, Kept, KeptPage, live_with_title, page_at, store_of, title_of, titled}
 use Rattle.pl_base.specs.Rows.{with_title}
 use Rattle.pl_base.specs.Store.{Page, Store}
-use Rattle.pl_engine.specs.declared.reply.Reply.{Reply}
-use Rattle.pl_engine.specs.declared.reply.Reply.TheVariants.{Done, Refused}
-use Rattle.pl_engine.specs.Step.{is_full}
+use Rattle.pl_step.specs.declared.reply.Reply.{Reply}
+use Rattle.pl_step.specs.declared.reply.Reply.TheVariants.{Done, Refused}
+use Rattle.pl_step.specs.Step.{is_full}
 use Rattle.pl_engine.specs.Titled.{within_slots}
 use Rattle.pl_base.proofs.ListLaws.{AllPairs-from_map, sum_by-map}
 use Rattle.pl_marks.proofs.LookUps.{apart_ascending, found_one}

@@ -22,8 +22,8 @@ use Rattle.pl_marks.proofs.LookUps.{apart_ascending, found_passes, found_self}
 use Rattle.pl_marks.proofs.PageRows.{AreTold, right_mark, told_at}
 use Rattle.pl_words.specs.Bar.{marks_of, words_of}
 use Rattle.pl_words.specs.declared.bar_text.Marks.{Marks}
-use Rattle.pl_engine.specs.declared.reply.BarRow.{BarRow}
-use Rattle.pl_engine.specs.Step.{bar_row}
+use Rattle.pl_step.specs.declared.reply.BarRow.{BarRow}
+use Rattle.pl_step.specs.Step.{bar_row}
 
 -- ---- a page
 

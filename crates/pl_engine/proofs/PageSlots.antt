@@ -14,7 +14,7 @@ use Rattle.pl_base.specs.Store.{Page}
 use Rattle.pl_history.specs.declared.find.Target.{Target}
 use Rattle.pl_history.specs.declared.find.Target.TheVariants.{Known, New}
 use Rattle.pl_base.specs.Visiting.{after_visit, find_page, page_for, with_page_for}
-use Rattle.pl_engine.specs.Step.{is_full}
+use Rattle.pl_step.specs.Step.{is_full}
 use Rattle.pl_history.specs.Target.{HasRoom, IsTargetOf, WithTarget, is_new}
 use Rattle.pl_history.proofs.LiveAfter.{live_visited}
 use Rattle.pl_history.proofs.Targets.{found_page}

@@ -10,10 +10,10 @@ use Rattle.pl_base.specs.Rows.{IsRight, IsWellKept, Kept, KeptPage, mark_of, pag
 use Rattle.pl_base.specs.Store.{Page, Store}
 use Rattle.pl_base.specs.Tags.{is_bookmarked, tag_text}
 use Rattle.pl_history.specs.declared.find.Target.TheVariants.{Known}
-use Rattle.pl_engine.specs.declared.reply.Reply.{Reply}
-use Rattle.pl_engine.specs.declared.reply.Reply.TheVariants.{Page as PageReply}
+use Rattle.pl_step.specs.declared.reply.Reply.{Reply}
+use Rattle.pl_step.specs.declared.reply.Reply.TheVariants.{Page as PageReply}
 use Rattle.pl_base.specs.Visiting.{find_page}
-use Rattle.pl_engine.specs.Step.{told_page}
+use Rattle.pl_step.specs.Step.{told_page}
 use Rattle.pl_history.specs.Target.{IsTargetOf}
 use Rattle.pl_history.proofs.KnownPage.{IsKnown, known}
 use Rattle.pl_marks.proofs.PageRows.{AreTold, right_mark, told_at}

@@ -13,9 +13,9 @@ use Rattle.pl_base.specs.Visiting.{find_page}
 use Rattle.pl_history.specs.declared.removal.Removed.{Removed}
 use Rattle.pl_history.specs.Went.{went}
 use Rattle.pl_marks.proofs.LookUps.{found_some}
-use Rattle.pl_engine.specs.declared.reply.Reply.{Reply}
-use Rattle.pl_engine.specs.declared.reply.Reply.TheVariants.{Removed as RemovedReply}
-use Rattle.pl_engine.specs.Step.{forget_step}
+use Rattle.pl_step.specs.declared.reply.Reply.{Reply}
+use Rattle.pl_step.specs.declared.reply.Reply.TheVariants.{Removed as RemovedReply}
+use Rattle.pl_step.specs.Step.{forget_step}
 use Rattle.pl_history.proofs.KnownPage.{IsKnown, known}
 
 -- a visit that was found stands among the rows

@@ -17,15 +17,15 @@ use Rattle.pl_base.specs.Rows.{IsWellKept, Kept, store_of}
 use Rattle.pl_base.specs.Store.{Item, Page, Store}
 use Rattle.pl_tree.specs.Refused as tree
 use Rattle.pl_tree.specs.Tagged.{new_items, tag_entry, tag_named, with_tagged}
-use Rattle.pl_engine.specs.declared.command.Command.TheVariants.{Tag as TagCommand}
+use Rattle.pl_step.specs.declared.command.Command.TheVariants.{Tag as TagCommand}
 use Rattle.pl_history.specs.declared.find.Target.{Target}
 use Rattle.pl_history.specs.declared.find.Target.TheVariants.{Known, New}
-use Rattle.pl_engine.specs.declared.reply.Reply.{Reply}
-use Rattle.pl_engine.specs.declared.reply.Reply.TheVariants.{Done}
+use Rattle.pl_step.specs.declared.reply.Reply.{Reply}
+use Rattle.pl_step.specs.declared.reply.Reply.TheVariants.{Done}
+use Rattle.pl_step.specs.Step.{after_tag, is_full, is_tagged, perform}
 use Rattle.pl_engine.specs.Room.{tag_room}
-use Rattle.pl_engine.specs.Step.{after_tag, is_full, is_tagged, perform}
 use Rattle.pl_base.specs.Visiting.{after_visit, find_page, page_for}
-use Rattle.pl_engine.specs.Step.{tag_refusal, tagged_store, unless_refused}
+use Rattle.pl_step.specs.Step.{tag_refusal, tagged_store, unless_refused}
 use Rattle.pl_base.specs.Visiting.{with_page_for}
 use Rattle.pl_history.specs.Target.{HasRoom, IsTargetOf, WithTarget, is_new}
 use Rattle.pl_history.specs.Marked.{has_tag}

@@ -8,10 +8,10 @@ use Rattle.pl_base.specs.Live.{live_slots}
 use Rattle.pl_base.specs.Rows.{IsWellKept, Kept, store_of, with_title}
 use Rattle.pl_base.specs.Store.{Page, Store}
 use Rattle.pl_base.specs.Title.{cut_title}
-use Rattle.pl_engine.specs.declared.command.Command.TheVariants.{Title as TitleCommand}
+use Rattle.pl_step.specs.declared.command.Command.TheVariants.{Title as TitleCommand}
 use Rattle.pl_history.specs.declared.find.Target.TheVariants.{Known}
-use Rattle.pl_engine.specs.declared.reply.Reply.TheVariants.{Done, Refused}
-use Rattle.pl_engine.specs.Step.{after_title, is_full, perform, unless_refused}
+use Rattle.pl_step.specs.declared.reply.Reply.TheVariants.{Done, Refused}
+use Rattle.pl_step.specs.Step.{after_title, is_full, perform, unless_refused}
 use Rattle.pl_history.specs.Target.{IsTargetOf}
 use Rattle.pl_engine.specs.Titled.{within_slots}
 use Rattle.pl_history.proofs.KnownPage.{known}

@@ -22,7 +22,7 @@ use Rattle.pl_base.specs.Title.{cut_title}
 use Rattle.pl_history.specs.declared.find.Target.TheVariants.{Known}
 use Rattle.pl_history.specs.Sound.{AreStanding, IsSound, IsTypedRight}
 use Rattle.pl_base.specs.Removal.{is_standing}
-use Rattle.pl_engine.specs.Step.{after_title, title_page}
+use Rattle.pl_step.specs.Step.{after_title, title_page}
 use Rattle.pl_base.specs.Visiting.{find_page}
 use Rattle.pl_history.specs.Target.{IsTargetOf}
 use Rattle.pl_history.proofs.GoodRows.{good_of, items_of, items_still, standing_of}

@@ -23,9 +23,9 @@ use Rattle.pl_base.specs.View.{AreViews, AreViewsOf, scored_views}
 use Rattle.pl_history.proofs.SmallTotals.{few_points}
 use Rattle.pl_link.specs.declared.parts.Parts.{Parts}
 use Rattle.pl_link.specs.Parts.{ArePartsOf}
-use Rattle.pl_engine.specs.declared.reply.Reply.{Reply}
-use Rattle.pl_engine.specs.declared.reply.Reply.TheVariants.{Origin as OriginReply, Refused}
-use Rattle.pl_engine.specs.Step.{origin_passes, pages_of, told_origin}
+use Rattle.pl_step.specs.declared.reply.Reply.{Reply}
+use Rattle.pl_step.specs.declared.reply.Reply.TheVariants.{Origin as OriginReply, Refused}
+use Rattle.pl_step.specs.Step.{origin_passes, pages_of, told_origin}
 
 scored : (store : Store) (ps : List Page) (vs : List View) → AreViews store ps vs
     → scored_views vs

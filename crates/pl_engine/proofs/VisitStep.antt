@@ -17,10 +17,10 @@ use Rattle.pl_history.specs.declared.find.Target.{Target}
 use Rattle.pl_history.specs.declared.visiting.AddedVisit.{AddedVisit}
 use Rattle.pl_history.specs.Added.{AddsVisit}
 use Rattle.pl_history.specs.Target.{IsTargetOf, WithTarget}
-use Rattle.pl_engine.specs.declared.command.Command.TheVariants.{Visit as VisitCommand}
-use Rattle.pl_engine.specs.declared.reply.Reply.{Reply}
-use Rattle.pl_engine.specs.declared.reply.Reply.TheVariants.{Visit as VisitReply}
-use Rattle.pl_engine.specs.Step.{perform, unless_refused, visit_refusal, visit_reply}
+use Rattle.pl_step.specs.declared.command.Command.TheVariants.{Visit as VisitCommand}
+use Rattle.pl_step.specs.declared.reply.Reply.{Reply}
+use Rattle.pl_step.specs.declared.reply.Reply.TheVariants.{Visit as VisitReply}
+use Rattle.pl_step.specs.Step.{perform, unless_refused, visit_refusal, visit_reply}
 use Rattle.pl_history.proofs.VisitMade.{target_page, target_store}
 use Rattle.pl_history.proofs.VisitRows.{grown_store}
 use Rattle.pl_marks.proofs.LookUps.{found_holds}

@@ -10,7 +10,7 @@ use Rattle.pl_base.specs.Good.{end_of_ids}
 use Rattle.pl_base.specs.Live.{live_slots}
 use Rattle.pl_base.specs.Store.{Store}
 use Rattle.pl_tree.specs.declared.new_item.NewItem.{NewItem}
-use Rattle.pl_engine.specs.Step.{is_full}
+use Rattle.pl_step.specs.Step.{is_full}
 
 -- an id for a new page is wanting, one for the item, or the slots
 abbrev pub item_room : ℕ → Store → Bool → ℕ → Option Refusal

@@ -3,9 +3,9 @@ use Rattle.std.specs.Prelude.{ℕ, if◌then◌else◌}
 use Rattle.pl_base.specs.declared.refusal.Refusal.TheVariants.{Full}
 use Rattle.pl_base.specs.Live.{live_slots}
 use Rattle.pl_base.specs.Store.{Store}
-use Rattle.pl_engine.specs.declared.reply.Reply.{Reply}
-use Rattle.pl_engine.specs.declared.reply.Reply.TheVariants.{Done, Refused}
-use Rattle.pl_engine.specs.Step.{is_full}
+use Rattle.pl_step.specs.declared.reply.Reply.{Reply}
+use Rattle.pl_step.specs.declared.reply.Reply.TheVariants.{Done, Refused}
+use Rattle.pl_step.specs.Step.{is_full}
 
 -- the change is made, unless the store would take more slots than it may
 abbrev pub within_slots : ℕ → Store → Store → Reply × Store

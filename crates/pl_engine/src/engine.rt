@@ -20,10 +20,9 @@ ghost use Rattle.pl_base.specs.Live.{slot_limit};
 ghost use Rattle.pl_base.specs.Rows.{HaveTotals, IsRight, store_of};
 ghost use Rattle.pl_base.specs.Touched.{IsWithin, changed, bytes_before};
 ghost use Rattle.pl_history.specs.Sound.{IsSound};
-ghost use Rattle.pl_engine.specs.Refused.{has_changed};
-ghost use Rattle.pl_engine.specs.Step as spec;
+ghost use Rattle.pl_step.specs.Refused.{has_changed};
+ghost use Rattle.pl_step.specs.Step as spec;
 
-use crate::command::Command;
 use crate::engine::bar::{bar, fill};
 use crate::engine::bookmark::bookmark;
 use crate::engine::change::{move_item, retitle};
@@ -37,9 +36,9 @@ use crate::engine::remove::remove;
 use crate::engine::tag::{tag, untag};
 use crate::engine::title::title;
 use crate::engine::visit::visit;
-use crate::reply::Reply;
 use pl_base::{NoMemory, Refusal, Rows, Steps, Touched};
 use pl_history::total_up;
+use pl_step::{Command, Reply};
 use std::alloc::Global;
 use std::sync::ledger::Ledger;
 

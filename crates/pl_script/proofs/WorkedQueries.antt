@@ -8,10 +8,10 @@ use Rattle.pl_base.specs.declared.date.Micros.{Micros}
 use Rattle.pl_base.specs.declared.refusal.Refusal.TheVariants.{BadLine, BadQuery}
 use Rattle.pl_place.specs.ReadQuery.{query_of}
 use Rattle.pl_query.specs.declared.result_row.ResultRow.{ResultRow}
-use Rattle.pl_engine.specs.declared.command.Command.TheVariants.{Query, Place, Bar, Fill}
-use Rattle.pl_engine.specs.declared.reply.BarRow.{BarRow}
-use Rattle.pl_engine.specs.declared.reply.Reply.TheVariants.{Rows, NoFill, Refused}
-use Rattle.pl_engine.specs.declared.reply.Reply.TheVariants.{Place as PlaceReply, Bar as BarReply, Fill as FillReply}
+use Rattle.pl_step.specs.declared.command.Command.TheVariants.{Query, Place, Bar, Fill}
+use Rattle.pl_step.specs.declared.reply.BarRow.{BarRow}
+use Rattle.pl_step.specs.declared.reply.Reply.TheVariants.{Rows, NoFill, Refused}
+use Rattle.pl_step.specs.declared.reply.Reply.TheVariants.{Place as PlaceReply, Bar as BarReply, Fill as FillReply}
 use Rattle.pl_script.specs.Reply.{reply_text}
 use Rattle.pl_script.specs.Script.{script}
 

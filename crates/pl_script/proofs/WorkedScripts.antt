@@ -18,14 +18,14 @@ use Rattle.pl_base.specs.declared.transition.Transition.TheVariants.{Link}
 use Rattle.pl_base.specs.Live.{slot_limit}
 use Rattle.pl_base.specs.Store.{item_id, opening}
 use Rattle.pl_tree.specs.declared.place.Place.TheVariants.{End, Number}
-use Rattle.pl_engine.specs.declared.command.Command.{Command}
-use Rattle.pl_engine.specs.declared.command.Command.TheVariants.{Visit, Title, Page, Folder, Bookmark}
-use Rattle.pl_engine.specs.declared.command.Command.TheVariants.{Separator, Move, Retitle, Remove, Tag, Untag}
-use Rattle.pl_engine.specs.declared.command.Command.TheVariants.{List as ListItems}
-use Rattle.pl_engine.specs.declared.reply.ListRow.{ListRow}
-use Rattle.pl_engine.specs.declared.reply.Reply.TheVariants.{Page as PageReply, Done, Item, Refused}
-use Rattle.pl_engine.specs.declared.reply.Reply.TheVariants.{List as ListReply}
-use Rattle.pl_engine.specs.Run.{replies}
+use Rattle.pl_step.specs.declared.command.Command.{Command}
+use Rattle.pl_step.specs.declared.command.Command.TheVariants.{Visit, Title, Page, Folder, Bookmark}
+use Rattle.pl_step.specs.declared.command.Command.TheVariants.{Separator, Move, Retitle, Remove, Tag, Untag}
+use Rattle.pl_step.specs.declared.command.Command.TheVariants.{List as ListItems}
+use Rattle.pl_step.specs.declared.reply.ListRow.{ListRow}
+use Rattle.pl_step.specs.declared.reply.Reply.TheVariants.{Page as PageReply, Done, Item, Refused}
+use Rattle.pl_step.specs.declared.reply.Reply.TheVariants.{List as ListReply}
+use Rattle.pl_step.specs.Run.{replies}
 use Rattle.pl_script.specs.Reply.{reply_text}
 use Rattle.pl_script.specs.Script.{script}
 

@@ -11,7 +11,7 @@ use Rattle.jiff_fmt.specs.Temporal.{DateParts, parse_date}
 use Rattle.pl_base.specs.declared.date.Day.{Day}
 use Rattle.pl_base.specs.declared.refusal.Refusal.TheVariants.{BadDate}
 use Rattle.pl_base.specs.Date.{last_day}
-use Rattle.pl_engine.specs.Parsed.{Parsed}
+use Rattle.pl_step.specs.Parsed.{Parsed}
 use Rattle.pl_base.specs.NumberText.{number_of}
 
 -- the day with this number, unless it is later than the last one

@@ -8,8 +8,8 @@ use Rattle.pl_place.specs.declared.reader.QueryError.{QueryError}
 use Rattle.pl_place.specs.declared.reader.QueryError.TheVariants as query
 use Rattle.pl_words.specs.declared.tag_name.TagError.{TagError}
 use Rattle.pl_words.specs.declared.tag_name.TagError.TheVariants as tag
-use Rattle.pl_engine.specs.declared.command.Command.{Command}
-use Rattle.pl_engine.specs.Parsed.{Parsed}
+use Rattle.pl_step.specs.declared.command.Command.{Command}
+use Rattle.pl_step.specs.Parsed.{Parsed}
 use Rattle.pl_script.specs.declared.lines.LineError.{LineError}
 use Rattle.pl_script.specs.declared.lines.LineError.TheVariants.{Refused, NoMemory}
 use Rattle.pl_script.specs.declared.word.Word.{Word}

@@ -8,14 +8,14 @@ use Rattle.pl_base.specs.declared.date.Micros.{Micros}
 use Rattle.pl_base.specs.declared.item.ItemKind.{ItemKind}
 use Rattle.pl_base.specs.declared.item.ItemKind.TheVariants.{Bookmark, Folder, Separator}
 use Rattle.pl_base.specs.Refusal.{refusal_number, refusal_values}
-use Rattle.pl_engine.specs.declared.reply.BarRow.{BarRow}
-use Rattle.pl_engine.specs.declared.reply.ListRow.{ListRow}
-use Rattle.pl_engine.specs.declared.reply.Reply.{Reply}
-use Rattle.pl_engine.specs.declared.reply.Reply.TheVariants.{Day, Visit, Done, Page, Origin, Stats}
-use Rattle.pl_engine.specs.declared.reply.Reply.TheVariants.{Removed, Item}
-use Rattle.pl_engine.specs.declared.reply.Reply.TheVariants.{Rows, Place, Bar, Fill, NoFill}
-use Rattle.pl_engine.specs.declared.reply.Reply.TheVariants.{Refused}
-use Rattle.pl_engine.specs.declared.reply.Reply.TheVariants.{List as ListReply}
+use Rattle.pl_step.specs.declared.reply.BarRow.{BarRow}
+use Rattle.pl_step.specs.declared.reply.ListRow.{ListRow}
+use Rattle.pl_step.specs.declared.reply.Reply.{Reply}
+use Rattle.pl_step.specs.declared.reply.Reply.TheVariants.{Day, Visit, Done, Page, Origin, Stats}
+use Rattle.pl_step.specs.declared.reply.Reply.TheVariants.{Removed, Item}
+use Rattle.pl_step.specs.declared.reply.Reply.TheVariants.{Rows, Place, Bar, Fill, NoFill}
+use Rattle.pl_step.specs.declared.reply.Reply.TheVariants.{Refused}
+use Rattle.pl_step.specs.declared.reply.Reply.TheVariants.{List as ListReply}
 use Rattle.pl_query.specs.declared.result_row.ResultRow.{ResultRow}
 use Rattle.pl_script.specs.Script.{escaped, fields_of, text_of}
 

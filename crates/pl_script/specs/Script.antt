@@ -20,16 +20,16 @@ use Rattle.pl_place.specs.declared.query.Query.{Query as PlaceQuery}
 use Rattle.pl_place.specs.ReadQuery.{read_as}
 use Rattle.pl_tree.specs.declared.place.Place.{Place as ItemPlace}
 use Rattle.pl_tree.specs.declared.place.Place.TheVariants.{End, Number}
-use Rattle.pl_engine.specs.declared.command.Command.{Command}
-use Rattle.pl_engine.specs.declared.command.Command.TheVariants.{Day, Visit, Title, Page}
-use Rattle.pl_engine.specs.declared.command.Command.TheVariants.{Origin, Stats}
-use Rattle.pl_engine.specs.declared.command.Command.TheVariants.{Unvisit, Forget, Expire, Trim}
-use Rattle.pl_engine.specs.declared.command.Command.TheVariants.{Folder, Bookmark, Separator}
-use Rattle.pl_engine.specs.declared.command.Command.TheVariants.{Move, Retitle, Remove}
-use Rattle.pl_engine.specs.declared.command.Command.TheVariants.{Tag, Untag}
-use Rattle.pl_engine.specs.declared.command.Command.TheVariants.{List as ListItems}
-use Rattle.pl_engine.specs.declared.command.Command.TheVariants.{Query, Place, Bar, Fill}
-use Rattle.pl_engine.specs.Parsed.{Parsed}
+use Rattle.pl_step.specs.declared.command.Command.{Command}
+use Rattle.pl_step.specs.declared.command.Command.TheVariants.{Day, Visit, Title, Page}
+use Rattle.pl_step.specs.declared.command.Command.TheVariants.{Origin, Stats}
+use Rattle.pl_step.specs.declared.command.Command.TheVariants.{Unvisit, Forget, Expire, Trim}
+use Rattle.pl_step.specs.declared.command.Command.TheVariants.{Folder, Bookmark, Separator}
+use Rattle.pl_step.specs.declared.command.Command.TheVariants.{Move, Retitle, Remove}
+use Rattle.pl_step.specs.declared.command.Command.TheVariants.{Tag, Untag}
+use Rattle.pl_step.specs.declared.command.Command.TheVariants.{List as ListItems}
+use Rattle.pl_step.specs.declared.command.Command.TheVariants.{Query, Place, Bar, Fill}
+use Rattle.pl_step.specs.Parsed.{Parsed}
 use Rattle.pl_script.specs.DayText.{day_in_range, day_of}
 use Rattle.pl_script.specs.TagText.{tag_of}
 use Rattle.pl_script.specs.declared.word.Word.{Word}

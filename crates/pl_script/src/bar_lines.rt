@@ -1,12 +1,12 @@
 // The lines of the address bar.
 ghost use Rattle.std.specs.Prelude.{IfOk};
-ghost use Rattle.pl_engine.specs.Step.{HasDates};
+ghost use Rattle.pl_step.specs.Step.{HasDates};
 ghost use Rattle.pl_script.specs.LineError.{ReadsAs};
 ghost use Rattle.pl_script.specs.Script as spec;
 
 use crate::fields::Fields;
 use crate::lines::LineError;
-use pl_engine::Command;
+use pl_step::Command;
 use std::alloc::Global;
 
 pub fn bar_line(alloc: Global, mut fields: Fields<'_>) -> Result<Command, LineError>

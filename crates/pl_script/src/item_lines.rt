@@ -1,13 +1,13 @@
 // The lines of the bookmark tree.
 ghost use Rattle.std.specs.Prelude.{◌≡◌, IfOk};
-ghost use Rattle.pl_engine.specs.Step.{HasDates};
+ghost use Rattle.pl_step.specs.Step.{HasDates};
 ghost use Rattle.pl_script.specs.LineError.{ReadsAs, ReadsInPlace};
 ghost use Rattle.pl_script.specs.Script as spec;
 
 use crate::fields::Fields;
 use crate::lines::{LineError, in_range};
-use pl_engine::Command;
 use pl_link::Canon;
+use pl_step::Command;
 use std::alloc::Global;
 
 pub fn folder_line(alloc: Global, mut fields: Fields<'_>) -> Result<Command, LineError>

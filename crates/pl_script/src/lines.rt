@@ -1,6 +1,6 @@
 // One line.
 ghost use Rattle.std.specs.Prelude.{◌≡◌, IfOk, IfSome, IsErrOf};
-ghost use Rattle.pl_engine.specs.Step.{HasDates};
+ghost use Rattle.pl_step.specs.Step.{HasDates};
 ghost use Rattle.pl_base.specs.Date.{IsDate, IsDay};
 ghost use Rattle.pl_script.specs.DayText as days;
 ghost use Rattle.pl_script.specs.LineError.{BecomesLineError, MayHaveTexts, ReadsAs, ReadsEntry};
@@ -21,9 +21,9 @@ use crate::query_lines::{place_line, query_line};
 use crate::tag_lines::{tag_line, untag_line};
 use crate::word::Word;
 use pl_base::{Day, Micros, NoMemory, Refusal};
-use pl_engine::Command;
 use pl_link::{Canon, CanonError};
 use pl_place::QueryError;
+use pl_step::Command;
 use pl_words::TagError;
 use std::alloc::Global;
 use thiserror::Error;

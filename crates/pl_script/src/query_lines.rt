@@ -1,14 +1,14 @@
 // The lines of queries.
 ghost use Rattle.std.specs.Prelude.{IfOk};
-ghost use Rattle.pl_engine.specs.Step.{HasDates};
+ghost use Rattle.pl_step.specs.Step.{HasDates};
 ghost use Rattle.pl_script.specs.LineError.{ReadsAs};
 ghost use Rattle.pl_script.specs.Script as spec;
 
 use crate::fields::Fields;
 use crate::lines::LineError;
 use pl_base::Txt;
-use pl_engine::Command;
 use pl_place::Query;
+use pl_step::Command;
 use std::alloc::Global;
 
 pub fn query_line(alloc: Global, mut fields: Fields<'_>) -> Result<Command, LineError>

@@ -9,7 +9,7 @@ ghost use Rattle.pl_script.specs.Script.{escaped as escaped_text};
 use crate::field::{date_text, escaped};
 use crate::rows::{bar_text, found_text, list_text};
 use pl_base::{Micros, NoMemory, PageId, Refusal, Txt};
-use pl_engine::Reply;
+use pl_step::Reply;
 use std::alloc::Global;
 
 /// The reply's lines, each with its LF: those of a list are its length and its items.

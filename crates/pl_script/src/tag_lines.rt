@@ -1,6 +1,6 @@
 // The lines of tags.
 ghost use Rattle.std.specs.Prelude.{IfOk};
-ghost use Rattle.pl_engine.specs.Step.{HasDates};
+ghost use Rattle.pl_step.specs.Step.{HasDates};
 ghost use Rattle.pl_script.specs.LineError.{ReadsAs};
 ghost use Rattle.pl_script.specs.Script as spec;
 ghost use Rattle.pl_script.specs.TagText.{tag_of};
@@ -8,8 +8,8 @@ ghost use Rattle.pl_script.specs.TagText.{tag_of};
 use crate::fields::Fields;
 use crate::lines::{LineError, in_range};
 use pl_base::Txt;
-use pl_engine::Command;
 use pl_link::Canon;
+use pl_step::Command;
 use pl_words::TagName;
 use std::alloc::Global;
 

@@ -1,10 +1,10 @@
 -- Commands that leave a store as it is.
 use Rattle.std.specs.Prelude.{◌≡◌, ◌⊎◌, false}
 use Rattle.pl_base.specs.declared.refusal.Refusal.{Refusal}
-use Rattle.pl_engine.specs.declared.command.Command.{Command}
-use Rattle.pl_engine.specs.declared.reply.Reply.{Reply}
-use Rattle.pl_engine.specs.declared.reply.Reply.TheVariants.{Refused}
-use Rattle.pl_engine.specs.Step.{is_change}
+use Rattle.pl_step.specs.declared.command.Command.{Command}
+use Rattle.pl_step.specs.declared.reply.Reply.{Reply}
+use Rattle.pl_step.specs.declared.reply.Reply.TheVariants.{Refused}
+use Rattle.pl_step.specs.Step.{is_change}
 
 -- the command was refused, or is of a kind that never changes the store
 abbrev pub ChangesNothing : Command → Reply → Type 0

@@ -3,7 +3,7 @@ ghost use Rattle.std.specs.Prelude.{◌≡◌, ◌≤◌, List, ℕ, Some, false
 ghost use Rattle.pl_desk.specs.Shown.{AtAnyMoment};
 ghost use Rattle.pl_desk.specs.Counts.{Counts};
 ghost use Rattle.pl_desk.specs.Calls.{KeepsLine};
-ghost use Rattle.pl_engine.specs.Step.{HasDates, perform};
+ghost use Rattle.pl_step.specs.Step.{HasDates, perform};
 ghost use Rattle.pl_store.specs.Keeper.{IsKept, IsReadyFrom, LeavesEither, is_file, keeper_limit};
 ghost use Rattle.pl_store.specs.Keeper.{ready_limit, ready_store, keeper_store};
 
@@ -11,7 +11,7 @@ use crate::memory::Memory;
 use crate::session::{Prepared, Session};
 use pl_base::{DeviceFault, NoMemory};
 use pl_desk::Desk;
-use pl_engine::{Command, Reply};
+use pl_step::{Command, Reply};
 
 /// A store, between two commands.
 #[derive(Drop)]

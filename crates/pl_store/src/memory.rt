@@ -1,13 +1,14 @@
 ghost use Rattle.std.specs.Prelude.{◌≡◌, ◌≤◌, IfOk};
 ghost use Rattle.pl_base.specs.Store.{opening};
 ghost use Rattle.pl_base.specs.Live.{slot_limit};
-ghost use Rattle.pl_engine.specs.Step.{HasDates, perform};
+ghost use Rattle.pl_step.specs.Step.{HasDates, perform};
 ghost use Rattle.pl_store.specs.Session.{memory_limit, memory_store};
 
 use crate::uncounted;
 use pl_base::NoMemory;
-use pl_engine::{Command, Engine, Reply};
+use pl_engine::Engine;
 use pl_plain::Flat;
+use pl_step::{Command, Reply};
 use std::alloc::Global;
 
 /// A store in memory alone.

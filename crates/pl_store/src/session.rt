@@ -6,8 +6,9 @@ ghost use Rattle.pl_store.specs.Unchanged.{ChangesNothing};
 use crate::pending::Pending;
 use crate::uncounted;
 use pl_base::{NoMemory, Refusal};
-use pl_engine::{Command, Engine, Reply};
+use pl_engine::Engine;
 use pl_plain::Flat;
+use pl_step::{Command, Reply};
 
 /// An open store, between two commands. The file holds it, and is not read again.
 #[derive(Drop)]
@@ -28,7 +29,7 @@ pub struct Prepared {
 
 impl Session {
     ghost use Rattle.std.specs.Prelude.{◌≡◌, false, IfOk};
-    ghost use Rattle.pl_engine.specs.Step.{HasDates, is_change, perform};
+    ghost use Rattle.pl_step.specs.Step.{HasDates, is_change, perform};
     ghost use Rattle.pl_store.specs.Session.{IsPreparedFrom, session_limit, next_limit, next_store};
     ghost use Rattle.pl_store.specs.Session.{session_store, writes_nothing};
 

@@ -4,11 +4,12 @@ ghost use Rattle.pl_base.specs.Rows.{store_of};
 ghost use Rattle.pl_base.specs.Touched.{IsWithin, changed, bytes_before};
 ghost use Rattle.pl_form.specs.Form.{StandsFor};
 ghost use Rattle.pl_plain.specs.Flat.{IsBase, bytes_of, kept_of};
-ghost use Rattle.pl_engine.specs.Step.{HasDates, is_change, perform};
+ghost use Rattle.pl_step.specs.Step.{HasDates, is_change, perform};
 
 use pl_base::{NoMemory, Refusal, Steps, Touched};
-use pl_engine::{Command, Engine, Reply};
+use pl_engine::Engine;
 use pl_plain::Flat;
+use pl_step::{Command, Reply};
 use std::marker::Brand;
 use std::sync::ledger::{Blank, Ledger};
 

@@ -9,12 +9,12 @@ use Rattle.pl_desk.specs.declared.desk.Desk.{Ghosts}
 use Rattle.pl_desk.specs.Shown.{AtAnyMoment, ShowsOnly}
 use Rattle.pl_desk.specs.Calls.{KeepsFile}
 use Rattle.pl_desk.specs.AnyMoment.{OnlyNow}
-use Rattle.pl_engine.specs.declared.command.Command.{Command}
-use Rattle.pl_engine.specs.declared.reply.Reply.{Reply}
-use Rattle.pl_engine.specs.declared.reply.Reply.TheVariants.{Refused}
-use Rattle.pl_engine.specs.Parsed.{Parsed}
-use Rattle.pl_engine.specs.Run.{replies, after}
-use Rattle.pl_engine.specs.Step.{perform}
+use Rattle.pl_step.specs.declared.command.Command.{Command}
+use Rattle.pl_step.specs.declared.reply.Reply.{Reply}
+use Rattle.pl_step.specs.declared.reply.Reply.TheVariants.{Refused}
+use Rattle.pl_step.specs.Parsed.{Parsed}
+use Rattle.pl_step.specs.Run.{replies, after}
+use Rattle.pl_step.specs.Step.{perform}
 use Rattle.pl_store.specs.declared.keeper.Keeper.{Keeper}
 use Rattle.pl_store.specs.Keeper.{IsKept, Keeps, Leaves, LeavesEither, is_file, keeper_store}
 use Rattle.pl_store.specs.KeeperLaws.{kept_keeps, kept_leaves, still_keeps}

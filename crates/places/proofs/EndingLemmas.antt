@@ -14,7 +14,7 @@ use Rattle.pl_desk.specs.Moments.{and_on, shows_less}
 use Rattle.pl_desk.specs.declared.desk.Desk.{Ghosts}
 use Rattle.pl_desk.specs.Shown.{ShowsOnly}
 use Rattle.pl_desk.specs.AnyMoment.{OnlyNow}
-use Rattle.pl_engine.specs.Run.{replies, after}
+use Rattle.pl_step.specs.Run.{replies, after}
 use Rattle.pl_store.specs.Keeper.{IsKept, Keeps, is_file}
 use Rattle.pl_script.specs.Script.{script}
 use Rattle.places.specs.declared.answer_error.AnswerError.{AnswerError}

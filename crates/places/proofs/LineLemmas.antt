@@ -6,8 +6,8 @@ use Rattle.std.proofs.Common.{map, Some, None, Option, refl, ap, ◌∙◌, arit
 use Rattle.std.proofs.lemmas.Bool.{cond-true, cond-false, ne_eqb}
 use Rattle.std.proofs.lemmas.List.{map-append}
 use Rattle.std.proofs.lemmas.List.Elements.{filter_map-append}
-use Rattle.pl_engine.specs.declared.command.Command.{Command}
-use Rattle.pl_engine.specs.Parsed.{Parsed}
+use Rattle.pl_step.specs.declared.command.Command.{Command}
+use Rattle.pl_step.specs.Parsed.{Parsed}
 use Rattle.pl_script.specs.Script.{entry, script}
 use Rattle.places.specs.Lines.{all_but_last, last_part, ended_lines, open_line, entries_of, entries_in}
 

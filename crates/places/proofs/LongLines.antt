@@ -5,8 +5,8 @@ use Rattle.std.proofs.Common.{take, Some, None, Option, Err, refl, ap, sym, â—Œâ
 use Rattle.std.proofs.lemmas.Bool.{cases_lt, cond-true, lt-ltb}
 use Rattle.std.proofs.lemmas.List.{get_or-take, length-take-le, take_all}
 use Rattle.pl_base.specs.declared.refusal.Refusal.TheVariants.{BadLine}
-use Rattle.pl_engine.specs.declared.command.Command.{Command}
-use Rattle.pl_engine.specs.Parsed.{Parsed}
+use Rattle.pl_step.specs.declared.command.Command.{Command}
+use Rattle.pl_step.specs.Parsed.{Parsed}
 use Rattle.pl_script.specs.Script.{entry, longest_line}
 use Rattle.places.specs.Limits.{kept_of_line}
 

@@ -12,10 +12,10 @@ use Rattle.pl_desk.specs.Settling.{Settles, ShowsThen, left_settled, shows_then_
 use Rattle.pl_desk.specs.declared.desk.Desk.{Ghosts}
 use Rattle.pl_desk.specs.Shown.{ShowsOnly, Unsaid}
 use Rattle.pl_desk.specs.AnyMoment.{CountsNow, OnlyNow, rests_less}
-use Rattle.pl_engine.specs.declared.command.Command.{Command}
-use Rattle.pl_engine.specs.Parsed.{Parsed}
-use Rattle.pl_engine.specs.Run.{replies, after}
-use Rattle.pl_engine.specs.Step.{step}
+use Rattle.pl_step.specs.declared.command.Command.{Command}
+use Rattle.pl_step.specs.Parsed.{Parsed}
+use Rattle.pl_step.specs.Run.{replies, after}
+use Rattle.pl_step.specs.Step.{step}
 use Rattle.pl_store.specs.declared.ended.Ended.{Ended}
 use Rattle.pl_store.specs.declared.ended.Ended.TheVariants as ended
 use Rattle.pl_store.specs.Session.{Stands, StandsAlike}

@@ -9,10 +9,10 @@ use Rattle.std.proofs.lemmas.Bool.{cases_eq}
 use Rattle.std.proofs.lemmas.List.{length-take, take-append-drop, take-append-le, take_all}
 use Rattle.pl_base.specs.Store.{Store}
 use Rattle.pl_base.specs.Live.{slot_limit}
-use Rattle.pl_engine.specs.declared.command.Command.{Command}
-use Rattle.pl_engine.specs.Run.{replies, after}
-use Rattle.pl_engine.specs.Parsed.{Parsed}
-use Rattle.pl_engine.specs.Step.{step}
+use Rattle.pl_step.specs.declared.command.Command.{Command}
+use Rattle.pl_step.specs.Run.{replies, after}
+use Rattle.pl_step.specs.Parsed.{Parsed}
+use Rattle.pl_step.specs.Step.{step}
 use Rattle.pl_store.specs.Keeper.{keeper_limit, keeper_store}
 use Rattle.pl_script.specs.Reply.{reply_text}
 use Rattle.pl_script.specs.Script.{script}

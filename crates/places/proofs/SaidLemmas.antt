@@ -4,7 +4,7 @@ use Rattle.std.proofs.Common.{◌≡◌, append-nil, option_to_list, ◌≤◌, 
 use Rattle.std.proofs.Common.{None, Option, refl, ap, sym, ◌∙◌, append_assoc, arith, length-drop}
 use Rattle.std.proofs.lemmas.List.{take_all}
 use Rattle.std.proofs.Math.Seq.{take-add}
-use Rattle.pl_engine.specs.declared.reply.Reply.{Reply}
+use Rattle.pl_step.specs.declared.reply.Reply.{Reply}
 use Rattle.pl_script.specs.Reply.{reply_text}
 use Rattle.places.specs.Said.{Says, texts}
 

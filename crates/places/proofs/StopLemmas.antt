@@ -8,9 +8,9 @@ use Rattle.pl_desk.specs.Moments.{and_on, started}
 use Rattle.pl_desk.specs.declared.desk.Desk.{Ghosts}
 use Rattle.pl_desk.specs.Shown.{ShowsOnly}
 use Rattle.pl_desk.specs.AnyMoment.{OnlyNow}
-use Rattle.pl_engine.specs.declared.command.Command.{Command}
-use Rattle.pl_engine.specs.Parsed.{Parsed}
-use Rattle.pl_engine.specs.Run.{replies, after}
+use Rattle.pl_step.specs.declared.command.Command.{Command}
+use Rattle.pl_step.specs.Parsed.{Parsed}
+use Rattle.pl_step.specs.Run.{replies, after}
 use Rattle.pl_store.specs.Keeper.{IsKept, Leaves, is_file, keeper_limit, keeper_store}
 use Rattle.pl_store.specs.KeeperLaws.{kept_leaves}
 use Rattle.pl_script.specs.Script.{entry, script}

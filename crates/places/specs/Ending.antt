@@ -9,7 +9,7 @@ use Rattle.pl_desk.specs.Calls.{KeepsFile, LeavesNoMore}
 use Rattle.pl_desk.specs.Shown.{Rests}
 use Rattle.pl_desk.specs.declared.desk.Desk as desks
 use Rattle.pl_desk.specs.declared.source.Source as sources
-use Rattle.pl_engine.specs.Run.{replies, after}
+use Rattle.pl_step.specs.Run.{replies, after}
 use Rattle.pl_store.specs.Ending.{FindsBytes, IsFinished, SparesBytes}
 use Rattle.pl_store.specs.Keeper.{Keeps}
 use Rattle.pl_store.specs.Session.{Stands}

@@ -2,8 +2,8 @@
 use Rattle.std.specs.Prelude.{ℕ, List, [], ◌∷◌, map, option_to_list, ◌==◌}
 use Rattle.std.specs.List.{filter_map, slice_split}
 use Rattle.std.specs.Str.Lines.{strip_carriage_return}
-use Rattle.pl_engine.specs.declared.command.Command.{Command}
-use Rattle.pl_engine.specs.Parsed.{Parsed}
+use Rattle.pl_step.specs.declared.command.Command.{Command}
+use Rattle.pl_step.specs.Parsed.{Parsed}
 use Rattle.pl_script.specs.Script.{entry}
 
 -- all parts but the last, and the last

@@ -3,9 +3,9 @@
 use Rattle.std.specs.Prelude.{◌≡◌, ◌⊎◌, ◌≤◌, ℕ, Bool, List, ◌++◌, length, take, Some}
 use Rattle.pl_base.specs.Store.{Store}
 use Rattle.pl_desk.specs.declared.desk.Desk.{Ghosts}
-use Rattle.pl_engine.specs.declared.command.Command.{Command}
-use Rattle.pl_engine.specs.Parsed.{Parsed}
-use Rattle.pl_engine.specs.Run.{replies, after}
+use Rattle.pl_step.specs.declared.command.Command.{Command}
+use Rattle.pl_step.specs.Parsed.{Parsed}
+use Rattle.pl_step.specs.Run.{replies, after}
 use Rattle.pl_store.specs.Keeper.{Keeps, Leaves, LeavesEither}
 use Rattle.places.specs.declared.answer_error.AnswerError.{AnswerError}
 use Rattle.places.specs.declared.answer_error.AnswerError.TheVariants.{SayFault, DeviceFault}

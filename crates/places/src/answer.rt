@@ -3,8 +3,8 @@ ghost use Rattle.std.specs.Prelude.{◌≡◌, ℕ, List, [], ◌∷◌, Some, O
 ghost use Rattle.pl_desk.specs.Shown.{ShowsOnly};
 ghost use Rattle.pl_desk.specs.Counts.{CountsAt};
 ghost use Rattle.pl_desk.specs.Calls.{LeavesFile};
-ghost use Rattle.pl_engine.specs.Run.{replies, after};
-ghost use Rattle.pl_engine.specs.Step.{HasDates};
+ghost use Rattle.pl_step.specs.Run.{replies, after};
+ghost use Rattle.pl_step.specs.Step.{HasDates};
 ghost use Rattle.pl_store.specs.Keeper.{IsKept, is_file, keeper_limit, keeper_store};
 ghost use Rattle.pl_script.specs.Reply.{reply_text as text_of_reply};
 ghost use Rattle.places.specs.Lines.{entries_in};
@@ -16,8 +16,8 @@ use crate::answer_error::AnswerError;
 use crate::say::say_all;
 use pl_base::Refusal;
 use pl_desk::Desk;
-use pl_engine::{Command, Reply};
 use pl_script::{LineError, line, reply_text};
+use pl_step::{Command, Reply};
 use pl_store::Keeper;
 use std::alloc::Global;
 

@@ -28,7 +28,7 @@ impl ScriptRun {
     ghost use Rattle.pl_base.specs.Live.{slot_limit};
     ghost use Rattle.pl_desk.specs.Calls.{LeavesFile};
     ghost use Rattle.pl_desk.specs.Counts.{CountsAt};
-    ghost use Rattle.pl_engine.specs.Run.{replies, after};
+    ghost use Rattle.pl_step.specs.Run.{replies, after};
     ghost use Rattle.pl_store.specs.Keeper.{is_file, keeper_limit, keeper_store};
     ghost use Rattle.pl_script.specs.Script.{script};
     ghost use Rattle.places.specs.Progress.{GoesOn, IsAt, ShowsIn, StaysKept, StopsIn};

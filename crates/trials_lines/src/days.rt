@@ -2,8 +2,8 @@
 // was at this day when it got the same rows.
 ghost use Rattle.std.specs.Prelude.{◌<◌};
 
-use pl_engine::Reply;
 use pl_script::line;
+use pl_step::Reply;
 use pl_store::{Memory, SLOT_LIMIT};
 use std::alloc::{AllocError, Global};
 use std::process::Abort;

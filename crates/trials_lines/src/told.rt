@@ -1,9 +1,9 @@
 // Lines on a store in memory, and the replies to them, which were worked out by hand.
-ghost use Rattle.pl_engine.specs.Step.{HasDates};
+ghost use Rattle.pl_step.specs.Step.{HasDates};
 
 use pl_base::Txt;
-use pl_engine::Command;
 use pl_script::{line, reply_text};
+use pl_step::Command;
 use pl_store::Memory;
 use std::alloc::Global;
 use std::process::Abort;

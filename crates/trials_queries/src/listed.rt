@@ -1,7 +1,7 @@
 // The ids of the rows of a reply, in order.
 use crate::told::answered;
-use pl_engine::{BarRow, Reply};
 use pl_query::ResultRow;
+use pl_step::{BarRow, Reply};
 use pl_store::{Memory, SLOT_LIMIT};
 use std::alloc::Global;
 use std::process::Abort;

@@ -1,7 +1,7 @@
 // Lines on a store in memory, and the replies to them, which were worked out by hand.
 use pl_base::NoMemory;
-use pl_engine::Reply;
 use pl_script::{LineError, line, reply_text};
+use pl_step::Reply;
 use pl_store::Memory;
 use std::alloc::Global;
 use std::process::Abort;

@@ -1,12 +1,12 @@
 // Visits with sources: what the file keeps of every page after each of them.
 ghost use Rattle.std.specs.Prelude.{◌≡◌, ◌<◌, IfOk};
-ghost use Rattle.pl_engine.specs.Step.{HasDates};
+ghost use Rattle.pl_step.specs.Step.{HasDates};
 
 use pl_base::{Micros, PageId, Refusal, Rows, Steps, Transition, VisitId};
 use pl_desk::MemDesk;
-use pl_engine::{Command, Reply};
 use pl_link::Canon;
 use pl_plain::Flat;
+use pl_step::{Command, Reply};
 use pl_store::{Memory, SLOT_LIMIT, Session, create};
 use std::alloc::Global;
 use std::marker::Brand;

@@ -5,10 +5,10 @@ use Rattle.std.proofs.lemmas.Bool.{both_ways}
 use Rattle.pl_base.specs.Store.{Store}
 use Rattle.pl_base.specs.Live.{slot_limit}
 use Rattle.pl_desk.specs.declared.desk.Desk.{Ghosts}
-use Rattle.pl_engine.specs.declared.command.Command.{Command}
-use Rattle.pl_engine.specs.Parsed.{Parsed}
-use Rattle.pl_engine.specs.Run.{replies, after}
-use Rattle.pl_engine.specs.Step.{step}
+use Rattle.pl_step.specs.declared.command.Command.{Command}
+use Rattle.pl_step.specs.Parsed.{Parsed}
+use Rattle.pl_step.specs.Run.{replies, after}
+use Rattle.pl_step.specs.Step.{step}
 use Rattle.pl_store.specs.Session.{Stands}
 use Rattle.places.specs.declared.status.Status.TheVariants as status
 use Rattle.places.specs.Ending.{LeavesAtEnd}

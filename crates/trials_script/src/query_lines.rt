@@ -1,9 +1,9 @@
 // Lines of queries and of the address bar, the columns at which they are refused, counted by hand,
 // and what their replies are written as.
 use pl_base::{Micros, NoMemory, PageId, Refusal, Seq, Txt};
-use pl_engine::{BarRow, Command, Reply};
 use pl_query::ResultRow;
 use pl_script::{LineError, line, reply_text};
+use pl_step::{BarRow, Command, Reply};
 use std::alloc::Global;
 use std::process::Abort;
 use std::test::Fail;

@@ -3,8 +3,8 @@
 // transition stands at column 26, the date at 28, and behind a date of one digit the source at 30;
 // behind `title` the text at 26.
 use pl_base::{IdKind, ItemId, Micros, NoMemory, PageId, Refusal, Transition, Txt, VisitId};
-use pl_engine::{Command, Reply};
 use pl_script::{LineError, escaped, line, reply_text};
+use pl_step::{Command, Reply};
 use std::alloc::Global;
 use std::process::Abort;
 use std::test::Fail;

@@ -1,11 +1,11 @@
 ghost use Rattle.std.specs.Prelude.{IfOk};
 ghost use Rattle.pl_base.specs.Date.{IsDate};
-ghost use Rattle.pl_engine.specs.Step.{HasDates};
+ghost use Rattle.pl_step.specs.Step.{HasDates};
 
 use pl_base::{Micros, PageId, Transition, VisitId};
 use pl_desk::MemDesk;
-use pl_engine::{Command, Reply};
 use pl_link::Canon;
+use pl_step::{Command, Reply};
 use pl_store::Session;
 use std::alloc::Global;
 use std::test::Fail;

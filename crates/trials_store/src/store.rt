@@ -1,6 +1,6 @@
 // Sessions over files in memory, and stores without a file.
 ghost use Rattle.std.specs.Prelude.{◌≡◌, ◌<◌, IfOk};
-ghost use Rattle.pl_engine.specs.Step.{HasDates};
+ghost use Rattle.pl_step.specs.Step.{HasDates};
 
 mod openings;
 mod stops;
@@ -9,9 +9,10 @@ use pl_base::{
     IdKind, Ids, Micros, NoMemory, PAGE_SIZE, PageId, Refusal, Steps, Transition, Txt, VisitId,
 };
 use pl_desk::MemDesk;
-use pl_engine::{Command, Engine, Reply};
+use pl_engine::Engine;
 use pl_link::Canon;
 use pl_plain::Flat;
+use pl_step::{Command, Reply};
 use pl_store::{Ended, Memory, SLOT_LIMIT, Session, create, reopen};
 use std::alloc::Global;
 use std::marker::Brand;

@@ -4,11 +4,11 @@ ghost use Rattle.pl_bar.specs.Filled.{filled};
 ghost use Rattle.pl_base.specs.Rows.{KeptPage, has_page, page_at, store_of};
 ghost use Rattle.pl_base.specs.Totals.{scored_pages};
 ghost use Rattle.pl_history.specs.Sound.{IsSound};
-ghost use Rattle.pl_engine.specs.Step as spec;
+ghost use Rattle.pl_step.specs.Step as spec;
 
-use crate::reply::{BarRow, Reply};
 use pl_base::{NoMemory, PageId, Rows, Seq, Steps, Txt};
 use pl_marks::views;
+use pl_step::{BarRow, Reply};
 use pl_totals::Totals;
 use std::alloc::Global;
 use std::sync::ledger::Ledger;

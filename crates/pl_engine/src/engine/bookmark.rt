@@ -4,14 +4,13 @@ ghost use Rattle.pl_base.specs.Date.{IsDate};
 ghost use Rattle.pl_base.specs.Live.{slot_limit};
 ghost use Rattle.pl_base.specs.Rows.{store_of};
 ghost use Rattle.pl_history.specs.Sound.{IsSound};
-ghost use Rattle.pl_engine.specs.Step as spec;
+ghost use Rattle.pl_step.specs.Step as spec;
 
-use crate::command::Command;
 use crate::engine::insert::room_refusal;
-use crate::reply::Reply;
 use pl_base::{ItemId, Micros, NoMemory, Refusal, Rows, Steps, Txt, cut_title};
 use pl_history::{add_bookmark, chunks, find_target, page_for, slots_after};
 use pl_link::{Canon, split};
+use pl_step::{Command, Reply};
 use pl_tree::{Place, TreeChange};
 use std::alloc::Global;
 use std::sync::ledger::Ledger;

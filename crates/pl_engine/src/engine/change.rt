@@ -6,13 +6,12 @@ ghost use Rattle.pl_base.specs.Live.{slot_limit};
 ghost use Rattle.pl_base.specs.Rows.{live_with_item_title, store_of};
 ghost use Rattle.pl_base.specs.Tree.{has_item};
 ghost use Rattle.pl_history.specs.Sound.{IsSound};
-ghost use Rattle.pl_engine.specs.Step as spec;
+ghost use Rattle.pl_step.specs.Step as spec;
 
-use crate::command::Command;
 use crate::engine::slots::is_full;
-use crate::reply::Reply;
 use pl_base::{ItemId, Micros, NoMemory, Refusal, Rows, Steps, Txt, cut_title};
 use pl_history::chunks;
+use pl_step::{Command, Reply};
 use pl_tree::{Place, TreeChange, TreeError};
 use std::sync::ledger::Ledger;
 

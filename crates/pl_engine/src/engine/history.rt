@@ -3,13 +3,12 @@ ghost use Rattle.std.specs.Prelude.{◌≡◌, ℕ, List, IfOk, OnOk};
 ghost use Rattle.pl_base.specs.Date.{IsDay};
 ghost use Rattle.pl_base.specs.Rows.{store_of};
 ghost use Rattle.pl_history.specs.Sound.{IsSound};
-ghost use Rattle.pl_engine.specs.Step as spec;
+ghost use Rattle.pl_step.specs.Step as spec;
 
-use crate::command::Command;
-use crate::reply::Reply;
 use pl_base::{Day, NoMemory, Refusal, Rows, Steps, VisitId};
 use pl_history::{Removed, find_page, remove_visits, set_day};
 use pl_link::Canon;
+use pl_step::{Command, Reply};
 use std::alloc::Global;
 use std::sync::ledger::Ledger;
 

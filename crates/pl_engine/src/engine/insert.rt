@@ -5,16 +5,15 @@ ghost use Rattle.pl_base.specs.Good.{longest_title};
 ghost use Rattle.pl_base.specs.Live.{slot_limit};
 ghost use Rattle.pl_base.specs.Rows.{store_of};
 ghost use Rattle.pl_history.specs.Sound.{IsSound};
+ghost use Rattle.pl_step.specs.Step as spec;
 ghost use Rattle.pl_engine.specs.Room.{item_room, plain_item};
-ghost use Rattle.pl_engine.specs.Step as spec;
 
-use crate::command::Command;
 use crate::engine::slots::is_full;
-use crate::reply::Reply;
 use pl_base::{
     IdKind, Ids, ItemId, ItemKind, Micros, NoMemory, Refusal, Rows, Steps, Txt, cut_title,
 };
 use pl_history::chunks;
+use pl_step::{Command, Reply};
 use pl_tree::{NewItem, Place, TreeChange, insert_allowed};
 use std::alloc::Global;
 use std::sync::ledger::Ledger;

@@ -5,11 +5,10 @@ ghost use Rattle.pl_base.specs.Good.{IsGood};
 ghost use Rattle.pl_base.specs.Rows.{has_page, store_of};
 ghost use Rattle.pl_base.specs.Tree.{has_item, item_at};
 ghost use Rattle.pl_history.specs.Sound.{IsSound};
-ghost use Rattle.pl_engine.specs.Step as spec;
+ghost use Rattle.pl_step.specs.Step as spec;
 
-use crate::command::Command;
-use crate::reply::{ListRow, Reply};
 use pl_base::{ItemId, NoMemory, PageId, Rows, Seq, Steps, Txt};
+use pl_step::{Command, ListRow, Reply};
 use pl_tree::folder_refusal;
 use std::alloc::Global;
 use std::sync::ledger::Ledger;

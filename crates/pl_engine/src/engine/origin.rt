@@ -6,13 +6,13 @@ ghost use Rattle.pl_base.specs.Totals.{Scored, scored_pages};
 ghost use Rattle.pl_base.specs.View.{scored_views};
 ghost use Rattle.pl_history.specs.Sound.{IsSound};
 ghost use Rattle.pl_totals.specs.Standing.{StandsFor};
-ghost use Rattle.pl_engine.specs.Step as spec;
+ghost use Rattle.pl_step.specs.Step as spec;
 
-use crate::reply::Reply;
 use pl_base::{NoMemory, Refusal, Rows, Steps, View};
 use pl_history::visit_count;
 use pl_link::{Canon, Parts, split};
 use pl_marks::views;
+use pl_step::Reply;
 use pl_totals::{Totals, without_www};
 use pl_tree::item_count;
 use std::alloc::Global;

@@ -3,13 +3,13 @@ ghost use Rattle.std.specs.Prelude.{◌≡◌, IfOk};
 ghost use Rattle.pl_base.specs.Rows.{store_of};
 ghost use Rattle.pl_history.specs.Sound.{IsSound};
 ghost use Rattle.pl_base.specs.Visiting as visiting;
-ghost use Rattle.pl_engine.specs.Step as spec;
+ghost use Rattle.pl_step.specs.Step as spec;
 
-use crate::reply::Reply;
 use pl_base::{NoMemory, Refusal, Rows, Steps};
 use pl_history::find_page;
 use pl_link::Canon;
 use pl_marks::{is_bookmarked, last_date, tag_text};
+use pl_step::Reply;
 use std::alloc::Global;
 use std::sync::ledger::Ledger;
 

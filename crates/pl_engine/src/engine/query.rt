@@ -3,12 +3,12 @@ ghost use Rattle.std.specs.Prelude.{◌≡◌, IfOk};
 ghost use Rattle.pl_base.specs.Rows.{store_of};
 ghost use Rattle.pl_history.specs.Sound.{IsSound};
 ghost use Rattle.pl_place.specs.Canonical.{canonical};
-ghost use Rattle.pl_engine.specs.Step as spec;
+ghost use Rattle.pl_step.specs.Step as spec;
 
-use crate::reply::Reply;
 use pl_base::{NoMemory, Rows, Seq, Steps};
 use pl_place::{Query, write};
 use pl_query::answer;
+use pl_step::Reply;
 use std::alloc::Global;
 use std::sync::ledger::Ledger;
 

@@ -2,12 +2,11 @@
 ghost use Rattle.std.specs.Prelude.{◌≡◌, ℕ, List, IfOk, OnOk};
 ghost use Rattle.pl_base.specs.Rows.{store_of};
 ghost use Rattle.pl_history.specs.Sound.{IsSound};
-ghost use Rattle.pl_engine.specs.Step as spec;
+ghost use Rattle.pl_step.specs.Step as spec;
 
-use crate::command::Command;
-use crate::reply::Reply;
 use pl_base::{ItemId, NoMemory, Refusal, Rows, Steps};
 use pl_history::settle_all;
+use pl_step::{Command, Reply};
 use pl_tree::TreeError;
 use std::alloc::Global;
 use std::sync::ledger::Ledger;

@@ -7,18 +7,17 @@ ghost use Rattle.pl_base.specs.Live as live;
 ghost use Rattle.pl_base.specs.Live.{live_slots, slot_limit};
 ghost use Rattle.pl_base.specs.Rows.{store_of};
 ghost use Rattle.pl_history.specs.Sound.{IsSound};
+ghost use Rattle.pl_step.specs.Step as spec;
 ghost use Rattle.pl_engine.specs.Room.{tag_room};
-ghost use Rattle.pl_engine.specs.Step as spec;
 ghost use Rattle.pl_history.specs.Target.{IsTargetOf};
 
-use crate::command::Command;
 use crate::engine::slots::is_full;
-use crate::reply::Reply;
 use pl_base::{IdKind, Ids, Micros, NoMemory, Refusal, Rows, Steps};
 use pl_history::{
     Target, add_tag, chunks, find_page, find_target, is_tagged, page_for, settle_all, slots_after,
 };
 use pl_link::{Canon, split};
+use pl_step::{Command, Reply};
 use pl_tree::{TreeError, tag_folder};
 use pl_words::TagName;
 use std::alloc::Global;

@@ -4,15 +4,14 @@ ghost use Rattle.pl_base.specs.Good.{longest_title};
 ghost use Rattle.pl_base.specs.Live.{slot_limit};
 ghost use Rattle.pl_base.specs.Rows.{has_page, store_of, with_title};
 ghost use Rattle.pl_history.specs.Sound.{IsSound};
-ghost use Rattle.pl_engine.specs.Step as spec;
+ghost use Rattle.pl_step.specs.Step as spec;
 ghost use Rattle.pl_engine.specs.Titled.{within_slots};
 
-use crate::command::Command;
 use crate::engine::slots::is_full;
-use crate::reply::Reply;
 use pl_base::{NoMemory, PageId, Refusal, Rows, Steps, Txt, cut_title};
 use pl_history::{chunks, find_page};
 use pl_link::Canon;
+use pl_step::{Command, Reply};
 use std::sync::ledger::Ledger;
 
 // The page has the title from then on, where there are slots for it.

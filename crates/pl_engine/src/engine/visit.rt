@@ -7,14 +7,13 @@ ghost use Rattle.pl_base.specs.Live.{live_slots, slot_limit};
 ghost use Rattle.pl_base.specs.Rows.{store_of};
 ghost use Rattle.pl_history.specs.Sound.{IsSound};
 ghost use Rattle.pl_base.specs.Visiting as visiting;
-ghost use Rattle.pl_engine.specs.Step as spec;
+ghost use Rattle.pl_step.specs.Step as spec;
 ghost use Rattle.pl_history.specs.Target.{IsTargetOf};
 
-use crate::command::Command;
-use crate::reply::Reply;
 use pl_base::{IdKind, Ids, Micros, NoMemory, Refusal, Rows, Steps, Transition, VisitId, VisitRow};
 use pl_history::{Target, add_visit, find_target, page_for, slots_after};
 use pl_link::{Canon, split};
+use pl_step::{Command, Reply};
 use std::alloc::Global;
 use std::sync::ledger::Ledger;
 

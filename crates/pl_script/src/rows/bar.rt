@@ -6,7 +6,7 @@ ghost use Rattle.pl_script.specs.Reply as spec;
 
 use crate::field::escaped;
 use pl_base::NoMemory;
-use pl_engine::{BarRow, Reply};
+use pl_step::{BarRow, Reply};
 use std::alloc::Global;
 
 /// A line that says how many pages there are, and a line for each.

@@ -7,8 +7,8 @@ ghost use Rattle.pl_script.specs.Reply as spec;
 
 use crate::field::{date_text, escaped};
 use pl_base::{Micros, NoMemory};
-use pl_engine::Reply;
 use pl_query::ResultRow;
+use pl_step::Reply;
 use std::alloc::Global;
 
 /// A line that says how many rows there are, and a line for each.

@@ -6,7 +6,7 @@ ghost use Rattle.pl_script.specs.Reply as spec;
 
 use crate::field::escaped;
 use pl_base::{ItemKind, NoMemory};
-use pl_engine::{ListRow, Reply};
+use pl_step::{ListRow, Reply};
 use std::alloc::Global;
 
 /// A line that says how many items there are, and a line for each.

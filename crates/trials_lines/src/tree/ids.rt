@@ -1,12 +1,13 @@
 // Stores whose ids or slots are spent: which cause is told first.
 ghost use Rattle.std.specs.Prelude.{◌≡◌, ◌<◌, ◌≤◌};
 ghost use Rattle.pl_base.specs.Live.{slot_limit};
-ghost use Rattle.pl_engine.specs.Step.{HasDates};
+ghost use Rattle.pl_step.specs.Step.{HasDates};
 
 use pl_base::{Ids, Steps, Txt};
-use pl_engine::{Command, Engine};
+use pl_engine::Engine;
 use pl_plain::Flat;
 use pl_script::{line, reply_text};
+use pl_step::Command;
 use pl_store::SLOT_LIMIT;
 use std::alloc::Global;
 use std::marker::Brand;

@@ -1,11 +1,11 @@
 // A folder that is 5,000 deep, and one with 5,000 children.
 ghost use Rattle.std.specs.Prelude.{IfOk};
-ghost use Rattle.pl_engine.specs.Step.{HasDates};
+ghost use Rattle.pl_step.specs.Step.{HasDates};
 
 use crate::told::talked;
 use pl_base::{ItemId, Micros, Txt};
-use pl_engine::{Command, Reply};
 use pl_link::Canon;
+use pl_step::{Command, Reply};
 use pl_store::{Memory, SLOT_LIMIT};
 use pl_tree::Place;
 use std::alloc::Global;

@@ -1,9 +1,9 @@
 // Moves within a folder and between folders.
-ghost use Rattle.pl_engine.specs.Step.{HasDates};
+ghost use Rattle.pl_step.specs.Step.{HasDates};
 
 use crate::told::talked;
 use pl_base::{ItemId, Micros};
-use pl_engine::{Command, Reply};
+use pl_step::{Command, Reply};
 use pl_store::{Memory, SLOT_LIMIT};
 use pl_tree::Place;
 use std::alloc::Global;

@@ -1,5 +1,5 @@
 // A stop of the machine within each call of two commits.
-ghost use Rattle.pl_engine.specs.Step.{HasDates};
+ghost use Rattle.pl_step.specs.Step.{HasDates};
 
 use super::*;
 

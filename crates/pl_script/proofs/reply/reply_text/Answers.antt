@@ -4,9 +4,9 @@ use Rattle.std.specs.List.{All, join_with_byte}
 use Rattle.std.specs.Prelude.{codes, decimal}
 use Rattle.std.specs.Fmt.{signed_decimal}
 use Rattle.std.proofs.lemmas.Int.{to_z-of_z}
-use Rattle.pl_engine.specs.declared.reply.Reply.TheVariants.{Day, Visit, Removed, Item}
-use Rattle.pl_engine.specs.declared.reply.Reply.TheVariants.{Rows, Place, Bar, Fill}
-use Rattle.pl_engine.specs.declared.reply.Reply.TheVariants.{List as ListReply, Refused}
+use Rattle.pl_step.specs.declared.reply.Reply.TheVariants.{Day, Visit, Removed, Item}
+use Rattle.pl_step.specs.declared.reply.Reply.TheVariants.{Rows, Place, Bar, Fill}
+use Rattle.pl_step.specs.declared.reply.Reply.TheVariants.{List as ListReply, Refused}
 use Rattle.pl_script.specs.Script.{escaped}
 use Rattle.pl_script.specs.Reply.{IsFoundAgain, IsOfferedAgain, IsToldAgain}
 use Rattle.pl_script.specs.Reply.{date_text, line_text, reply_fields, reply_text, truth_text}

@@ -1,8 +1,8 @@
 use Rattle.std.proofs.Common.{Err, List, ap, option_to_list, subst, sym, ◌∙◌}
 use Rattle.std.proofs.lemmas.Result.{err_from_is_err_and}
 use Rattle.pl_desk.specs.Shown.{ShowsOnly}
-use Rattle.pl_engine.specs.declared.command.Command.{Command}
-use Rattle.pl_engine.specs.Parsed.{Parsed}
+use Rattle.pl_step.specs.declared.command.Command.{Command}
+use Rattle.pl_step.specs.Parsed.{Parsed}
 use Rattle.pl_store.specs.Keeper.{is_file, keeper_limit, keeper_store}
 use Rattle.pl_store.specs.KeeperLaws.{kept_keeps, still_kept}
 use Rattle.places.specs.Lines.{entries_in}

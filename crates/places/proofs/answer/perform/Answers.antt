@@ -2,7 +2,7 @@ use Rattle.std.proofs.Common.{Ok, ◌∷◌, [], refl, sym, subst, ◌∙◌}
 use Rattle.std.proofs.lemmas.Result.{err_from_is_err_and}
 use Rattle.pl_base.specs.Store.{Store}
 use Rattle.pl_desk.specs.Calls.{LeavesFile}
-use Rattle.pl_engine.specs.Run.{after}
+use Rattle.pl_step.specs.Run.{after}
 use Rattle.pl_store.specs.Keeper.{LeavesEither, is_file, keeper_limit, ready_store, keeper_store}
 use Rattle.pl_store.specs.KeeperLaws.{kept_keeps, still_keeps, still_kept}
 use Rattle.places.proofs.AnswerCounts.{leaves_self, rose_at, rose_from, stood}

@@ -4,12 +4,12 @@ use Rattle.std.proofs.lemmas.Bool.{true≢false}
 use Rattle.pl_base.specs.declared.refusal.Refusal.{Refusal}
 use Rattle.pl_base.specs.Rows.{HaveTotals, store_of}
 use Rattle.pl_base.specs.Store.{Store}
-use Rattle.pl_engine.specs.declared.reply.Reply.{Reply}
-use Rattle.pl_engine.specs.declared.reply.Reply.TheVariants.{Refused}
+use Rattle.pl_step.specs.declared.reply.Reply.{Reply}
+use Rattle.pl_step.specs.declared.reply.Reply.TheVariants.{Refused}
 use Rattle.pl_history.specs.Sound.{IsSound}
-use Rattle.pl_engine.specs.Refused.{is_refused}
-use Rattle.pl_engine.specs.Step.{is_change, perform}
-use Rattle.pl_engine.proofs.KeptTotals.{refused_changes_none, still}
+use Rattle.pl_step.specs.Refused.{is_refused}
+use Rattle.pl_step.specs.Step.{is_change, perform}
+use Rattle.pl_step.proofs.KeptTotals.{refused_changes_none, still}
 use Rattle.pl_engine.proofs.engine.Engine.apply.Given.{Over}
 use Rattle.pl_engine.proofs.engine.Engine.apply.Goals.{Joined-command, in-Visit+in_ok-reply-in-Visit}
 use Rattle.pl_engine.proofs.engine.Engine.apply.Goals.{in-Title+in_ok-reply-in-Title, in-Page+in_ok-reply-in-Page}

@@ -5,8 +5,8 @@ use Rattle.std.proofs.lemmas.Iterator.Adapters.{YieldsList-from_vec}
 use Rattle.std.proofs.lemmas.Iterator.Consumers.{YieldsList-end}
 use Rattle.pl_base.specs.declared.id.PageId.{PageId}
 use Rattle.pl_base.specs.Rows.{Kept, store_of}
-use Rattle.pl_engine.specs.declared.reply.Reply.TheVariants.{Bar}
-use Rattle.pl_engine.specs.Step.{bar_reply}
+use Rattle.pl_step.specs.declared.reply.Reply.TheVariants.{Bar}
+use Rattle.pl_step.specs.Step.{bar_reply}
 use Rattle.pl_engine.proofs.Offered.{IsThere, offered_there, row_at, row_more, rows_offered}
 use Rattle.pl_engine.proofs.engine.bar.bar.Goals as goal
 

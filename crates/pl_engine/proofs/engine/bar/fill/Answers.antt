@@ -5,7 +5,7 @@ use Rattle.pl_base.specs.Live.{slot_limit}
 use Rattle.pl_base.specs.Rows.{Kept, store_of}
 use Rattle.pl_base.specs.Totals.{scored_pages}
 use Rattle.pl_totals.specs.Standing.{StandsFor}
-use Rattle.pl_engine.specs.Step.{group_reply}
+use Rattle.pl_step.specs.Step.{group_reply}
 use Rattle.pl_engine.proofs.Views.{few_views, of_pages, small_sum}
 use Rattle.pl_engine.proofs.engine.bar.fill.Goals.{in-Some, in-None}
 use Rattle.pl_engine.proofs.engine.bar.fill.Goals as goal

@@ -2,8 +2,8 @@ use Rattle.std.proofs.Common.{◌+◌, ◌∙◌, ap, arith, false, List, refl, 
 use Rattle.pl_base.specs.Rows.{store_of}
 use Rattle.pl_base.specs.Store.{Store}
 use Rattle.pl_tree.specs.declared.new_item.NewItem.{NewItem}
+use Rattle.pl_step.specs.Step.{after_insert}
 use Rattle.pl_engine.specs.Room.{plain_item}
-use Rattle.pl_engine.specs.Step.{after_insert}
 use Rattle.pl_engine.proofs.ItemStep.{insert_done, insert_refused, live_inserted}
 use Rattle.pl_history.proofs.ItemPages.{sound_inserted}
 use Rattle.pl_engine.proofs.engine.insert.insert_plain.Goals as goal

@@ -5,7 +5,7 @@ use Rattle.pl_base.specs.Live.{slot_limit}
 use Rattle.pl_base.specs.Rows.{Kept, store_of}
 use Rattle.pl_base.specs.Totals.{Scored, scored_pages}
 use Rattle.pl_totals.specs.Standing.{StandsFor}
-use Rattle.pl_engine.specs.Step.{pages_of}
+use Rattle.pl_step.specs.Step.{pages_of}
 use Rattle.pl_engine.proofs.Views.{few_pages, few_views, none_told, of_pages, small_sum, some_told}
 use Rattle.pl_engine.proofs.engine.origin.origin.Goals as goal
 

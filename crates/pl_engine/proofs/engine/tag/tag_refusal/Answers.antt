@@ -2,7 +2,7 @@ use Rattle.std.proofs.Common.{◌≡◌, ◌+◌, is_none, List, ℕ}
 use Rattle.pl_base.specs.Live.{live_slots}
 use Rattle.pl_base.specs.Rows.{Kept, store_of}
 use Rattle.pl_tree.specs.Tagged.{tag_named}
-use Rattle.pl_engine.specs.Step.{after_tag}
+use Rattle.pl_step.specs.Step.{after_tag}
 use Rattle.pl_engine.proofs.PageSlots.{are_slots}
 use Rattle.pl_engine.proofs.TagAllowed.{folder_new, refused_room, slots_new, slots_tagged}
 use Rattle.pl_engine.proofs.TagMade.{folder_slots}

@@ -1,8 +1,8 @@
 use Rattle.std.proofs.Common.{◌≡◌, ◌∙◌, ap, arith, length}
 use Rattle.std.proofs.lemmas.Result.{IfOk-weaker, on_ok_weaker}
 use Rattle.pl_base.specs.Rows.{store_of, with_title}
-use Rattle.pl_engine.specs.declared.command.Command.TheVariants.{Title as TitleCommand}
-use Rattle.pl_engine.specs.Step.{after_title, perform}
+use Rattle.pl_step.specs.declared.command.Command.TheVariants.{Title as TitleCommand}
+use Rattle.pl_step.specs.Step.{after_title, perform}
 use Rattle.pl_engine.specs.Titled.{within_slots}
 use Rattle.pl_base.specs.Store.{Store}
 use Rattle.pl_base.specs.Title.{cut_title}

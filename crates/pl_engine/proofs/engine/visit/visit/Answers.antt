@@ -2,8 +2,8 @@ use Rattle.std.proofs.Common.{◌≡◌, ◌∙◌, ℤ, None, ap, rules, sym, w
 use Rattle.std.proofs.lemmas.Int.{to_z-of_z}
 use Rattle.pl_base.specs.declared.row.VisitRow.{VisitRow}
 use Rattle.pl_base.specs.Rows.{store_of}
-use Rattle.pl_engine.specs.declared.reply.Reply.TheVariants.{Visit as VisitReply}
-use Rattle.pl_engine.specs.Step.{visit_refusal}
+use Rattle.pl_step.specs.declared.reply.Reply.TheVariants.{Visit as VisitReply}
+use Rattle.pl_step.specs.Step.{visit_refusal}
 use Rattle.pl_history.proofs.OriginParts.{is_place-by_parts}
 use Rattle.pl_history.proofs.ReadyPage.{ready}
 use Rattle.pl_engine.proofs.VisitAllowed.{has_id, has_room, has_slot, has_source}

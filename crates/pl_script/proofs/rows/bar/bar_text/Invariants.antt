@@ -1,7 +1,7 @@
 use Rattle.std.proofs.Common.{◌≡◌, ◌++◌, take}
 use Rattle.std.specs.List.{All, flat_map}
 use Rattle.std.specs.String.{string_bytes}
-use Rattle.pl_engine.specs.declared.reply.Reply.TheVariants.{Bar}
+use Rattle.pl_step.specs.declared.reply.Reply.TheVariants.{Bar}
 use Rattle.pl_script.specs.Reply.{IsOfferedAgain, bar_fields, line_text, reply_fields}
 use Rattle.pl_script.proofs.rows.bar.bar_text.Given as goal
 

@@ -2,7 +2,7 @@ use Rattle.std.proofs.Common.{◌∙◌, append-nil, subst, sym}
 use Rattle.std.specs.List.{All}
 use Rattle.std.proofs.lemmas.List.{take_all}
 use Rattle.std.proofs.lemmas.List.Elements.{All-more, All-nil}
-use Rattle.pl_engine.specs.declared.reply.Reply.TheVariants.{Rows}
+use Rattle.pl_step.specs.declared.reply.Reply.TheVariants.{Rows}
 use Rattle.pl_script.specs.Reply.{IsFoundAgain, found_fields, line_text, reply_fields}
 use Rattle.pl_script.proofs.RowLines.{all_rows, one_more}
 use Rattle.pl_script.proofs.rows.found.found_text.Goals as goal

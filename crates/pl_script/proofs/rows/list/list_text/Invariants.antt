@@ -1,7 +1,7 @@
 use Rattle.std.proofs.Common.{◌≡◌, ◌++◌, take}
 use Rattle.std.specs.List.{All, flat_map}
 use Rattle.std.specs.String.{string_bytes}
-use Rattle.pl_engine.specs.declared.reply.Reply.TheVariants.{List as ListReply}
+use Rattle.pl_step.specs.declared.reply.Reply.TheVariants.{List as ListReply}
 use Rattle.pl_script.specs.Reply.{IsToldAgain, line_text, reply_fields, row_fields}
 use Rattle.pl_script.proofs.rows.list.list_text.Given as goal
 

@@ -2,7 +2,7 @@ use Rattle.std.specs.Prelude.{codes}
 use Rattle.std.proofs.Common.{◌≡◌, ◌++◌, IsSome, inr, refl, true, sym, subst}
 use Rattle.pl_base.specs.Live.{slot_limit}
 use Rattle.pl_desk.specs.AnyMoment.{held_left}
-use Rattle.pl_engine.specs.Run.{replies, after}
+use Rattle.pl_step.specs.Run.{replies, after}
 use Rattle.places.specs.Ending.{LeavesAtEnd}
 use Rattle.places.specs.declared.status.Status.TheVariants as status
 use Rattle.places.specs.Said.{texts}

@@ -1,7 +1,7 @@
 use Rattle.std.specs.Prelude.{codes}
 use Rattle.std.proofs.Common.{◌++◌, inr, refl, true}
 use Rattle.pl_base.specs.Live.{slot_limit}
-use Rattle.pl_engine.specs.Run.{after, replies}
+use Rattle.pl_step.specs.Run.{after, replies}
 use Rattle.pl_script.specs.Script.{script}
 use Rattle.places.specs.Ending.{LeavesAtEnd, SaysAll}
 use Rattle.places.specs.declared.status.Status.TheVariants as status

@@ -1,11 +1,11 @@
 -- Whether a command was refused, and whether it may have changed something.
 use Rattle.std.specs.Prelude.{◌&&◌, not, Bool, true, false}
-use Rattle.pl_engine.specs.declared.command.Command.{Command}
-use Rattle.pl_engine.specs.declared.reply.Reply.{Reply}
-use Rattle.pl_engine.specs.declared.reply.Reply.TheVariants.{Day, Visit, Done, Page, Origin, Stats}
-use Rattle.pl_engine.specs.declared.reply.Reply.TheVariants.{Removed, Item, List, Rows, Place, Bar}
-use Rattle.pl_engine.specs.declared.reply.Reply.TheVariants.{Fill, NoFill, Refused}
-use Rattle.pl_engine.specs.Step.{is_change}
+use Rattle.pl_step.specs.declared.command.Command.{Command}
+use Rattle.pl_step.specs.declared.reply.Reply.{Reply}
+use Rattle.pl_step.specs.declared.reply.Reply.TheVariants.{Day, Visit, Done, Page, Origin, Stats}
+use Rattle.pl_step.specs.declared.reply.Reply.TheVariants.{Removed, Item, List, Rows, Place, Bar}
+use Rattle.pl_step.specs.declared.reply.Reply.TheVariants.{Fill, NoFill, Refused}
+use Rattle.pl_step.specs.Step.{is_change}
 
 -- the reply is a refusal
 abbrev pub is_refused : Reply → Bool

@@ -1,10 +1,10 @@
 -- A run of the machine over the entries of a script.
 use Rattle.std.specs.Prelude.{ℕ, List, [], ◌∷◌}
 use Rattle.pl_base.specs.Store.{Store}
-use Rattle.pl_engine.specs.declared.command.Command.{Command}
-use Rattle.pl_engine.specs.declared.reply.Reply.{Reply}
-use Rattle.pl_engine.specs.Parsed.{Parsed}
-use Rattle.pl_engine.specs.Step.{step}
+use Rattle.pl_step.specs.declared.command.Command.{Command}
+use Rattle.pl_step.specs.declared.reply.Reply.{Reply}
+use Rattle.pl_step.specs.Parsed.{Parsed}
+use Rattle.pl_step.specs.Step.{step}
 
 -- the replies, in order, on a store that takes at most so many slots
 abbrev pub replies : ℕ → Store → List (Parsed Command) → List Reply

@@ -48,44 +48,44 @@ use Rattle.pl_bar.specs.Filled.{filled}
 use Rattle.pl_place.specs.declared.query.Query.{Query}
 use Rattle.pl_place.specs.Canonical.{canonical}
 use Rattle.pl_query.specs.QueryAnswer.{answer, told_row}
-use Rattle.pl_engine.specs.declared.command.Command.{Command}
-use Rattle.pl_engine.specs.declared.command.Command.TheVariants.{Day as DayCommand}
-use Rattle.pl_engine.specs.declared.command.Command.TheVariants.{Visit as VisitCommand}
-use Rattle.pl_engine.specs.declared.command.Command.TheVariants.{Title as TitleCommand}
-use Rattle.pl_engine.specs.declared.command.Command.TheVariants.{Page as PageCommand}
-use Rattle.pl_engine.specs.declared.command.Command.TheVariants.{Origin as OriginCommand}
-use Rattle.pl_engine.specs.declared.command.Command.TheVariants.{Stats as StatsCommand}
-use Rattle.pl_engine.specs.declared.command.Command.TheVariants.{Unvisit as UnvisitCommand}
-use Rattle.pl_engine.specs.declared.command.Command.TheVariants.{Forget as ForgetCommand}
-use Rattle.pl_engine.specs.declared.command.Command.TheVariants.{Expire as ExpireCommand}
-use Rattle.pl_engine.specs.declared.command.Command.TheVariants.{Trim as TrimCommand}
-use Rattle.pl_engine.specs.declared.command.Command.TheVariants.{Folder as FolderCommand}
-use Rattle.pl_engine.specs.declared.command.Command.TheVariants.{Bookmark as BookmarkCommand}
-use Rattle.pl_engine.specs.declared.command.Command.TheVariants.{Separator as SeparatorCommand}
-use Rattle.pl_engine.specs.declared.command.Command.TheVariants.{Move as MoveCommand}
-use Rattle.pl_engine.specs.declared.command.Command.TheVariants.{Retitle as RetitleCommand}
-use Rattle.pl_engine.specs.declared.command.Command.TheVariants.{Remove as RemoveCommand}
-use Rattle.pl_engine.specs.declared.command.Command.TheVariants.{List as ListCommand}
-use Rattle.pl_engine.specs.declared.command.Command.TheVariants.{Tag as TagCommand}
-use Rattle.pl_engine.specs.declared.command.Command.TheVariants.{Untag as UntagCommand}
-use Rattle.pl_engine.specs.declared.command.Command.TheVariants.{Query as QueryCommand}
-use Rattle.pl_engine.specs.declared.command.Command.TheVariants.{Place as PlaceCommand}
-use Rattle.pl_engine.specs.declared.command.Command.TheVariants.{Bar as BarCommand}
-use Rattle.pl_engine.specs.declared.command.Command.TheVariants.{Fill as FillCommand}
-use Rattle.pl_engine.specs.declared.reply.BarRow.{BarRow}
-use Rattle.pl_engine.specs.declared.reply.ListRow.{ListRow}
-use Rattle.pl_engine.specs.declared.reply.Reply.{Reply}
-use Rattle.pl_engine.specs.declared.reply.Reply.TheVariants.{Visit as VisitReply}
-use Rattle.pl_engine.specs.declared.reply.Reply.TheVariants.{Page as PageReply, Done, Refused}
-use Rattle.pl_engine.specs.declared.reply.Reply.TheVariants.{Item as ItemReply, List as ListReply}
-use Rattle.pl_engine.specs.declared.reply.Reply.TheVariants.{Day as DayReply}
-use Rattle.pl_engine.specs.declared.reply.Reply.TheVariants.{Origin as OriginReply}
-use Rattle.pl_engine.specs.declared.reply.Reply.TheVariants.{Stats as StatsReply}
-use Rattle.pl_engine.specs.declared.reply.Reply.TheVariants.{Removed as RemovedReply}
-use Rattle.pl_engine.specs.declared.reply.Reply.TheVariants.{Rows as RowsReply, NoFill}
-use Rattle.pl_engine.specs.declared.reply.Reply.TheVariants.{Place as PlaceReply}
-use Rattle.pl_engine.specs.declared.reply.Reply.TheVariants.{Bar as BarReply, Fill as FillReply}
-use Rattle.pl_engine.specs.Parsed.{Parsed}
+use Rattle.pl_step.specs.declared.command.Command.{Command}
+use Rattle.pl_step.specs.declared.command.Command.TheVariants.{Day as DayCommand}
+use Rattle.pl_step.specs.declared.command.Command.TheVariants.{Visit as VisitCommand}
+use Rattle.pl_step.specs.declared.command.Command.TheVariants.{Title as TitleCommand}
+use Rattle.pl_step.specs.declared.command.Command.TheVariants.{Page as PageCommand}
+use Rattle.pl_step.specs.declared.command.Command.TheVariants.{Origin as OriginCommand}
+use Rattle.pl_step.specs.declared.command.Command.TheVariants.{Stats as StatsCommand}
+use Rattle.pl_step.specs.declared.command.Command.TheVariants.{Unvisit as UnvisitCommand}
+use Rattle.pl_step.specs.declared.command.Command.TheVariants.{Forget as ForgetCommand}
+use Rattle.pl_step.specs.declared.command.Command.TheVariants.{Expire as ExpireCommand}
+use Rattle.pl_step.specs.declared.command.Command.TheVariants.{Trim as TrimCommand}
+use Rattle.pl_step.specs.declared.command.Command.TheVariants.{Folder as FolderCommand}
+use Rattle.pl_step.specs.declared.command.Command.TheVariants.{Bookmark as BookmarkCommand}
+use Rattle.pl_step.specs.declared.command.Command.TheVariants.{Separator as SeparatorCommand}
+use Rattle.pl_step.specs.declared.command.Command.TheVariants.{Move as MoveCommand}
+use Rattle.pl_step.specs.declared.command.Command.TheVariants.{Retitle as RetitleCommand}
+use Rattle.pl_step.specs.declared.command.Command.TheVariants.{Remove as RemoveCommand}
+use Rattle.pl_step.specs.declared.command.Command.TheVariants.{List as ListCommand}
+use Rattle.pl_step.specs.declared.command.Command.TheVariants.{Tag as TagCommand}
+use Rattle.pl_step.specs.declared.command.Command.TheVariants.{Untag as UntagCommand}
+use Rattle.pl_step.specs.declared.command.Command.TheVariants.{Query as QueryCommand}
+use Rattle.pl_step.specs.declared.command.Command.TheVariants.{Place as PlaceCommand}
+use Rattle.pl_step.specs.declared.command.Command.TheVariants.{Bar as BarCommand}
+use Rattle.pl_step.specs.declared.command.Command.TheVariants.{Fill as FillCommand}
+use Rattle.pl_step.specs.declared.reply.BarRow.{BarRow}
+use Rattle.pl_step.specs.declared.reply.ListRow.{ListRow}
+use Rattle.pl_step.specs.declared.reply.Reply.{Reply}
+use Rattle.pl_step.specs.declared.reply.Reply.TheVariants.{Visit as VisitReply}
+use Rattle.pl_step.specs.declared.reply.Reply.TheVariants.{Page as PageReply, Done, Refused}
+use Rattle.pl_step.specs.declared.reply.Reply.TheVariants.{Item as ItemReply, List as ListReply}
+use Rattle.pl_step.specs.declared.reply.Reply.TheVariants.{Day as DayReply}
+use Rattle.pl_step.specs.declared.reply.Reply.TheVariants.{Origin as OriginReply}
+use Rattle.pl_step.specs.declared.reply.Reply.TheVariants.{Stats as StatsReply}
+use Rattle.pl_step.specs.declared.reply.Reply.TheVariants.{Removed as RemovedReply}
+use Rattle.pl_step.specs.declared.reply.Reply.TheVariants.{Rows as RowsReply, NoFill}
+use Rattle.pl_step.specs.declared.reply.Reply.TheVariants.{Place as PlaceReply}
+use Rattle.pl_step.specs.declared.reply.Reply.TheVariants.{Bar as BarReply, Fill as FillReply}
+use Rattle.pl_step.specs.Parsed.{Parsed}
 
 -- a refused command changes nothing
 abbrev pub unless_refused : Option Refusal → Store → Reply × Store → Reply × Store

@@ -1,5 +1,5 @@
 ghost use Rattle.std.specs.Prelude.{◌≡◌};
-ghost use Rattle.pl_engine.specs.Refused.{is_refused};
+ghost use Rattle.pl_step.specs.Refused.{is_refused};
 
 use pl_base::{Day, ItemId, ItemKind, Micros, PageId, Refusal, Seq, Txt, VisitId};
 use pl_query::ResultRow;

@@ -3,13 +3,13 @@ use Rattle.std.proofs.Common.{◌≡◌, ◌∙◌, ◌&&◌, Bool, true, false,
 use Rattle.std.specs.Prelude.{not}
 use Rattle.std.proofs.lemmas.Bool.{not-false}
 use Rattle.pl_base.specs.declared.refusal.Refusal.{Refusal}
-use Rattle.pl_engine.specs.declared.reply.Reply.{Reply}
-use Rattle.pl_engine.specs.declared.reply.Reply.TheVariants.{Day, Visit, Done, Page, Origin, Stats}
-use Rattle.pl_engine.specs.declared.reply.Reply.TheVariants.{Removed, Item, List, Rows, Place, Bar}
-use Rattle.pl_engine.specs.declared.reply.Reply.TheVariants.{Fill, NoFill, Refused}
-use Rattle.pl_engine.specs.declared.command.Command.{Command}
-use Rattle.pl_engine.specs.Refused.{has_changed, is_refused}
-use Rattle.pl_engine.specs.Step.{is_change}
+use Rattle.pl_step.specs.declared.reply.Reply.{Reply}
+use Rattle.pl_step.specs.declared.reply.Reply.TheVariants.{Day, Visit, Done, Page, Origin, Stats}
+use Rattle.pl_step.specs.declared.reply.Reply.TheVariants.{Removed, Item, List, Rows, Place, Bar}
+use Rattle.pl_step.specs.declared.reply.Reply.TheVariants.{Fill, NoFill, Refused}
+use Rattle.pl_step.specs.declared.command.Command.{Command}
+use Rattle.pl_step.specs.Refused.{has_changed, is_refused}
+use Rattle.pl_step.specs.Step.{is_change}
 
 -- the refusal of a reply that is one
 refusal_in : (reply : Reply) → is_refused reply ≡ true → (refusal : Refusal) × (reply ≡ Refused refusal)

@@ -1,0 +1,4 @@
+pub mod Parsed
+pub mod Refused
+pub mod Run
+pub mod Step
