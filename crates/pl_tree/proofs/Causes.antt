@@ -1,9 +1,9 @@
 -- What holds where a change of the tree is not refused.
-use Rattle.std.proofs.Common.{◌≡◌, ◌≢◌, ◌<◌, ◌==◌, ◌||◌, Bool, true, false, List, Option, Some, None}
-use Rattle.std.proofs.Common.{refl, if◌then◌else◌}
+use Rattle.std.proofs.Common.{◌≡◌, ◌≢◌, ◌<◌, ◌==◌, ◌||◌, ◌∙◌, Bool, true, false, List, Option, Some, None}
+use Rattle.std.proofs.Common.{ap, refl, if◌then◌else◌}
 use Rattle.std.specs.Prelude.{not}
 use Rattle.std.specs.Option.{option_or}
-use Rattle.std.proofs.lemmas.Bool.{eqb-false, leb-false, not-false, or_parts}
+use Rattle.std.proofs.lemmas.Bool.{eqb-false, leb-false, ne_eqb, not-false, or_parts}
 use Rattle.pl_base.specs.declared.id.ItemId.{ItemId}
 use Rattle.pl_base.specs.declared.item.ItemKind.{ItemKind}
 use Rattle.pl_base.specs.declared.item.ItemKind.TheVariants.{Bookmark, Folder, Separator}
@@ -71,6 +71,18 @@ takes items id none =
           not_tags = not_tags;
           no_tag = no_tag;
         }
+
+-- such a folder is not refused
+pub not_refused : (items : List Item) (id : ItemId) → Takes items id → parent_refusal items id ≡ None
+not_refused items id t =
+    let fixed : Bool → Option Refusal = λ (b : Bool). if b then Some (Fixed id) else None in
+    let free : is_closed items id ≡ false =
+    rw (ne_eqb id.0 1 t.not_first, ne_eqb id.0 tags_root.0 t.not_tags, t.no_tag) refl in
+    let found : folder_refusal items id ≡ None =
+    ap (of_folder id) t.there
+    ∙ ap (λ (k : ItemKind). let o : Option Refusal = if is_folder_kind k then None else Some (NotAFolder id) in o)
+    t.kind in
+    ap (λ (o : Option Refusal). option_or o (fixed (is_closed items id))) found ∙ ap fixed free
 
 -- the item that may change
 pub record MayChange (items : List Item) (id : ItemId) : Type 0 where

@@ -180,7 +180,7 @@ module _ (old : Store) (ids : Ids) (next : ℕ) (page : PageId) (name : List ℕ
       (unwrap_or (option_map (λ (t : Item). t.id) tag) (item_id next)) End (new_entry page date)
       (if is_none tag then with_new (item_id next) tags_root End (new_tag name date) items else items)
 
-  tagged_good : (tag : Option Item) → tag_named name items ≡ tag
+  pub tagged_good : (tag : Option Item) → tag_named name items ≡ tag
       → is_some (option_and_then (entry_in items page) tag) ≡ false
       → HasGoodItems (record old { ids = ids; items = tagged_by tag })
   tagged_good None is none = with_folder is (item_id (next + (2 - 1))) (omega arith)

@@ -86,7 +86,7 @@ module _ (items : List Item) (id parent : ItemId) (row : Item) (own : row.id ≡
   row_apart : (x : ItemId) → x.0 < id.0 → (row.id.0 == x.0) ≡ false
   row_apart x below = ne_eqb row.id.0 x.0 (λ same. omega (arith, ap id_key own))
 
-  at_old : (x : ItemId) → x.0 < id.0 → item_at news x ≡ option_map grow (item_at items x)
+  pub at_old : (x : ItemId) → x.0 < id.0 → item_at news x ≡ option_map grow (item_at items x)
   at_old x below = at_push (map grow items) row x (row_apart x below) ∙ at_map grow grow_id items x
 
   at_other : (x : ItemId) → x.0 < id.0 → x.0 ≢ parent.0 → item_at news x ≡ item_at items x
@@ -111,8 +111,26 @@ module _ (items : List Item) (id parent : ItemId) (row : Item) (own : row.id ≡
       ap (option_map bare) (at_push (map grow items) row x (row_apart x below))
       ∙ bare_at grow grow_id items x (λ i h e. bare_grown parent End id i)
 
-  child_below : (p c : ItemId) → In c (children_of items p) → c.0 < id.0
+  pub child_below : (p c : ItemId) → In c (children_of items p) → c.0 < id.0
   child_below p c h = let r = child_of items p c h in known c (in_child_ids items r.0 c r.1 r.3)
+
+  -- of the parent, by their ids
+  pub ids_parent : (folder : Item) → item_at items parent ≡ Some folder → parent.0 < id.0
+      → children_of news parent ≡ children_of items parent ++ id ∷ []
+  ids_parent folder there below =
+      let found = found_at items parent folder there in
+      ap children_in (at_old parent below ∙ ap (option_map grow) there)
+      ∙ ap (λ (j : Item). j.children)
+      (changed_here parent (λ (j : Item). record j { children = put End id j.children }) folder
+      (eq-eqb folder.id.0 parent.0 (ap id_key found.1)))
+      ∙ put_end id folder.children
+      ∙ ap (λ (ds : List ItemId). ds ++ id ∷ []) (sym (ap children_in there))
+
+  pub ids_other : (p : ItemId) → p.0 < id.0 → p.0 ≢ parent.0 → children_of news p ≡ children_of items p
+  ids_other p below other = ap children_in (at_other p below other)
+
+  pub ids_new : children_of news id ≡ []
+  ids_new = ap children_in at_new ∙ leaf
 
   -- of a folder that is not the parent
   pub rows_other : (p : ItemId) → p.0 < id.0 → p.0 ≢ parent.0 → child_rows news p ≡ child_rows items p
@@ -129,7 +147,7 @@ module _ (items : List Item) (id parent : ItemId) (row : Item) (own : row.id ≡
       → child_rows news parent ≡ child_rows items parent ++ bare row ∷ []
   rows_parent folder there below =
       let cs : List ItemId = children_of items parent in
-      ap (λ (ds : List ItemId). map bare (filter_map (item_at news) ds)) ids
+      ap (λ (ds : List ItemId). map bare (filter_map (item_at news) ds)) (ids_parent folder there below)
       ∙ ap (map bare) (filter_map-append (item_at news) cs (id ∷ []))
       ∙ map-append (filter_map (item_at news) cs) (filter_map (item_at news) (id ∷ []))
       ∙ ap (λ (js : List Item). js ++ map bare (filter_map (item_at news) (id ∷ [])))
@@ -138,16 +156,6 @@ module _ (items : List Item) (id parent : ItemId) (row : Item) (own : row.id ≡
     where
       one : filter_map (item_at news) (id ∷ []) ≡ row ∷ []
       one = rw at_new refl
-
-      ids : children_of news parent ≡ children_of items parent ++ id ∷ []
-      ids =
-          let found = found_at items parent folder there in
-          ap children_in (at_old parent below ∙ ap (option_map grow) there)
-          ∙ ap (λ (j : Item). j.children)
-          (changed_here parent (λ (j : Item). record j { children = put End id j.children }) folder
-          (eq-eqb folder.id.0 parent.0 (ap id_key found.1)))
-          ∙ put_end id folder.children
-          ∙ ap (λ (ds : List ItemId). ds ++ id ∷ []) (sym (ap children_in there))
 
   -- a child was one before, or is the new item in the parent
   abbrev pub IsFrom : ItemId → Item → Type 0

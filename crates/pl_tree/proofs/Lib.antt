@@ -3,7 +3,7 @@ mod Among
 pub mod AncestorLaws
 mod Causes
 mod ChildLists
-mod ChildWalk
+pub mod ChildWalk
 mod EntryRemoved
 pub mod GoodChanges
 mod GoodEntered
@@ -12,6 +12,7 @@ mod GoodMoved
 mod GoodRemoved
 mod GoodRetitled
 mod GoodRows
+pub mod GoodStores
 pub mod GoodTagged
 mod InsertedChildren
 mod InsertedRows
@@ -22,6 +23,8 @@ mod KeptRoots
 mod KeptTags
 mod LookedUp
 mod MappedItems
+mod MoreItems
+mod MoreTags
 pub mod OneParent
 mod PageOrder
 mod PutPlaces
