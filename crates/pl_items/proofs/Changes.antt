@@ -237,13 +237,13 @@ all_from_by_id P (n ∷ ns) all =
     let parts = all_from_place P n (by_id ns) all in
     (parts.0, all_from_by_id P ns parts.1)
 
-greatest_of : (id : ItemId) (ns : List Node) → All (λ (i : Item). i.id.0 < id.0) (items_of ns) → IsGreatest id ns
+pub greatest_of : (id : ItemId) (ns : List Node) → All (λ (i : Item). i.id.0 < id.0) (items_of ns) → IsGreatest id ns
 greatest_of id ns all =
     all_from_by_id (λ (m : Node). m.id.0 < id.0) ns
     (from_map (λ (i : Item). i.id.0 < id.0) (item_of ns) (by_id ns)
     (recursion_from_All (λ (i : Item). i.id.0 < id.0) (items_of ns) all))
 
-lacks_greatest : (id : ItemId) (ns : List Node) → IsGreatest id ns → Lacks id ns
+pub lacks_greatest : (id : ItemId) (ns : List Node) → IsGreatest id ns → Lacks id ns
 lacks_greatest id ns below = weaker (λ (m : Node). m.id.0 < id.0) (Differs id) ns (λ m less same. omega arith) below
 
 lacks_none : (id : ItemId) (ns : List Node) → Lacks id ns → has_node ns id ≡ false
@@ -295,19 +295,18 @@ inserted_are id row title after ns ms are new there is =
     (λ m parented. still_parented ns (put_node after n ns) (put_stays after n ns) m.parent parented)
     (parented_nodes ns are))))
 
-pub inserted_items : (id : ItemId) (row : ItemRow) (title : List ℕ) (after : Option ItemId) (ns ms : List Node)
+-- where the node behind which it is put is a child of its parent, if it is there
+pub inserted_where : (id : ItemId) (row : ItemRow) (title : List ℕ) (after : Option ItemId) (ns ms : List Node)
     → AreNodes ns → All (λ (i : Item). i.id.0 < id.0) (items_of ns)
     → IsSomeAnd row.parent (λ p. has_item (items_of ns) p ≡ true)
-    → IfSome after (λ a. parent_of (items_of ns) a ≡ row.parent)
+    → ((parent : ItemId) → row.parent ≡ Some parent → AllByRecursion (StandsAt after parent) ns)
     → ms ≡ put_node after (new_node id row title) ns → items_of ms ≡ inserted id row title after (items_of ns)
-inserted_items id row title after ns ms are new there behind is =
+inserted_where id row title after ns ms are new there behind is =
     let at = some_parent ns row.parent there in
     let n : Node = new_node id row title in
     let below : IsGreatest id ns = greatest_of id ns new in
     let lacks : Lacks id ns = lacks_greatest id ns below in
-    let stands : AllByRecursion (StandsAt after at.0) ns =
-    stands_after ns after at.0 are
-    (subst (λ parent. IfSome after (λ a. parent_of (items_of ns) a ≡ parent)) at.1 behind) in
+    let stands : AllByRecursion (StandsAt after at.0) ns = behind at.0 at.1 in
     ap items_of is
     ∙ ap (map (item_of (put_node after n ns))) (by_id-put after n ns lacks
     ∙ greatest-last n (by_id ns) (all-by_id (λ (m : Node). m.id.0 < id.0) ns below))
@@ -329,6 +328,16 @@ inserted_items id row title after ns ms are new there behind is =
             let none : has_node ns p ≡ false = ap (has_node ns) (same_id p id same) ∙ lacks_none id ns lacks in
             absurd (cc)
         choose false other = other
+
+pub inserted_items : (id : ItemId) (row : ItemRow) (title : List ℕ) (after : Option ItemId) (ns ms : List Node)
+    → AreNodes ns → All (λ (i : Item). i.id.0 < id.0) (items_of ns)
+    → IsSomeAnd row.parent (λ p. has_item (items_of ns) p ≡ true)
+    → IfSome after (λ a. parent_of (items_of ns) a ≡ row.parent)
+    → ms ≡ put_node after (new_node id row title) ns → items_of ms ≡ inserted id row title after (items_of ns)
+inserted_items id row title after ns ms are new there behind is =
+    inserted_where id row title after ns ms are new there
+    (λ parent at. stands_after ns after parent are
+    (subst (λ o. IfSome after (λ a. parent_of (items_of ns) a ≡ o)) at behind)) is
 
 -- ---- one item moved
 

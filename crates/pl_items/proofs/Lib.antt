@@ -1,3 +1,4 @@
+pub mod Appended
 pub mod Ascending
 pub mod Changes
 pub mod ChildRows

@@ -1,9 +1,10 @@
 // Changes of one item. None of them goes through the tree by recursion.
-ghost use Rattle.std.specs.Prelude.{◌≡◌, ◌≢◌, ◌<◌, ◌≤◌, [], length, true};
+ghost use Rattle.std.specs.Prelude.{◌≡◌, ◌≢◌, ◌<◌, ◌≤◌, [], length, reverse, true};
 ghost use Rattle.std.specs.Prelude.{IfSome, IsSomeAnd, OnErr, OnOk, Some};
 ghost use Rattle.std.specs.List.{All, insert, remove, slice_index_or};
+ghost use Rattle.std.specs.Option.{option_and_then};
 ghost use Rattle.pl_base.specs.Tree as tree;
-ghost use Rattle.pl_items.specs.Nodes.{place_behind, place_then};
+ghost use Rattle.pl_items.specs.Nodes.{child_nodes, place_behind, place_then};
 
 use crate::Items;
 use crate::node::{Node, place_of};
@@ -26,7 +27,7 @@ impl Items {
             (self.new ≡ tree.inserted id row.now title after self.old) }
         ensures err { OnErr result (self.new ≡ self.old) }
     {
-        let place = place_behind(&self.nodes, after);
+        let place = place_for(&self.nodes, row.parent, after);
         let node = Node {
             id,
             parent: row.parent,
@@ -86,6 +87,33 @@ impl Items {
             self.nodes.remove(place);
         }
     }
+}
+
+// The place of a new child of the parent, behind the node with this id or the first. The end of all
+// nodes is the place of a new last child, so that no node moves.
+fn place_for(nodes: &[Node], parent: Option<ItemId>, after: Option<ItemId>) -> usize
+    ensures end { option_and_then
+        (λ p. tree.first_item (child_nodes (reverse nodes.now) p)) parent ≡ after
+        → result ≡ length nodes.now }
+    ensures behind { option_and_then
+        (λ p. tree.first_item (child_nodes (reverse nodes.now) p)) parent ≢ after
+        → result ≡ place_behind after nodes.now }
+{
+    if last_child(nodes, parent) == after {
+        nodes.len()
+    } else {
+        place_behind(nodes, after)
+    }
+}
+
+// The child of the parent that stands last.
+fn last_child(nodes: &[Node], parent: Option<ItemId>) -> Option<ItemId>
+    ensures { result
+        ≡ option_and_then (λ p. tree.first_item (child_nodes (reverse nodes.now) p)) parent }
+{
+    let parent = parent?;
+    let node = nodes.iter().rev().find(|node| node.is_child_of(parent))?;
+    Some(node.id)
 }
 
 // The place behind the node with this id, or the first place.
