@@ -1,0 +1,231 @@
+-- A page more in an import.
+use Rattle.std.proofs.Common.{◌≡◌, ◌∙◌, ◌<◌, ◌++◌, ◌==◌, ◌&&◌, ◌||◌, ℕ, Bool, true, false, List, [], ◌∷◌, Option, Some}
+use Rattle.std.proofs.Common.{None, ap, arith, bytes_eq, eq-eqb, if◌then◌else◌, map, refl, subst, sym}
+use Rattle.std.specs.List.{AllByRecursion, list_any}
+use Rattle.std.specs.Option.{is_none, option_map}
+use Rattle.std.proofs.lemmas.Bool.{and_from, and_parts, eqb-true}
+use Rattle.std.proofs.lemmas.List.{append-nil}
+use Rattle.std.proofs.lemmas.List.Elements.{All-from_recursion, All-nil}
+use Rattle.pl_base.specs.declared.id.PageId.{PageId}
+use Rattle.pl_base.specs.declared.id.Slot.{Slot}
+use Rattle.pl_base.specs.Address.{same_origin}
+use Rattle.pl_base.specs.Rows.{IsOriginOf, IsWellKept, Kept, KeptOrigin, KeptPage, WithPageIn, has_page, next_page}
+use Rattle.pl_base.specs.Rows.{origin_of, page_at, store_of, with_new_page, with_origin}
+use Rattle.pl_base.specs.Store.{Page, Store}
+use Rattle.pl_base.specs.Visiting.{find_page, new_page, page_for, with_page_for}
+use Rattle.pl_base.proofs.ListLaws.{All-from_map, list_any-map}
+use Rattle.pl_history.proofs.VisitRows.{grown_store, store_with_page}
+use Rattle.pl_marks.proofs.PageWalk.{found_at, given, part, there}
+use Rattle.pl_graft.specs.declared.grafting.Grafting.{Grafting}
+use Rattle.pl_graft.specs.Gained.{Grows, IsBlank}
+use Rattle.pl_graft.specs.KnownPages.{IsOriginPage, KnowsPages}
+use Rattle.pl_graft.specs.Standing.{GoesOn, IsStanding}
+use Rattle.pl_graft.proofs.GoingOn.{goes_by_pages}
+use Rattle.pl_graft.proofs.Ready.{items_page, ready, ready_page}
+
+-- ---- a page of the rows
+
+-- a page that passes a test, among the others
+record Among (test : KeptPage → Bool) (pages : List KeptPage) : Type 0 where
+  pub front : List KeptPage
+  pub page : KeptPage
+  pub rest : List KeptPage
+  pub whole : pages ≡ front ++ page ∷ rest
+  pub passes : test page ≡ true
+
+among : (test : KeptPage → Bool) (pages : List KeptPage) → list_any test pages ≡ true → Among test pages
+among test [] none = absurd (cc)
+among test (p ∷ pages) some = choose (test p) refl some (among test pages)
+  where
+    choose : (b : Bool) → test p ≡ b → (b || list_any test pages) ≡ true
+        → (list_any test pages ≡ true → Among test pages) → Among test (p ∷ pages)
+    choose true is here later = record { front = []; page = p; rest = pages; whole = refl; passes = is }
+    choose false is here later =
+        let a : Among test pages = later here in
+        record {
+          front = p ∷ a.front;
+          page = a.page;
+          rest = a.rest;
+          whole = ap (λ (ps : List KeptPage). p ∷ ps) a.whole;
+          passes = a.passes;
+        }
+
+-- an id of the pages is below the end
+among_fits : (kept : Kept) (test : KeptPage → Bool) → IsWellKept kept → (a : Among test kept.pages)
+    → a.page.page.id.0 < 4_294_967_296
+among_fits kept test well a =
+    let fine : AllByRecursion (λ (p : KeptPage). (0 < p.page.id.0) × (p.page.id.0 < kept.ids.page))
+    (a.front ++ a.page ∷ a.rest) =
+    subst (AllByRecursion (λ (p : KeptPage). (0 < p.page.id.0) × (p.page.id.0 < kept.ids.page))) a.whole
+    (given kept well) in
+    omega (
+      arith,
+      (part (λ (p : KeptPage). (0 < p.page.id.0) × (p.page.id.0 < kept.ids.page)) a.front a.page a.rest fine).1,
+      well.page_ids.next_last,
+    )
+
+-- ---- the page with a URL
+
+found_some : (kept : Kept) (url : List ℕ) (p : Page) (pages : List KeptPage)
+    → find_page url (map (λ (q : KeptPage). q.page) pages) ≡ Some p
+    → list_any (λ (q : KeptPage). q.page.id.0 == p.id.0) pages ≡ true
+found_some kept url p [] found = absurd (cc)
+found_some kept url p (q ∷ pages) found =
+    choose (bytes_eq q.page.url url) found (found_some kept url p pages)
+  where
+    or_true : (b : Bool) → (b || true) ≡ true
+    or_true true = refl
+    or_true false = refl
+
+    choose : (b : Bool)
+        → (if b then Some q.page else find_page url (map (λ (r : KeptPage). r.page) pages)) ≡ Some p
+        → (find_page url (map (λ (r : KeptPage). r.page) pages) ≡ Some p
+        → list_any (λ (r : KeptPage). r.page.id.0 == p.id.0) pages ≡ true)
+        → list_any (λ (r : KeptPage). r.page.id.0 == p.id.0) (q ∷ pages) ≡ true
+    choose true here later =
+        let same : q.page ≡ p = cc in
+        rw (eq-eqb q.page.id.0 p.id.0 (ap (λ (r : Page). r.id.0) same)) refl
+    choose false here later = rw (later here) (or_true (q.page.id.0 == p.id.0))
+
+-- the id of a page that is found fits
+pub known_fits : (kept : Kept) (url : List ℕ) (id : ℕ) → IsWellKept kept
+    → Some id ≡ option_map (λ (p : Page). p.id.0) (find_page url (store_of kept).pages) → id < 4_294_967_296
+known_fits kept url id well is = choose (find_page url (store_of kept).pages) refl is
+  where
+    choose : (found : Option Page) → find_page url (store_of kept).pages ≡ found
+        → Some id ≡ option_map (λ (p : Page). p.id.0) found → id < 4_294_967_296
+    choose None none here = absurd (cc)
+    choose (Some p) some here =
+        let same : id ≡ p.id.0 = cc in
+        let a : Among (λ (q : KeptPage). q.page.id.0 == p.id.0) kept.pages =
+        among (λ (q : KeptPage). q.page.id.0 == p.id.0) kept.pages (found_some kept url p kept.pages some) in
+        omega (
+          arith,
+          among_fits kept (λ (q : KeptPage). q.page.id.0 == p.id.0) well a,
+          eqb-true a.page.page.id.0 p.id.0 a.passes,
+        )
+
+-- ---- a page of the same origin
+
+abbrev in_origin : List ℕ → ℕ → KeptPage → Bool
+in_origin url id p = (p.page.id.0 == id) && same_origin p.page.url url
+
+origin_page : (kept : Kept) (url : List ℕ) (id : ℕ) → IsOriginPage (store_of kept).pages url (Some id)
+    → Among (in_origin url id) kept.pages
+origin_page kept url id is =
+    among (in_origin url id) kept.pages
+    (sym (list_any-map (λ (p : Page). (p.id.0 == id) && same_origin p.url url) (λ (p : KeptPage). p.page) kept.pages)
+    ∙ is)
+
+pub origin_fits : (kept : Kept) (url : List ℕ) (id : ℕ) → IsWellKept kept
+    → IsOriginPage (store_of kept).pages url (Some id) → id < 4_294_967_296
+origin_fits kept url id well is =
+    let a : Among (in_origin url id) kept.pages = origin_page kept url id is in
+    omega (
+      arith,
+      among_fits kept (in_origin url id) well a,
+      eqb-true a.page.page.id.0 id (and_parts (a.page.page.id.0 == id) (same_origin a.page.page.url url) a.passes).0,
+    )
+
+pub origin_there : (kept : Kept) (url : List ℕ) (id : ℕ) → IsOriginPage (store_of kept).pages url (Some id)
+    → has_page kept (record { 0 = id }) ≡ true
+origin_there kept url id is =
+    let a : Among (in_origin url id) kept.pages = origin_page kept url id is in
+    rw a.whole (there (λ (p : KeptPage). p.page.id.0 == id) a.front a.page a.rest
+    (and_parts (a.page.page.id.0 == id) (same_origin a.page.page.url url) a.passes).0)
+
+pub origin_known : (kept : Kept) (url : List ℕ) (id : ℕ) (origin : Slot) → IsWellKept kept
+    → IsOriginPage (store_of kept).pages url (Some id) → Some origin ≡ origin_of kept (record { 0 = id })
+    → IsOriginOf kept url (Some origin)
+origin_known kept url id origin well is of =
+    let a : Among (in_origin url id) kept.pages = origin_page kept url id is in
+    let parts = and_parts (a.page.page.id.0 == id) (same_origin a.page.page.url url) a.passes in
+    let same : a.page.page.id ≡ record { 0 = id } =
+    ap (λ (n : ℕ). let i : PageId = record { 0 = n } in i) (eqb-true a.page.page.id.0 id parts.0) in
+    let at : page_at kept (record { 0 = id }) ≡ Some a.page =
+    found_at kept (record { 0 = id }) a.front a.page a.rest well a.whole same in
+    let found : Some origin ≡ Some a.page.origin = of ∙ ap (option_map (λ (p : KeptPage). p.origin)) at in
+    let named : a.page.origin ≡ origin = cc in
+    rw a.whole (there (λ (p : KeptPage). (p.origin.0 == origin.0) && same_origin p.page.url url) a.front a.page a.rest
+    (and_from (a.page.origin.0 == origin.0) (same_origin a.page.page.url url)
+    (eq-eqb a.page.origin.0 origin.0 (ap (λ (o : Slot). o.0) named)) parts.1))
+
+pub origin_none : (kept : Kept) (url : List ℕ) → IsOriginPage (store_of kept).pages url None → IsOriginOf kept url None
+origin_none kept url none =
+    All-from_map (λ (p : Page). same_origin p.url url ≡ false) (λ (p : KeptPage). p.page) kept.pages none
+
+-- ---- a new page
+
+-- no page has the URL
+pub grown_is : (store : Store) (url : List ℕ) → find_page url store.pages ≡ None
+    → with_page_for store url ≡ grown_store store url
+grown_is store url none =
+    ap (λ (o : Option Page). if is_none o then grown_store store url else store) none
+
+pub page_store : (old new : Kept) (url : List ℕ) (origin : Option Slot)
+    → find_page url (store_of old).pages ≡ None → WithPageIn url origin old new
+    → store_of new ≡ with_page_for (store_of old) url
+page_store old new url origin none made =
+    store_with_page old new url origin made ∙ sym (grown_is (store_of old) url none)
+
+grows_page : (old : Kept) (url : List ℕ) (origin : Slot) → Grows old (with_new_page url origin old)
+grows_page old url origin =
+    record {
+      day = refl;
+      visits = refl;
+      visit_ids = refl;
+      added = next_page url origin old ∷ [];
+      pages = refl;
+      blank =
+          All-from_recursion IsBlank (next_page url origin old ∷ [])
+          (record { frecency = refl; count = refl; hidden = refl }, tt);
+      opened = [];
+      origins = sym (append-nil old.origins);
+      no_totals = All-nil (λ (a : KeptOrigin). a.total ≡ 0);
+    }
+
+grows_origin : (old : Kept) (url : List ℕ) (origin : Slot)
+    → Grows old (with_new_page url origin (with_origin origin old))
+grows_origin old url origin =
+    let opened : KeptOrigin = record { origin = origin; total = 0 } in
+    record {
+      day = refl;
+      visits = refl;
+      visit_ids = refl;
+      added = next_page url origin old ∷ [];
+      pages = refl;
+      blank =
+          All-from_recursion IsBlank (next_page url origin old ∷ [])
+          (record { frecency = refl; count = refl; hidden = refl }, tt);
+      opened = opened ∷ [];
+      origins = refl;
+      no_totals = All-from_recursion (λ (a : KeptOrigin). a.total ≡ 0) (opened ∷ []) (refl, tt);
+    }
+
+pub page_goes_on : (old new : Kept) (url : List ℕ) (origin : Option Slot) (before after : Grafting)
+    → WithPageIn url origin old new → after.made ≡ before.made → after.gained ≡ before.gained
+    → GoesOn old new before after
+page_goes_on old new url (Some origin) before after made counted gained =
+    goes_by_pages old new before after (subst (Grows old) (sym made) (grows_page old url origin))
+    (ap (λ (k : Kept). k.items) made) (ap (λ (k : Kept). k.ids.item) made) counted gained
+page_goes_on old new url None before after made counted gained =
+    goes_by_pages old new before after (subst (Grows old) (sym made.1) (grows_origin old url made.0))
+    (ap (λ (k : Kept). k.items) made.1) (ap (λ (k : Kept). k.ids.item) made.1) counted gained
+
+pub page_standing : (old : Kept) (url : List ℕ) (before after : Grafting) → IsWellKept old
+    → IsStanding (store_of old) before → find_page url (store_of old).pages ≡ None
+    → KnowsPages after.pages ((store_of old).pages ++ new_page (store_of old) url ∷ [])
+    → after.tags ≡ before.tags → after.made ≡ before.made
+    → IsStanding (with_page_for (store_of old) url) after
+page_standing old url before after well standing none knows tags made =
+    let store : Store = store_of old in
+    record {
+      good = (ready_page store url (ready old well standing.good)).good;
+      pages = subst (λ (s : Store). KnowsPages after.pages s.pages) (sym (grown_is store url none)) knows;
+      tags = rw (items_page store url, tags) standing.tags;
+      made = rw (grown_is store url none, made) standing.made;
+    }
+
+pub new_page_is : (store : Store) (url : List ℕ) → find_page url store.pages ≡ None
+    → page_for store url ≡ new_page store url
+new_page_is store url none = rw none refl

@@ -1,0 +1,9 @@
+pub mod Gained
+pub mod Import
+pub mod KnownPages
+pub mod KnownTags
+pub mod OpenFolders
+pub mod Ready
+pub mod Standing
+pub mod TagRows
+pub mod Tally
