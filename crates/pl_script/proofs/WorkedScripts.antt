@@ -13,7 +13,7 @@ use Rattle.pl_base.specs.declared.item.ItemKind.TheVariants.{Bookmark as ABookma
 use Rattle.pl_base.specs.declared.item.ItemKind.TheVariants.{Separator as ASeparator}
 use Rattle.pl_base.specs.declared.refusal.Refusal.TheVariants.{BadLine, NoPage, BadDate, BadUrl}
 use Rattle.pl_base.specs.declared.refusal.Refusal.TheVariants.{NoItem, NotAFolder, Fixed, BadPlace, Inside}
-use Rattle.pl_base.specs.declared.refusal.Refusal.TheVariants.{BadTag, DupTag, NoTag}
+use Rattle.pl_base.specs.declared.refusal.Refusal.TheVariants.{BadTag, DupTag, NoTag, TooMany}
 use Rattle.pl_base.specs.declared.transition.Transition.TheVariants.{Link}
 use Rattle.pl_base.specs.Live.{slot_limit}
 use Rattle.pl_base.specs.Store.{item_id, opening}
@@ -248,6 +248,10 @@ dup_tag = refl
 bad_tag : reply_text (Refused BadTag) ≡ codes "refused\t17\n"
 unfolding digits
 bad_tag = refl
+
+too_many : reply_text (Refused (TooMany 50_001)) ≡ codes "refused\t19\t50001\n"
+unfolding digits
+too_many = refl
 
 no_tag : reply_text (Refused NoTag) ≡ codes "refused\t18\n"
 unfolding digits

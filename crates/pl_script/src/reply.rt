@@ -84,6 +84,13 @@ pub fn reply_text(alloc: Global, reply: &Reply) -> Result<Txt, NoMemory>
         Reply::Bar(rows) => Ok(Txt::from(bar_text(alloc, rows.as_slice())?)),
         Reply::Fill { group, total } => Ok(Txt::from(fill_text(alloc, group, *total)?)),
         Reply::NoFill => Txt::copied(alloc, "nofill\n"),
+        Reply::Imported {
+            items,
+            tags,
+            skipped,
+        } => Ok(Txt::from(format!(in alloc;
+            "imported\titems\t{items}\ttags\t{tags}\tskipped\t{skipped}\n"
+        )?)),
         Reply::Refused(refusal) => Ok(Txt::from(refusal_text(alloc, refusal)?)),
     }
 }

@@ -6,7 +6,7 @@ use Rattle.pl_base.specs.declared.refusal.Refusal.{Refusal}
 use Rattle.pl_step.specs.declared.reply.Reply.{Reply}
 use Rattle.pl_step.specs.declared.reply.Reply.TheVariants.{Day, Visit, Done, Page, Origin, Stats}
 use Rattle.pl_step.specs.declared.reply.Reply.TheVariants.{Removed, Item, List, Rows, Place, Bar}
-use Rattle.pl_step.specs.declared.reply.Reply.TheVariants.{Fill, NoFill, Refused}
+use Rattle.pl_step.specs.declared.reply.Reply.TheVariants.{Fill, NoFill, Imported, Refused}
 use Rattle.pl_step.specs.declared.command.Command.{Command}
 use Rattle.pl_step.specs.Refused.{has_changed, is_refused}
 use Rattle.pl_step.specs.Step.{is_change}
@@ -27,6 +27,7 @@ refusal_in (Place text) is = absurd (cc)
 refusal_in (Bar rows) is = absurd (cc)
 refusal_in (Fill group total) is = absurd (cc)
 refusal_in NoFill is = absurd (cc)
+refusal_in (Imported items tags skipped) is = absurd (cc)
 refusal_in (Refused refusal) is = (refusal, refl)
 
 -- what held of the rows before a refused command holds of them behind it

@@ -4,7 +4,7 @@ use Rattle.pl_step.specs.declared.command.Command.{Command}
 use Rattle.pl_step.specs.declared.reply.Reply.{Reply}
 use Rattle.pl_step.specs.declared.reply.Reply.TheVariants.{Day, Visit, Done, Page, Origin, Stats}
 use Rattle.pl_step.specs.declared.reply.Reply.TheVariants.{Removed, Item, List, Rows, Place, Bar}
-use Rattle.pl_step.specs.declared.reply.Reply.TheVariants.{Fill, NoFill, Refused}
+use Rattle.pl_step.specs.declared.reply.Reply.TheVariants.{Fill, NoFill, Imported, Refused}
 use Rattle.pl_step.specs.Step.{is_change}
 
 -- the reply is a refusal
@@ -23,6 +23,7 @@ is_refused (Place text) = false
 is_refused (Bar rows) = false
 is_refused (Fill group total) = false
 is_refused NoFill = false
+is_refused (Imported items tags skipped) = false
 is_refused (Refused refusal) = true
 
 -- the command is of a kind that may change the store, and was not refused

@@ -15,6 +15,7 @@ use Rattle.pl_base.specs.declared.item.ItemKind.TheVariants.{Bookmark, Folder, S
 use Rattle.pl_base.specs.declared.refusal.Refusal.{Refusal}
 use Rattle.pl_base.specs.declared.refusal.Refusal.TheVariants.{NotRecorded, NoVisit, NoPage}
 use Rattle.pl_base.specs.declared.refusal.Refusal.TheVariants.{DayBack, Full, NoIds, DupTag, NoTag}
+use Rattle.pl_base.specs.declared.refusal.Refusal.TheVariants.{TooMany}
 use Rattle.pl_base.specs.declared.transition.Transition.{Transition}
 use Rattle.pl_base.specs.Address.{host_and_port, is_unrecorded_url, prefix, record_of}
 use Rattle.pl_base.specs.Address.{reversed_host}
@@ -42,9 +43,12 @@ use Rattle.pl_tree.specs.declared.tree_change.TreeChange.TheVariants.{Insert, Mo
 use Rattle.pl_tree.specs.declared.tree_change.TreeChange.TheVariants.{Remove}
 use Rattle.pl_tree.specs.Changes.{with_moved, with_new, with_removed}
 use Rattle.pl_tree.specs.Refused.{folder_refusal, refusal}
-use Rattle.pl_tree.specs.Tagged.{new_items, tag_entry, tagged_items, untagged_items}
+use Rattle.pl_tree.specs.Tagged.{new_items, tag_entry, untagged_items}
 use Rattle.pl_bar.specs.AddressBar.{offered}
 use Rattle.pl_bar.specs.Filled.{filled}
+use Rattle.pl_graft.specs.Import.{imported, most_rows, row_count, tagged_store, tags_made}
+use Rattle.pl_nbread.specs.declared.tree.Tree.{Tree}
+use Rattle.pl_nbread.specs.WellFormed.{AreWellFormed}
 use Rattle.pl_place.specs.declared.query.Query.{Query}
 use Rattle.pl_place.specs.Canonical.{canonical}
 use Rattle.pl_query.specs.QueryAnswer.{answer, told_row}
@@ -72,6 +76,7 @@ use Rattle.pl_step.specs.declared.command.Command.TheVariants.{Query as QueryCom
 use Rattle.pl_step.specs.declared.command.Command.TheVariants.{Place as PlaceCommand}
 use Rattle.pl_step.specs.declared.command.Command.TheVariants.{Bar as BarCommand}
 use Rattle.pl_step.specs.declared.command.Command.TheVariants.{Fill as FillCommand}
+use Rattle.pl_step.specs.declared.command.Command.TheVariants.{Import as ImportCommand}
 use Rattle.pl_step.specs.declared.reply.BarRow.{BarRow}
 use Rattle.pl_step.specs.declared.reply.ListRow.{ListRow}
 use Rattle.pl_step.specs.declared.reply.Reply.{Reply}
@@ -85,6 +90,7 @@ use Rattle.pl_step.specs.declared.reply.Reply.TheVariants.{Removed as RemovedRep
 use Rattle.pl_step.specs.declared.reply.Reply.TheVariants.{Rows as RowsReply, NoFill}
 use Rattle.pl_step.specs.declared.reply.Reply.TheVariants.{Place as PlaceReply}
 use Rattle.pl_step.specs.declared.reply.Reply.TheVariants.{Bar as BarReply, Fill as FillReply}
+use Rattle.pl_step.specs.declared.reply.Reply.TheVariants.{Imported as ImportedReply}
 use Rattle.pl_step.specs.Parsed.{Parsed}
 
 -- a refused command changes nothing
@@ -278,14 +284,6 @@ abbrev pub after_remove : ItemId → Store → Store
 after_remove item store =
     without_idle_pages (record store { items = with_removed item store.items })
 
--- the store where a page has a tag
-abbrev pub tagged_store : PageId → List ℕ → Micros → Store → Store
-tagged_store page name date store =
-    record store {
-      ids = record store.ids { item = store.ids.item + new_items name store.items };
-      items = tagged_items store.ids.item page name date store.items;
-    }
-
 -- the store where the page of the URL has the tag, with a page for it
 abbrev pub after_tag : Store → List ℕ → List ℕ → Micros → Store
 after_tag store url name date =
@@ -356,9 +354,25 @@ abbrev pub group_reply : Option (List ℕ × ℕ) → Reply
 group_reply None = NoFill
 group_reply (Some group) = FillReply group.0 group.1
 
+-- ---- an import
+
+-- the first cause to refuse the import of a tree, whose store this is afterwards: too many rows,
+-- the ids of pages and of items, the slots
+abbrev pub import_refusal : ℕ → Store → Tree → Store → Option Refusal
+import_refusal limit store tree after =
+    if nat_lt most_rows (row_count tree) then Some (TooMany (row_count tree)) else
+    if nat_lt end_of_ids after.ids.page then Some (NoIds PageKind) else
+    if nat_lt end_of_ids after.ids.item then Some (NoIds ItemKind) else
+    if is_full limit (live_slots store) (live_slots after) then Some (Full (live_slots after))
+    else None
+
+-- the reply tells how many rows the tree has, how many tags pages got, and what was left out of it
+abbrev pub import_reply : Store → Tree → Reply
+import_reply store tree = ImportedReply (row_count tree) (tags_made tree store) tree.skipped
+
 -- ---- the step
 
--- the dates and days of a command are in range
+-- the dates and days of a command are in range, and the lists of a tree are well formed
 abbrev pub HasDates : Command → Type 0
 HasDates (DayCommand day) = IsDay day
 HasDates (VisitCommand url transition date source) = IsDate date
@@ -383,6 +397,7 @@ HasDates (QueryCommand query) = Unit {0}
 HasDates (PlaceCommand query) = Unit {0}
 HasDates (BarCommand most text) = Unit {0}
 HasDates (FillCommand text) = Unit {0}
+HasDates (ImportCommand tree) = AreWellFormed tree
 
 -- any command may want memory but a move, and a visit that is not recorded
 abbrev pub MayWantMemory : Command → Type 0
@@ -409,6 +424,7 @@ MayWantMemory (QueryCommand query) = Unit {0}
 MayWantMemory (PlaceCommand query) = Unit {0}
 MayWantMemory (BarCommand most text) = Unit {0}
 MayWantMemory (FillCommand text) = Unit {0}
+MayWantMemory (ImportCommand tree) = Unit {0}
 
 -- a command of a kind that may change the store
 abbrev pub is_change : Command → Bool
@@ -435,6 +451,7 @@ is_change (QueryCommand query) = false
 is_change (PlaceCommand query) = false
 is_change (BarCommand most text) = false
 is_change (FillCommand text) = false
+is_change (ImportCommand tree) = true
 
 -- on a store that takes at most so many slots
 abbrev pub perform : ℕ → Store → Command → Reply × Store
@@ -487,6 +504,9 @@ perform limit store (QueryCommand query) = (query_reply store query, store)
 perform limit store (PlaceCommand query) = (PlaceReply (canonical query), store)
 perform limit store (BarCommand most text) = (bar_reply store most text, store)
 perform limit store (FillCommand text) = (group_reply (filled (scored_pages store) text), store)
+perform limit store (ImportCommand tree) =
+    unless_refused (import_refusal limit store tree (imported tree store)) store
+    (import_reply store tree, imported tree store)
 
 -- the reply to an entry of the script, and the store after it
 abbrev pub step : ℕ → Store → Parsed Command → Reply × Store

@@ -3,11 +3,12 @@ ghost use Rattle.pl_step.specs.Step.{is_change};
 
 use pl_base::{Day, ItemId, Micros, Transition, Txt, VisitId};
 use pl_link::Canon;
+use pl_nbread::Tree;
 use pl_place::Query;
 use pl_tree::Place;
 use pl_words::TagName;
 
-/// What a line of the script asks for.
+/// What a line of the script or a bookmark file asks for.
 #[derive(Debug, Drop)]
 pub enum Command {
     /// The store's day, which is never one before.
@@ -123,6 +124,8 @@ pub enum Command {
     Fill {
         text: Txt,
     },
+    /// The bookmarks of a tree, behind those of each root. Its lists are well formed.
+    Import(Tree),
 }
 
 impl Command {
@@ -145,7 +148,8 @@ impl Command {
             | Command::Retitle { .. }
             | Command::Remove { .. }
             | Command::Tag { .. }
-            | Command::Untag { .. } => true,
+            | Command::Untag { .. }
+            | Command::Import(_) => true,
             Command::Page { .. }
             | Command::Origin { .. }
             | Command::Stats

@@ -86,6 +86,15 @@ pub enum Reply {
     },
     /// No group of hosts begins with the text.
     NoFill,
+    /// How much was imported.
+    Imported {
+        /// Bookmarks, folders and separators.
+        items: u32,
+        /// Tags that pages got.
+        tags: u32,
+        /// Bookmarks that were left out, since their address is no URL of the store.
+        skipped: u32,
+    },
     Refused(Refusal),
 }
 

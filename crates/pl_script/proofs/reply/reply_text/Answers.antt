@@ -4,7 +4,7 @@ use Rattle.std.specs.List.{All, join_with_byte}
 use Rattle.std.specs.Prelude.{codes, decimal}
 use Rattle.std.specs.Fmt.{signed_decimal}
 use Rattle.std.proofs.lemmas.Int.{to_z-of_z}
-use Rattle.pl_step.specs.declared.reply.Reply.TheVariants.{Day, Visit, Removed, Item}
+use Rattle.pl_step.specs.declared.reply.Reply.TheVariants.{Day, Visit, Removed, Item, Imported}
 use Rattle.pl_step.specs.declared.reply.Reply.TheVariants.{Rows, Place, Bar, Fill}
 use Rattle.pl_step.specs.declared.reply.Reply.TheVariants.{List as ListReply, Refused}
 use Rattle.pl_script.specs.Script.{escaped}
@@ -130,6 +130,19 @@ returns-in_ok-format-in-Removed c =
       reads_back = read_again c.args.reply.now c.from-in-Removed.result exact;
       texts = rw c.in-Removed.is tt;
       never_empty = never_empty c.args.reply.now c.from-in-Removed.result exact;
+    }
+
+pub returns-in_ok-format-in-Imported : goal.returns-in_ok-format-in-Imported
+returns-in_ok-format-in-Imported c =
+    let exact : c.from-in-Imported.result ≡ reply_text c.args.reply.now =
+    rw c.in-Imported.is
+    (alone (reply_fields (Imported c.in-Imported.items c.in-Imported.tags c.in-Imported.skipped)) c.from-in-Imported.result
+    (c.from-in-Imported.ensures ∙ simp append_assoc (c.in_ok-format-in-Imported.ensures.ok))) in
+    record {
+      exact = exact;
+      reads_back = read_again c.args.reply.now c.from-in-Imported.result exact;
+      texts = rw c.in-Imported.is tt;
+      never_empty = never_empty c.args.reply.now c.from-in-Imported.result exact;
     }
 
 -- three texts, and three fields behind them
