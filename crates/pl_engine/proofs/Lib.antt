@@ -2,12 +2,17 @@ mod BookmarkAllowed
 mod ChildItems
 mod FreshPage
 mod IdWalk
+mod ImportSettled
+mod ImportedPages
+mod ImportedRows
 mod ItemStep
 mod ItemTitled
 mod ItemsGone
+mod ListParts
 mod Listed
 mod LiveTitled
 mod LostItems
+mod NewPages
 mod Offered
 mod PageSlots
 mod PageTold

@@ -25,7 +25,8 @@ use Rattle.pl_step.specs.declared.reply.Reply.TheVariants.{Done}
 use Rattle.pl_step.specs.Step.{after_tag, is_full, is_tagged, perform}
 use Rattle.pl_engine.specs.Room.{tag_room}
 use Rattle.pl_base.specs.Visiting.{after_visit, find_page, page_for}
-use Rattle.pl_step.specs.Step.{tag_refusal, tagged_store, unless_refused}
+use Rattle.pl_graft.specs.Import.{tagged_store}
+use Rattle.pl_step.specs.Step.{tag_refusal, unless_refused}
 use Rattle.pl_base.specs.Visiting.{with_page_for}
 use Rattle.pl_history.specs.Target.{HasRoom, IsTargetOf, WithTarget, is_new}
 use Rattle.pl_history.specs.Marked.{has_tag}

@@ -10,7 +10,7 @@ use Rattle.pl_base.specs.Tags.{tags_root}
 use Rattle.pl_tree.specs.declared.place.Place.TheVariants.{End}
 use Rattle.pl_tree.specs.Changes.{with_new}
 use Rattle.pl_tree.specs.Tagged.{new_entry, new_items, new_tag, tag_id, tag_named, with_tag}
-use Rattle.pl_step.specs.Step.{tagged_store}
+use Rattle.pl_graft.specs.Import.{tagged_store}
 use Rattle.pl_engine.proofs.ItemStep.{live_inserted}
 
 -- the slots of a folder for the tag, where it is new

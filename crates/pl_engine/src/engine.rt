@@ -1,7 +1,9 @@
 mod bar;
 mod bookmark;
 mod change;
+mod gained;
 mod history;
+mod import;
 mod insert;
 mod list;
 mod origin;
@@ -27,6 +29,7 @@ use crate::engine::bar::{bar, fill};
 use crate::engine::bookmark::bookmark;
 use crate::engine::change::{move_item, retitle};
 use crate::engine::history::{day, expire, forget, trim, unvisit};
+use crate::engine::import::import;
 use crate::engine::insert::{folder, separator};
 use crate::engine::list::list;
 use crate::engine::origin::{origin, stats};
@@ -190,6 +193,7 @@ impl<R: Rows + Drop> Engine<R> {
             Command::Place { query } => place(alloc, query)?,
             Command::Bar { max, text } => bar(alloc, &rows, *max, text, steps)?,
             Command::Fill { text } => fill(alloc, &rows, text, steps)?,
+            Command::Import(tree) => import(alloc, &mut rows, limit, tree, steps)?,
         };
         keep_totals(&mut rows, command, &reply, steps);
         Ok((Engine { alloc, rows, limit }, reply))

@@ -28,6 +28,7 @@ use Rattle.pl_engine.proofs.engine.Engine.apply.Goals.{in-Expire+in_ok-reply-in-
 use Rattle.pl_engine.proofs.engine.Engine.apply.Goals.{in-Query+in_ok-reply-in-Query}
 use Rattle.pl_engine.proofs.engine.Engine.apply.Goals.{in-Place+in_ok-reply-in-Place}
 use Rattle.pl_engine.proofs.engine.Engine.apply.Goals.{in-Bar+in_ok-reply-in-Bar, in-Fill+in_ok-reply-in-Fill}
+use Rattle.pl_engine.proofs.engine.Engine.apply.Goals.{in-Import+in_ok-reply-in-Import}
 use Rattle.pl_engine.proofs.engine.Engine.apply.Goals as goal
 
 -- whichever command it is
@@ -81,6 +82,7 @@ sound g c =
         good = c.args.self.good;
         right = c.args.self.right;
       })
+      | in-Import+in_ok-reply-in-Import w ↦ rw w.rows-is w.in_ok-reply-in-Import.ensures.sound
     ]
 
 -- the step is that of the machine
@@ -135,6 +137,8 @@ step g c =
           (ap (λ (r : Reply). (r, store_of (g.R.Rows.kept c.args.self.rows))) w.in_ok-reply-in-Bar.ensures)
       | in-Fill+in_ok-reply-in-Fill w ↦ rw (w.rows-is, w.reply-is, w.in-Fill.is)
           (ap (λ (r : Reply). (r, store_of (g.R.Rows.kept c.args.self.rows))) w.in_ok-reply-in-Fill.ensures)
+      | in-Import+in_ok-reply-in-Import w ↦ rw (w.rows-is, w.reply-is, w.in-Import.is)
+          w.in_ok-reply-in-Import.ensures.step
     ]
 
 -- the rows of a command that changed nothing have their totals still
@@ -181,6 +185,9 @@ kept g c same =
       | in-Place+in_ok-reply-in-Place w ↦ rw w.rows-is c.args.self.totals
       | in-Bar+in_ok-reply-in-Bar w ↦ rw w.rows-is c.args.self.totals
       | in-Fill+in_ok-reply-in-Fill w ↦ rw w.rows-is c.args.self.totals
+      | in-Import+in_ok-reply-in-Import w ↦ rw w.rows-is
+          (still (λ rows. HaveTotals (g.R.Rows.kept rows)) c.args.self.rows _ _
+          w.in_ok-reply-in-Import.ensures.refused (rw (w.reply-is, w.in-Import.is) at same) c.args.self.totals)
     ]
 
 -- a refused command leaves the very same rows
@@ -211,6 +218,8 @@ refused g c refusal is =
       | in-Place+in_ok-reply-in-Place w ↦ w.rows-is
       | in-Bar+in_ok-reply-in-Bar w ↦ w.rows-is
       | in-Fill+in_ok-reply-in-Fill w ↦ w.rows-is
+      | in-Import+in_ok-reply-in-Import w ↦ rw w.rows-is
+          (w.in_ok-reply-in-Import.ensures.refused refusal (rw w.reply-is at is))
     ]
 
 -- and so does one of a kind that changes nothing
@@ -241,6 +250,7 @@ unchanged g c none =
       | in-Place+in_ok-reply-in-Place w ↦ w.rows-is
       | in-Bar+in_ok-reply-in-Bar w ↦ w.rows-is
       | in-Fill+in_ok-reply-in-Fill w ↦ w.rows-is
+      | in-Import+in_ok-reply-in-Import w ↦ absurd (true≢false (rw w.in-Import.is at none))
     ]
 
 pub keep_totals-requires-clause-sound : goal.keep_totals-requires-clause-sound

@@ -1,0 +1,25 @@
+use Rattle.std.proofs.Common.{List, ltb, rules, subst, tests}
+use Rattle.std.proofs.lemmas.List.Sorted.{IsPartitionPoint-from_clause, IsPartitionedBy-ltb}
+use Rattle.pl_base.specs.declared.id.PageId.{PageId}
+use Rattle.pl_base.specs.Rows.{store_of}
+use Rattle.pl_history.specs.Settled.{AreSettledBut}
+use Rattle.pl_engine.specs.NewPage.{IsNew}
+use Rattle.pl_engine.proofs.NewPages.{from_point, settled_swapped}
+use Rattle.pl_engine.proofs.engine.gained.settle_gained.Goals as goal
+
+pub mark_new-requires : goal.mark_new-requires
+mark_new-requires g c =
+    from_point (IsNew (store_of (g.R.Rows.kept c.args.rows.now))) c.args.pages.now c.split_at.result.1.now
+    c.args.first c.partition_point.result c.split_at.ensures.back
+    (IsPartitionPoint-from_clause (λ (page : PageId). ltb page.0 c.args.first) c.args.pages.now
+    c.partition_point.result c.partition_point.ensures.partitioned
+    (IsPartitionedBy-ltb (λ (page : PageId). page.0) c.args.pages.now c.args.first c.requires.ascending)
+    (λ a r f k. search (rules, tests)))
+    c.requires.made
+
+pub settle_all-requires : goal.settle_all-requires
+settle_all-requires g c =
+    c.in_ok-mark_new.ensures.settled c.split_at.result.0.now
+    (settled_swapped (g.R.Rows.kept c.args.rows.now) c.split_at.result.0.now c.split_at.result.1.now
+    (subst (λ (ids : List PageId). AreSettledBut ids (g.R.Rows.kept c.args.rows.now)) c.split_at.ensures.by_index.0
+    c.requires.settled))
