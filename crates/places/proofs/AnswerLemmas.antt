@@ -1,5 +1,5 @@
 -- What a stop shows while one line is answered.
-use Rattle.std.proofs.Common.{◌≡◌, ℕ, Bool, List, [], ◌∷◌, ◌++◌, take, Some, Ok, Err, inl, inr, ⊎_elim, refl, sym, ap}
+use Rattle.std.proofs.Common.{◌≡◌, ℕ, Bool, List, [], ◌∷◌, Some, Ok, Err, inl, inr, ⊎_elim, refl, sym, ap}
 use Rattle.std.proofs.Common.{◌∙◌, subst, append-nil}
 use Rattle.std.proofs.lemmas.Option.{same_Some}
 use Rattle.pl_base.specs.declared.refusal.Refusal.{Refusal}
@@ -22,24 +22,22 @@ use Rattle.pl_script.specs.Reply.{reply_text}
 use Rattle.places.specs.declared.answer_error.AnswerError.{AnswerError}
 use Rattle.places.specs.declared.answer_error.AnswerError.TheVariants as answer
 use Rattle.places.specs.Said.{texts}
-use Rattle.places.specs.Stops.{LeavesOfAnswer, ShowsAnswer, ShowsFront}
+use Rattle.places.specs.Stops.{LeavesOfAnswer, ShowsAnswer, ShowsFront, ShowsTaking}
 
 -- the text of a command's reply
-pub text_of_command : (limit : ℕ) (store : Store) (entries : List (Parsed Command)) (command : Command)
-    (done : Reply × Store) (text : List ℕ) → entries ≡ Ok command ∷ [] → done ≡ perform limit store command
-    → text ≡ reply_text done.0
-    → texts (replies limit store entries) ≡ text
-text_of_command limit store entries command done text one step written =
-    ap (λ (es : List (Parsed Command)). texts (replies limit store es)) one
-    ∙ append-nil (reply_text (perform limit store command).0) ∙ ap (λ (d : Reply × Store). reply_text d.0) (sym step)
-    ∙ sym written
+pub text_of_command : (limit : ℕ) (store next : Store) (command : Command) (reply : Reply)
+    → (reply, next) ≡ perform limit store command → texts (replies limit store (Ok command ∷ [])) ≡ reply_text reply
+text_of_command limit store next command reply step =
+    append-nil (reply_text (perform limit store command).0) ∙ ap (λ (d : Reply × Store). reply_text d.0) (sym step)
+
+pub replies_of_command : (limit : ℕ) (store next : Store) (command : Command) (reply : Reply)
+    → (reply, next) ≡ perform limit store command → reply ∷ [] ≡ replies limit store (Ok command ∷ [])
+replies_of_command limit store next command reply step = ap (λ (d : Reply × Store). d.0 ∷ []) step
 
 -- the store after it
-pub after_command : (limit : ℕ) (store next : Store) (entries : List (Parsed Command)) (command : Command)
-    (done : Reply × Store) → entries ≡ Ok command ∷ [] → done ≡ perform limit store command → next ≡ done.1
-    → next ≡ after limit store entries
-after_command limit store next entries command done one step stepped =
-    stepped ∙ ap (λ (d : Reply × Store). d.1) step ∙ sym (ap (after limit store) one)
+pub after_command : (limit : ℕ) (store next : Store) (command : Command) (reply : Reply)
+    → (reply, next) ≡ perform limit store command → next ≡ after limit store (Ok command ∷ [])
+after_command limit store next command reply step = ap (λ (d : Reply × Store). d.1) step
 
 -- the store's file after a refused line
 pub keeps_refused : {D : Type 0} (desk : Ghosts D) (keeper : Keeper) (limit : ℕ) (entries : List (Parsed Command))
@@ -72,73 +70,85 @@ keeps_as desk kind kind_now first store store_now now same_kind same_store keeps
 
 module _ {D : Type 0} (desk : Ghosts D) where
   -- before the first call
-  pub unanswered : OnlyNow desk
-      → (old first : D) (keeper : Keeper) (limit : ℕ) (entries : List (Parsed Command)) (before : List ℕ)
-      → desk.said old ≡ Some before
+  pub untaken : OnlyNow desk
+      → (old first : D) (keeper : Keeper) (next : Store) (text before : List ℕ) → desk.said old ≡ Some before
       → IsKept desk keeper first old
-      → ShowsOnly desk old old (ShowsAnswer desk (is_file keeper) first limit (keeper_store keeper) entries before)
-  unanswered only_now old first keeper limit entries before is kept =
-      started desk old (ShowsAnswer desk (is_file keeper) first limit (keeper_store keeper) entries before)
+      → ShowsOnly desk old old (ShowsTaking desk (is_file keeper) first (keeper_store keeper) next text before)
+  untaken only_now old first keeper next text before is kept =
+      started desk old (ShowsTaking desk (is_file keeper) first (keeper_store keeper) next text before)
       (λ file line shown. let now = only_now old before file line is shown in record {
         part = 0;
         said = now.1 ∙ sym (append-nil before);
         leaves = inr (refl, kept_leaves desk keeper first old kept file now.0);
       })
 
+  pub unanswered : OnlyNow desk
+      → (old first : D) (keeper : Keeper) (limit : ℕ) (entries : List (Parsed Command)) (before : List ℕ)
+      → desk.said old ≡ Some before
+      → IsKept desk keeper first old
+      → ShowsOnly desk old old (ShowsAnswer desk (is_file keeper) first limit (keeper_store keeper) entries before)
+  unanswered only_now old first keeper limit entries before is kept =
+      untaken only_now old first keeper (after limit (keeper_store keeper) entries)
+      (texts (replies limit (keeper_store keeper) entries)) before is kept
+
   -- while the file takes the step, nothing is said
-  pub committing : (old new first : D) (keeper : Keeper) (limit : ℕ) (entries : List (Parsed Command)) (before : List ℕ)
-      (next : Store) → desk.said old ≡ Some before → next ≡ after limit (keeper_store keeper) entries
+  pub committing : (old new first : D) (keeper : Keeper) (next : Store) (text before : List ℕ)
+      → desk.said old ≡ Some before
       → AtAnyMoment desk old new (LeavesEither desk (is_file keeper) first (keeper_store keeper) next)
-      → ShowsOnly desk old new (ShowsAnswer desk (is_file keeper) first limit (keeper_store keeper) entries before)
-  committing old new first keeper limit entries before next is stepped shows =
+      → ShowsOnly desk old new (ShowsTaking desk (is_file keeper) first (keeper_store keeper) next text before)
+  committing old new first keeper next text before is shows =
       shows_less desk old new (λ file line. LeavesEither desk (is_file keeper) first (keeper_store keeper) next file
       × (desk.said old ≡ Some line))
-      (ShowsAnswer desk (is_file keeper) first limit (keeper_store keeper) entries before) shows
+      (ShowsTaking desk (is_file keeper) first (keeper_store keeper) next text before) shows
       (λ file line has. record {
         part = 0;
         said = same_Some line before (sym has.1 ∙ is) ∙ sym (append-nil before);
-        leaves =
-            ⊎_elim (λ as_before. inr (refl, as_before))
-            (λ left. inl (leaves_as desk first file _ _ next _ refl stepped left)) has.0;
+        leaves = ⊎_elim (λ as_before. inr (refl, as_before)) (λ left. inl left) has.0;
       })
 
-  -- the reply is said, beside a keeper of the store after the step
-  pub answering : (old mid new first : D) (keeper next : Keeper) (limit : ℕ) (entries : List (Parsed Command))
-      (before text : List ℕ)
-      → is_file next ≡ is_file keeper → keeper_store next ≡ after limit (keeper_store keeper) entries
-      → texts (replies limit (keeper_store keeper) entries) ≡ text
-      → IsKept desk next first mid
-      → ShowsOnly desk old mid (ShowsAnswer desk (is_file keeper) first limit (keeper_store keeper) entries before)
+  -- the text is said, beside a keeper of the next store
+  pub answering : (old mid new first : D) (keeper later : Keeper) (next : Store) (text before : List ℕ)
+      → is_file later ≡ is_file keeper → keeper_store later ≡ next → IsKept desk later first mid
+      → ShowsOnly desk old mid (ShowsTaking desk (is_file keeper) first (keeper_store keeper) next text before)
       → ShowsOnly desk mid new (ShowsFront desk mid before text)
-      → ShowsOnly desk old new (ShowsAnswer desk (is_file keeper) first limit (keeper_store keeper) entries before)
-  answering old mid new first keeper next limit entries before text same_kind stepped texts_are kept so_far saying =
-      and_on desk old mid new (ShowsAnswer desk (is_file keeper) first limit (keeper_store keeper) entries before)
+      → ShowsOnly desk old new (ShowsTaking desk (is_file keeper) first (keeper_store keeper) next text before)
+  answering old mid new first keeper later next text before same_kind stepped kept so_far saying =
+      and_on desk old mid new (ShowsTaking desk (is_file keeper) first (keeper_store keeper) next text before)
       (ShowsFront desk mid before text) so_far saying
       (λ file line shows. record {
         part = shows.1.0;
-        said = shows.1.1 ∙ ap (λ (t : List ℕ). before ++ take shows.1.0 t) (sym texts_are);
+        said = shows.1.1;
         leaves =
             inl (leaves_as desk first file _ _ _ _ same_kind stepped
-            (kept_leaves desk next first mid kept file shows.0));
+            (kept_leaves desk later first mid kept file shows.0));
       })
 
-  -- a command is performed, its step is taken by the file, and its reply is said
-  pub performing : (old mid new first : D) (keeper next : Keeper) (limit : ℕ) (entries : List (Parsed Command))
-      (command : Command) (done : Reply × Store) (before text : List ℕ) → desk.said old ≡ Some before
-      → desk.said mid ≡ desk.said old
-      → entries ≡ Ok command ∷ [] → done ≡ perform limit (keeper_store keeper) command → text ≡ reply_text done.0
-      → is_file next ≡ is_file keeper → keeper_store next ≡ done.1 → IsKept desk next first mid
-      → AtAnyMoment desk old mid (LeavesEither desk (is_file keeper) first (keeper_store keeper) done.1)
+  -- the step is taken by the file, and then the text is said
+  pub taking : (old mid new first : D) (keeper later : Keeper) (next : Store) (text reply before : List ℕ)
+      → desk.said old ≡ Some before → desk.said mid ≡ desk.said old → text ≡ reply
+      → is_file later ≡ is_file keeper → keeper_store later ≡ next → IsKept desk later first mid
+      → AtAnyMoment desk old mid (LeavesEither desk (is_file keeper) first (keeper_store keeper) next)
       → ((line : List ℕ) → desk.said mid ≡ Some line → ShowsOnly desk mid new (ShowsFront desk mid line text))
-      → ShowsOnly desk old new (ShowsAnswer desk (is_file keeper) first limit (keeper_store keeper) entries before)
-  performing old mid new first keeper next limit entries command done before text is unsaid one step written same_kind
-      stepped kept shows saying =
-      answering old mid new first keeper next limit entries before text same_kind
-      (after_command limit (keeper_store keeper) (keeper_store next) entries command done one step stepped)
-      (text_of_command limit (keeper_store keeper) entries command done text one step written) kept
-      (committing old mid first keeper limit entries before done.1 is
-      (after_command limit (keeper_store keeper) done.1 entries command done one step refl) shows)
-      (saying before (unsaid ∙ is))
+      → ShowsOnly desk old new (ShowsTaking desk (is_file keeper) first (keeper_store keeper) next reply before)
+  taking old mid new first keeper later next text reply before is unsaid written same_kind stepped kept shows saying =
+      answering old mid new first keeper later next reply before same_kind stepped kept
+      (committing old mid first keeper next reply before is shows)
+      (subst (λ (t : List ℕ). ShowsOnly desk mid new (ShowsFront desk mid before t)) written
+      (saying before (unsaid ∙ is)))
+
+  -- the step is a command's, and the text its reply
+  pub performing : (old new first : D) (keeper : Keeper) (limit : ℕ) (command : Command) (reply : Reply) (next : Store)
+      (before : List ℕ) → (reply, next) ≡ perform limit (keeper_store keeper) command
+      → ShowsOnly desk old new (ShowsTaking desk (is_file keeper) first (keeper_store keeper) next (reply_text reply)
+      before)
+      → ShowsOnly desk old new (ShowsAnswer desk (is_file keeper) first limit (keeper_store keeper) (Ok command ∷ [])
+      before)
+  performing old new first keeper limit command reply next before step shows =
+      subst (λ (text : List ℕ). ShowsOnly desk old new (ShowsTaking desk (is_file keeper) first (keeper_store keeper)
+      (after limit (keeper_store keeper) (Ok command ∷ [])) text before))
+      (sym (text_of_command limit (keeper_store keeper) next command reply step))
+      (subst (λ (store : Store). ShowsOnly desk old new (ShowsTaking desk (is_file keeper) first (keeper_store keeper)
+      store (reply_text reply) before)) (after_command limit (keeper_store keeper) next command reply step) shows)
 
   -- a refusal is said, and the store stays
   pub refusing : OnlyNow desk
@@ -148,8 +158,10 @@ module _ {D : Type 0} (desk : Ghosts D) where
       → ShowsOnly desk old new (ShowsFront desk old before (reply_text (Refused refusal)))
       → ShowsOnly desk old new (ShowsAnswer desk (is_file keeper) first limit (keeper_store keeper) entries before)
   refusing only_now old new first keeper limit entries refusal before is one kept saying =
-      answering old old new first keeper keeper limit entries before (reply_text (Refused refusal)) refl
-      (sym (ap (after limit (keeper_store keeper)) one))
-      (ap (λ (es : List (Parsed Command)). texts (replies limit (keeper_store keeper) es)) one
-      ∙ append-nil (reply_text (Refused refusal))) kept
-      (unanswered only_now old first keeper limit entries before is kept) saying
+      answering old old new first keeper keeper (after limit (keeper_store keeper) entries)
+      (texts (replies limit (keeper_store keeper) entries)) before refl
+      (sym (ap (after limit (keeper_store keeper)) one)) kept
+      (unanswered only_now old first keeper limit entries before is kept)
+      (subst (λ (text : List ℕ). ShowsOnly desk old new (ShowsFront desk old before text))
+      (sym (ap (λ (es : List (Parsed Command)). texts (replies limit (keeper_store keeper) es)) one
+      ∙ append-nil (reply_text (Refused refusal)))) saying)

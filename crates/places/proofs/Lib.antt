@@ -2,6 +2,7 @@ mod AnswerCounts
 mod AnswerLemmas
 mod EndingLemmas
 mod EntryLemmas
+mod ImportLemmas
 mod LineLemmas
 mod LongLines
 mod OpeningLemmas

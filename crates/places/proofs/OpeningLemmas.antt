@@ -28,7 +28,7 @@ use Rattle.places.specs.declared.status.Status.{Status}
 use Rattle.places.specs.declared.status.Status.TheVariants as status
 use Rattle.places.specs.declared.stop.Stop.{Stop}
 use Rattle.places.specs.declared.stop.Stop.TheVariants as stop
-use Rattle.places.specs.Ending.{BeginsWith, EndsScript, LeavesAtEnd, LeavesWithin, MayEnd, SaysFront}
+use Rattle.places.specs.Ending.{BeginsWith, EndsScript, IsImport, LeavesAtEnd, LeavesWithin, MayEnd, SaysFront}
 use Rattle.places.specs.Progress.{HasRead, entries_read}
 use Rattle.places.specs.Said.{Says, SaysOfAnswer, SaysPart, SaysUntil, SaysWhole, texts}
 use Rattle.places.specs.Status.{EndsAs, without_session}
@@ -144,23 +144,28 @@ says_at_end desk status.NoMemory kind first start bytes before left now leaves =
     says_front desk answer.NoMemory kind first start bytes before left now leaves
 says_at_end desk status.NotAStore kind first start bytes before left now leaves = leaves
 says_at_end desk (status.NotEmpty len) kind first start bytes before left now leaves = leaves
+says_at_end desk (status.NotBookmarks at) kind first start bytes before left now leaves = leaves
+says_at_end desk (status.ImportRefused refusal) kind first start bytes before left now leaves = leaves
 says_at_end desk (status.TooLong limit) kind first start bytes before left now leaves = (leaves.says, leaves.read)
 
 -- a script's run, of words that ask for one, and an opening that ends without a store
-pub script_may_end : (try_ new_ run_ : Type 0) (end : Result ⊤ Stop) (s : Status) → try_ ⊎ run_ → EndsAs end s
-    → MayEnd try_ new_ run_ s
-script_may_end try_ new_ run_ end s asked is = at end is
+pub script_may_end : (try_ new_ run_ import_ : Type 0) (end : Result ⊤ Stop) (s : Status) → try_ ⊎ run_ → EndsAs end s
+    → MayEnd try_ new_ run_ import_ s
+script_may_end try_ new_ run_ import_ end s asked is = at end is
   where
-    some : try_ ⊎ new_ ⊎ run_
-    some = ⊎_elim (λ x. inl x) (λ x. inr (inr x)) asked
+    some : try_ ⊎ new_ ⊎ run_ ⊎ import_
+    some = ⊎_elim (λ x. inl x) (λ x. inr (inr (inl x))) asked
 
-    at : (end : Result ⊤ Stop) → EndsAs end s → MayEnd try_ new_ run_ s
-    at (Ok done) is = subst (MayEnd try_ new_ run_) (sym is) some
-    at (Err stop.ReadFault) is = subst (MayEnd try_ new_ run_) (sym is) asked
-    at (Err stop.SayFault) is = subst (MayEnd try_ new_ run_) (sym is) some
-    at (Err stop.DeviceFault) is = subst (MayEnd try_ new_ run_) (sym is) some
-    at (Err stop.NoMemory) is = subst (MayEnd try_ new_ run_) (sym is) some
-    at (Err stop.TooLong) is = subst (MayEnd try_ new_ run_) (sym is) (refl, asked)
+    reads : try_ ⊎ run_ ⊎ import_
+    reads = ⊎_elim (λ x. inl x) (λ x. inr (inl x)) asked
+
+    at : (end : Result ⊤ Stop) → EndsAs end s → MayEnd try_ new_ run_ import_ s
+    at (Ok done) is = subst (MayEnd try_ new_ run_ import_) (sym is) some
+    at (Err stop.ReadFault) is = subst (MayEnd try_ new_ run_ import_) (sym is) reads
+    at (Err stop.SayFault) is = subst (MayEnd try_ new_ run_ import_) (sym is) some
+    at (Err stop.DeviceFault) is = subst (MayEnd try_ new_ run_ import_) (sym is) some
+    at (Err stop.NoMemory) is = subst (MayEnd try_ new_ run_ import_) (sym is) some
+    at (Err stop.TooLong) is = subst (MayEnd try_ new_ run_ import_) (sym is) (inl (refl, asked))
 
 pub no_refusal : (end : Result ⊤ Stop) (s : Status) → EndsAs end s → s ≡ status.NotAStore → ⊥
 no_refusal (Ok done) s is at = absurd (cc)
@@ -171,34 +176,50 @@ no_refusal (Err stop.NoMemory) s is at = absurd (cc)
 no_refusal (Err stop.TooLong) s is at = absurd (cc)
 
 -- what may end by the words for one thing may end by words for more
-pub may_end_more : (t n r t' n' r' : Type 0) (s : Status) → (t → t') → (n → n') → (r → r') → MayEnd t n r s → t ⊎ n ⊎ r
-    → MayEnd t' n' r' s
-may_end_more t n r t' n' r' s on_try on_new on_run = at s
+pub may_end_more : (t n r i t' n' r' i' : Type 0) (s : Status) → (t → t') → (n → n') → (r → r') → (i → i')
+    → MayEnd t n r i s → t ⊎ n ⊎ r ⊎ i → MayEnd t' n' r' i' s
+may_end_more t n r i t' n' r' i' s on_try on_new on_run on_import = at s
   where
-    some : t ⊎ n ⊎ r → t' ⊎ n' ⊎ r'
-    some = ⊎_elim (λ x. inl (on_try x)) (⊎_elim (λ x. inr (inl (on_new x))) (λ x. inr (inr (on_run x))))
+    some : t ⊎ n ⊎ r ⊎ i → t' ⊎ n' ⊎ r' ⊎ i'
+    some =
+        ⊎_elim (λ x. inl (on_try x))
+        (⊎_elim (λ x. inr (inl (on_new x)))
+        (⊎_elim (λ x. inr (inr (inl (on_run x)))) (λ x. inr (inr (inr (on_import x))))))
+
+    reads : t ⊎ r ⊎ i → t' ⊎ r' ⊎ i'
+    reads =
+        ⊎_elim (λ x. inl (on_try x)) (⊎_elim (λ x. inr (inl (on_run x))) (λ x. inr (inr (on_import x))))
 
     script_ : t ⊎ r → t' ⊎ r'
     script_ = ⊎_elim (λ x. inl (on_try x)) (λ x. inr (on_run x))
 
-    at : (s : Status) → MayEnd t n r s → t ⊎ n ⊎ r → MayEnd t' n' r' s
+    file_ : r ⊎ i → r' ⊎ i'
+    file_ = ⊎_elim (λ x. inl (on_run x)) (λ x. inr (on_import x))
+
+    at : (s : Status) → MayEnd t n r i s → t ⊎ n ⊎ r ⊎ i → MayEnd t' n' r' i' s
     at status.Done may asked = some may
     at status.Usage may asked = absurd (may asked)
-    at status.ReadFault may asked = script_ may
+    at status.ReadFault may asked = reads may
     at status.SayFault may asked = some may
     at status.DeviceFault may asked = some may
     at status.NoMemory may asked = some may
-    at status.NotAStore may asked = on_run may
+    at status.NotAStore may asked = file_ may
     at (status.NotEmpty len) may asked = on_new may
-    at (status.TooLong limit) may asked = (may.0, script_ may.1)
+    at (status.NotBookmarks offset) may asked = on_import may
+    at (status.TooLong limit) may asked =
+        ⊎_elim (λ ended_. inl (ended_.0, script_ ended_.1)) (λ ended_. inr (ended_.0, on_import ended_.1)) may
+    at (status.ImportRefused refusal) may asked = on_import may
 
-pub opening_may_end : {D : Type 0} (desk : Ghosts D) (limit : ℕ) (e : Ended) (s : Status) (old new : D)
-    → s ≡ without_session e
-    → Opens desk limit (Err e) old new → MayEnd ⊥ ⊥ ⊤ s
-opening_may_end desk limit ended.DeviceFault s old new is opens = subst (MayEnd ⊥ ⊥ ⊤) (sym is) (inr (inr tt))
-opening_may_end desk limit ended.NoMemory s old new is opens = subst (MayEnd ⊥ ⊥ ⊤) (sym is) (inr (inr tt))
-opening_may_end desk limit ended.NotAStore s old new is opens = subst (MayEnd ⊥ ⊥ ⊤) (sym is) tt
-opening_may_end desk limit (ended.NotEmpty n) s old new is opens = absurd opens
+pub opening_may_end : (try_ new_ run_ import_ : Type 0) → run_ ⊎ import_
+    → {D : Type 0} (desk : Ghosts D) (limit : ℕ) (e : Ended) (s : Status) (old new : D) → s ≡ without_session e
+    → Opens desk limit (Err e) old new → MayEnd try_ new_ run_ import_ s
+opening_may_end try_ new_ run_ import_ asked desk limit ended.DeviceFault s old new is opens =
+    subst (MayEnd try_ new_ run_ import_) (sym is) (inr (inr asked))
+opening_may_end try_ new_ run_ import_ asked desk limit ended.NoMemory s old new is opens =
+    subst (MayEnd try_ new_ run_ import_) (sym is) (inr (inr asked))
+opening_may_end try_ new_ run_ import_ asked desk limit ended.NotAStore s old new is opens =
+    subst (MayEnd try_ new_ run_ import_) (sym is) asked
+opening_may_end try_ new_ run_ import_ asked desk limit (ended.NotEmpty n) s old new is opens = absurd opens
 
 -- ---- no store to begin with
 
@@ -287,11 +308,13 @@ module _ {D : Type 0} (desk : Ghosts D) where
 
 -- ---- words
 
--- the first byte of the first word
-abbrev first_code : List (List ℕ) → ℕ
-first_code [] = 0
-first_code ([] ∷ words) = 0
-first_code ((c ∷ word) ∷ words) = c
+abbrev first_word : List (List ℕ) → List ℕ
+first_word [] = []
+first_word (word ∷ words) = word
+
+abbrev first_byte : List ℕ → ℕ
+first_byte [] = 0
+first_byte (byte ∷ bytes) = byte
 
 -- two words of which the first is this one
 pub two_words : (words : List (Bor (List ℕ))) (first : List ℕ) (d : Bor (List ℕ)) → 2 ≤ length words → length words < 3
@@ -315,12 +338,12 @@ begins_on_file words held kind start some (inl begins) =
     absurd (omega (arith, some, ap length begins.0, length-map words (λ (word : Bor (List ℕ)). word.now)))
 begins_on_file words held kind start some (inr begins) = (begins.1, begins.2)
 
--- `new` begins no script, nor do more words
-pub new_begins_none : (words : List (List ℕ)) (held : Option (List ℕ)) (kind : Bool) (start : Store) (path : List ℕ)
-    → words ≡ codes "new" ∷ path ∷ [] → BeginsWith words held kind start → ⊥
-new_begins_none words held kind start path is (inl begins) = omega (arith, ap length (sym is ∙ begins.0))
-new_begins_none words held kind start path is (inr begins) =
-    omega (arith, ap (λ (ws : List (List ℕ)). first_code ws) (sym is ∙ begins.0.1))
+-- two words begin no script whose first is not `run`, nor do more words
+pub other_begins_none : (words : List (List ℕ)) (held : Option (List ℕ)) (kind : Bool) (start : Store)
+    (word path : List ℕ) → words ≡ word ∷ path ∷ [] → (word ≡ codes "run" → ⊥) → BeginsWith words held kind start → ⊥
+other_begins_none words held kind start word path is other (inl begins) = omega (arith, ap length (sym is ∙ begins.0))
+other_begins_none words held kind start word path is other (inr begins) =
+    other (ap first_word (sym is ∙ begins.0.1))
 
 pub no_script_words : (words : List (Bor (List ℕ))) (held : Option (List ℕ)) (kind : Bool) (start : Store)
     → 3 ≤ length words → BeginsWith (map (λ word. word.now) words) held kind start → ⊥
@@ -328,3 +351,25 @@ no_script_words words held kind start many (inl begins) =
     omega (arith, many, ap length begins.0, length-map words (λ (word : Bor (List ℕ)). word.now))
 no_script_words words held kind start many (inr begins) =
     omega (arith, many, ap length begins.0.1, length-map words (λ (word : Bor (List ℕ)). word.now))
+
+-- words ask for no import that are not two, or begin with another word
+pub no_import : (words : List (Bor (List ℕ))) → (length words ≡ 2 → ⊥) → IsImport (map (λ word. word.now) words) → ⊥
+no_import words other is =
+    other (sym (length-map words (λ (word : Bor (List ℕ)). word.now)) ∙ ap length is.1)
+
+pub other_imports_none : (words : List (List ℕ)) (word path : List ℕ) → words ≡ word ∷ path ∷ []
+    → (word ≡ codes "import" → ⊥) → IsImport words → ⊥
+other_imports_none words word path is other imports = other (ap first_word (sym is ∙ imports.1))
+
+-- words that differ
+pub new_not_run : codes "new" ≡ codes "run" → ⊥
+new_not_run is = omega (arith, ap (λ (w : List ℕ). first_byte w) is)
+
+pub import_not_run : codes "import" ≡ codes "run" → ⊥
+import_not_run is = omega (arith, ap (λ (w : List ℕ). first_byte w) is)
+
+pub new_not_import : codes "new" ≡ codes "import" → ⊥
+new_not_import is = omega (arith, ap (λ (w : List ℕ). first_byte w) is)
+
+pub run_not_import : codes "run" ≡ codes "import" → ⊥
+run_not_import is = omega (arith, ap (λ (w : List ℕ). first_byte w) is)

@@ -9,6 +9,7 @@ use Rattle.pl_desk.specs.Calls.{KeepsFile, LeavesNoMore}
 use Rattle.pl_desk.specs.Shown.{Rests}
 use Rattle.pl_desk.specs.declared.desk.Desk as desks
 use Rattle.pl_desk.specs.declared.source.Source as sources
+use Rattle.pl_nbread.specs.BookmarkFile.{file_limit}
 use Rattle.pl_step.specs.Run.{replies, after}
 use Rattle.pl_store.specs.Ending.{FindsBytes, IsFinished, SparesBytes}
 use Rattle.pl_store.specs.Keeper.{Keeps}
@@ -49,17 +50,24 @@ IsNew words = (path : List ℕ) × (words ≡ codes "new" ∷ path ∷ [])
 abbrev pub IsRun : List (List ℕ) → Type 0
 IsRun words = (path : List ℕ) × (words ≡ codes "run" ∷ path ∷ [])
 
--- which words may end so, where these are what `try`, `new` and `run` ask for
-abbrev pub MayEnd : (try_ new_ run_ : Type 0) → Status → Type 0
-MayEnd try_ new_ run_ status.Done = try_ ⊎ new_ ⊎ run_
-MayEnd try_ new_ run_ status.Usage = (try_ ⊎ new_ ⊎ run_) → ⊥
-MayEnd try_ new_ run_ status.ReadFault = try_ ⊎ run_
-MayEnd try_ new_ run_ status.SayFault = try_ ⊎ new_ ⊎ run_
-MayEnd try_ new_ run_ status.DeviceFault = try_ ⊎ new_ ⊎ run_
-MayEnd try_ new_ run_ status.NoMemory = try_ ⊎ new_ ⊎ run_
-MayEnd try_ new_ run_ status.NotAStore = run_
-MayEnd try_ new_ run_ (status.NotEmpty len) = new_
-MayEnd try_ new_ run_ (status.TooLong limit) = (limit ≡ script_limit) × (try_ ⊎ run_)
+-- `import` with the name of a file
+abbrev pub IsImport : List (List ℕ) → Type 0
+IsImport words = (path : List ℕ) × (words ≡ codes "import" ∷ path ∷ [])
+
+-- which words may end so, where these are what `try`, `new`, `run` and `import` ask for
+abbrev pub MayEnd : (try_ new_ run_ import_ : Type 0) → Status → Type 0
+MayEnd try_ new_ run_ import_ status.Done = try_ ⊎ new_ ⊎ run_ ⊎ import_
+MayEnd try_ new_ run_ import_ status.Usage = (try_ ⊎ new_ ⊎ run_ ⊎ import_) → ⊥
+MayEnd try_ new_ run_ import_ status.ReadFault = try_ ⊎ run_ ⊎ import_
+MayEnd try_ new_ run_ import_ status.SayFault = try_ ⊎ new_ ⊎ run_ ⊎ import_
+MayEnd try_ new_ run_ import_ status.DeviceFault = try_ ⊎ new_ ⊎ run_ ⊎ import_
+MayEnd try_ new_ run_ import_ status.NoMemory = try_ ⊎ new_ ⊎ run_ ⊎ import_
+MayEnd try_ new_ run_ import_ status.NotAStore = run_ ⊎ import_
+MayEnd try_ new_ run_ import_ (status.NotEmpty len) = new_
+MayEnd try_ new_ run_ import_ (status.NotBookmarks at) = import_
+MayEnd try_ new_ run_ import_ (status.TooLong limit) =
+    ((limit ≡ script_limit) × (try_ ⊎ run_)) ⊎ ((limit ≡ file_limit) × import_)
+MayEnd try_ new_ run_ import_ (status.ImportRefused refusal) = import_
 
 -- A script is run from this store on: `try` from the store before its first command, `run` from the
 -- store that a read of the file gives; the second is kept in a file.
@@ -131,6 +139,8 @@ EndsScript status.NoMemory start bytes before left said =
 EndsScript status.Usage start bytes before left said = ⊥
 EndsScript status.NotAStore start bytes before left said = ⊥
 EndsScript (status.NotEmpty len) start bytes before left said = ⊥
+EndsScript (status.NotBookmarks at) start bytes before left said = ⊥
+EndsScript (status.ImportRefused refusal) start bytes before left said = ⊥
 
 -- ---- what was said, and the file
 
@@ -186,6 +196,8 @@ module _ {D : Type 0} (desk : desks.Ghosts D) where
   LeavesAtEnd status.Usage is_file first start bytes before left now = ⊥
   LeavesAtEnd status.NotAStore is_file first start bytes before left now = ⊥
   LeavesAtEnd (status.NotEmpty len) is_file first start bytes before left now = ⊥
+  LeavesAtEnd (status.NotBookmarks at) is_file first start bytes before left now = ⊥
+  LeavesAtEnd (status.ImportRefused refusal) is_file first start bytes before left now = ⊥
 
   -- ---- a new store
 
@@ -212,7 +224,9 @@ module _ {D : Type 0} (desk : desks.Ghosts D) where
   EndsNew status.Usage old new = ⊥
   EndsNew status.ReadFault old new = ⊥
   EndsNew status.NotAStore old new = ⊥
+  EndsNew (status.NotBookmarks at) old new = ⊥
   EndsNew (status.TooLong limit) old new = ⊥
+  EndsNew (status.ImportRefused refusal) old new = ⊥
 
 -- ---- a file that is no store
 

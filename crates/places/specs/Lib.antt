@@ -1,4 +1,5 @@
 pub mod Ending
+pub mod Importing
 pub mod Limits
 pub mod Lines
 pub mod Progress

@@ -1,11 +1,15 @@
 -- Exit statuses.
 use Rattle.std.specs.Prelude.{◌≡◌, ⊤, ℕ, Option, Some, None, Result, Ok, Err}
+use Rattle.pl_base.specs.Refusal.{refusal_number}
 use Rattle.pl_store.specs.declared.ended.Ended.{Ended}
 use Rattle.pl_store.specs.declared.ended.Ended.TheVariants as ended
+use Rattle.places.specs.declared.answer_error.AnswerError.{AnswerError}
+use Rattle.places.specs.declared.answer_error.AnswerError.TheVariants as answer
 use Rattle.places.specs.declared.status.Status.{Status}
 use Rattle.places.specs.declared.status.Status.TheVariants.{Done, Usage, ReadFault, SayFault}
 use Rattle.places.specs.declared.status.Status.TheVariants.{DeviceFault, NoMemory, NotAStore}
-use Rattle.places.specs.declared.status.Status.TheVariants.{NotEmpty, TooLong}
+use Rattle.places.specs.declared.status.Status.TheVariants.{NotEmpty, NotBookmarks, TooLong}
+use Rattle.places.specs.declared.status.Status.TheVariants.{ImportRefused}
 use Rattle.places.specs.declared.stop.Stop.{Stop}
 use Rattle.places.specs.declared.stop.Stop.TheVariants as stop
 use Rattle.places.specs.Limits.{script_limit}
@@ -20,7 +24,9 @@ status_number DeviceFault = 5
 status_number NoMemory = 6
 status_number NotAStore = 7
 status_number (NotEmpty len) = 8
+status_number (NotBookmarks at) = 9
 status_number (TooLong read) = 10
+status_number (ImportRefused refusal) = 11
 
 -- the number that a status tells besides
 abbrev pub status_value : Status → Option ℕ
@@ -32,7 +38,9 @@ status_value DeviceFault = None
 status_value NoMemory = None
 status_value NotAStore = None
 status_value (NotEmpty len) = Some len
+status_value (NotBookmarks at) = Some at
 status_value (TooLong read) = Some read
+status_value (ImportRefused refusal) = Some (refusal_number refusal)
 
 -- the status of a run that stopped
 abbrev pub EndsIn : Stop → Status → Type 0
@@ -53,3 +61,14 @@ without_session ended.DeviceFault = DeviceFault
 without_session ended.NoMemory = NoMemory
 without_session ended.NotAStore = NotAStore
 without_session (ended.NotEmpty len) = NotEmpty len
+
+-- the status of an import whose answer failed
+abbrev pub answer_status : AnswerError → Status
+answer_status answer.SayFault = SayFault
+answer_status answer.DeviceFault = DeviceFault
+answer_status answer.NoMemory = NoMemory
+
+-- the status that an import stopped with, or Done
+abbrev pub done_or : Result ⊤ Status → Status
+done_or (Ok done) = Done
+done_or (Err status) = status

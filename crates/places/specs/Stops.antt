@@ -26,16 +26,22 @@ module _ {D : Type 0} (desk : Ghosts D) where
   abbrev pub ShowsUnopened : D → List ℕ → List ℕ → List ℕ → Type 0
   ShowsUnopened first before file line = desk.may_leave first file × (line ≡ before)
 
-  -- While a line is answered that has an entry, or none: a front of its reply was said behind what
-  -- was said before; a part past the reply's end is all of it. The file is that of the store after
-  -- it, or, where no byte of the reply was said, of the one before.
-  pub record ShowsAnswer (is_file : Bool) (first : D) (limit : ℕ) (store : Store)
-      (entries : List (Parsed Command))
-      (before file line : List ℕ) : Type 0 where
+  -- While the file takes a step from one store to the next, and this text is said of it: a front of
+  -- the text was said behind what was said before; a part past its end is all of it. The file is
+  -- that of the next store, or, where no byte of the text was said, of the one before.
+  pub record ShowsTaking (is_file : Bool) (first : D) (store next : Store)
+      (text before file line : List ℕ) : Type 0 where
     pub part : ℕ
-    pub said : line ≡ before ++ take part (texts (replies limit store entries))
-    pub leaves : Leaves desk is_file first (after limit store entries) file
+    pub said : line ≡ before ++ take part text
+    pub leaves : Leaves desk is_file first next file
         ⊎ ((part ≡ 0) × Leaves desk is_file first store file)
+
+  -- while a line is answered that has an entry, or none
+  abbrev pub ShowsAnswer : Bool → D → ℕ → Store → List (Parsed Command) → List ℕ → List ℕ → List ℕ
+      → Type 0
+  ShowsAnswer is_file first limit store entries =
+      ShowsTaking is_file first store (after limit store entries)
+      (texts (replies limit store entries))
 
   -- During a run of entries: the texts of the first replies were said, and the next line is
   -- answered.

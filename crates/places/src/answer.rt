@@ -5,12 +5,13 @@ ghost use Rattle.pl_desk.specs.Counts.{CountsAt};
 ghost use Rattle.pl_desk.specs.Calls.{LeavesFile};
 ghost use Rattle.pl_step.specs.Run.{replies, after};
 ghost use Rattle.pl_step.specs.Step.{HasDates};
-ghost use Rattle.pl_store.specs.Keeper.{IsKept, is_file, keeper_limit, keeper_store};
+ghost use Rattle.pl_store.specs.Keeper.{IsKept, IsReadyFrom, is_file, keeper_limit};
+ghost use Rattle.pl_store.specs.Keeper.{keeper_store, ready_limit, ready_store};
 ghost use Rattle.pl_script.specs.Reply.{reply_text as text_of_reply};
 ghost use Rattle.places.specs.Lines.{entries_in};
 ghost use Rattle.places.specs.Progress.{StaysKept};
 ghost use Rattle.places.specs.Said.{Says, SaysOfAnswer, texts};
-ghost use Rattle.places.specs.Stops.{LeavesOfAnswer, ShowsAnswer, ShowsFront};
+ghost use Rattle.places.specs.Stops.{LeavesOfAnswer, ShowsAnswer, ShowsFront, ShowsTaking};
 
 use crate::answer_error::AnswerError;
 use crate::say::say_all;
@@ -18,7 +19,7 @@ use pl_base::Refusal;
 use pl_desk::Desk;
 use pl_script::{LineError, line, reply_text};
 use pl_step::{Command, Reply};
-use pl_store::Keeper;
+use pl_store::{Keeper, Ready};
 use std::alloc::Global;
 
 /// Answers a line without its LF: the store makes its step, the file takes it, and the reply is
@@ -68,8 +69,7 @@ pub fn answer<D: Desk>(
     perform(alloc, keeper, &command, desk)
 }
 
-// Answers a command: the store makes its step, the file takes it, and the reply is said. The
-// reply's text is made before the file takes the step.
+// Answers a command: the store makes its step, the file takes it, and the reply is said.
 fn perform<D: Desk>(
     alloc: Global,
     keeper: Keeper,
@@ -105,7 +105,45 @@ fn perform<D: Desk>(
         (D.device_faults desk.old) (D.device_faults desk.new) }
 {
     let (ready, reply) = keeper.prepare(command)?;
-    let text = reply_text(alloc, &reply)?;
+    conclude(alloc, ready, &reply, desk)
+}
+
+/// Takes a command that was prepared: the file takes its step, and the reply is said. The reply's
+/// text is made before.
+pub(crate) fn conclude<D: Desk>(
+    alloc: Global,
+    ready: Ready,
+    reply: &Reply,
+    desk: &mut D,
+) -> Result<Keeper, AnswerError>
+    ensures store { IfOk result (λ next. keeper_store next ≡ ready_store ready) }
+    ensures limit { IfOk result (λ next. keeper_limit next ≡ ready_limit ready) }
+    ensures kind { IfOk result (λ next. (before : Keeper) → IsReadyFrom before ready
+        → is_file next ≡ is_file before) }
+    ensures kept { IfOk result (λ next. (before : Keeper) → IsReadyFrom before ready
+        → StaysKept D.Desk before desk.old next desk.new) }
+    ensures said { OnOk result
+        (Says (D.said desk.old) (text_of_reply reply.now) (D.said desk.new)) }
+    ensures stopped { IfErr result (λ error.
+        SaysOfAnswer error (reply.now ∷ []) (D.said desk.old) (D.said desk.new)) }
+    ensures left { IfErr result (λ error. (before : Keeper) (first : D) → IsReadyFrom before ready
+        → IsKept D.Desk before first desk.old
+        → LeavesOfAnswer D.Desk error (is_file before) first (keeper_store before)
+        (ready_store ready) desk.new) }
+    ensures shows { (before : Keeper) (first : D) (line : List ℕ) → IsReadyFrom before ready
+        → D.said desk.old ≡ Some line → IsKept D.Desk before first desk.old
+        → ShowsOnly D.Desk desk.old desk.new (ShowsTaking D.Desk
+        (is_file before) first (keeper_store before) (ready_store ready) (text_of_reply reply.now)
+        line) }
+    ensures alone { (before : Keeper) → IsReadyFrom before ready → is_file before ≡ false
+        → LeavesFile D.Desk desk.old desk.new }
+    ensures no_memory { result ≡ Err AnswerError.NoMemory → desk.new ≡ desk.old }
+    ensures says_counted { CountsAt (result ≡ Err AnswerError.SayFault)
+        (D.line_faults desk.old) (D.line_faults desk.new) }
+    ensures device_counted { CountsAt (result ≡ Err AnswerError.DeviceFault)
+        (D.device_faults desk.old) (D.device_faults desk.new) }
+{
+    let text = reply_text(alloc, reply)?;
     let next = ready.commit(desk)?;
     match say_all(desk, text.as_str().as_bytes()) {
         Ok(()) => Ok(next),

@@ -8,6 +8,9 @@ use crate::stop::Stop;
 use pl_desk::Source;
 use std::alloc::Global;
 
+/// The bytes that are asked for at a time.
+pub const PIECE: usize = 65_536;
+
 /// The next piece of the input, of at most so many bytes, and empty at its end.
 pub fn next_piece<S: Source>(alloc: Global, input: &mut S, room: usize) -> Result<Vec<u8>, Stop>
     requires { 0 < room }

@@ -7,6 +7,7 @@
 
 mod answer;
 mod answer_error;
+mod import;
 mod input;
 mod make_store;
 mod run_script;
@@ -16,17 +17,19 @@ mod script_run;
 mod status;
 mod stop;
 
-ghost use Rattle.std.specs.Prelude.{◌≡◌, ℕ, List, Some};
+ghost use Rattle.std.specs.Prelude.{◌≡◌, ◌⊎◌, ℕ, List, Some};
 ghost use Rattle.pl_base.specs.Live.{slot_limit};
 ghost use Rattle.pl_desk.specs.Calls.{LeavesFile};
 ghost use Rattle.pl_desk.specs.Counts.{CountsAt};
 ghost use Rattle.pl_desk.specs.Settling.{ShowsThen};
 ghost use Rattle.pl_store.specs.Ending.{KeepsFinished, RefusesFile, StandsForNone};
 ghost use Rattle.pl_script.specs.Script.{script};
-ghost use Rattle.places.specs.Ending.{EndsNew, EndsScript, EndsUnopened, IsNew, IsRun, IsTry};
-ghost use Rattle.places.specs.Ending.{LeavesAtEnd, MayEnd, OfScript, spelled};
+ghost use Rattle.places.specs.Ending.{EndsNew, EndsScript, EndsUnopened, IsImport, IsNew, IsRun};
+ghost use Rattle.places.specs.Ending.{IsTry, LeavesAtEnd, MayEnd, OfScript, spelled};
+ghost use Rattle.places.specs.Importing.{EndsImport, OfImport, ShowsImport};
 ghost use Rattle.places.specs.Stops.{ShowsAnswered, ShowsUnopened};
 
+use crate::import::import_stored;
 use crate::make_store::make_store;
 use crate::script::{run_stored, try_script};
 use pl_desk::{Desk, Source};
@@ -37,11 +40,13 @@ use std::alloc::Global;
 /// file, and says `new`. `run` runs the script of the input on the store that the file holds, and
 /// `try` on a store in memory, of which the desk's file knows nothing; both say the reply to each
 /// line as it comes, and the file of `run` holds a command before a byte of its reply is said.
-/// `NoMemory` may come at any place: then nothing of its command was said or is in the file.
+/// `import` puts the bookmark file of the input into the store that the file holds, as one command,
+/// and says its reply. `NoMemory` may come at any place: then nothing of its command was said or is
+/// in the file.
 pub fn run<S: Source, D: Desk>(alloc: Global, words: &[&str], input: &mut S, desk: &mut D) -> Status
     // Which words may end so. Others are refused, and then nothing is called.
     ensures status { MayEnd (IsTry (spelled words.now)) (IsNew (spelled words.now))
-        (IsRun (spelled words.now)) result }
+        (IsRun (spelled words.now)) (IsImport (spelled words.now)) result }
     ensures untouched { result ≡ Status.Usage → (input.new ≡ input.old) × (desk.new ≡ desk.old) }
 
     // Where the source and the desk tell their content: at Done everything was read, and what was
@@ -72,14 +77,26 @@ pub fn run<S: Source, D: Desk>(alloc: Global, words: &[&str], input: &mut S, des
     ensures made { IsNew (spelled words.now) → EndsNew D.Desk result desk.old desk.new }
     ensures unread { IsNew (spelled words.now) → input.new ≡ input.old }
 
-    // A file that stands for no store is refused by `run`, which then reads no input and says
-    // nothing, and stands for none afterwards.
+    // An import is one command. What was said is its reply, once the file holds the store after it;
+    // at any other end but a failed line or file nothing was said, and the file holds the store
+    // before. A stop at any moment leaves one of the two, and the one after it where a byte of the
+    // reply was said.
+    ensures imports { OfImport S.Source D.Desk (spelled words.now) input.old desk.old
+        (λ start bytes before.
+        EndsImport D.Desk result desk.old start bytes before (S.left input.new) desk.new) }
+    ensures import_stops { OfImport S.Source D.Desk (spelled words.now) input.old desk.old
+        (λ start bytes before.
+        ShowsThen D.Desk desk.old desk.new (ShowsUnopened D.Desk desk.old before)
+        (ShowsImport D.Desk start bytes before)) }
+
+    // A file that stands for no store is refused by `run` and `import`, which then read no input
+    // and say nothing, and stands for none afterwards.
     ensures refused { result ≡ Status.NotAStore
         → RefusesFile D.Desk desk.old desk.new × KeepsFinished D.Desk desk.old desk.new }
     ensures not_run { result ≡ Status.NotAStore
         → (input.new ≡ input.old) × (D.said desk.new ≡ D.said desk.old) }
-    ensures no_store { IsRun (spelled words.now) → (file : List ℕ) → D.held desk.old ≡ Some file
-        → StandsForNone file
+    ensures no_store { (IsRun (spelled words.now) ⊎ IsImport (spelled words.now))
+        → (file : List ℕ) → D.held desk.old ≡ Some file → StandsForNone file
         → EndsUnopened result × (input.new ≡ input.old) × (D.said desk.new ≡ D.said desk.old) }
 
     // Each fault has its status, and each such status its cause outside the program: no fault is
@@ -98,6 +115,7 @@ pub fn run<S: Source, D: Desk>(alloc: Global, words: &[&str], input: &mut S, des
         ["try"] => try_script(alloc, input, desk),
         ["new", _] => make_store(alloc, desk),
         ["run", _] => run_stored(alloc, input, desk),
+        ["import", _] => import_stored(alloc, input, desk),
         _ => Status::Usage,
     }
 }

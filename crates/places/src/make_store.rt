@@ -12,7 +12,7 @@ use std::alloc::Global;
 /// Writes the store before its first command into the desk's file, and says `new`. A stop within it
 /// may leave a file that stands for no store.
 pub fn make_store<D: Desk>(alloc: Global, desk: &mut D) -> Status
-    ensures status { MayEnd ⊥ ⊤ ⊥ result }
+    ensures status { MayEnd ⊥ ⊤ ⊥ ⊥ result }
     ensures ends { EndsNew D.Desk result desk.old desk.new }
     ensures says_counted { CountsAt (result ≡ Status.SayFault)
         (D.line_faults desk.old) (D.line_faults desk.new) }

@@ -11,7 +11,7 @@ ghost use Rattle.places.specs.declared.status.Status.{Status};
 ghost use Rattle.places.specs.Status.{EndsAs};
 ghost use Rattle.places.specs.Stops.{ShowsAnswered};
 
-use crate::input::next_piece;
+use crate::input::{PIECE, next_piece};
 use crate::script_run::ScriptRun;
 use crate::stop::Stop;
 use pl_desk::{Desk, Source};
@@ -20,9 +20,6 @@ use std::alloc::Global;
 
 /// Reading stops where this many bytes were read.
 pub const SCRIPT_LIMIT: usize = 2_147_483_648;
-
-/// The bytes that are asked for at a time.
-const PIECE: usize = 65_536;
 
 /// Answers the lines of the input as they come.
 pub fn run_script<S: Source, D: Desk>(

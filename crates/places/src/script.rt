@@ -21,7 +21,7 @@ use std::alloc::Global;
 
 /// Runs the script of the input on a store in memory, from the one before its first command on.
 pub fn try_script<S: Source, D: Desk>(alloc: Global, input: &mut S, desk: &mut D) -> Status
-    ensures status { MayEnd ⊤ ⊥ ⊥ result }
+    ensures status { MayEnd ⊤ ⊥ ⊥ ⊥ result }
     ensures ends { IfTold (S.left input.old) (D.said desk.old) (λ bytes before.
         LeavesAtEnd D.Desk result false desk.old opening bytes before (S.left input.new) desk.new) }
     ensures stops { IfTold (S.left input.old) (D.said desk.old) (λ bytes before.
@@ -43,7 +43,7 @@ pub fn try_script<S: Source, D: Desk>(alloc: Global, input: &mut S, desk: &mut D
 
 /// Runs the script of the input on the store that the desk's file stands for.
 pub fn run_stored<S: Source, D: Desk>(alloc: Global, input: &mut S, desk: &mut D) -> Status
-    ensures status { MayEnd ⊥ ⊥ ⊤ result }
+    ensures status { MayEnd ⊥ ⊥ ⊤ ⊥ result }
     ensures ends { (file : List ℕ) (start : Store) → D.held desk.old ≡ Some file → Stands file start
         → IfTold (S.left input.old) (D.said desk.old) (λ bytes before.
         LeavesAtEnd D.Desk result true desk.old start bytes before (S.left input.new) desk.new) }

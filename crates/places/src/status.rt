@@ -1,9 +1,12 @@
 ghost use Rattle.std.specs.Prelude.{◌≡◌};
 ghost use Rattle.places.specs.Status.{status_number, status_value};
 
+use crate::answer_error::AnswerError;
 use crate::run_script::SCRIPT_LIMIT;
 use crate::stop::Stop;
+use pl_base::{NoMemory as OutOfMemory, Refusal};
 use pl_store::Ended;
+use std::alloc::AllocError;
 
 /// How a run ended.
 #[derive(Clone, Copy, Debug, PartialEq, Eq)]
@@ -23,8 +26,12 @@ pub enum Status {
     NotAStore,
     /// A new store is not written over a file that has so many bytes.
     NotEmpty(u64),
+    /// The bytes of the input hold no bookmarks, from this offset on.
+    NotBookmarks(u64),
     /// The bytes read reached this limit.
     TooLong(u64),
+    /// The bookmarks were not imported, for this reason.
+    ImportRefused(Refusal),
 }
 
 impl Status {
@@ -41,16 +48,21 @@ impl Status {
             Status::NoMemory => 6,
             Status::NotAStore => 7,
             Status::NotEmpty(_) => 8,
+            Status::NotBookmarks(_) => 9,
             Status::TooLong(_) => 10,
+            Status::ImportRefused(_) => 11,
         }
     }
 
-    /// The number that the status tells besides.
+    /// The number that the status tells besides: of a refusal its own number.
     pub fn value(&self) -> Option<u64>
         ensures { result ≡ status_value self.now }
     {
         match self {
-            Status::NotEmpty(value) | Status::TooLong(value) => Some(*value),
+            Status::NotEmpty(value) | Status::NotBookmarks(value) | Status::TooLong(value) => {
+                Some(*value)
+            }
+            Status::ImportRefused(refusal) => Some(u64::from(refusal.number())),
             Status::Done
             | Status::Usage
             | Status::ReadFault
@@ -91,5 +103,42 @@ impl From<Ended> for Status {
             Ended::NotAStore => Status::NotAStore,
             Ended::NotEmpty(len) => Status::NotEmpty(len),
         }
+    }
+}
+
+impl From<AnswerError> for Status {
+    ghost use Rattle.std.specs.Prelude.{◌≡◌};
+    ghost use Rattle.places.specs.Status.{answer_status};
+
+    ghost from_gives = { λ error status. status ≡ answer_status error };
+
+    fn from(error: AnswerError) -> Self {
+        match error {
+            AnswerError::SayFault => Status::SayFault,
+            AnswerError::DeviceFault => Status::DeviceFault,
+            AnswerError::NoMemory => Status::NoMemory,
+        }
+    }
+}
+
+impl From<OutOfMemory> for Status {
+    ghost use Rattle.std.specs.Prelude.{◌≡◌};
+    ghost use Rattle.places.specs.declared.status.Status.TheVariants as status;
+
+    ghost from_gives = { λ _ e. e ≡ status.NoMemory };
+
+    fn from(_: OutOfMemory) -> Self {
+        Status::NoMemory
+    }
+}
+
+impl From<AllocError> for Status {
+    ghost use Rattle.std.specs.Prelude.{◌≡◌};
+    ghost use Rattle.places.specs.declared.status.Status.TheVariants as status;
+
+    ghost from_gives = { λ _ e. e ≡ status.NoMemory };
+
+    fn from(_: AllocError) -> Self {
+        Status::NoMemory
     }
 }

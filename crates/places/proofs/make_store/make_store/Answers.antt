@@ -33,14 +33,14 @@ made desk session old mid new makes kept file is =
 -- how a making ends that gives no session
 not_made : {D : Type 0} (desk : Ghosts D) (e : Ended) (s : Status) (old new : D) → s ≡ without_session e
     → Makes desk (Err e) old new
-    → desk.said new ≡ desk.said old → EndsNew desk s old new × MayEnd ⊥ ⊤ ⊥ s
+    → desk.said new ≡ desk.said old → EndsNew desk s old new × MayEnd ⊥ ⊤ ⊥ ⊥ s
 not_made desk ended.DeviceFault s old new is makes unsaid =
-    subst (λ (t : Status). EndsNew desk t old new × MayEnd ⊥ ⊤ ⊥ t) (sym is) ((unsaid, makes), inr (inl tt))
+    subst (λ (t : Status). EndsNew desk t old new × MayEnd ⊥ ⊤ ⊥ ⊥ t) (sym is) ((unsaid, makes), inr (inl tt))
 not_made desk ended.NoMemory s old new is makes unsaid =
-    subst (λ (t : Status). EndsNew desk t old new × MayEnd ⊥ ⊤ ⊥ t) (sym is) ((unsaid, makes), inr (inl tt))
+    subst (λ (t : Status). EndsNew desk t old new × MayEnd ⊥ ⊤ ⊥ ⊥ t) (sym is) ((unsaid, makes), inr (inl tt))
 not_made desk ended.NotAStore s old new is makes unsaid = absurd makes
 not_made desk (ended.NotEmpty n) s old new is makes unsaid =
-    subst (λ (t : Status). EndsNew desk t old new × MayEnd ⊥ ⊤ ⊥ t) (sym is) ((unsaid, makes), tt)
+    subst (λ (t : Status). EndsNew desk t old new × MayEnd ⊥ ⊤ ⊥ ⊥ t) (sym is) ((unsaid, makes), tt)
 
 pub returns-in-Err-clause-ends : goal.returns-in-Err-clause-ends
 returns-in-Err-clause-ends g c =

@@ -1,5 +1,5 @@
 use Rattle.std.specs.Prelude.{⊤}
-use Rattle.std.proofs.Common.{◌∙◌, ◌≡◌, inr, true, subst, sym}
+use Rattle.std.proofs.Common.{◌∙◌, ◌≡◌, inl, inr, true, subst, sym}
 use Rattle.std.proofs.lemmas.Option.{MatchOption-at_some}
 use Rattle.pl_base.specs.Store.{Store}
 use Rattle.pl_base.specs.Live.{slot_limit}
@@ -55,12 +55,12 @@ returns-in-Err-clause-ends g c = λ file start held stands bytes before told beg
 
 pub returns-in-Ok-clause-status : goal.returns-in-Ok-clause-status
 returns-in-Ok-clause-status g c =
-    script_may_end ⊥ ⊥ ⊤ c.run_script.result c.status_of.result (inr tt) c.status_of.ensures
+    script_may_end ⊥ ⊥ ⊤ ⊥ c.run_script.result c.status_of.result (inr tt) c.status_of.ensures
 
 pub returns-in-Err-clause-status : goal.returns-in-Err-clause-status
 returns-in-Err-clause-status g c =
-    opening_may_end g.D.Desk slot_limit c.in-Err.ended c.from.result c.args.desk.now c.reopen.new.desk c.from.ensures
-    c.in-Err.ensures.ends
+    opening_may_end ⊥ ⊥ ⊤ ⊥ (inl tt) g.D.Desk slot_limit c.in-Err.ended c.from.result c.args.desk.now
+    c.reopen.new.desk c.from.ensures c.in-Err.ensures.ends
 
 pub returns-in-Ok-clause-refused : goal.returns-in-Ok-clause-refused
 returns-in-Ok-clause-refused g c =

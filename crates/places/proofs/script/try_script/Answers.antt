@@ -40,4 +40,4 @@ returns-in-Err-clause-stops g c = λ bytes before told begun. let desk = g.D.Des
 
 pub returns-in-Ok-clause-status : goal.returns-in-Ok-clause-status
 returns-in-Ok-clause-status g c =
-    script_may_end ⊤ ⊥ ⊥ c.run_script.result c.status_of.result (inl tt) c.status_of.ensures
+    script_may_end ⊤ ⊥ ⊥ ⊥ c.run_script.result c.status_of.result (inl tt) c.status_of.ensures

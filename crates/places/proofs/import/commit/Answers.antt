@@ -1,0 +1,89 @@
+use Rattle.std.proofs.Common.{◌∙◌, true}
+use Rattle.std.proofs.lemmas.Result.{err_from_is_err_and}
+use Rattle.pl_store.specs.Keeper.{is_file, keeper_store, ready_store}
+use Rattle.pl_store.specs.KeeperLaws.{kept_keeps}
+use Rattle.places.proofs.AnswerLemmas.{keeps_as}
+use Rattle.places.proofs.ImportLemmas.{answer_stops, device_as, ends_failed, ends_refused, ends_said, ends_unprepared}
+use Rattle.places.proofs.ImportLemmas.{not_refused, says_as, shows_begun, shows_taking}
+use Rattle.places.proofs.import.commit.Goals as goal
+
+-- want of memory for the step
+pub returns-in_err-ready-clause-ends : goal.returns-in_err-ready-clause-ends
+returns-in_err-ready-clause-ends g c =
+    let p = err_from_is_err_and c.from_residual.result c.from_residual.ensures.1 in
+    rw (p.1, p.2) (λ bytes before first imports begun kept.
+    ends_unprepared g.D.Desk c.args.keeper c.args.command.now bytes before first c.args.desk.now c.requires.file imports
+    begun kept)
+
+pub returns-in_err-ready-clause-shows : goal.returns-in_err-ready-clause-shows
+returns-in_err-ready-clause-shows g c bytes before first imports begun kept =
+    shows_begun g.D.Desk g.met.D.Desk.only_now c.args.keeper first c.args.desk.now bytes before c.requires.file begun
+    kept
+
+-- it is refused
+pub returns-in-Refused-clause-ends : goal.returns-in-Refused-clause-ends
+returns-in-Refused-clause-ends g c bytes before first imports begun kept =
+    ends_refused g.D.Desk c.args.keeper c.args.command.now bytes before first c.args.desk.now c.args.desk.now
+    c.in_ok-ready.reply (ready_store c.in_ok-ready.ready) c.requires.limit c.requires.file imports begun
+    c.in_ok-ready.ensures.step c.in-Refused.refusal c.in-Refused.is kept
+
+pub returns-in-Refused-clause-shows : goal.returns-in-Refused-clause-shows
+returns-in-Refused-clause-shows g c bytes before first imports begun kept =
+    shows_begun g.D.Desk g.met.D.Desk.only_now c.args.keeper first c.args.desk.now bytes before c.requires.file begun
+    kept
+
+-- the answer failed
+pub returns-in_err-conclude-clause-ends : goal.returns-in_err-conclude-clause-ends
+returns-in_err-conclude-clause-ends g c =
+    let p = err_from_is_err_and c.from_residual-in_err-conclude.result c.from_residual-in_err-conclude.ensures.1 in
+    rw (p.1, p.2) (λ bytes before first imports begun kept.
+    ends_failed g.D.Desk c.args.keeper c.args.command.now bytes before first c.args.desk.now c.conclude.new.desk
+    c.in_ok-ready.reply (ready_store c.in_ok-ready.ready) c.requires.limit c.requires.file imports begun
+    c.in_ok-ready.ensures.step c.in_err-conclude.field-0.0 (not_refused c.in_ok-ready.reply c.in_default.not-Refused)
+    c.in_err-conclude.ensures.stopped
+    (c.in_err-conclude.ensures.left c.args.keeper first c.in_ok-ready.ensures.from kept))
+
+pub returns-in_err-conclude-clause-shows : goal.returns-in_err-conclude-clause-shows
+returns-in_err-conclude-clause-shows g c bytes before first imports begun kept =
+    shows_taking g.D.Desk c.args.keeper c.args.command.now bytes before first c.args.desk.now c.conclude.new.desk
+    c.in_ok-ready.reply (ready_store c.in_ok-ready.ready) c.requires.limit c.requires.file imports begun
+    c.in_ok-ready.ensures.step (not_refused c.in_ok-ready.reply c.in_default.not-Refused)
+    (c.conclude.ensures.shows c.args.keeper first before c.in_ok-ready.ensures.from begun kept)
+
+pub returns-in_err-conclude-clause-stops : goal.returns-in_err-conclude-clause-stops
+returns-in_err-conclude-clause-stops g c =
+    let p = err_from_is_err_and c.from_residual-in_err-conclude.result c.from_residual-in_err-conclude.ensures.1 in
+    rw (p.1, p.2) (answer_stops c.in_err-conclude.field-0.0)
+
+pub returns-in_err-conclude-clause-says_counted : goal.returns-in_err-conclude-clause-says_counted
+returns-in_err-conclude-clause-says_counted g c = let desk = g.D.Desk in
+    let p = err_from_is_err_and c.from_residual-in_err-conclude.result c.from_residual-in_err-conclude.ensures.1 in
+    rw (p.1, p.2) (says_as c.in_err-conclude.field-0.0 (desk.line_faults c.args.desk.now)
+    (desk.line_faults c.conclude.new.desk) c.in_err-conclude.ensures.says_counted)
+
+pub returns-in_err-conclude-clause-device_counted : goal.returns-in_err-conclude-clause-device_counted
+returns-in_err-conclude-clause-device_counted g c = let desk = g.D.Desk in
+    let p = err_from_is_err_and c.from_residual-in_err-conclude.result c.from_residual-in_err-conclude.ensures.1 in
+    rw (p.1, p.2) (device_as c.in_err-conclude.field-0.0 (desk.device_faults c.args.desk.now)
+    (desk.device_faults c.conclude.new.desk) c.in_err-conclude.ensures.device_counted)
+
+-- the reply was said
+pub returns-clause-ends : goal.returns-clause-ends
+returns-clause-ends g c bytes before first imports begun kept = let desk = g.D.Desk in
+    let next = c.in_ok-conclude.field-0 in
+    ends_said desk c.args.keeper c.args.command.now bytes before first c.args.desk.now c.conclude.new.desk
+    c.in_ok-ready.reply (ready_store c.in_ok-ready.ready) c.requires.limit c.requires.file imports begun
+    c.in_ok-ready.ensures.step (not_refused c.in_ok-ready.reply c.in_default.not-Refused)
+    c.in_ok-conclude.ensures.said
+    (keeps_as desk (is_file next) true first (keeper_store next) (ready_store c.in_ok-ready.ready)
+    c.conclude.new.desk (c.in_ok-conclude.ensures.kind c.args.keeper c.in_ok-ready.ensures.from ∙ c.requires.file)
+    c.in_ok-conclude.ensures.store
+    (kept_keeps desk next first c.conclude.new.desk
+    (c.in_ok-conclude.ensures.kept c.args.keeper c.in_ok-ready.ensures.from first kept)))
+
+pub returns-clause-shows : goal.returns-clause-shows
+returns-clause-shows g c bytes before first imports begun kept =
+    shows_taking g.D.Desk c.args.keeper c.args.command.now bytes before first c.args.desk.now c.conclude.new.desk
+    c.in_ok-ready.reply (ready_store c.in_ok-ready.ready) c.requires.limit c.requires.file imports begun
+    c.in_ok-ready.ensures.step (not_refused c.in_ok-ready.reply c.in_default.not-Refused)
+    (c.conclude.ensures.shows c.args.keeper first before c.in_ok-ready.ensures.from begun kept)

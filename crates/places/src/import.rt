@@ -1,0 +1,167 @@
+// The bookmarks of the input, imported into the store of the file.
+ghost use Rattle.std.specs.Prelude.{◌≡◌, ◌<◌, ⊤, ℕ, List, Some, None, [], Err, length, true, IfOk};
+ghost use Rattle.std.specs.Prelude.{IfErr};
+ghost use Rattle.pl_base.specs.Live.{slot_limit};
+ghost use Rattle.pl_base.specs.Store.{Store};
+ghost use Rattle.pl_desk.specs.Counts.{CountsAt};
+ghost use Rattle.pl_desk.specs.Settling.{ShowsThen};
+ghost use Rattle.pl_desk.specs.Shown.{ShowsOnly};
+ghost use Rattle.pl_nbread.specs.BookmarkFile.{file_limit, offset};
+ghost use Rattle.pl_nbread.specs.BookmarkTree.{tree_of};
+ghost use Rattle.pl_nbread.specs.WellFormed.{AreWellFormed};
+ghost use Rattle.pl_step.specs.Step.{HasDates};
+ghost use Rattle.pl_store.specs.Ending.{KeepsFinished, RefusesFile, StandsForNone};
+ghost use Rattle.pl_store.specs.Keeper.{IsKept, is_file, keeper_limit, keeper_store};
+ghost use Rattle.pl_store.specs.Session.{Stands};
+ghost use Rattle.places.specs.Ending.{EndsUnopened, IfTold, MayEnd};
+ghost use Rattle.places.specs.Importing.{EndsImport, Imports, LeavesRead, ShowsImport, StopsCommit};
+ghost use Rattle.places.specs.Importing.{StopsImport, StopsParsing, StopsReading};
+ghost use Rattle.places.specs.Status.{done_or};
+ghost use Rattle.places.specs.Stops.{ShowsUnopened};
+
+use crate::answer::conclude;
+use crate::input::{PIECE, next_piece};
+use crate::status::Status;
+use pl_desk::{Desk, Source};
+use pl_nbread::{FILE_LIMIT, ReadError, Tree, read};
+use pl_step::{Command, Reply};
+use pl_store::{Keeper, SLOT_LIMIT, reopen};
+use std::alloc::Global;
+
+/// Imports the bookmark file that the input holds into the store that the desk's file stands for.
+pub fn import_stored<S: Source, D: Desk>(alloc: Global, input: &mut S, desk: &mut D) -> Status
+    ensures status { MayEnd ⊥ ⊥ ⊥ ⊤ result }
+    ensures ends { (file : List ℕ) (start : Store) → D.held desk.old ≡ Some file → Stands file start
+        → IfTold (S.left input.old) (D.said desk.old) (λ bytes before.
+        EndsImport D.Desk result desk.old start bytes before (S.left input.new) desk.new) }
+    ensures stops { (file : List ℕ) (start : Store) → D.held desk.old ≡ Some file
+        → Stands file start
+        → IfTold (S.left input.old) (D.said desk.old) (λ bytes before.
+        ShowsThen D.Desk desk.old desk.new (ShowsUnopened D.Desk desk.old before)
+        (ShowsImport D.Desk start bytes before)) }
+    ensures refused { result ≡ Status.NotAStore
+        → RefusesFile D.Desk desk.old desk.new × KeepsFinished D.Desk desk.old desk.new }
+    ensures not_run { result ≡ Status.NotAStore
+        → (input.new ≡ input.old) × (D.said desk.new ≡ D.said desk.old) }
+    ensures no_store { (file : List ℕ) → D.held desk.old ≡ Some file → StandsForNone file
+        → EndsUnopened result × (input.new ≡ input.old) × (D.said desk.new ≡ D.said desk.old) }
+    ensures reads_counted { CountsAt (result ≡ Status.ReadFault) (S.faults input.old)
+        (S.faults input.new) }
+    ensures says_counted { CountsAt (result ≡ Status.SayFault)
+        (D.line_faults desk.old) (D.line_faults desk.new) }
+    ensures device_counted { CountsAt (result ≡ Status.DeviceFault)
+        (D.device_faults desk.old) (D.device_faults desk.new) }
+{
+    match reopen(alloc, desk, SLOT_LIMIT) {
+        Ok(session) => status_of(import(alloc, Keeper::File(session), input, desk)),
+        Err(ended) => Status::from(ended),
+    }
+}
+
+fn status_of(ended: Result<(), Status>) -> Status
+    ensures { result ≡ done_or ended }
+{
+    match ended {
+        Ok(()) => Status::Done,
+        Err(status) => status,
+    }
+}
+
+// Reads the input to its end, and imports it.
+fn import<S: Source, D: Desk>(
+    alloc: Global,
+    keeper: Keeper,
+    input: &mut S,
+    desk: &mut D,
+) -> Result<(), Status>
+    requires limit { keeper_limit keeper ≡ slot_limit }
+    requires file { is_file keeper ≡ true }
+    ensures ends { IfTold (S.left input.old) (D.said desk.old) (λ bytes before. (first : D)
+        → IsKept D.Desk keeper first desk.old → EndsImport D.Desk (done_or result) first
+        (keeper_store keeper) bytes before (S.left input.new) desk.new) }
+    ensures shows { IfTold (S.left input.old) (D.said desk.old) (λ bytes before. (first : D)
+        → IsKept D.Desk keeper first desk.old → ShowsOnly D.Desk desk.old desk.new
+        (ShowsImport D.Desk (keeper_store keeper) bytes before)) }
+    ensures stops { IfErr result StopsImport }
+    ensures reads_counted { CountsAt (result ≡ Err Status.ReadFault) (S.faults input.old)
+        (S.faults input.new) }
+    ensures says_counted { CountsAt (result ≡ Err Status.SayFault)
+        (D.line_faults desk.old) (D.line_faults desk.new) }
+    ensures device_counted { CountsAt (result ≡ Err Status.DeviceFault)
+        (D.device_faults desk.old) (D.device_faults desk.new) }
+{
+    let bytes = read_all(alloc, input)?;
+    let tree = tree_of(alloc, &bytes)?;
+    commit(alloc, keeper, &Command::Import(tree), desk)
+}
+
+// The whole input, which has to stay below the limit of a bookmark file.
+fn read_all<S: Source>(alloc: Global, input: &mut S) -> Result<Vec<u8>, Status>
+    ensures whole { IfOk result (λ read. (bytes : List ℕ) → S.left input.old ≡ Some bytes
+        → (read.items ≡ bytes) × (S.left input.new ≡ Some [])) }
+    ensures short { IfOk result (λ read. length read.items < file_limit) }
+    ensures left { IfErr result (λ status. (bytes : List ℕ) → S.left input.old ≡ Some bytes
+        → LeavesRead status bytes (S.left input.new)) }
+    ensures stops { IfErr result StopsReading }
+    ensures counted { CountsAt (result ≡ Err Status.ReadFault) (S.faults input.old)
+        (S.faults input.new) }
+{
+    let mut bytes = Vec::new(alloc);
+    loop {
+        let piece = next_piece(alloc, input, PIECE.min(FILE_LIMIT - bytes.len()))?;
+        if piece.is_empty() {
+            return Ok(bytes);
+        }
+        if piece.len() == FILE_LIMIT - bytes.len() {
+            return Err(Status::TooLong(FILE_LIMIT as u64));
+        }
+        bytes.extend_from_slice(&piece)?;
+    }
+}
+
+// The tree that a bookmark file holds.
+fn tree_of(alloc: Global, bytes: &[u8]) -> Result<Tree, Status>
+    requires short { length bytes.now < file_limit }
+    ensures tree { IfOk result (λ tree. tree ≡ tree_of bytes.now) }
+    ensures bookmarks { IfOk result (λ _. offset bytes.now ≡ None) }
+    ensures formed { IfOk result AreWellFormed }
+    ensures stops { IfErr result (StopsParsing bytes.now) }
+{
+    match read(alloc, bytes) {
+        Ok(tree) => Ok(tree),
+        Err(ReadError::NotBookmarks(at)) => Err(Status::NotBookmarks(at)),
+        Err(ReadError::NoMemory) => Err(Status::NoMemory),
+    }
+}
+
+// Performs the import, unless it is refused, and says its reply behind the file's taking it.
+fn commit<D: Desk>(
+    alloc: Global,
+    keeper: Keeper,
+    command: &Command,
+    desk: &mut D,
+) -> Result<(), Status>
+    requires dates { HasDates command.now }
+    requires limit { keeper_limit keeper ≡ slot_limit }
+    requires file { is_file keeper ≡ true }
+    ensures ends { (bytes before : List ℕ) (first : D) → Imports command.now bytes
+        → D.said desk.old ≡ Some before → IsKept D.Desk keeper first desk.old
+        → EndsImport D.Desk (done_or result) first (keeper_store keeper) bytes before (Some [])
+        desk.new }
+    ensures shows { (bytes before : List ℕ) (first : D) → Imports command.now bytes
+        → D.said desk.old ≡ Some before → IsKept D.Desk keeper first desk.old
+        → ShowsOnly D.Desk desk.old desk.new
+        (ShowsImport D.Desk (keeper_store keeper) bytes before) }
+    ensures stops { IfErr result StopsCommit }
+    ensures says_counted { CountsAt (result ≡ Err Status.SayFault)
+        (D.line_faults desk.old) (D.line_faults desk.new) }
+    ensures device_counted { CountsAt (result ≡ Err Status.DeviceFault)
+        (D.device_faults desk.old) (D.device_faults desk.new) }
+{
+    let (ready, reply) = keeper.prepare(command)?;
+    if let Reply::Refused(refusal) = reply {
+        return Err(Status::ImportRefused(refusal));
+    }
+    conclude(alloc, ready, &reply, desk)?;
+    Ok(())
+}
