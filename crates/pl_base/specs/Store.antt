@@ -1,7 +1,8 @@
 -- What the store holds, after the schema of Mozilla Places: `moz_places`, `moz_historyvisits` and
 -- `moz_bookmarks`. Each list goes by ascending id.
-use Rattle.std.specs.Prelude.{ℕ, Bool, List, [], ◌∷◌, map, Option, None}
-use Rattle.std.specs.List.{range_with_len}
+use Rattle.std.specs.Prelude.{ℕ, ◌==◌, Bool, List, [], ◌∷◌, map, Option, None}
+use Rattle.std.specs.List.{find, range_with_len}
+use Rattle.std.specs.Option.{option_map}
 use Rattle.pl_base.specs.declared.date.Day.{Day}
 use Rattle.pl_base.specs.declared.date.Micros.{Micros}
 use Rattle.pl_base.specs.declared.id.Ids.{Ids}
@@ -45,6 +46,11 @@ pub record Store : Type 0 where
   pub pages : List Page
   pub visits : List Visit
   pub items : List Item
+
+-- the URL of a page
+abbrev pub page_url : Store → PageId → Option (List ℕ)
+page_url store id =
+    option_map (λ (p : Page). p.url) (find (λ (p : Page). p.id.0 == id.0) store.pages)
 
 -- the item id with this number
 abbrev pub item_id : ℕ → ItemId

@@ -61,7 +61,10 @@ comma_joined (t ∷ []) = t
 comma_joined (t ∷ u ∷ us) = t ++ 44 ∷ comma_joined (u ∷ us)
 
 -- the tags of a page: the titles of its tag folders
+abbrev pub page_tags : Store → PageId → List (List ℕ)
+page_tags store page =
+    map (λ (t : Item). t.title) (by_fold (filter (has_tag store page) (tags_of store)))
+
+-- the same as one text
 abbrev pub tag_text : Store → PageId → List ℕ
-tag_text store page =
-    comma_joined
-    (map (λ (t : Item). t.title) (by_fold (filter (has_tag store page) (tags_of store))))
+tag_text store page = comma_joined (page_tags store page)

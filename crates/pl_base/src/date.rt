@@ -9,6 +9,9 @@ pub struct Micros(pub u64);
 #[derive(Clone, Copy, Debug, PartialEq, Eq, PartialOrd, Ord, Hash)]
 pub struct Day(pub u32);
 
+/// The microseconds of a second.
+pub const MICROS_PER_SECOND: u64 = 1_000_000;
+
 /// The microseconds of a day.
 pub const MICROS_PER_DAY: u64 = 86_400_000_000;
 

@@ -19,7 +19,7 @@ mod transition;
 mod txt;
 mod view;
 
-pub use date::{Day, Micros};
+pub use date::{Day, MICROS_PER_SECOND, Micros};
 pub use fault::DeviceFault;
 pub use id::{IdKind, Ids, ItemId, PageId, Slot, VisitId};
 pub use item::{ItemKind, ItemRow, TreeItem};

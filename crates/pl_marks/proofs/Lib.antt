@@ -10,6 +10,7 @@ pub mod PageTurns
 pub mod PageWalk
 pub mod RedirectSources
 pub mod TagEntries
+pub mod TagNames
 pub mod TagTree
 mod TaggedPage
 pub mod ViewsSoFar

@@ -14,7 +14,7 @@ use Rattle.pl_base.specs.Fold.{folded}
 use Rattle.pl_base.specs.Good.{IsGood}
 use Rattle.pl_base.specs.Rows.{IsWellKept, Kept, store_of}
 use Rattle.pl_base.specs.Store.{Item, Store}
-use Rattle.pl_base.specs.Tags.{comma_joined, has_tag, is_bookmarked, is_tag_entry, is_tags_root, tag_text, tags_of, tags_root}
+use Rattle.pl_base.specs.Tags.{comma_joined, has_tag, is_bookmarked, is_tag_entry, is_tags_root, page_tags, tags_of, tags_root}
 use Rattle.pl_base.specs.Tree.{is_page, parent_of}
 use Rattle.pl_base.proofs.ListLaws.{weaker}
 use Rattle.pl_marks.specs.TagFolders.{tag_folder, tag_title, where_tag, with_tag}
@@ -192,15 +192,15 @@ have_more kept page id es w =
     (subst (λ (i : ItemId). IfSome (tag_title items i) (λ t. is_some (look (folded t) now) ≡ true)) (sym w.is)
     (new_there (tag_title items id) es))
 
--- the titles joined are the text of the page's tags
+-- the titles are the page's tags
 pub tags_told : (kept : Kept) (page : PageId) (next : Option ItemId) (es : List (List ℕ × List ℕ)) → IsWellKept kept
     → IsGood (store_of kept) → Ascending es → AreOfTags (tags_with kept page) es
     → ItemWalk kept page (HaveTags kept.items es) next → ((id : ItemId) → next ≢ Some id)
-    → comma_joined (values_of es) ≡ tag_text (store_of kept) page
+    → values_of es ≡ page_tags (store_of kept) page
 tags_told kept page next es h good ordered of w none =
-    ap comma_joined (titles_are (tags_with kept page) es
+    titles_are (tags_with kept page) es
     (entries_are (tags_with kept page) es
     (differ_filter (has_tag (store_of kept) page) (tags_of (store_of kept))
     (differ_named (tags_of (store_of kept)) good.tags.names))
     ordered of
-    (tags_there kept page es h good (walk_ends kept page (HaveTags kept.items es) next w none))))
+    (tags_there kept page es h good (walk_ends kept page (HaveTags kept.items es) next w none)))

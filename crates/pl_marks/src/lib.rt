@@ -13,5 +13,5 @@ pub use bookmarks::mark_title;
 pub use dates::last_date;
 pub use mark::{refresh, unvisited_mark, visited_mark};
 pub use page_views::views;
-pub use tags::{is_bookmarked, is_tagged, tag_folder, tag_text};
+pub use tags::{is_bookmarked, is_tagged, page_tags, tag_folder, tag_text};
 pub use url_parts::{canon_of, parts_of};

@@ -1,7 +1,8 @@
 // Whether a page is bookmarked, and its tags, found by way of the items that have it.
 ghost use Rattle.std.specs.Prelude.{◌≡◌, Some, true, IfOk, OnOk};
 ghost use Rattle.std.specs.BTreeMap.{values};
-ghost use Rattle.pl_base.specs.Good.{IsGood};
+ghost use Rattle.std.specs.List.{All};
+ghost use Rattle.pl_base.specs.Good.{IsGood, IsTagName};
 ghost use Rattle.pl_base.specs.Rows.{store_of};
 ghost use Rattle.pl_base.specs.Tags as tags;
 ghost use Rattle.pl_base.specs.Tags.{comma_joined};
@@ -10,8 +11,8 @@ ghost use Rattle.pl_base.specs.Tree.{has_item};
 ghost use Rattle.pl_marks.specs.TagFolders as spec;
 ghost use Rattle.pl_marks.specs.TagFolders.{tag_title, with_tag};
 
-use pl_base::{ItemId, NoMemory, PageId, Rows, Steps, Txt};
-use pl_words::fold;
+use pl_base::{ItemId, NoMemory, PageId, Rows, Seq, Steps, Txt};
+use pl_words::{TagName, fold};
 use std::alloc::Global;
 use std::cmp::Ordering;
 use std::collections::BTreeMap;
@@ -161,6 +162,26 @@ fn add_tag<R: Rows, L: Ledger>(
     Ok(())
 }
 
+// The tags of a page by the folds of their names.
+fn tags_by_fold<R: Rows, L: Ledger>(
+    alloc: Global,
+    rows: &R,
+    page: PageId,
+    steps: &mut Steps<L>,
+) -> Result<BTreeMap<Fold, Txt>, NoMemory>
+    requires { IsGood (store_of (R.kept rows.now)) }
+    ensures { IfOk result (λ found.
+        values found ≡ tags.page_tags (store_of (R.kept rows.now)) page) }
+{
+    let mut tags = BTreeMap::new(alloc);
+    let mut next = rows.first_reference(page, steps);
+    while let Some(item) = next {
+        add_tag(alloc, rows, item, &mut tags, steps)?;
+        next = rows.next_reference(item, steps);
+    }
+    Ok(tags)
+}
+
 fn joined(alloc: Global, tags: &BTreeMap<Fold, Txt>) -> Result<Txt, NoMemory>
     ensures { IfOk result (λ text. text ≡ comma_joined (values tags.now)) }
 {
@@ -186,11 +207,31 @@ pub fn tag_text<R: Rows, L: Ledger>(
     requires { IsGood (store_of (R.kept rows.now)) }
     ensures { IfOk result (λ text. text ≡ tags.tag_text (store_of (R.kept rows.now)) page) }
 {
-    let mut tags = BTreeMap::new(alloc);
-    let mut next = rows.first_reference(page, steps);
-    while let Some(item) = next {
-        add_tag(alloc, rows, item, &mut tags, steps)?;
-        next = rows.next_reference(item, steps);
+    joined(alloc, &tags_by_fold(alloc, rows, page, steps)?)
+}
+
+// The names of tags.
+fn named(alloc: Global, tags: &BTreeMap<Fold, Txt>) -> Result<Vec<TagName>, NoMemory>
+    requires { All IsTagName (values tags.now) }
+    ensures { IfOk result (λ names. names.items ≡ values tags.now) }
+{
+    let mut names = Vec::new(alloc);
+    for title in tags.values() {
+        names.push(TagName::of(alloc, title.as_str())?)?;
     }
-    joined(alloc, &tags)
+    Ok(names)
+}
+
+/// The tags of a page, in the order of their folds.
+pub fn page_tags<R: Rows, L: Ledger>(
+    alloc: Global,
+    rows: &R,
+    page: PageId,
+    steps: &mut Steps<L>,
+) -> Result<Seq<TagName>, NoMemory>
+    requires { IsGood (store_of (R.kept rows.now)) }
+    ensures { IfOk result (λ names. names ≡ tags.page_tags (store_of (R.kept rows.now)) page) }
+{
+    let tags = tags_by_fold(alloc, rows, page, steps)?;
+    Ok(Seq::from(named(alloc, &tags)?))
 }

@@ -61,6 +61,14 @@ impl TagName {
         if !is_tag_name(name) {
             return Err(TagError::BadTag);
         }
+        Ok(TagName::of(alloc, name)?)
+    }
+
+    /// The tag with this name.
+    pub fn of(alloc: Global, name: &str) -> Result<TagName, NoMemory>
+        requires { IsTagName name.now }
+        ensures { IfOk result (λ tag. tag ≡ name.now) }
+    {
         Ok(TagName {
             name: Txt::copied(alloc, name)?,
         })

@@ -8,7 +8,7 @@ use Rattle.pl_marks.proofs.ItemWalk.{IsItemHere, has_here, item_here, walk_goes_
 use Rattle.pl_marks.proofs.PageTags.{ascending_with, have_more, of_tags_with, tags_told, tags_with}
 use Rattle.pl_marks.proofs.TagEntries.{AreOfTags, Ascending}
 use Rattle.pl_marks.proofs.TagTree.{HaveTags}
-use Rattle.pl_marks.proofs.tags.tag_text.Goals as goal
+use Rattle.pl_marks.proofs.tags.tags_by_fold.Goals as goal
 
 pub add_tag-requires : goal.add_tag-requires
 add_tag-requires g c =
@@ -54,10 +54,6 @@ loop-next-preserved g c =
 
 pub returns : goal.returns
 returns g c =
-    let kept : Kept = g.R.Rows.kept c.args.rows.now in
-    IfOk-weaker c.joined.result (λ text. text ≡ comma_joined (values c.loop-next.tags))
-    (λ text. text ≡ tag_text (store_of kept) c.args.page)
-    (λ text is. is ∙ tags_told kept c.args.page c.loop-next.next c.loop-next.tags.entries
+    tags_told (g.R.Rows.kept c.args.rows.now) c.args.page c.loop-next.next c.loop-next.tags.entries
     (g.met.R.Rows.well_kept c.args.rows.now) c.requires c.loop-next.invariant.ascend c.loop-next.invariant.of_tags
-    c.loop-next.invariant.walk (λ id some. c.in_default.not-Some id some))
-    c.joined.ensures
+    c.loop-next.invariant.walk (λ id some. c.in_default.not-Some id some)

@@ -2,7 +2,7 @@ use Rattle.pl_marks.proofs.ItemWalk.{ItemWalk, left}
 use Rattle.pl_marks.proofs.PageTags.{tags_with}
 use Rattle.pl_marks.proofs.TagEntries.{AreOfTags, Ascending}
 use Rattle.pl_marks.proofs.TagTree.{HaveTags}
-use Rattle.pl_marks.proofs.tags.tag_text.Given as goal
+use Rattle.pl_marks.proofs.tags.tags_by_fold.Given as goal
 
 abbrev pub invariant-loop-next : goal.invariant-loop-next
 invariant-loop-next g l =
