@@ -8,11 +8,9 @@ ghost use Rattle.pl_nbwrite.specs.BookmarkText.{lines_of, list_start, tags_text}
 ghost use Rattle.pl_nbwrite.specs.Written.{comma_before};
 
 use crate::escape::{push_escaped, push_title};
-use pl_base::{ItemKind, Micros, NoMemory};
+use pl_base::{ItemKind, MICROS_PER_SECOND, Micros, NoMemory};
 use pl_nbread::Node;
 use pl_words::TagName;
-
-const MICROS_PER_SECOND: u64 = 1_000_000;
 
 /// Appends the line of a node, and the start of a folder's list.
 pub(crate) fn push_lines(file: &mut String, level: usize, node: &Node) -> Result<(), NoMemory>

@@ -2,15 +2,13 @@
 ghost use Rattle.std.specs.Prelude.{IfOk};
 ghost use Rattle.pl_nbread.specs.WellFormed.{AreWellFormed};
 
-use pl_base::{ItemKind, Micros};
+use pl_base::{ItemKind, MICROS_PER_SECOND, Micros};
 use pl_nbread::{FILE_LIMIT, Node, ReadError, Tree, read};
 use std::alloc::Global;
 use std::process::Abort;
 use std::test::Fail;
 
 pub const DOCTYPE: &str = "<!DOCTYPE NETSCAPE-Bookmark-file-1>";
-
-const MICROS_PER_SECOND: u64 = 1_000_000;
 
 // A list of the tree, each node behind a `|`: the root, the depth and the kind, the title in
 // brackets, and where they say something the address, `+` and the seconds of the date, `~` and

@@ -10,10 +10,8 @@ use crate::attributes::Attributes;
 use crate::place::{Place, Root};
 use crate::tree::Node;
 use crate::values;
-use pl_base::{ItemKind, Micros, NoMemory, Seq, Txt};
+use pl_base::{ItemKind, MICROS_PER_SECOND, Micros, NoMemory, Seq, Txt};
 use std::alloc::Global;
-
-const MICROS_PER_SECOND: u64 = 1_000_000;
 
 /// The root that a heading stands for. Only in the menu root may it stand for one.
 pub(crate) fn root_at(
