@@ -28,3 +28,26 @@ pub record CountsAt (IsFault : Type 0) (before after : ℕ) : Type 0 where
 abbrev pub Writes : {T E : Type 0} → Result T E → ℕ → ℕ → ℕ → Type 0
 Writes result n before after =
     MatchResult result (λ _. after ≡ before + n) (λ _. (before ≤ after) × (after ≤ before + n))
+
+-- what a desk counts: how many bytes were written, how many calls of the file failed, and how many
+-- of `say`
+pub record CallCounts : Type 0 where
+  pub written : ℕ
+  pub device_faults : ℕ
+  pub line_faults : ℕ
+
+-- before the first call
+abbrev pub no_calls : CallCounts
+no_calls = record { written = 0; device_faults = 0; line_faults = 0 }
+
+-- after a write of this many bytes
+abbrev pub after_write : CallCounts → ℕ → CallCounts
+after_write counts len = record counts { written = counts.written + len }
+
+-- after a call of the file that failed
+abbrev pub after_device_fault : CallCounts → CallCounts
+after_device_fault counts = record counts { device_faults = next_count counts.device_faults }
+
+-- after a call of `say` that failed
+abbrev pub after_line_fault : CallCounts → CallCounts
+after_line_fault counts = record counts { line_faults = next_count counts.line_faults }

@@ -6,8 +6,10 @@ pub mod MemDesk
 pub mod MemSource
 pub mod Moments
 pub mod Overwritten
+pub mod QuickDesk
 pub mod Record
 pub mod Replay
 pub mod Settling
 pub mod Shown
 pub mod Stopped
+pub mod Untold

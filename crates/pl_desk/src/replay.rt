@@ -1,5 +1,5 @@
 ghost use Rattle.std.specs.Prelude.{◌≡◌, ◌+◌, ◌-◌, ◌≤◌, ◌++◌, length, take, drop, replicate, IfOk};
-ghost use Rattle.std.specs.Prelude.{OnOk, OnErr};
+ghost use Rattle.std.specs.Prelude.{OnOk, OnErr, IsOk};
 ghost use Rattle.pl_desk.specs.Desk.{overwritten};
 ghost use Rattle.pl_desk.specs.MemDesk.{after_deed};
 ghost use Rattle.pl_desk.specs.Stopped.{filled_by, closed_by, image_after};
@@ -13,6 +13,7 @@ fn lengthen(file: &mut Vec<u8>, pad: u8, len: usize) -> Result<(), AllocError>
     ensures ok { OnOk result (file.new.items ≡ file.old.items
         ++ replicate (len - length file.old.items) pad) }
     ensures err { OnErr result (file.new.items ≡ file.old.items) }
+    ensures within { len ≤ length file.old.items → IsOk result }
 {
     if file.len() < len {
         file.resize(len, pad)?;
@@ -37,6 +38,7 @@ pub(crate) fn overwrite(
 ) -> Result<(), AllocError>
     ensures ok { OnOk result (file.new.items ≡ overwritten pad at bytes.now file.old.items) }
     ensures err { OnErr result (file.new.items ≡ file.old.items) }
+    ensures within { at + length bytes.now ≤ length file.old.items → IsOk result }
 {
     let at = at as usize;
     let end = at.checked_add(bytes.len()).ok_or(AllocError)?;

@@ -2,19 +2,19 @@ ghost use Rattle.std.specs.Prelude.{◌≡◌, ◌↔◌, ℕ, ◌≤◌, ◌<�
 ghost use Rattle.std.specs.Prelude.{take, slice_range, IsTrue, IsErr, IfOk, IfSome, OnOk, OnErr};
 ghost use Rattle.std.specs.Prelude.{MatchOption};
 ghost use Rattle.std.specs.Option.{option_map};
-ghost use Rattle.std.proofs.lemmas.Option.{none-some};
 ghost use Rattle.pl_desk.specs.Desk.{last_offset, overwritten, Torn, Follows, Only, Shows};
 ghost use Rattle.pl_desk.specs.Desk.{ShowsSaying, said_by, Elapses};
-ghost use Rattle.pl_desk.specs.Counts.{Counts, Writes};
-ghost use Rattle.pl_file.specs.Calls.{new_file, after_write, after_device_fault, after_line_fault};
-ghost use Rattle.pl_file.specs.Calls.{after_failed_access, untold, AnyFile, AnyShown};
+ghost use Rattle.pl_desk.specs.Counts.{Counts, Writes, after_write, after_device_fault};
+ghost use Rattle.pl_desk.specs.Counts.{after_line_fault};
+ghost use Rattle.pl_desk.specs.Untold.{untold, AnyFile, AnyShown, told_together, counts_now};
+ghost use Rattle.pl_desk.specs.Untold.{shown_now, only_now};
+ghost use Rattle.pl_file.specs.FileDesk.{new_file, after_failed_access};
 
-use crate::calls::Calls;
 use crate::store_file::StoreFile;
 use pl_base::NoMemory;
-use pl_desk::{Desk, Failed};
+use pl_desk::{Calls, Desk, Failed};
 use std::fs::{File, Files};
-use std::io::{self, ErrorKind, Write};
+use std::io::{self, Write};
 use std::marker::Model;
 
 /// A store's file, which no other desk holds meanwhile, and standard output. It tells nothing of
@@ -27,7 +27,7 @@ pub struct FileDesk<'a, R> {
 }
 
 impl<'a, R> Model for FileDesk<'a, R> {
-    ghost use Rattle.pl_file.specs.Calls.{FileState};
+    ghost use Rattle.pl_file.specs.FileDesk.{FileState};
 
     ghost Value = { FileState };
 
@@ -72,13 +72,13 @@ impl<R: Files<File = File> + Print + AllocGlobal> Desk for FileDesk<'_, R> {
 
     ghost shown_since = { AnyShown };
 
-    ghost told_together = { λ _. (λ told. told, λ told. told) };
+    ghost told_together = { told_together };
 
-    ghost counts_now = { λ _ _ _ _ _ _ _. tt };
+    ghost counts_now = { counts_now };
 
-    ghost shown_now = { λ _ _ _ _ _ _ _. tt };
+    ghost shown_now = { shown_now };
 
-    ghost only_now = { λ _ line_now _ _ same _. absurd (none-some line_now same) };
+    ghost only_now = { only_now };
 
     fn len(&mut self) -> Result<u64, Failed>
         ensures after { OnOk result (self.new ≡ self.old) }
@@ -142,7 +142,7 @@ impl<R: Files<File = File> + Print + AllocGlobal> Desk for FileDesk<'_, R> {
             (Shows (AnyFile self.new) (untold self.old)) }
     {
         if !self.calls.has_room(bytes.len()) {
-            return self.calls.count(Err(ErrorKind::QuotaExceeded.into()));
+            return self.calls.count(Err(Failed));
         }
         let answer = self.file.write_at(self.rt, at, bytes);
         self.calls.count_write(bytes.len(), answer)

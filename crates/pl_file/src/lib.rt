@@ -4,7 +4,6 @@
 //! this system keeps the words of `Desk` on what a stop may leave is a premise.
 #![tactic(auto)]
 
-mod calls;
 mod file_desk;
 mod held_file;
 mod place;

@@ -1,7 +1,9 @@
-// A desk in memory: what its calls do, and what a stop within each of them leaves.
+// The desks in memory: what their calls do, and what a stop within each of them leaves.
+ghost use Rattle.std.specs.Prelude.{◌≡◌};
+ghost use Rattle.pl_desk.specs.Counts.{after_write, after_device_fault};
 
 use pl_base::NoMemory;
-use pl_desk::{Desk, Failed, MemDesk};
+use pl_desk::{Desk, Failed, MemDesk, QuickDesk};
 use std::alloc::Global;
 use std::process::Abort;
 use std::test::Fail;
@@ -127,6 +129,32 @@ fn a_read_gives_the_bytes_in_its_range(rt: HostRuntime) -> Result<(), Fail> {
     assert!(rt; desk.bytes().len() == 4);
     assert_eq!(rt; desk.read_at(2, &mut out), Err(Failed));
     assert_eq!(rt; out, *b"bc");
+    assert_eq!(rt; desk.len(), Ok(4));
+    Ok(())
+}
+
+// Bytes behind a gap are written and read back, and a read past the end fails: so many bytes and
+// one fault are counted.
+fn write_and_read(rt: &impl Abort, desk: &mut QuickDesk)
+    ensures { desk.new.counts ≡ after_device_fault (after_write desk.old.counts 2) }
+{
+    let mut out = [9; 4];
+    assert!(rt; desk.write_at(2, b"ab").is_ok());
+    assert!(rt; desk.read_at(0, &mut out).is_ok());
+    assert_eq!(rt; out, *b"\0\0ab");
+    assert!(rt; desk.read_at(1, &mut out).is_err());
+    assert_eq!(rt; out, *b"\0\0ab");
+}
+
+#[test]
+fn a_quick_desk_holds_what_is_written_and_said(rt: HostRuntime) -> Result<(), Fail> {
+    let mut desk = QuickDesk::new(rt.alloc());
+    write_and_read(&rt, &mut desk);
+    assert!(rt; write(&rt, &mut desk, 1, b"x"));
+    assert!(rt; say(&rt, &mut desk, b"hi"));
+    assert!(rt; say(&rt, &mut desk, b"!"));
+    assert_eq!(rt; desk.said(), b"hi!".as_slice());
+    assert!(rt; desk.sync().is_ok());
     assert_eq!(rt; desk.len(), Ok(4));
     Ok(())
 }

@@ -1,14 +1,14 @@
 ghost use Rattle.std.specs.Prelude.{◌≡◌, ◌↔◌, ℕ, ◌≤◌, ◌+◌, Ok, OnOk, OnErr, IfOk, IsErr, IsTrue};
 ghost use Rattle.std.specs.Prelude.{◌<◌};
 ghost use Rattle.pl_desk.specs.Counts.{Rose, last_count};
-ghost use Rattle.pl_file.specs.Calls.{no_calls, after_write, after_device_fault, after_line_fault};
+ghost use Rattle.pl_desk.specs.Counts.{no_calls, after_write, after_device_fault};
+ghost use Rattle.pl_desk.specs.Counts.{after_line_fault};
 
-use pl_desk::Failed;
-use std::io;
+use crate::Failed;
 use std::marker::Model;
 
 /// What is counted of the calls of a desk. No count passes 2^64 - 1.
-#[derive(Drop)]
+#[derive(Debug, Drop)]
 pub struct Calls {
     written: u64,
     device_faults: u64,
@@ -16,7 +16,7 @@ pub struct Calls {
 }
 
 impl Model for Calls {
-    ghost use Rattle.pl_file.specs.Calls.{CallCounts};
+    ghost use Rattle.pl_desk.specs.Counts.{CallCounts};
 
     ghost Value = { CallCounts };
 
@@ -46,7 +46,7 @@ impl Calls {
     }
 
     /// Counts a call of the file by its answer.
-    pub fn count<T: Drop>(&mut self, answer: io::Result<T>) -> Result<T, Failed>
+    pub fn count<T: Drop, E: Drop>(&mut self, answer: Result<T, E>) -> Result<T, Failed>
         ensures fails { IsErr result ↔ IsErr answer }
         ensures same { (value : T) → result ≡ Ok value → answer ≡ Ok value }
         ensures after { OnOk result (self.new ≡ self.old) }
@@ -64,7 +64,7 @@ impl Calls {
     }
 
     /// Counts a write of so many bytes by its answer.
-    pub fn count_write(&mut self, len: usize, answer: io::Result<()>) -> Result<(), Failed>
+    pub fn count_write<E: Drop>(&mut self, len: usize, answer: Result<(), E>) -> Result<(), Failed>
         requires { self.old.written + len ≤ last_count }
         ensures fails { IsErr result ↔ IsErr answer }
         ensures after { OnOk result (self.new ≡ after_write self.old len) }
@@ -78,7 +78,7 @@ impl Calls {
     }
 
     /// Counts a call of `say` by its answer. Where nothing was taken it has failed too.
-    pub fn count_say(&mut self, answer: io::Result<usize>) -> Result<usize, Failed>
+    pub fn count_say<E: Drop>(&mut self, answer: Result<usize, E>) -> Result<usize, Failed>
         ensures same { IfOk result (λ n. (0 < n) × (answer ≡ Ok n)) }
         ensures taken { (n : ℕ) → 0 < n → answer ≡ Ok n → result ≡ Ok n }
         ensures after { OnOk result (self.new ≡ self.old) }
