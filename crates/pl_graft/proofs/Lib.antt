@@ -1,22 +1,22 @@
-mod CutTitles
+pub mod CutTitles
 mod GainedOrder
 mod GainedPages
 mod GoingOn
-mod ItemsKept
+pub mod ItemsKept
 mod ListSteps
 mod NewItems
-mod NodeLaws
-mod NodesLeft
+pub mod NodeLaws
+pub mod NodesLeft
 mod OpenSteps
 mod PageLookups
 mod PageSteps
-mod Ready
+pub mod Ready
 mod Rooms
 mod Slots
 mod TagLookups
-mod TagRowLaws
+pub mod TagRowLaws
 mod TagSteps
-mod TagsKept
+pub mod TagsKept
 mod TagsRead
 mod TallyLaws
 mod TreeLists

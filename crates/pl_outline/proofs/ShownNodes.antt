@@ -1,0 +1,350 @@
+-- What is shown of an item without its tags, by the pages alone.
+use Rattle.std.proofs.Common.{◌≡◌, ◌≢◌, ◌∙◌, ◌<◌, ◌≤◌, ◌+◌, ◌*◌, ◌/◌, ◌++◌, ◌==◌, ◌||◌, ◌&&◌, ℕ, All, Bool, true, false}
+use Rattle.std.proofs.Common.{List, [], ◌∷◌, Option, Some, None, IfSome, ap, arith, bytes_eq, eq-eqb, find}
+use Rattle.std.proofs.Common.{if◌then◌else◌, inl, inr, length, map, refl, subst, suc, sym}
+use Rattle.std.specs.Prelude.{IsTrue, not}
+use Rattle.std.specs.List.{AllByRecursion, AllPairs, list_any}
+use Rattle.std.specs.List.Sorted.{IsStrictlyIncreasing}
+use Rattle.std.specs.Option.{is_none, is_some, option_and_then, option_map, unwrap_or}
+use Rattle.std.proofs.lemmas.Bool.{and_parts, both_ways, cases_lt, eqb-true, le-leb, ne_eqb}
+use Rattle.std.proofs.lemmas.List.{get_or_append_left, get_or_push, length_push, map_push}
+use Rattle.std.proofs.lemmas.List.Elements.{All-from_recursion, All-map, All-push, All-weaker, recursion_from_All}
+use Rattle.std.proofs.lemmas.List.Kept.{AllPairs-from_increasing}
+use Rattle.std.proofs.lemmas.List.Quantifiers.{all_pairs_push}
+use Rattle.std.proofs.lemmas.Slice.Eq.{bytes_eq-Decides}
+use Rattle.pl_base.specs.declared.date.Micros.{Micros}
+use Rattle.pl_base.specs.declared.id.ItemId.{ItemId}
+use Rattle.pl_base.specs.declared.id.PageId.{PageId}
+use Rattle.pl_base.specs.declared.item.ItemKind.{ItemKind}
+use Rattle.pl_base.specs.declared.item.ItemKind.TheVariants.{Bookmark, Folder, Separator}
+use Rattle.pl_base.specs.Good.{has_page_at, longest_title}
+use Rattle.pl_base.specs.Store.{Item, Page, Store}
+use Rattle.pl_base.specs.Title.{cut_title}
+use Rattle.pl_base.specs.Tree.{new_item}
+use Rattle.pl_base.specs.Visiting.{find_page, new_page, page_for, with_page_for}
+use Rattle.pl_base.proofs.ListLaws.{AllPairs-from_map}
+use Rattle.pl_nbread.specs.declared.tree.Node.{Node}
+use Rattle.pl_nbwrite.specs.Plain.{IsKept, is_bare, is_whole}
+use Rattle.pl_graft.specs.Import.{node_row, page_of, with_page_of}
+use Rattle.pl_graft.proofs.NodeLaws.{IsFormed}
+use Rattle.pl_tree.specs.declared.place.Place.TheVariants.{End}
+use Rattle.pl_tree.specs.Changes.{put}
+use Rattle.pl_tree.proofs.OneParent.{found_holds, found_passes}
+use Rattle.pl_outline.specs.Outline.{node_of, separator_node, whole_seconds}
+use Rattle.pl_outline.proofs.Bare.{HasPages, bare}
+use Rattle.pl_outline.proofs.OneMore.{grown}
+
+-- ---- what is shown
+
+-- the URL of a page
+abbrev url_in : List Page → PageId → Option (List ℕ)
+url_in pages id = option_map (λ (p : Page). p.url) (find (λ (p : Page). p.id.0 == id.0) pages)
+
+titled : List Page → ℕ → Item → Node
+titled pages d i =
+    record {
+      depth = d;
+      kind = i.kind;
+      url = option_and_then (url_in pages) i.page;
+      title = i.title;
+      added = whole_seconds i.added;
+      modified = whole_seconds i.modified;
+      tags = [];
+    }
+
+shown_by : ItemKind → List Page → ℕ → Item → Node
+shown_by Bookmark pages d i = titled pages d i
+shown_by Folder pages d i = titled pages d i
+shown_by Separator pages d i = separator_node d
+
+-- the node of an item without its tags
+pub shown : List Page → ℕ → Item → Node
+shown pages d i = shown_by i.kind pages d i
+
+pub shown_is : (store : Store) (d : ℕ) (i : Item) → bare (node_of store d i) ≡ shown store.pages d i
+unfolding shown shown_by titled
+shown_is store d i = choose i.kind
+  where
+    choose : (k : ItemKind)
+        → bare (node_of store d (record i { kind = k })) ≡ shown store.pages d (record i { kind = k })
+    choose Bookmark = refl
+    choose Folder = refl
+    choose Separator = refl
+
+-- children are not shown
+pub shown_grown : (pages : List Page) (p id : ItemId) (d : ℕ) (i : Item)
+    → shown pages d (grown p id i) ≡ shown pages d i
+unfolding shown shown_by titled
+shown_grown pages p id d i = choose (i.id.0 == p.0)
+  where
+    other : (k : ItemKind) (cs : List ItemId)
+        → shown pages d (record i { kind = k; children = cs }) ≡ shown pages d (record i { kind = k })
+    other Bookmark cs = refl
+    other Folder cs = refl
+    other Separator cs = refl
+
+    choose : (b : Bool)
+        → shown pages d (if b then record i { children = put End id i.children } else i) ≡ shown pages d i
+    choose true = other i.kind (put End id i.children)
+    choose false = refl
+
+-- ---- a page more
+
+found_before : (test : Page → Bool) (pages more : List Page) → list_any test pages ≡ true
+    → find test (pages ++ more) ≡ find test pages
+found_before test [] more some = absurd (cc)
+found_before test (p ∷ pages) more some = choose (test p) some (found_before test pages more)
+  where
+    choose : (b : Bool) → (b || list_any test pages) ≡ true
+        → (list_any test pages ≡ true → find test (pages ++ more) ≡ find test pages)
+        → (if b then Some p else find test (pages ++ more)) ≡ (if b then Some p else find test pages)
+    choose true some rest = refl
+    choose false some rest = rest some
+
+same_url : (store : Store) (url : List ℕ) (id : PageId) → IsTrue (has_page_at store id)
+    → url_in (with_page_for store url).pages id ≡ url_in store.pages id
+same_url store url id there = choose (is_none (find_page url store.pages))
+  where
+    more : Store
+    more =
+        record store {
+          pages = store.pages ++ new_page store url ∷ [];
+          ids = record store.ids { page = store.ids.page + 1 };
+        }
+
+    choose : (b : Bool) → url_in (if b then more else store).pages id ≡ url_in store.pages id
+    choose true =
+        ap (option_map (λ (p : Page). p.url))
+        (found_before (λ (p : Page). p.id.0 == id.0) store.pages (new_page store url ∷ []) there)
+    choose false = refl
+
+same_urls : (url : Option (List ℕ)) (store : Store) (id : PageId) → IsTrue (has_page_at store id)
+    → url_in (with_page_of url store).pages id ≡ url_in store.pages id
+same_urls None store id there = refl
+same_urls (Some u) store id there = same_url store u id there
+
+-- an item whose page is there is shown as before
+pub shown_page : (url : Option (List ℕ)) (store : Store) (d : ℕ) (i : Item)
+    → IfSome i.page (λ id. IsTrue (has_page_at store id))
+    → shown (with_page_of url store).pages d i ≡ shown store.pages d i
+unfolding shown shown_by titled
+shown_page url store d i there = choose i.kind
+  where
+    same : (o : Option PageId) → IfSome o (λ id. IsTrue (has_page_at store id))
+        → option_and_then (url_in (with_page_of url store).pages) o ≡ option_and_then (url_in store.pages) o
+    same None has = refl
+    same (Some id) has = same_urls url store id has
+
+    of_titled : (j : Item) → j.page ≡ i.page
+        → titled (with_page_of url store).pages d j ≡ titled store.pages d j
+    of_titled j e =
+        ap (λ (u : Option (List ℕ)). record (titled store.pages d j) { url = u })
+        (same j.page (subst (λ (o : Option PageId). IfSome o (λ id. IsTrue (has_page_at store id))) (sym e) there))
+
+    choose : (k : ItemKind)
+        → shown (with_page_of url store).pages d (record i { kind = k }) ≡ shown store.pages d (record i { kind = k })
+    choose Bookmark = of_titled (record i { kind = Bookmark }) refl
+    choose Folder = of_titled (record i { kind = Folder }) refl
+    choose Separator = refl
+
+-- ---- pages
+
+-- a page that is found is found by its id
+own_page : (pages : List Page) → AllPairs (λ (p q : Page). p.id.0 < q.id.0) pages → (test : Page → Bool) (p : Page)
+    → find test pages ≡ Some p → find (λ (q : Page). q.id.0 == p.id.0) pages ≡ Some p
+own_page [] pairs test p found = absurd (cc)
+own_page (q ∷ pages) pairs test p found =
+    choose (test q) found
+    (own_page pages (λ i j d before within. pairs (suc i) (suc j) d (omega arith) (omega arith)) test p)
+  where
+    above : find test pages ≡ Some p → q.id.0 < p.id.0
+    above is =
+        found_holds (λ (z : Page). q.id.0 < z.id.0) test pages p
+        (recursion_from_All (λ (z : Page). q.id.0 < z.id.0) pages
+        (λ k d within. pairs 0 (suc k) d (omega arith) (omega arith))) is
+
+    choose : (b : Bool) → (if b then Some q else find test pages) ≡ Some p
+        → (find test pages ≡ Some p → find (λ (z : Page). z.id.0 == p.id.0) pages ≡ Some p)
+        → (if q.id.0 == p.id.0 then Some q else find (λ (z : Page). z.id.0 == p.id.0) pages) ≡ Some p
+    choose true here rest =
+        let same : q ≡ p = cc in
+        rw (eq-eqb q.id.0 p.id.0 (ap (λ (z : Page). z.id.0) same)) here
+    choose false here rest =
+        let lt : q.id.0 < p.id.0 = above here in
+        rw (ne_eqb q.id.0 p.id.0 (λ same. omega arith)) (rest here)
+
+-- a page that is last
+last_page : (pages : List Page) (n : ℕ) → All (λ (p : Page). p.id.0 < n) pages → (new : Page) → new.id.0 ≡ n
+    → find (λ (q : Page). q.id.0 == n) (pages ++ new ∷ []) ≡ Some new
+last_page pages n below new is = go pages (recursion_from_All (λ (p : Page). p.id.0 < n) pages below)
+  where
+    use_new : find (λ (q : Page). q.id.0 == n) (new ∷ []) ≡ Some new
+    use_new = rw (eq-eqb new.id.0 n is) refl
+
+    go : (ps : List Page) → AllByRecursion (λ (p : Page). p.id.0 < n) ps
+        → find (λ (q : Page). q.id.0 == n) (ps ++ new ∷ []) ≡ Some new
+    go [] all = use_new
+    go (p ∷ ps) all =
+        let lt : p.id.0 < n = all.0 in
+        rw (ne_eqb p.id.0 n (λ same. omega arith)) (go ps all.1)
+
+-- the page for an address has it
+pub has_url : (store : Store) (url : List ℕ) → HasPages store
+    → url_in (with_page_for store url).pages (page_for store url).id ≡ Some url
+has_url store url h = choose (find_page url store.pages) refl
+  where
+    more : Store
+    more =
+        record store {
+          pages = store.pages ++ new_page store url ∷ [];
+          ids = record store.ids { page = store.ids.page + 1 };
+        }
+
+    choose : (o : Option Page) → find_page url store.pages ≡ o
+        → url_in (if is_none o then more else store).pages (unwrap_or o (new_page store url)).id ≡ Some url
+    choose None none =
+        ap (option_map (λ (p : Page). p.url)) (last_page store.pages store.ids.page h.below (new_page store url) refl)
+    choose (Some p) found =
+        ap (option_map (λ (q : Page). q.url))
+        (own_page store.pages
+        (AllPairs-from_map (λ m n. m < n) (λ (q : Page). q.id.0) store.pages
+        (AllPairs-from_increasing (map (λ (q : Page). q.id.0) store.pages) h.ascending))
+        (λ (q : Page). bytes_eq q.url url) p found)
+        ∙ ap (λ (u : List ℕ). Some u)
+        ((bytes_eq-Decides p.url url).0 (found_passes (λ (q : Page). bytes_eq q.url url) store.pages p found))
+
+url_fits : (url : Option (List ℕ)) (store : Store) → HasPages store
+    → option_and_then (url_in (with_page_of url store).pages) (page_of url store) ≡ url
+url_fits None store h = refl
+url_fits (Some u) store h = has_url store u h
+
+-- ---- pages with one more
+
+ascends_push : (ns : List ℕ) (n : ℕ) → IsStrictlyIncreasing ns → All (λ m. m < n) ns
+    → IsStrictlyIncreasing (ns ++ n ∷ [])
+ascends_push ns n ascending below k within =
+    let whole : k + 1 < length ns + 1 = rw (length_push ns n) at within in
+    let first : k < length ns = omega arith in
+    elim (cases_lt (k + 1) (length ns)) [
+      | inl inside ↦
+          rw (get_or_append_left ns (n ∷ []) 0 k first, get_or_append_left ns (n ∷ []) 0 (k + 1) inside)
+          (ascending k inside)
+      | inr past ↦
+          let last : length ns ≡ k + 1 = omega arith in
+          rw (get_or_append_left ns (n ∷ []) 0 k first, get_or_push ns n 0 (k + 1) last) (below k 0 first)
+    ]
+
+none_found : (test : Page → Bool) (pages : List Page) → find test pages ≡ None → All (λ (p : Page). test p ≡ false) pages
+none_found test pages none = All-from_recursion (λ (p : Page). test p ≡ false) pages (go pages none)
+  where
+    go : (ps : List Page) → find test ps ≡ None
+        → AllByRecursion (λ (p : Page). test p ≡ false) ps
+    go [] is = tt
+    go (p ∷ ps) is = choose (test p) refl is (go ps)
+      where
+        choose : (b : Bool) → test p ≡ b → (if b then Some p else find test ps) ≡ None
+            → (find test ps ≡ None → AllByRecursion (λ (q : Page). test q ≡ false) ps)
+            → AllByRecursion (λ (q : Page). test q ≡ false) (p ∷ ps)
+        choose true passes here rest = absurd (cc)
+        choose false fails here rest = (fails, rest here)
+
+pub pages_more : (store : Store) (url : List ℕ) → HasPages store → HasPages (with_page_for store url)
+pages_more store url h = choose (find_page url store.pages) refl
+  where
+    more : Store
+    more =
+        record store {
+          pages = store.pages ++ new_page store url ∷ [];
+          ids = record store.ids { page = store.ids.page + 1 };
+        }
+
+    choose : (o : Option Page) → find_page url store.pages ≡ o → HasPages (if is_none o then more else store)
+    choose None none =
+        record {
+          ascending =
+              subst IsStrictlyIncreasing
+              (sym (map_push (λ (p : Page). p.id.0) store.pages (new_page store url)))
+              (ascends_push (map (λ (p : Page). p.id.0) store.pages) store.ids.page h.ascending
+              (All-map (λ m. m < store.ids.page) (λ (p : Page). p.id.0) store.pages h.below));
+          below =
+              All-push (λ (p : Page). p.id.0 < store.ids.page + 1) store.pages (new_page store url)
+              (All-weaker (λ (p : Page). p.id.0 < store.ids.page) (λ (p : Page). p.id.0 < store.ids.page + 1)
+              (λ p lt. omega arith) store.pages h.below)
+              (omega arith);
+          urls =
+              all_pairs_push (λ (p q : Page). p.url ≢ q.url) store.pages (new_page store url) h.urls
+              (All-weaker (λ (p : Page). bytes_eq p.url url ≡ false) (λ (p : Page). p.url ≢ url)
+              (λ p fails same. both_ways (bytes_eq p.url url) fails ((bytes_eq-Decides p.url url).1 same)) store.pages
+              (none_found (λ (p : Page). bytes_eq p.url url) store.pages none));
+        }
+    choose (Some p) found = h
+
+pub pages_more_of : (url : Option (List ℕ)) (store : Store) → HasPages store → HasPages (with_page_of url store)
+pages_more_of None store h = h
+pages_more_of (Some u) store h = pages_more store u h
+
+-- ---- the item of a node
+
+pub short_title : (title : List ℕ) → length title ≤ longest_title → cut_title title ≡ title
+short_title title short = rw (le-leb (length title) longest_title short) refl
+
+whole_date : (date : Micros) → is_whole date ≡ true → whole_seconds date ≡ date
+whole_date date is =
+    ap (λ (n : ℕ). let m : Micros = record { 0 = n } in m) (eqb-true (date.0 / 1_000_000 * 1_000_000) date.0 is)
+
+no_length : {X : Type 0} (xs : List X) → (length xs == 0) ≡ true → xs ≡ []
+no_length [] is = refl
+no_length (x ∷ xs) is = absurd (omega (arith, eqb-true (suc (length xs)) 0 is))
+
+pub shown_new : (store : Store) (parent id : ItemId) (node : Node) → HasPages store → IsFormed node → IsKept node
+    → length node.title ≤ longest_title
+    → shown (with_page_of node.url store).pages node.depth
+    (new_item id (node_row parent (page_of node.url store) node) (cut_title node.title)) ≡ bare node
+unfolding shown shown_by titled
+shown_new store parent id node h formed kept short = choose node.kind refl
+  where
+    of_titled : (k : ItemKind) → node.kind ≡ k
+        → titled (with_page_of node.url store).pages node.depth
+        (record (new_item id (node_row parent (page_of node.url store) node) (cut_title node.title)) { kind = k })
+        ≡ bare node
+    of_titled k is =
+        let made : ItemKind → Option (List ℕ) → List ℕ → Micros → Micros → Node = λ l u t a m.
+        record { depth = node.depth; kind = l; url = u; title = t; added = a; modified = m; tags = [] } in
+        ap (λ u. made k u (cut_title node.title) (whole_seconds node.added) (whole_seconds node.modified))
+        (url_fits node.url store h)
+        ∙ ap (λ t. made k node.url t (whole_seconds node.added) (whole_seconds node.modified))
+        (short_title node.title short)
+        ∙ ap (λ a. made k node.url node.title a (whole_seconds node.modified)) (whole_date node.added kept.added)
+        ∙ ap (λ m. made k node.url node.title node.added m) (whole_date node.modified kept.modified)
+        ∙ ap (λ l. made l node.url node.title node.added node.modified) (sym is)
+
+    of_separator : node.kind ≡ Separator → separator_node node.depth ≡ bare node
+    of_separator is =
+        let made : ItemKind → Option (List ℕ) → List ℕ → Micros → Micros → Node = λ l u t a m.
+        record { depth = node.depth; kind = l; url = u; title = t; added = a; modified = m; tags = [] } in
+        let at : ℕ → Micros = λ n. record { 0 = n } in
+        let b : is_bare Separator node ≡ true = subst (λ (k : ItemKind). is_bare k node ≡ true) is kept.bare in
+        let p = and_parts ((length node.tags == 0) && (length node.title == 0) && (node.added.0 == 0))
+        (node.modified.0 == 0) b in
+        let q = and_parts ((length node.tags == 0) && (length node.title == 0)) (node.added.0 == 0) p.0 in
+        let s = and_parts (length node.tags == 0) (length node.title == 0) q.0 in
+        ap (λ u. made Separator u [] (at 0) (at 0)) (sym no_url)
+        ∙ ap (λ t. made Separator node.url t (at 0) (at 0)) (sym (no_length node.title s.1))
+        ∙ ap (λ n. made Separator node.url node.title (at n) (at 0)) (sym (eqb-true node.added.0 0 q.1))
+        ∙ ap (λ n. made Separator node.url node.title node.added (at n)) (sym (eqb-true node.modified.0 0 p.1))
+        ∙ ap (λ l. made l node.url node.title node.added node.modified) (sym is)
+      where
+        no_url : node.url ≡ None
+        no_url = none node.url (rw is at formed.bookmark)
+          where
+            none : (u : Option (List ℕ)) → not (is_some u) ≡ true → u ≡ None
+            none None is = refl
+            none (Some x) is = absurd (cc)
+
+    choose : (k : ItemKind) → node.kind ≡ k
+        → shown (with_page_of node.url store).pages node.depth
+        (record (new_item id (node_row parent (page_of node.url store) node) (cut_title node.title)) { kind = k })
+        ≡ bare node
+    choose Bookmark is = of_titled Bookmark is
+    choose Folder is = of_titled Folder is
+    choose Separator is = of_separator is

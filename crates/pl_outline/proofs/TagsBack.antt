@@ -1,0 +1,413 @@
+-- An import of a store's bookmarks into the store before its first command gives each page the tags that it had.
+use Rattle.std.proofs.Common.{◌≡◌, ◌∙◌, ◌⊎◌, ◌<◌, ◌&&◌, ◌||◌, inl, inr, ℕ, All, Bool, true, false}
+use Rattle.std.proofs.Common.{List, [], ◌∷◌, Option, Some, None, ap, arith, bytes_eq, filter, if◌then◌else◌}
+use Rattle.std.proofs.Common.{map, refl, subst, sym}
+use Rattle.std.specs.List.{AllByRecursion, list_any}
+use Rattle.std.proofs.lemmas.Bool.{false≢true, or_left, or_right}
+use Rattle.std.proofs.lemmas.List.Elements.{All-from_recursion, All-nil, recursion_from_All}
+use Rattle.std.proofs.lemmas.List.Sorted.{list_any-IsPermutation}
+use Rattle.std.proofs.lemmas.Option.{none-some, same_Some}
+use Rattle.std.proofs.lemmas.Slice.Eq.{bytes_eq-Decides}
+use Rattle.pl_base.specs.declared.id.PageId.{PageId}
+use Rattle.pl_base.specs.Fold.{folded}
+use Rattle.pl_base.specs.Good.{HasTags, IsGood}
+use Rattle.pl_base.specs.Store.{Item, Page, Store, item_id, opening, roots}
+use Rattle.pl_base.specs.Tags.{by_fold, has_tag, is_before, page_tags, tags_of}
+use Rattle.pl_base.specs.Tree.{child_items, is_page}
+use Rattle.pl_base.specs.Visiting.{page_for}
+use Rattle.pl_base.proofs.ListLaws.{All-from_map, list_any-map, map-map, weaker}
+use Rattle.pl_base.proofs.RootsLaws.{has_roots, no_tags, roots_are_good, roots_are_tree, roots_ascend}
+use Rattle.pl_base.proofs.SortLaws.{sorted_moves}
+use Rattle.pl_marks.proofs.LookUps.{both}
+use Rattle.pl_marks.proofs.TagEntries.{Differ, differ_filter, differ_named, look, one_list, order_ascends, order_looks}
+use Rattle.pl_marks.proofs.TagEntries.{tag_entry, tags_found, titles_are}
+use Rattle.pl_nbread.specs.declared.tree.Node.{Node}
+use Rattle.pl_graft.specs.Import.{imported, with_list}
+use Rattle.pl_graft.specs.Ready.{IsReady}
+use Rattle.pl_graft.specs.TagRows.{TagEntry, TagRow, entry_row, holds, tag_row, tag_rows}
+use Rattle.pl_graft.proofs.Ready.{takes_root}
+use Rattle.pl_outline.specs.Outline.{bookmarks, listed}
+use Rattle.pl_outline.proofs.Bare.{HasPages, bare, retagged, url_tags}
+use Rattle.pl_outline.proofs.OwnTags.{HasOwn, IsKnown, listed_retagged, may_come, own_listed}
+use Rattle.pl_outline.proofs.TagMarks.{any_and, has_text, marks, shared}
+use Rattle.pl_outline.proofs.TagsMade.{Behind, Stands, is_url, nodes_behind, told, url_marks}
+
+-- ---- the tags of a page in order are known by which they are
+
+abbrev title_of : Item → List ℕ
+title_of t = t.title
+
+text_is : (t : List ℕ) → bytes_eq t t ≡ true
+text_is t = (bytes_eq-Decides t t).1 refl
+
+-- what is looked up is among the titles, and has the fold
+looked_up : (q title : List ℕ) (ts : List Item) → look q (map tag_entry ts) ≡ Some title
+    → (has_text title (map title_of ts) ≡ true) × (folded title ≡ q)
+looked_up q title [] found = absurd (none-some title found)
+looked_up q title (t ∷ ts) found = choose (bytes_eq (folded t.title) q) refl found (looked_up q title ts)
+  where
+    choose : (b : Bool) → bytes_eq (folded t.title) q ≡ b
+        → (if b then Some t.title else look q (map tag_entry ts)) ≡ Some title
+        → (look q (map tag_entry ts) ≡ Some title
+        → (has_text title (map title_of ts) ≡ true) × (folded title ≡ q))
+        → (has_text title (map title_of (t ∷ ts)) ≡ true) × (folded title ≡ q)
+    choose true is here rest =
+        let same : t.title ≡ title = same_Some t.title title here in (
+          or_left (bytes_eq t.title title) (has_text title (map title_of ts)) ((bytes_eq-Decides t.title title).1 same),
+          ap folded (sym same) ∙ (bytes_eq-Decides (folded t.title) q).0 is,
+        )
+    choose false is here rest =
+        let r = rest here in
+        (or_right (bytes_eq t.title title) (has_text title (map title_of ts)) r.0, r.1)
+
+-- a title among them is looked up by its fold
+looks_up : (title : List ℕ) (ts us : List Item)
+    → AllByRecursion (λ (t : Item). look (folded t.title) (map tag_entry us) ≡ Some t.title) ts
+    → has_text title (map title_of ts) ≡ true → look (folded title) (map tag_entry us) ≡ Some title
+looks_up title [] us all some = absurd (false≢true some)
+looks_up title (t ∷ ts) us all some = choose (bytes_eq t.title title) refl some (looks_up title ts us all.1)
+  where
+    choose : (b : Bool) → bytes_eq t.title title ≡ b → (b || has_text title (map title_of ts)) ≡ true
+        → (has_text title (map title_of ts) ≡ true → look (folded title) (map tag_entry us) ≡ Some title)
+        → look (folded title) (map tag_entry us) ≡ Some title
+    choose true is some rest =
+        subst (λ (x : List ℕ). look (folded x) (map tag_entry us) ≡ Some x)
+        ((bytes_eq-Decides t.title title).0 is) all.0
+    choose false is some rest = rest some
+
+-- tags with the same titles are the same in order
+same_titles : (ts us : List Item) → Differ ts → Differ us
+    → ((title : List ℕ) → has_text title (map title_of ts) ≡ has_text title (map title_of us))
+    → map title_of (by_fold ts) ≡ map title_of (by_fold us)
+same_titles ts us differ other same =
+    sym (titles_are ts (map tag_entry (by_fold ts)) refl)
+    ∙ titles_are us (map tag_entry (by_fold ts))
+    (one_list (map tag_entry (by_fold ts)) (map tag_entry (by_fold us)) (order_ascends ts differ)
+    (order_ascends us other)
+    (λ q. order_looks q ts differ ∙ alike q (look q (map tag_entry ts)) (look q (map tag_entry us)) refl refl
+    ∙ sym (order_looks q us other)))
+  where
+    alike : (q : List ℕ) (o p : Option (List ℕ)) → look q (map tag_entry ts) ≡ o → look q (map tag_entry us) ≡ p → o ≡ p
+    alike q (Some title) p first second =
+        let r = looked_up q title ts first in
+        sym (looks_up title us us (tags_found us other) (sym (same title) ∙ r.0))
+        ∙ ap (λ (f : List ℕ). look f (map tag_entry us)) r.1 ∙ second
+    alike q None None first second = refl
+    alike q None (Some title) first second =
+        let r = looked_up q title us second in
+        absurd (none-some title (sym first ∙ ap (λ (f : List ℕ). look f (map tag_entry ts)) (sym r.1)
+        ∙ looks_up title ts ts (tags_found ts differ) (same title ∙ r.0)))
+
+-- ---- the tags of a page, by the rows
+
+titles_marked : (store : Store) (page : PageId) (title : List ℕ)
+    → has_text title (map title_of (filter (has_tag store page) (tags_of store)))
+    ≡ marks page title (tag_rows store.items)
+titles_marked store page title =
+    each (tags_of store)
+    ∙ sym (list_any-map (λ (r : TagRow). bytes_eq r.title title && holds page r) (tag_row store.items) (tags_of store))
+  where
+    test : (t : Item) → has_tag store page t ≡ holds page (tag_row store.items t)
+    test t = sym (list_any-map (λ (e : TagEntry). is_page page e.page) entry_row (child_items store.items t.id))
+
+    one : (t : Item) (ts : List Item) (b : Bool)
+        → has_text title (map title_of (if b
+        then t ∷ filter (has_tag store page) ts
+        else filter (has_tag store page) ts))
+        ≡ ((bytes_eq t.title title && b) || has_text title (map title_of (filter (has_tag store page) ts)))
+    one t ts true = turn (bytes_eq t.title title)
+      where
+        turn : (a : Bool)
+            → (a || has_text title (map title_of (filter (has_tag store page) ts)))
+            ≡ ((a && true) || has_text title (map title_of (filter (has_tag store page) ts)))
+        turn true = refl
+        turn false = refl
+    one t ts false = turn (bytes_eq t.title title)
+      where
+        turn : (a : Bool)
+            → has_text title (map title_of (filter (has_tag store page) ts))
+            ≡ ((a && false) || has_text title (map title_of (filter (has_tag store page) ts)))
+        turn true = refl
+        turn false = refl
+
+    each : (ts : List Item)
+        → has_text title (map title_of (filter (has_tag store page) ts))
+        ≡ list_any (λ (t : Item). bytes_eq t.title title && holds page (tag_row store.items t)) ts
+    each [] = refl
+    each (t ∷ ts) =
+        one t ts (has_tag store page t)
+        ∙ ap (λ (b : Bool).
+        (bytes_eq t.title title && b) || has_text title (map title_of (filter (has_tag store page) ts)))
+        (test t)
+        ∙ ap (λ (b : Bool). (bytes_eq t.title title && holds page (tag_row store.items t)) || b) (each ts)
+
+-- and in order
+tags_marked : (store : Store) (page : PageId) (title : List ℕ)
+    → has_text title (page_tags store page) ≡ marks page title (tag_rows store.items)
+tags_marked store page title =
+    list_any-map (λ (t : List ℕ). bytes_eq t title) title_of (by_fold tags)
+    ∙ sym (list_any-IsPermutation (λ (t : Item). bytes_eq t.title title) tags (by_fold tags)
+    (sorted_moves is_before tags))
+    ∙ sym (list_any-map (λ (t : List ℕ). bytes_eq t title) title_of tags)
+    ∙ titles_marked store page title
+  where
+    tags : List Item
+    tags = filter (has_tag store page) (tags_of store)
+
+-- two stores whose rows tell the same of a URL have the same tags at it
+same_tags : (a b : Store) (url : List ℕ) → HasTags a → HasTags b
+    → ((title : List ℕ) → url_marks a url title ≡ has_text title (url_tags b (Some url)))
+    → url_tags a (Some url) ≡ url_tags b (Some url)
+same_tags a b url tags_a tags_b same =
+    same_titles (filter (has_tag a p) (tags_of a)) (filter (has_tag b q) (tags_of b))
+    (differ_filter (has_tag a p) (tags_of a) (differ_named (tags_of a) tags_a.names))
+    (differ_filter (has_tag b q) (tags_of b) (differ_named (tags_of b) tags_b.names))
+    (λ title.
+    titles_marked a p title ∙ same title ∙ tags_marked b q title ∙ sym (titles_marked b q title))
+  where
+    p : PageId
+    p = (page_for a url).id
+
+    q : PageId
+    q = (page_for b url).id
+
+-- ---- what the nodes of a store tell of a URL
+
+-- a node has the URL
+abbrev has_url : List ℕ → List Node → Bool
+has_url url nodes = list_any (λ (n : Node). is_url url n.url) nodes
+
+module _ (store : Store) where
+  told_own : (url title : List ℕ) (nodes : List Node) → AllByRecursion (HasOwn store) nodes
+      → told url title nodes ≡ (has_url url nodes && has_text title (url_tags store (Some url)))
+  told_own url title nodes all =
+      each nodes all
+      ∙ any_and (λ (n : Node). is_url url n.url) (has_text title (url_tags store (Some url))) nodes
+    where
+      turn : (a b : Bool) → (a && b) ≡ (b && a)
+      turn true true = refl
+      turn true false = refl
+      turn false true = refl
+      turn false false = refl
+
+      with_test : (v : List ℕ) (b : Bool) → bytes_eq v url ≡ b
+          → (has_text title (url_tags store (Some v)) && b)
+          ≡ (b && has_text title (url_tags store (Some url)))
+      with_test v true is =
+          ap (λ (u : List ℕ). has_text title (url_tags store (Some u)) && true) ((bytes_eq-Decides v url).0 is)
+          ∙ turn (has_text title (url_tags store (Some url))) true
+      with_test v false is = turn (has_text title (url_tags store (Some v))) false
+
+      one : (o : Option (List ℕ))
+          → (has_text title (url_tags store o) && is_url url o)
+          ≡ (is_url url o && has_text title (url_tags store (Some url)))
+      one None = refl
+      one (Some v) = with_test v (bytes_eq v url) refl
+
+      each : (ns : List Node) → AllByRecursion (HasOwn store) ns
+          → told url title ns
+          ≡ list_any (λ (n : Node). is_url url n.url && has_text title (url_tags store (Some url))) ns
+      each [] own = refl
+      each (n ∷ ns) own =
+          ap (λ (b : Bool). b || told url title ns)
+          (ap (λ (tags : List (List ℕ)). has_text title tags && is_url url n.url) own.0 ∙ one n.url)
+          ∙ ap (λ (b : Bool). (is_url url n.url && has_text title (url_tags store (Some url))) || b) (each ns own.1)
+
+-- each node's URL is one of those that the nodes have
+urls_there : (nodes : List Node)
+    → AllByRecursion (λ (b : Node). (url : List ℕ) → b.url ≡ Some url → has_url url nodes ≡ true) nodes
+urls_there [] = tt
+urls_there (b ∷ bs) = (
+  λ url is. or_left (is_url url b.url) (has_url url bs) (ap (is_url url) is ∙ text_is url),
+  weaker (λ (c : Node). (url : List ℕ) → c.url ≡ Some url → has_url url bs ≡ true)
+      (λ (c : Node). (url : List ℕ) → c.url ≡ Some url → has_url url (b ∷ bs) ≡ true) bs
+      (λ c there url is. or_right (is_url url b.url) (has_url url bs) (there url is)) (urls_there bs),
+)
+
+-- ---- the import
+
+pub good_pages : (store : Store) → IsGood store → HasPages store
+good_pages store good =
+    record {
+      ascending = good.page_ids.ascending;
+      below =
+          λ k d within.
+          (All-from_map (λ id. (0 < id) × (id < store.ids.page)) (λ (p : Page). p.id.0) store.pages
+          good.page_ids.given k d within).1;
+      urls = good.urls;
+    }
+
+opening_stands : (Known : List ℕ → Type 0) → Stands Known opening
+opening_stands Known =
+    record {
+      ready = record {
+        good = record {
+          items = roots_are_good opening;
+          roots = has_roots opening;
+          tree = roots_are_tree;
+          tags = no_tags opening;
+        };
+        ascending = roots_ascend;
+        below =
+            All-from_recursion (λ (i : Item). i.id.0 < 7) roots
+            (omega arith, (omega arith, (omega arith, (omega arith, (omega arith, (omega arith, tt))))));
+        first = omega arith;
+      };
+      pages = record {
+        ascending = λ k within. absurd (omega arith);
+        below = All-nil _;
+        urls = λ i j d before within same. absurd (omega arith);
+      };
+      titles = tt;
+    }
+
+abbrev IsRoot : ℕ → Type 0
+IsRoot n = (n ≡ 2) ⊎ (n ≡ 3) ⊎ (n ≡ 5) ⊎ (n ≡ 6)
+
+module _ (store : Store) (good : IsGood store) where
+  one_title : (a b : List ℕ) → IsKnown store a → IsKnown store b → folded a ≡ folded b → a ≡ b
+  one_title a b first second same =
+      same_Some a b (sym first ∙ ap (λ (q : List ℕ). look q (map tag_entry (tags_of store))) same ∙ second)
+
+  list_behind : (old : Store) → Stands (IsKnown store) old → (n : ℕ) → IsRoot n
+      → Behind (IsKnown store) old (with_list (item_id n) (listed store (item_id n)) old) (listed store (item_id n))
+  list_behind old s n is =
+      nodes_behind (IsKnown store) one_title (item_id n) (listed store (item_id n)) [] old s
+      (takes_root old n s.ready is) tt (may_come store good (item_id n))
+
+  -- the store with the first lists
+  abbrev menu_in : Store
+  menu_in = with_list (item_id 2) (listed store (item_id 2)) opening
+
+  abbrev toolbar_in : Store
+  toolbar_in = with_list (item_id 3) (listed store (item_id 3)) menu_in
+
+  abbrev unfiled_in : Store
+  unfiled_in = with_list (item_id 5) (listed store (item_id 5)) toolbar_in
+
+  abbrev all_in : Store
+  all_in = with_list (item_id 6) (listed store (item_id 6)) unfiled_in
+
+  menu_behind : Behind (IsKnown store) opening menu_in (listed store (item_id 2))
+  menu_behind = list_behind opening (opening_stands (IsKnown store)) 2 (inl refl)
+
+  toolbar_behind : Behind (IsKnown store) menu_in toolbar_in (listed store (item_id 3))
+  toolbar_behind = list_behind menu_in menu_behind.stands 3 (inr (inl refl))
+
+  unfiled_behind : Behind (IsKnown store) toolbar_in unfiled_in (listed store (item_id 5))
+  unfiled_behind = list_behind toolbar_in toolbar_behind.stands 5 (inr (inr (inl refl)))
+
+  all_behind : Behind (IsKnown store) unfiled_in all_in (listed store (item_id 6))
+  all_behind = list_behind unfiled_in unfiled_behind.stands 6 (inr (inr (inr refl)))
+
+  -- one of the nodes has the URL
+  abbrev is_listed : List ℕ → Bool
+  is_listed url =
+      ((has_url url (listed store (item_id 2)) || has_url url (listed store (item_id 3)))
+      || has_url url (listed store (item_id 5)))
+      || has_url url (listed store (item_id 6))
+
+  own_told : (url title : List ℕ) (n : ℕ)
+      → told url title (listed store (item_id n))
+      ≡ (has_url url (listed store (item_id n)) && has_text title (url_tags store (Some url)))
+  own_told url title n =
+      told_own store url title (listed store (item_id n))
+      (own_listed store good.items (good_pages store good) (item_id n))
+
+  all_marked : (url title : List ℕ)
+      → url_marks all_in url title ≡ (is_listed url && has_text title (url_tags store (Some url)))
+  all_marked url title =
+      step all_in unfiled_in 6 all_behind
+      ((has_url url (listed store (item_id 2)) || has_url url (listed store (item_id 3)))
+      || has_url url (listed store (item_id 5)))
+      (step unfiled_in toolbar_in 5 unfiled_behind
+      (has_url url (listed store (item_id 2)) || has_url url (listed store (item_id 3)))
+      (step toolbar_in menu_in 3 toolbar_behind (has_url url (listed store (item_id 2)))
+      (menu_behind.marked url title ∙ own_told url title 2)))
+    where
+      step : (new old : Store) (n : ℕ) → Behind (IsKnown store) old new (listed store (item_id n)) → (b : Bool)
+          → url_marks old url title ≡ (b && has_text title (url_tags store (Some url)))
+          → url_marks new url title
+          ≡ ((b || has_url url (listed store (item_id n))) && has_text title (url_tags store (Some url)))
+      step new old n behind b so_far =
+          behind.marked url title
+          ∙ ap (λ (t : Bool). t || told url title (listed store (item_id n))) so_far
+          ∙ ap (λ (t : Bool). (b && has_text title (url_tags store (Some url))) || t) (own_told url title n)
+          ∙ shared b (has_url url (listed store (item_id n))) (has_text title (url_tags store (Some url)))
+
+  is_listed_at : (url : List ℕ) (n : ℕ) → IsRoot n → has_url url (listed store (item_id n)) ≡ true
+      → is_listed url ≡ true
+  is_listed_at url n root has =
+      elim root as (λ _. is_listed url ≡ true) [
+        | inl is ↦
+            or_left ((at 2 || at 3) || at 5) (at 6)
+            (or_left (at 2 || at 3) (at 5) (or_left (at 2) (at 3) (at_root 2 is)))
+        | inr (inl is) ↦
+            or_left ((at 2 || at 3) || at 5) (at 6)
+            (or_left (at 2 || at 3) (at 5) (or_right (at 2) (at 3) (at_root 3 is)))
+        | inr (inr (inl is)) ↦
+            or_left ((at 2 || at 3) || at 5) (at 6) (or_right (at 2 || at 3) (at 5) (at_root 5 is))
+        | inr (inr (inr is)) ↦ or_right ((at 2 || at 3) || at 5) (at 6) (at_root 6 is)
+      ]
+    where
+      at : ℕ → Bool
+      at m = has_url url (listed store (item_id m))
+
+      at_root : (m : ℕ) → n ≡ m → has_url url (listed store (item_id m)) ≡ true
+      at_root m same = subst (λ (k : ℕ). has_url url (listed store (item_id k)) ≡ true) same has
+
+  back_at : (url : List ℕ) → is_listed url ≡ true → url_tags all_in (Some url) ≡ url_tags store (Some url)
+  back_at url is =
+      same_tags all_in store url all_behind.stands.ready.good.tags good.tags
+      (λ title. all_marked url title
+      ∙ ap (λ (b : Bool). b && has_text title (url_tags store (Some url))) is)
+
+-- after the import each page has the tags that it had
+pub tags_back : (store : Store) → IsGood store → (n : ℕ) → (n ≡ 2) ⊎ (n ≡ 3) ⊎ (n ≡ 5) ⊎ (n ≡ 6)
+    → All (λ (b : Node). url_tags (imported (bookmarks store) opening) b.url ≡ b.tags) (listed store (item_id n))
+tags_back store good n root =
+    All-from_recursion (λ (b : Node). url_tags (imported (bookmarks store) opening) b.url ≡ b.tags)
+    (listed store (item_id n))
+    (both (λ (b : Node). b.tags ≡ url_tags store b.url)
+    (λ (b : Node). (url : List ℕ) → b.url ≡ Some url → has_url url (listed store (item_id n)) ≡ true)
+    (λ (b : Node). url_tags (imported (bookmarks store) opening) b.url ≡ b.tags) (listed store (item_id n))
+    (λ b own there. back b.url there ∙ sym own)
+    (own_listed store good.items (good_pages store good) (item_id n))
+    (urls_there (listed store (item_id n))))
+  where
+    back : (o : Option (List ℕ))
+        → ((url : List ℕ) → o ≡ Some url → has_url url (listed store (item_id n)) ≡ true)
+        → url_tags (imported (bookmarks store) opening) o ≡ url_tags store o
+    back None there = refl
+    back (Some url) there = back_at store good url (is_listed_at store good url n root (there url refl))
+
+-- ---- the tree after the import
+
+pub back_ready : (store : Store) → IsGood store → IsReady (imported (bookmarks store) opening)
+back_ready store good = (all_behind store good).stands.ready
+
+pub back_pages : (store : Store) → IsGood store → HasPages (imported (bookmarks store) opening)
+back_pages store good = (all_behind store good).stands.pages
+
+-- a list is the same again where its nodes are but for their tags
+pub listed_back : (store : Store) → IsGood store → (n : ℕ) → (n ≡ 2) ⊎ (n ≡ 3) ⊎ (n ≡ 5) ⊎ (n ≡ 6)
+    → map bare (listed (imported (bookmarks store) opening) (item_id n)) ≡ map bare (listed store (item_id n))
+    → listed (imported (bookmarks store) opening) (item_id n) ≡ listed store (item_id n)
+listed_back store good n root same =
+    listed_retagged new (back_ready store good) (back_pages store good) n
+    ∙ sym (map-map (retagged new) bare (listed new (item_id n)))
+    ∙ ap (map (retagged new)) same
+    ∙ map-map (retagged new) bare (listed store (item_id n))
+    ∙ each (listed store (item_id n))
+    (recursion_from_All (λ (b : Node). url_tags new b.url ≡ b.tags) (listed store (item_id n))
+    (tags_back store good n root))
+  where
+    new : Store
+    new = imported (bookmarks store) opening
+
+    each : (nodes : List Node) → AllByRecursion (λ (b : Node). url_tags new b.url ≡ b.tags) nodes
+        → map (retagged new) nodes ≡ nodes
+    each [] all = refl
+    each (b ∷ bs) all =
+        ap (λ (tags : List (List ℕ)). let c : Node = record b { tags = tags } in c ∷ map (retagged new) bs) all.0
+        ∙ ap (λ (cs : List Node). b ∷ cs) (each bs all.1)
