@@ -1,4 +1,5 @@
 mod BookmarkAllowed
+mod BroughtBack
 mod ChildItems
 mod FreshPage
 mod IdWalk

@@ -1,3 +1,4 @@
 pub mod NewPage
+pub mod Returns
 pub mod Room
 pub mod Titled

@@ -22,8 +22,11 @@ ghost use Rattle.pl_base.specs.Live.{slot_limit};
 ghost use Rattle.pl_base.specs.Rows.{HaveTotals, IsRight, store_of};
 ghost use Rattle.pl_base.specs.Touched.{IsWithin, changed, bytes_before};
 ghost use Rattle.pl_history.specs.Sound.{IsSound};
+ghost use Rattle.pl_nbwrite.specs.Plain.{IsPlain};
+ghost use Rattle.pl_outline.specs.Outline.{bookmarks};
 ghost use Rattle.pl_step.specs.Refused.{has_changed};
 ghost use Rattle.pl_step.specs.Step as spec;
+ghost use Rattle.pl_engine.specs.Returns.{Returns};
 
 use crate::engine::bar::{bar, fill};
 use crate::engine::bookmark::bookmark;
@@ -41,6 +44,8 @@ use crate::engine::title::title;
 use crate::engine::visit::visit;
 use pl_base::{NoMemory, Refusal, Rows, Steps, Touched};
 use pl_history::total_up;
+use pl_nbread::Tree;
+use pl_outline::tree;
 use pl_step::{Command, Reply};
 use std::alloc::Global;
 use std::sync::ledger::Ledger;
@@ -197,6 +202,15 @@ impl<R: Rows + Drop> Engine<R> {
         };
         keep_totals(&mut rows, command, &reply, steps);
         Ok((Engine { alloc, rows, limit }, reply))
+    }
+
+    /// The bookmarks of the store.
+    pub fn tree<L: Ledger>(&self, steps: &mut Steps<L>) -> Result<Tree, NoMemory>
+        ensures tree { IfOk result (λ tree. tree ≡ bookmarks (store_of (R.kept self.now.rows))) }
+        ensures plain { IfOk result IsPlain }
+        ensures returns { IfOk result (λ tree. (limit : ℕ) → Returns limit tree) }
+    {
+        tree(self.alloc, &self.rows, steps)
     }
 
     /// The pages of the store's bytes that changed since the last such call, or

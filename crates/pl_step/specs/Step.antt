@@ -2,8 +2,8 @@
 use Rattle.std.specs.Prelude.{◌≡◌, ℕ, ◌+◌, ◌-◌, ◌==◌, ◌&&◌, not, Bool, true, false, List}
 use Rattle.std.specs.Prelude.{[], ◌∷◌, length, map, nat_lt, bytes_eq}
 use Rattle.std.specs.Prelude.{is_none, Option, Some, None, Ok, Err, if◌then◌else◌}
-use Rattle.std.specs.List.{count_by, find}
-use Rattle.std.specs.Option.{is_some, option_and_then, option_map, option_or}
+use Rattle.std.specs.List.{count_by}
+use Rattle.std.specs.Option.{is_some, option_and_then, option_or}
 use Rattle.pl_base.specs.declared.date.Day.{Day}
 use Rattle.pl_base.specs.declared.date.Micros.{Micros}
 use Rattle.pl_base.specs.declared.id.IdKind.TheVariants.{Page as PageKind, Visit as VisitKind}
@@ -27,7 +27,7 @@ use Rattle.pl_base.specs.Good.{end_of_ids}
 use Rattle.pl_base.specs.Live.{live_slots}
 use Rattle.pl_base.specs.Marks.{is_hidden, last_date_of, visit_count}
 use Rattle.pl_base.specs.Redirects.{visit_by_id}
-use Rattle.pl_base.specs.Store.{Store, Page, Item, item_id}
+use Rattle.pl_base.specs.Store.{Store, Page, Item, item_id, page_url}
 use Rattle.pl_base.specs.Tags.{is_bookmarked, tag_text}
 use Rattle.pl_base.specs.Removal.{forgotten, without_idle_pages, without_visits}
 use Rattle.pl_base.specs.Title.{cut_title}
@@ -314,11 +314,6 @@ abbrev pub untag_refusal : Store → Option Page → List ℕ → Option Refusal
 untag_refusal store None name = Some NoPage
 untag_refusal store (Some p) name =
     if is_none (tag_entry p.id name store.items) then Some NoTag else None
-
--- the URL of a page
-abbrev pub page_url : Store → PageId → Option (List ℕ)
-page_url store id =
-    option_map (λ (p : Page). p.url) (find (λ (p : Page). p.id.0 == id.0) store.pages)
 
 -- what is listed of an item
 abbrev pub list_row : Store → Item → ListRow

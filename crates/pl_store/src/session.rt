@@ -7,6 +7,7 @@ use crate::pending::Pending;
 use crate::uncounted;
 use pl_base::{NoMemory, Refusal};
 use pl_engine::Engine;
+use pl_nbread::Tree;
 use pl_plain::Flat;
 use pl_step::{Command, Reply};
 
@@ -28,10 +29,22 @@ pub struct Prepared {
 }
 
 impl Session {
-    ghost use Rattle.std.specs.Prelude.{◌≡◌, false, IfOk};
+    ghost use Rattle.std.specs.Prelude.{◌≡◌, ℕ, false, IfOk};
+    ghost use Rattle.pl_engine.specs.Returns.{Returns};
+    ghost use Rattle.pl_nbwrite.specs.Plain.{IsPlain};
+    ghost use Rattle.pl_outline.specs.Outline.{bookmarks};
     ghost use Rattle.pl_step.specs.Step.{HasDates, is_change, perform};
     ghost use Rattle.pl_store.specs.Session.{IsPreparedFrom, session_limit, next_limit, next_store};
     ghost use Rattle.pl_store.specs.Session.{session_store, writes_nothing};
+
+    /// The bookmarks of the store. The file is not read.
+    pub fn tree(&self) -> Result<Tree, NoMemory>
+        ensures tree { IfOk result (λ tree. tree ≡ bookmarks (session_store self.now)) }
+        ensures plain { IfOk result IsPlain }
+        ensures returns { IfOk result (λ tree. (limit : ℕ) → Returns limit tree) }
+    {
+        uncounted::tree(&self.engine)
+    }
 
     /// Performs a command in memory: no call of the file is made. A refusal is a reply, and leaves
     /// nothing to commit, as does a command of a kind that changes nothing. After `NoMemory` the

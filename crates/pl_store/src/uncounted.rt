@@ -2,12 +2,16 @@
 ghost use Rattle.std.specs.Prelude.{◌≡◌, ◌≤◌, ◌<◌, ℕ, List, false, length, IfOk, OnOk};
 ghost use Rattle.pl_base.specs.Rows.{store_of};
 ghost use Rattle.pl_base.specs.Touched.{IsWithin, changed, bytes_before};
+ghost use Rattle.pl_engine.specs.Returns.{Returns};
 ghost use Rattle.pl_form.specs.Form.{StandsFor};
+ghost use Rattle.pl_nbwrite.specs.Plain.{IsPlain};
+ghost use Rattle.pl_outline.specs.Outline.{bookmarks};
 ghost use Rattle.pl_plain.specs.Flat.{IsBase, bytes_of, kept_of};
 ghost use Rattle.pl_step.specs.Step.{HasDates, is_change, perform};
 
 use pl_base::{NoMemory, Refusal, Steps, Touched};
 use pl_engine::Engine;
+use pl_nbread::Tree;
 use pl_plain::Flat;
 use pl_step::{Command, Reply};
 use std::marker::Brand;
@@ -101,4 +105,24 @@ fn touched_with<L: Ledger>(blank: Blank, engine: &mut Engine<Flat>) -> Result<To
     ensures limit { engine.new.limit ≡ engine.old.limit }
 {
     engine.touched(&mut Steps::<L>::none(blank))
+}
+
+/// The bookmarks of the store.
+pub(crate) fn tree(engine: &Engine<Flat>) -> Result<Tree, NoMemory>
+    ensures tree { IfOk result (λ tree. tree ≡ bookmarks (store_of (kept_of engine.now.rows))) }
+    ensures plain { IfOk result IsPlain }
+    ensures returns { IfOk result (λ tree. (limit : ℕ) → Returns limit tree) }
+{
+    tree_with::<Brand>(Blank::new(1), engine)
+}
+
+fn tree_with<L: Ledger>(blank: Blank, engine: &Engine<Flat>) -> Result<Tree, NoMemory>
+    requires name { blank.name ≡ L.name }
+    requires parts { blank.parts ≡ L.parts }
+    requires some { 0 < blank.parts }
+    ensures tree { IfOk result (λ tree. tree ≡ bookmarks (store_of (kept_of engine.now.rows))) }
+    ensures plain { IfOk result IsPlain }
+    ensures returns { IfOk result (λ tree. (limit : ℕ) → Returns limit tree) }
+{
+    engine.tree(&mut Steps::<L>::none(blank))
 }

@@ -3,6 +3,7 @@ ghost use Rattle.std.specs.Prelude.{◌≡◌, ℕ, Some, true, IfOk, IfSome};
 ghost use Rattle.std.specs.Option.{option_and_then, option_map};
 ghost use Rattle.pl_base.specs.Good.{IsGood};
 ghost use Rattle.pl_base.specs.Rows.{has_page, store_of};
+ghost use Rattle.pl_base.specs.Store.{page_url};
 ghost use Rattle.pl_base.specs.Tree.{has_item, item_at};
 ghost use Rattle.pl_history.specs.Sound.{IsSound};
 ghost use Rattle.pl_step.specs.Step as spec;
@@ -21,7 +22,7 @@ fn page_url<R: Rows, L: Ledger>(
 ) -> Result<Option<Txt>, NoMemory>
     requires { IfSome page (λ id. has_page (R.kept rows.now) id ≡ true) }
     ensures { IfOk result (λ url. url
-        ≡ option_and_then (spec.page_url (store_of (R.kept rows.now))) page) }
+        ≡ option_and_then (page_url (store_of (R.kept rows.now))) page) }
 {
     let Some(page) = page else {
         return Ok(None);

@@ -2,7 +2,8 @@ use Rattle.std.proofs.Common.{◌==◌, ◌∙◌, sym}
 use Rattle.pl_base.specs.Store.{Item}
 use Rattle.pl_base.specs.Tree.{item_row}
 use Rattle.pl_marks.proofs.LookUps.{found_where}
-use Rattle.pl_engine.proofs.Listed.{page_there, row_told}
+use Rattle.pl_outline.proofs.PagesTold.{page_there}
+use Rattle.pl_engine.proofs.Listed.{row_told}
 use Rattle.pl_engine.proofs.engine.list.list_row.Goals as goal
 
 pub unwrap-row-requires : goal.unwrap-row-requires

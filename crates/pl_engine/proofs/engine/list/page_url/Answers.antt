@@ -1,8 +1,8 @@
 use Rattle.std.proofs.Common.{◌∙◌, ap, sym}
 use Rattle.std.specs.Option.{option_and_then}
 use Rattle.pl_base.specs.Rows.{store_of}
-use Rattle.pl_step.specs.Step.{page_url}
-use Rattle.pl_engine.proofs.Listed.{url_told}
+use Rattle.pl_base.specs.Store.{page_url}
+use Rattle.pl_outline.proofs.PagesTold.{url_told}
 use Rattle.pl_engine.proofs.engine.list.page_url.Goals as goal
 
 pub returns : goal.returns
