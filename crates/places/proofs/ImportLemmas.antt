@@ -1,7 +1,7 @@
 -- An import from the reading of its input to the reply that is said of it.
 use Rattle.std.specs.Prelude.{⊤, IfErr, IfSome}
 use Rattle.std.specs.Option.{option_map}
-use Rattle.std.proofs.Common.{◌≡◌, ◌⊎◌, ◌<◌, ◌+◌, true, false, ℕ, List, [], ◌∷◌, ◌++◌, length, take}
+use Rattle.std.proofs.Common.{◌≡◌, ◌<◌, ◌+◌, true, false, ℕ, List, [], ◌∷◌, ◌++◌, length, take}
 use Rattle.std.proofs.Common.{Some, None, Option, Result, Ok, Err, refl, ap, sym, subst, ◌∙◌, append_assoc, append-nil}
 use Rattle.std.proofs.Common.{arith, inl, inr, length-append, ⊎_elim}
 use Rattle.std.proofs.lemmas.Option.{MatchOption-at_some, same_Some}
@@ -36,7 +36,8 @@ use Rattle.places.specs.declared.answer_error.AnswerError.{AnswerError}
 use Rattle.places.specs.declared.answer_error.AnswerError.TheVariants as answer
 use Rattle.places.specs.declared.status.Status.{Status}
 use Rattle.places.specs.declared.status.Status.TheVariants as status
-use Rattle.places.specs.Ending.{MayEnd}
+use Rattle.places.specs.declared.task.Task.TheVariants as tasks
+use Rattle.places.specs.Ending.{EndsTask}
 use Rattle.places.specs.Importing.{EndsImport, Imports, IsTaken, LeavesRead, LeavesStart, ReadsFront, ShowsImport}
 use Rattle.places.specs.Importing.{StopsCommit, StopsImport, StopsParsing, StopsReading, after_import, import_of}
 use Rattle.places.specs.Importing.{import_text}
@@ -348,33 +349,30 @@ device_as answer.NoMemory before after counted =
     stood before after (λ same. absurd (cc)) (counted.stands (λ same. absurd (cc)))
 
 -- how an import may stop
-some_import : (s : Status) → StopsImport s → MayEnd ⊥ ⊥ ⊥ ⊤ s × (s ≡ status.NotAStore → ⊥)
+some_import : (s : Status) → StopsImport s → EndsTask tasks.Import s × (s ≡ status.NotAStore → ⊥)
 some_import s stops =
-    ⊎_elim reading (⊎_elim (λ none. turned (sym none.1) (tt, λ same. absurd (cc))) commit) stops
+    ⊎_elim reading (⊎_elim (λ none. turned (sym none.1) (refl, λ same. absurd (cc))) commit) stops
   where
-    turned : {t : Status} → t ≡ s → MayEnd ⊥ ⊥ ⊥ ⊤ t × (t ≡ status.NotAStore → ⊥)
-        → MayEnd ⊥ ⊥ ⊥ ⊤ s × (s ≡ status.NotAStore → ⊥)
-    turned {t} is may = subst (λ (u : Status). MayEnd ⊥ ⊥ ⊥ ⊤ u × (u ≡ status.NotAStore → ⊥)) is may
+    turned : {t : Status} → t ≡ s → EndsTask tasks.Import t × (t ≡ status.NotAStore → ⊥)
+        → EndsTask tasks.Import s × (s ≡ status.NotAStore → ⊥)
+    turned {t} is may = subst (λ (u : Status). EndsTask tasks.Import u × (u ≡ status.NotAStore → ⊥)) is may
 
-    any : ⊥ ⊎ ⊥ ⊎ ⊥ ⊎ ⊤
-    any = inr (inr (inr tt))
-
-    reading : StopsReading s → MayEnd ⊥ ⊥ ⊥ ⊤ s × (s ≡ status.NotAStore → ⊥)
+    reading : StopsReading s → EndsTask tasks.Import s × (s ≡ status.NotAStore → ⊥)
     reading =
-        ⊎_elim (λ is. turned (sym is) (inr (inr tt), λ same. absurd (cc)))
-        (⊎_elim (λ is. turned (sym is) (any, λ same. absurd (cc)))
-        (λ is. turned (sym is) (inr (refl, tt), λ same. absurd (cc))))
+        ⊎_elim (λ is. turned (sym is) (refl, λ same. absurd (cc)))
+        (⊎_elim (λ is. turned (sym is) (tt, λ same. absurd (cc)))
+        (λ is. turned (sym is) (refl, λ same. absurd (cc))))
 
-    commit : StopsCommit s → MayEnd ⊥ ⊥ ⊥ ⊤ s × (s ≡ status.NotAStore → ⊥)
+    commit : StopsCommit s → EndsTask tasks.Import s × (s ≡ status.NotAStore → ⊥)
     commit =
-        ⊎_elim (λ is. turned (sym is) (any, λ same. absurd (cc)))
-        (⊎_elim (λ is. turned (sym is) (any, λ same. absurd (cc)))
-        (⊎_elim (λ is. turned (sym is) (any, λ same. absurd (cc)))
-        (λ refused. turned (sym refused.1) (tt, λ same. absurd (cc)))))
+        ⊎_elim (λ is. turned (sym is) (tt, λ same. absurd (cc)))
+        (⊎_elim (λ is. turned (sym is) (tt, λ same. absurd (cc)))
+        (⊎_elim (λ is. turned (sym is) (tt, λ same. absurd (cc)))
+        (λ refused. turned (sym refused.1) (refl, λ same. absurd (cc)))))
 
 -- an import's run may end so, and never as a file that is no store
-pub import_may_end : (end : Result ⊤ Status) → IfErr end StopsImport → MayEnd ⊥ ⊥ ⊥ ⊤ (done_or end)
-import_may_end (Ok done) stops = inr (inr (inr tt))
+pub import_may_end : (end : Result ⊤ Status) → IfErr end StopsImport → EndsTask tasks.Import (done_or end)
+import_may_end (Ok done) stops = tt
 import_may_end (Err s) stops = (some_import s stops).0
 
 pub import_opened : (end : Result ⊤ Status) → IfErr end StopsImport → done_or end ≡ status.NotAStore → ⊥

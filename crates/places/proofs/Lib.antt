@@ -1,7 +1,9 @@
 mod AnswerCounts
 mod AnswerLemmas
+mod DrillLemmas
 mod EndingLemmas
 mod EntryLemmas
+mod ExportLemmas
 mod ImportLemmas
 mod LineLemmas
 mod LongLines

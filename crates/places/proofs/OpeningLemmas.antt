@@ -1,9 +1,8 @@
 -- The ends of a run by its status, and the runs that have no store to begin with.
-use Rattle.std.specs.Prelude.{⊤, codes}
-use Rattle.std.proofs.Common.{◌≡◌, ◌⊎◌, ◌≤◌, ◌<◌, Bool, true, false, ℕ, List, [], ◌∷◌, ◌++◌, append_assoc, take}
-use Rattle.std.proofs.Common.{length, map, slice_index_or, Bor, arith, Some, Option, Result, Ok, Err, refl, ap, sym}
+use Rattle.std.specs.Prelude.{⊤, IsSome, IsTrue}
+use Rattle.std.proofs.Common.{◌≡◌, ◌≤◌, ◌<◌, Bool, true, false, ℕ, List, [], ◌∷◌, ◌++◌, append_assoc, take}
+use Rattle.std.proofs.Common.{length, arith, Some, Option, Result, Ok, Err, refl, ap, sym}
 use Rattle.std.proofs.Common.{subst, ◌∙◌, append-nil, inl, inr, ⊎_elim}
-use Rattle.std.proofs.lemmas.List.{length-map}
 use Rattle.std.proofs.lemmas.Option.{MatchOption-at_some, same_Some}
 use Rattle.pl_base.specs.Store.{Store, opening}
 use Rattle.pl_base.specs.Live.{slot_limit}
@@ -28,11 +27,15 @@ use Rattle.places.specs.declared.status.Status.{Status}
 use Rattle.places.specs.declared.status.Status.TheVariants as status
 use Rattle.places.specs.declared.stop.Stop.{Stop}
 use Rattle.places.specs.declared.stop.Stop.TheVariants as stop
-use Rattle.places.specs.Ending.{BeginsWith, EndsScript, IsImport, LeavesAtEnd, LeavesWithin, MayEnd, SaysFront}
+use Rattle.places.specs.declared.task.Task.{Task}
+use Rattle.places.specs.declared.task.Task.TheVariants as tasks
+use Rattle.places.specs.Ending.{BeginsWith, EndsScript, EndsTask, IsHeld, LeavesAtEnd, LeavesWithin, SaysFront}
+use Rattle.places.specs.Limits.{script_limit}
 use Rattle.places.specs.Progress.{HasRead, entries_read}
 use Rattle.places.specs.Said.{Says, SaysOfAnswer, SaysPart, SaysUntil, SaysWhole, texts}
 use Rattle.places.specs.Status.{EndsAs, without_session}
 use Rattle.places.specs.Stops.{LeavesAtEntry, LeavesOfAnswer, ShowsAnswered, ShowsUnopened}
+use Rattle.places.specs.Task.{input_limit, opens_store}
 use Rattle.places.proofs.ProgressLemmas.{replies-append}
 use Rattle.places.proofs.StopLemmas.{shows_nothing}
 
@@ -148,24 +151,18 @@ says_at_end desk (status.NotBookmarks at) kind first start bytes before left now
 says_at_end desk (status.ImportRefused refusal) kind first start bytes before left now leaves = leaves
 says_at_end desk (status.TooLong limit) kind first start bytes before left now leaves = (leaves.says, leaves.read)
 
--- a script's run, of words that ask for one, and an opening that ends without a store
-pub script_may_end : (try_ new_ run_ import_ : Type 0) (end : Result ⊤ Stop) (s : Status) → try_ ⊎ run_ → EndsAs end s
-    → MayEnd try_ new_ run_ import_ s
-script_may_end try_ new_ run_ import_ end s asked is = at end is
+-- a script's run, of a task that reads a script
+pub script_may_end : (task : Task) (end : Result ⊤ Stop) (s : Status) → input_limit task ≡ Some script_limit
+    → EndsAs end s → EndsTask task s
+script_may_end task end s reads is = at end is
   where
-    some : try_ ⊎ new_ ⊎ run_ ⊎ import_
-    some = ⊎_elim (λ x. inl x) (λ x. inr (inr (inl x))) asked
-
-    reads : try_ ⊎ run_ ⊎ import_
-    reads = ⊎_elim (λ x. inl x) (λ x. inr (inl x)) asked
-
-    at : (end : Result ⊤ Stop) → EndsAs end s → MayEnd try_ new_ run_ import_ s
-    at (Ok done) is = subst (MayEnd try_ new_ run_ import_) (sym is) some
-    at (Err stop.ReadFault) is = subst (MayEnd try_ new_ run_ import_) (sym is) reads
-    at (Err stop.SayFault) is = subst (MayEnd try_ new_ run_ import_) (sym is) some
-    at (Err stop.DeviceFault) is = subst (MayEnd try_ new_ run_ import_) (sym is) some
-    at (Err stop.NoMemory) is = subst (MayEnd try_ new_ run_ import_) (sym is) some
-    at (Err stop.TooLong) is = subst (MayEnd try_ new_ run_ import_) (sym is) (inl (refl, asked))
+    at : (end : Result ⊤ Stop) → EndsAs end s → EndsTask task s
+    at (Ok done) is = subst (EndsTask task) (sym is) tt
+    at (Err stop.ReadFault) is = subst (EndsTask task) (sym is) (subst IsSome (sym reads) refl)
+    at (Err stop.SayFault) is = subst (EndsTask task) (sym is) tt
+    at (Err stop.DeviceFault) is = subst (EndsTask task) (sym is) tt
+    at (Err stop.NoMemory) is = subst (EndsTask task) (sym is) tt
+    at (Err stop.TooLong) is = subst (EndsTask task) (sym is) reads
 
 pub no_refusal : (end : Result ⊤ Stop) (s : Status) → EndsAs end s → s ≡ status.NotAStore → ⊥
 no_refusal (Ok done) s is at = absurd (cc)
@@ -175,51 +172,14 @@ no_refusal (Err stop.DeviceFault) s is at = absurd (cc)
 no_refusal (Err stop.NoMemory) s is at = absurd (cc)
 no_refusal (Err stop.TooLong) s is at = absurd (cc)
 
--- what may end by the words for one thing may end by words for more
-pub may_end_more : (t n r i t' n' r' i' : Type 0) (s : Status) → (t → t') → (n → n') → (r → r') → (i → i')
-    → MayEnd t n r i s → t ⊎ n ⊎ r ⊎ i → MayEnd t' n' r' i' s
-may_end_more t n r i t' n' r' i' s on_try on_new on_run on_import = at s
-  where
-    some : t ⊎ n ⊎ r ⊎ i → t' ⊎ n' ⊎ r' ⊎ i'
-    some =
-        ⊎_elim (λ x. inl (on_try x))
-        (⊎_elim (λ x. inr (inl (on_new x)))
-        (⊎_elim (λ x. inr (inr (inl (on_run x)))) (λ x. inr (inr (inr (on_import x))))))
-
-    reads : t ⊎ r ⊎ i → t' ⊎ r' ⊎ i'
-    reads =
-        ⊎_elim (λ x. inl (on_try x)) (⊎_elim (λ x. inr (inl (on_run x))) (λ x. inr (inr (on_import x))))
-
-    script_ : t ⊎ r → t' ⊎ r'
-    script_ = ⊎_elim (λ x. inl (on_try x)) (λ x. inr (on_run x))
-
-    file_ : r ⊎ i → r' ⊎ i'
-    file_ = ⊎_elim (λ x. inl (on_run x)) (λ x. inr (on_import x))
-
-    at : (s : Status) → MayEnd t n r i s → t ⊎ n ⊎ r ⊎ i → MayEnd t' n' r' i' s
-    at status.Done may asked = some may
-    at status.Usage may asked = absurd (may asked)
-    at status.ReadFault may asked = reads may
-    at status.SayFault may asked = some may
-    at status.DeviceFault may asked = some may
-    at status.NoMemory may asked = some may
-    at status.NotAStore may asked = file_ may
-    at (status.NotEmpty len) may asked = on_new may
-    at (status.NotBookmarks offset) may asked = on_import may
-    at (status.TooLong limit) may asked =
-        ⊎_elim (λ ended_. inl (ended_.0, script_ ended_.1)) (λ ended_. inr (ended_.0, on_import ended_.1)) may
-    at (status.ImportRefused refusal) may asked = on_import may
-
-pub opening_may_end : (try_ new_ run_ import_ : Type 0) → run_ ⊎ import_
+-- an opening that ends without a store, of a task that opens one
+pub opening_may_end : (task : Task) → IsTrue (opens_store task)
     → {D : Type 0} (desk : Ghosts D) (limit : ℕ) (e : Ended) (s : Status) (old new : D) → s ≡ without_session e
-    → Opens desk limit (Err e) old new → MayEnd try_ new_ run_ import_ s
-opening_may_end try_ new_ run_ import_ asked desk limit ended.DeviceFault s old new is opens =
-    subst (MayEnd try_ new_ run_ import_) (sym is) (inr (inr asked))
-opening_may_end try_ new_ run_ import_ asked desk limit ended.NoMemory s old new is opens =
-    subst (MayEnd try_ new_ run_ import_) (sym is) (inr (inr asked))
-opening_may_end try_ new_ run_ import_ asked desk limit ended.NotAStore s old new is opens =
-    subst (MayEnd try_ new_ run_ import_) (sym is) asked
-opening_may_end try_ new_ run_ import_ asked desk limit (ended.NotEmpty n) s old new is opens = absurd opens
+    → Opens desk limit (Err e) old new → EndsTask task s
+opening_may_end task asked desk limit ended.DeviceFault s old new is opens = subst (EndsTask task) (sym is) tt
+opening_may_end task asked desk limit ended.NoMemory s old new is opens = subst (EndsTask task) (sym is) tt
+opening_may_end task asked desk limit ended.NotAStore s old new is opens = subst (EndsTask task) (sym is) asked
+opening_may_end task asked desk limit (ended.NotEmpty n) s old new is opens = absurd opens
 
 -- ---- no store to begin with
 
@@ -306,70 +266,14 @@ module _ {D : Type 0} (desk : Ghosts D) where
       settles =
       absurd opens
 
--- ---- words
+-- ---- the store that a script begins with
 
-abbrev first_word : List (List ℕ) → List ℕ
-first_word [] = []
-first_word (word ∷ words) = word
+pub begins_in_memory : (held : Option (List ℕ)) (kind : Bool) (start : Store)
+    → BeginsWith (Some tasks.Try) held kind start → (kind ≡ false) × (start ≡ opening)
+begins_in_memory held kind start (inl begins) = (begins.1, begins.2)
+begins_in_memory held kind start (inr begins) = absurd (cc)
 
-abbrev first_byte : List ℕ → ℕ
-first_byte [] = 0
-first_byte (byte ∷ bytes) = byte
-
--- two words of which the first is this one
-pub two_words : (words : List (Bor (List ℕ))) (first : List ℕ) (d : Bor (List ℕ)) → 2 ≤ length words → length words < 3
-    → (slice_index_or words 0 d).now ≡ first → (path : List ℕ) × (map (λ word. word.now) words ≡ first ∷ path ∷ [])
-two_words [] first d some few is = absurd (omega arith)
-two_words (a ∷ []) first d some few is = absurd (omega arith)
-two_words (a ∷ b ∷ []) first d some few is = (b.now, ap (λ (w : List ℕ). w ∷ b.now ∷ []) is)
-two_words (a ∷ b ∷ c ∷ more) first d some few is = absurd (omega arith)
-
--- one word begins a script in memory, and two one on a file
-pub begins_in_memory : (words : List (Bor (List ℕ))) (held : Option (List ℕ)) (kind : Bool) (start : Store)
-    → length words < 2 → BeginsWith (map (λ word. word.now) words) held kind start → (kind ≡ false) × (start ≡ opening)
-begins_in_memory words held kind start few (inl begins) = (begins.1, begins.2)
-begins_in_memory words held kind start few (inr begins) =
-    absurd (omega (arith, few, ap length begins.0.1, length-map words (λ (word : Bor (List ℕ)). word.now)))
-
-pub begins_on_file : (words : List (Bor (List ℕ))) (held : Option (List ℕ)) (kind : Bool) (start : Store)
-    → 2 ≤ length words → BeginsWith (map (λ word. word.now) words) held kind start
-    → (kind ≡ true) × ((file : List ℕ) × (held ≡ Some file) × Stands file start)
-begins_on_file words held kind start some (inl begins) =
-    absurd (omega (arith, some, ap length begins.0, length-map words (λ (word : Bor (List ℕ)). word.now)))
-begins_on_file words held kind start some (inr begins) = (begins.1, begins.2)
-
--- two words begin no script whose first is not `run`, nor do more words
-pub other_begins_none : (words : List (List ℕ)) (held : Option (List ℕ)) (kind : Bool) (start : Store)
-    (word path : List ℕ) → words ≡ word ∷ path ∷ [] → (word ≡ codes "run" → ⊥) → BeginsWith words held kind start → ⊥
-other_begins_none words held kind start word path is other (inl begins) = omega (arith, ap length (sym is ∙ begins.0))
-other_begins_none words held kind start word path is other (inr begins) =
-    other (ap first_word (sym is ∙ begins.0.1))
-
-pub no_script_words : (words : List (Bor (List ℕ))) (held : Option (List ℕ)) (kind : Bool) (start : Store)
-    → 3 ≤ length words → BeginsWith (map (λ word. word.now) words) held kind start → ⊥
-no_script_words words held kind start many (inl begins) =
-    omega (arith, many, ap length begins.0, length-map words (λ (word : Bor (List ℕ)). word.now))
-no_script_words words held kind start many (inr begins) =
-    omega (arith, many, ap length begins.0.1, length-map words (λ (word : Bor (List ℕ)). word.now))
-
--- words ask for no import that are not two, or begin with another word
-pub no_import : (words : List (Bor (List ℕ))) → (length words ≡ 2 → ⊥) → IsImport (map (λ word. word.now) words) → ⊥
-no_import words other is =
-    other (sym (length-map words (λ (word : Bor (List ℕ)). word.now)) ∙ ap length is.1)
-
-pub other_imports_none : (words : List (List ℕ)) (word path : List ℕ) → words ≡ word ∷ path ∷ []
-    → (word ≡ codes "import" → ⊥) → IsImport words → ⊥
-other_imports_none words word path is other imports = other (ap first_word (sym is ∙ imports.1))
-
--- words that differ
-pub new_not_run : codes "new" ≡ codes "run" → ⊥
-new_not_run is = omega (arith, ap (λ (w : List ℕ). first_byte w) is)
-
-pub import_not_run : codes "import" ≡ codes "run" → ⊥
-import_not_run is = omega (arith, ap (λ (w : List ℕ). first_byte w) is)
-
-pub new_not_import : codes "new" ≡ codes "import" → ⊥
-new_not_import is = omega (arith, ap (λ (w : List ℕ). first_byte w) is)
-
-pub run_not_import : codes "run" ≡ codes "import" → ⊥
-run_not_import is = omega (arith, ap (λ (w : List ℕ). first_byte w) is)
+pub begins_on_file : (held : Option (List ℕ)) (kind : Bool) (start : Store)
+    → BeginsWith (Some tasks.Run) held kind start → (kind ≡ true) × IsHeld held start
+begins_on_file held kind start (inl begins) = absurd (cc)
+begins_on_file held kind start (inr begins) = (begins.1, begins.2)

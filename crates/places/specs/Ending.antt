@@ -1,15 +1,13 @@
 -- What a run leaves at each of its ends, where the source and the desk tell their content.
-use Rattle.std.specs.Prelude.{◌≡◌, ◌⊎◌, ℕ, Bool, true, false, ◌<◌, List, [], ◌∷◌, ◌++◌, map}
+use Rattle.std.specs.Prelude.{◌≡◌, ◌⊎◌, ⊤, ℕ, Bool, true, false, ◌<◌, List, [], ◌++◌}
 use Rattle.std.specs.Prelude.{codes, length, take}
-use Rattle.std.specs.Prelude.{Option, Some}
-use denote.Ref.{Bor}
+use Rattle.std.specs.Prelude.{IsSome, IsTrue, Option, Some, None}
 use Rattle.pl_base.specs.Store.{Store, opening}
 use Rattle.pl_base.specs.Live.{slot_limit}
 use Rattle.pl_desk.specs.Calls.{KeepsFile, LeavesNoMore}
 use Rattle.pl_desk.specs.Shown.{Rests}
 use Rattle.pl_desk.specs.declared.desk.Desk as desks
 use Rattle.pl_desk.specs.declared.source.Source as sources
-use Rattle.pl_nbread.specs.BookmarkFile.{file_limit}
 use Rattle.pl_step.specs.Run.{replies, after}
 use Rattle.pl_store.specs.Ending.{FindsBytes, IsFinished, SparesBytes}
 use Rattle.pl_store.specs.Keeper.{Keeps}
@@ -21,10 +19,13 @@ use Rattle.places.specs.declared.status.Status.{Status}
 use Rattle.places.specs.declared.status.Status.TheVariants as status
 use Rattle.places.specs.declared.stop.Stop.{Stop}
 use Rattle.places.specs.declared.stop.Stop.TheVariants as stop
+use Rattle.places.specs.declared.task.Task.{Task}
+use Rattle.places.specs.declared.task.Task.TheVariants as tasks
 use Rattle.places.specs.Limits.{script_limit}
 use Rattle.places.specs.Progress.{HasRead, ended_entries, entries_read}
 use Rattle.places.specs.Said.{Says, SaysUntil, texts}
 use Rattle.places.specs.Stops.{LeavesAtEntry}
+use Rattle.places.specs.Task.{input_limit, opens_store}
 
 -- how an answer's error stops a run
 abbrev pub Becomes : AnswerError → Stop → Type 0
@@ -32,49 +33,37 @@ Becomes answer.SayFault e = e ≡ stop.SayFault
 Becomes answer.DeviceFault e = e ≡ stop.DeviceFault
 Becomes answer.NoMemory e = e ≡ stop.NoMemory
 
--- ---- words
+-- ---- tasks
 
--- the bytes of the words
-abbrev pub spelled : List (Bor (List ℕ)) → List (List ℕ)
-spelled words = map (λ word. word.now) words
+-- which tasks may end so
+abbrev pub EndsTask : Task → Status → Type 0
+EndsTask task status.Done = ⊤
+EndsTask task status.Usage = ⊥
+EndsTask task status.ReadFault = IsSome (input_limit task)
+EndsTask task status.SayFault = ⊤
+EndsTask task status.DeviceFault = ⊤
+EndsTask task status.NoMemory = ⊤
+EndsTask task status.NotAStore = IsTrue (opens_store task)
+EndsTask task (status.NotEmpty len) = task ≡ tasks.New
+EndsTask task (status.NotBookmarks at) = task ≡ tasks.Import
+EndsTask task (status.TooLong limit) = input_limit task ≡ Some limit
+EndsTask task (status.ImportRefused refusal) = task ≡ tasks.Import
 
--- `try` alone
-abbrev pub IsTry : List (List ℕ) → Type 0
-IsTry words = words ≡ codes "try" ∷ []
+-- which words may end so, by what they ask for
+abbrev pub MayEnd : Option Task → Status → Type 0
+MayEnd None s = s ≡ status.Usage
+MayEnd (Some task) s = EndsTask task s
 
--- `new` with the name of a file
-abbrev pub IsNew : List (List ℕ) → Type 0
-IsNew words = (path : List ℕ) × (words ≡ codes "new" ∷ path ∷ [])
-
--- `run` with the name of a file
-abbrev pub IsRun : List (List ℕ) → Type 0
-IsRun words = (path : List ℕ) × (words ≡ codes "run" ∷ path ∷ [])
-
--- `import` with the name of a file
-abbrev pub IsImport : List (List ℕ) → Type 0
-IsImport words = (path : List ℕ) × (words ≡ codes "import" ∷ path ∷ [])
-
--- which words may end so, where these are what `try`, `new`, `run` and `import` ask for
-abbrev pub MayEnd : (try_ new_ run_ import_ : Type 0) → Status → Type 0
-MayEnd try_ new_ run_ import_ status.Done = try_ ⊎ new_ ⊎ run_ ⊎ import_
-MayEnd try_ new_ run_ import_ status.Usage = (try_ ⊎ new_ ⊎ run_ ⊎ import_) → ⊥
-MayEnd try_ new_ run_ import_ status.ReadFault = try_ ⊎ run_ ⊎ import_
-MayEnd try_ new_ run_ import_ status.SayFault = try_ ⊎ new_ ⊎ run_ ⊎ import_
-MayEnd try_ new_ run_ import_ status.DeviceFault = try_ ⊎ new_ ⊎ run_ ⊎ import_
-MayEnd try_ new_ run_ import_ status.NoMemory = try_ ⊎ new_ ⊎ run_ ⊎ import_
-MayEnd try_ new_ run_ import_ status.NotAStore = run_ ⊎ import_
-MayEnd try_ new_ run_ import_ (status.NotEmpty len) = new_
-MayEnd try_ new_ run_ import_ (status.NotBookmarks at) = import_
-MayEnd try_ new_ run_ import_ (status.TooLong limit) =
-    ((limit ≡ script_limit) × (try_ ⊎ run_)) ⊎ ((limit ≡ file_limit) × import_)
-MayEnd try_ new_ run_ import_ (status.ImportRefused refusal) = import_
+-- a read of the file gives bytes that stand for the store
+abbrev pub IsHeld : Option (List ℕ) → Store → Type 0
+IsHeld held start = (file : List ℕ) × (held ≡ Some file) × Stands file start
 
 -- A script is run from this store on: `try` from the store before its first command, `run` from the
 -- store that a read of the file gives; the second is kept in a file.
-abbrev pub BeginsWith : List (List ℕ) → Option (List ℕ) → Bool → Store → Type 0
-BeginsWith words held is_file start =
-    (IsTry words × (is_file ≡ false) × (start ≡ opening))
-    ⊎ (IsRun words × (is_file ≡ true) × ((file : List ℕ) × (held ≡ Some file) × Stands file start))
+abbrev pub BeginsWith : Option Task → Option (List ℕ) → Bool → Store → Type 0
+BeginsWith task held is_file start =
+    ((task ≡ Some tasks.Try) × (is_file ≡ false) × (start ≡ opening))
+    ⊎ ((task ≡ Some tasks.Run) × (is_file ≡ true) × IsHeld held start)
 
 -- the word of `new`
 abbrev pub made_text : List ℕ
@@ -89,10 +78,10 @@ IfTold left said P =
 
 -- P of the store that a script is run from, whether it is kept in a file, and of these two
 abbrev pub OfScript : {S D : Type 0} (source : sources.Ghosts S) (desk : desks.Ghosts D)
-    → List (List ℕ) → S → D
+    → Option Task → S → D
     → (Bool → Store → List ℕ → List ℕ → Type 0) → Type 0
-OfScript source desk words input now P =
-    (is_file : Bool) (start : Store) → BeginsWith words (desk.held now) is_file start
+OfScript source desk task input now P =
+    (is_file : Bool) (start : Store) → BeginsWith task (desk.held now) is_file start
     → IfTold (source.left input) (desk.said now) (P is_file start)
 
 -- the input was read to its end, and the texts of all replies were said

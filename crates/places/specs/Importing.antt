@@ -19,7 +19,9 @@ use Rattle.pl_store.specs.Keeper.{Keeps, LeavesEither}
 use Rattle.pl_store.specs.Session.{Stands}
 use Rattle.places.specs.declared.status.Status.{Status}
 use Rattle.places.specs.declared.status.Status.TheVariants as status
-use Rattle.places.specs.Ending.{IfTold, IsImport, LeavesUnopened}
+use Rattle.places.specs.declared.task.Task.{Task}
+use Rattle.places.specs.declared.task.Task.TheVariants as tasks
+use Rattle.places.specs.Ending.{IfTold, IsHeld, LeavesUnopened}
 
 -- ---- what is asked for
 
@@ -58,10 +60,9 @@ pub record ReadsFront (HasLength : ℕ → Type 0) (bytes : List ℕ) (left : Op
 
 -- P of the store that the file stands for at the start, of the input, and of what was said before
 abbrev pub OfImport : {S D : Type 0} (source : sources.Ghosts S) (desk : desks.Ghosts D)
-    → List (List ℕ) → S → D → (Store → List ℕ → List ℕ → Type 0) → Type 0
-OfImport source desk words input now P =
-    IsImport words → (file : List ℕ) (start : Store) → desk.held now ≡ Some file
-    → Stands file start
+    → Option Task → S → D → (Store → List ℕ → List ℕ → Type 0) → Type 0
+OfImport source desk task input now P =
+    task ≡ Some tasks.Import → (start : Store) → IsHeld (desk.held now) start
     → IfTold (source.left input) (desk.said now) (P start)
 
 -- ---- how the steps of it stop

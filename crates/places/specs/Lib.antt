@@ -1,4 +1,6 @@
+pub mod Drilling
 pub mod Ending
+pub mod Exporting
 pub mod Importing
 pub mod Limits
 pub mod Lines
@@ -6,3 +8,4 @@ pub mod Progress
 pub mod Said
 pub mod Status
 pub mod Stops
+pub mod Task

@@ -1,5 +1,5 @@
 // The bookmarks of the input, imported into the store of the file.
-ghost use Rattle.std.specs.Prelude.{◌≡◌, ◌<◌, ⊤, ℕ, List, Some, None, [], Err, length, true, IfOk};
+ghost use Rattle.std.specs.Prelude.{◌≡◌, ◌<◌, ℕ, List, Some, None, [], Err, length, true, IfOk};
 ghost use Rattle.std.specs.Prelude.{IfErr};
 ghost use Rattle.pl_base.specs.Live.{slot_limit};
 ghost use Rattle.pl_base.specs.Store.{Store};
@@ -13,7 +13,7 @@ ghost use Rattle.pl_step.specs.Step.{HasDates};
 ghost use Rattle.pl_store.specs.Ending.{KeepsFinished, RefusesFile, StandsForNone};
 ghost use Rattle.pl_store.specs.Keeper.{IsKept, is_file, keeper_limit, keeper_store};
 ghost use Rattle.pl_store.specs.Session.{Stands};
-ghost use Rattle.places.specs.Ending.{EndsUnopened, IfTold, MayEnd};
+ghost use Rattle.places.specs.Ending.{EndsTask, EndsUnopened, IfTold};
 ghost use Rattle.places.specs.Importing.{EndsImport, Imports, LeavesRead, ShowsImport, StopsCommit};
 ghost use Rattle.places.specs.Importing.{StopsImport, StopsParsing, StopsReading};
 ghost use Rattle.places.specs.Status.{done_or};
@@ -22,6 +22,7 @@ ghost use Rattle.places.specs.Stops.{ShowsUnopened};
 use crate::answer::conclude;
 use crate::input::{PIECE, next_piece};
 use crate::status::Status;
+use crate::task::Task;
 use pl_desk::{Desk, Source};
 use pl_nbread::{FILE_LIMIT, ReadError, Tree, read};
 use pl_step::{Command, Reply};
@@ -30,7 +31,7 @@ use std::alloc::Global;
 
 /// Imports the bookmark file that the input holds into the store that the desk's file stands for.
 pub fn import_stored<S: Source, D: Desk>(alloc: Global, input: &mut S, desk: &mut D) -> Status
-    ensures status { MayEnd ⊥ ⊥ ⊥ ⊤ result }
+    ensures status { EndsTask Task.Import result }
     ensures ends { (file : List ℕ) (start : Store) → D.held desk.old ≡ Some file → Stands file start
         → IfTold (S.left input.old) (D.said desk.old) (λ bytes before.
         EndsImport D.Desk result desk.old start bytes before (S.left input.new) desk.new) }

@@ -7,6 +7,8 @@
 
 mod answer;
 mod answer_error;
+mod drill;
+mod export;
 mod import;
 mod input;
 mod make_store;
@@ -16,37 +18,45 @@ mod script;
 mod script_run;
 mod status;
 mod stop;
+mod task;
 
-ghost use Rattle.std.specs.Prelude.{◌≡◌, ◌⊎◌, ℕ, List, Some};
+ghost use Rattle.std.specs.Prelude.{◌≡◌, ℕ, List, Some, None, true};
 ghost use Rattle.pl_base.specs.Live.{slot_limit};
 ghost use Rattle.pl_desk.specs.Calls.{LeavesFile};
 ghost use Rattle.pl_desk.specs.Counts.{CountsAt};
 ghost use Rattle.pl_desk.specs.Settling.{ShowsThen};
 ghost use Rattle.pl_store.specs.Ending.{KeepsFinished, RefusesFile, StandsForNone};
 ghost use Rattle.pl_script.specs.Script.{script};
-ghost use Rattle.places.specs.Ending.{EndsNew, EndsScript, EndsUnopened, IsImport, IsNew, IsRun};
-ghost use Rattle.places.specs.Ending.{IsTry, LeavesAtEnd, MayEnd, OfScript, spelled};
+ghost use Rattle.places.specs.Drilling.{EndsDrill, OfDrill, ShowsDrill};
+ghost use Rattle.places.specs.Ending.{EndsNew, EndsScript, EndsUnopened, LeavesAtEnd, MayEnd};
+ghost use Rattle.places.specs.Ending.{OfScript};
+ghost use Rattle.places.specs.Exporting.{ComesBack, EndsExport, OfExport, ShowsExport};
 ghost use Rattle.places.specs.Importing.{EndsImport, OfImport, ShowsImport};
 ghost use Rattle.places.specs.Stops.{ShowsAnswered, ShowsUnopened};
+ghost use Rattle.places.specs.Task.{asked_of, input_limit, opens_store};
 
+use crate::drill::drill_stored;
+use crate::export::export_stored;
 use crate::import::import_stored;
 use crate::make_store::make_store;
 use crate::script::{run_stored, try_script};
 use pl_desk::{Desk, Source};
 pub use status::Status;
 use std::alloc::Global;
+pub use task::Task;
 
 /// Runs what the words ask for. `new` writes the store before its first command into the desk's
 /// file, and says `new`. `run` runs the script of the input on the store that the file holds, and
 /// `try` on a store in memory, of which the desk's file knows nothing; both say the reply to each
 /// line as it comes, and the file of `run` holds a command before a byte of its reply is said.
 /// `import` puts the bookmark file of the input into the store that the file holds, as one command,
-/// and says its reply. `NoMemory` may come at any place: then nothing of its command was said or is
-/// in the file.
+/// and says its reply. `export` says the bookmark file of the store that the file holds. `drill` runs
+/// a line that says the day and so many generated ones, each committed as those of `run` are, and
+/// says a summary once the file holds them all. `NoMemory` may come at any place: then nothing of its
+/// command was said or is in the file.
 pub fn run<S: Source, D: Desk>(alloc: Global, words: &[&str], input: &mut S, desk: &mut D) -> Status
     // Which words may end so. Others are refused, and then nothing is called.
-    ensures status { MayEnd (IsTry (spelled words.now)) (IsNew (spelled words.now))
-        (IsRun (spelled words.now)) (IsImport (spelled words.now)) result }
+    ensures status { MayEnd (asked_of words.now) result }
     ensures untouched { result ≡ Status.Usage → (input.new ≡ input.old) × (desk.new ≡ desk.old) }
 
     // Where the source and the desk tell their content: at Done everything was read, and what was
@@ -54,13 +64,13 @@ pub fn run<S: Source, D: Desk>(alloc: Global, words: &[&str], input: &mut S, des
     // the limit of a script, leave the lines answered that ended within what was read. A line that
     // fails leaves the texts of the first replies to what was read said, and a front of the next; a
     // file that fails and want of memory leave whole texts.
-    ensures replies { OfScript S.Source D.Desk (spelled words.now) input.old desk.old
+    ensures replies { OfScript S.Source D.Desk (asked_of words.now) input.old desk.old
         (λ is_file start bytes before.
         EndsScript result start bytes before (S.left input.new) (D.said desk.new)) }
     // What the file holds at each status, beside what was said then. The store is the one that a
     // read of the file gives at the start, whichever others a stop might have left: the first sync
     // settles the file. The file of `try` is one that a stop might have left before it.
-    ensures ends { OfScript S.Source D.Desk (spelled words.now) input.old desk.old
+    ensures ends { OfScript S.Source D.Desk (asked_of words.now) input.old desk.old
         (λ is_file start bytes before.
         LeavesAtEnd D.Desk result is_file desk.old start bytes before (S.left input.new) desk.new) }
     // A stop before the file is settled shows nothing said, and a file that a stop might have left
@@ -68,36 +78,61 @@ pub fn run<S: Source, D: Desk>(alloc: Global, words: &[&str], input: &mut S, des
     // recovery of the file too, shows the texts of the first replies and a front of the next. The
     // file stands then for the store after as many commands, or after one more, and after that one
     // where a byte of its reply was said.
-    ensures stops { OfScript S.Source D.Desk (spelled words.now) input.old desk.old
+    ensures stops { OfScript S.Source D.Desk (asked_of words.now) input.old desk.old
         (λ is_file start bytes before.
         ShowsThen D.Desk desk.old desk.new (ShowsUnopened D.Desk desk.old before)
         (ShowsAnswered D.Desk is_file desk.old slot_limit start (script bytes) before)) }
 
-    // `new` says its word once the file holds the new store, and reads no input.
-    ensures made { IsNew (spelled words.now) → EndsNew D.Desk result desk.old desk.new }
-    ensures unread { IsNew (spelled words.now) → input.new ≡ input.old }
+    // `new` says its word once the file holds the new store.
+    ensures made { asked_of words.now ≡ Some Task.New → EndsNew D.Desk result desk.old desk.new }
 
     // An import is one command. What was said is its reply, once the file holds the store after it;
     // at any other end but a failed line or file nothing was said, and the file holds the store
     // before. A stop at any moment leaves one of the two, and the one after it where a byte of the
     // reply was said.
-    ensures imports { OfImport S.Source D.Desk (spelled words.now) input.old desk.old
+    ensures imports { OfImport S.Source D.Desk (asked_of words.now) input.old desk.old
         (λ start bytes before.
         EndsImport D.Desk result desk.old start bytes before (S.left input.new) desk.new) }
-    ensures import_stops { OfImport S.Source D.Desk (spelled words.now) input.old desk.old
+    ensures import_stops { OfImport S.Source D.Desk (asked_of words.now) input.old desk.old
         (λ start bytes before.
         ShowsThen D.Desk desk.old desk.new (ShowsUnopened D.Desk desk.old before)
         (ShowsImport D.Desk start bytes before)) }
 
-    // A file that stands for no store is refused by `run` and `import`, which then read no input
-    // and say nothing, and stands for none afterwards.
+    // `export` says the bookmark file of the store, which the file stands for throughout; into a
+    // file in which no stop left a change it writes no byte. What it says holds all bookmarks of
+    // the store, and brings them into a new one.
+    ensures exports { OfExport D.Desk (asked_of words.now) desk.old (λ start before.
+        EndsExport D.Desk result desk.old start before desk.new) }
+    ensures export_stops { OfExport D.Desk (asked_of words.now) desk.old (λ start before.
+        ShowsThen D.Desk desk.old desk.new (ShowsUnopened D.Desk desk.old before)
+        (ShowsExport D.Desk start before)) }
+    ensures export_rests { asked_of words.now ≡ Some Task.Export
+        → KeepsFinished D.Desk desk.old desk.new }
+    ensures export_returns { result ≡ Status.Done
+        → OfExport D.Desk (asked_of words.now) desk.old (λ start before. ComesBack start) }
+
+    // A drill runs generated lines, each committed as `run` does, and says nothing until all are in
+    // the file. A stop at any moment leaves the store after some of them, and the one after all where
+    // a byte of the summary was said.
+    ensures drills { OfDrill D.Desk (asked_of words.now) desk.old (λ count seed start before.
+        EndsDrill D.Desk result count seed desk.old start before desk.new) }
+    ensures drill_stops { OfDrill D.Desk (asked_of words.now) desk.old (λ count seed start before.
+        ShowsThen D.Desk desk.old desk.new (ShowsUnopened D.Desk desk.old before)
+        (ShowsDrill D.Desk count seed start before)) }
+
+    // A file that stands for no store is refused by each task that opens one, which then reads no
+    // input and says nothing, and stands for none afterwards.
     ensures refused { result ≡ Status.NotAStore
         → RefusesFile D.Desk desk.old desk.new × KeepsFinished D.Desk desk.old desk.new }
     ensures not_run { result ≡ Status.NotAStore
         → (input.new ≡ input.old) × (D.said desk.new ≡ D.said desk.old) }
-    ensures no_store { (IsRun (spelled words.now) ⊎ IsImport (spelled words.now))
+    ensures no_store { (task : Task) → asked_of words.now ≡ Some task → opens_store task ≡ true
         → (file : List ℕ) → D.held desk.old ≡ Some file → StandsForNone file
         → EndsUnopened result × (input.new ≡ input.old) × (D.said desk.new ≡ D.said desk.old) }
+
+    // A task without an input reads none.
+    ensures unread { (task : Task) → asked_of words.now ≡ Some task → input_limit task ≡ None
+        → input.new ≡ input.old }
 
     // Each fault has its status, and each such status its cause outside the program: no fault is
     // passed over, nor taken for want of memory.
@@ -109,13 +144,17 @@ pub fn run<S: Source, D: Desk>(alloc: Global, words: &[&str], input: &mut S, des
         (D.device_faults desk.old) (D.device_faults desk.new) }
 
     // `try` leaves the desk's file alone.
-    ensures alone { IsTry (spelled words.now) → LeavesFile D.Desk desk.old desk.new }
+    ensures alone { asked_of words.now ≡ Some Task.Try → LeavesFile D.Desk desk.old desk.new }
 {
-    match words {
-        ["try"] => try_script(alloc, input, desk),
-        ["new", _] => make_store(alloc, desk),
-        ["run", _] => run_stored(alloc, input, desk),
-        ["import", _] => import_stored(alloc, input, desk),
-        _ => Status::Usage,
+    let Some(task) = Task::of(words) else {
+        return Status::Usage;
+    };
+    match task {
+        Task::Try => try_script(alloc, input, desk),
+        Task::New => make_store(alloc, desk),
+        Task::Run => run_stored(alloc, input, desk),
+        Task::Import => import_stored(alloc, input, desk),
+        Task::Export => export_stored(alloc, desk),
+        Task::Drill(count, seed) => drill_stored(alloc, count, seed, desk),
     }
 }

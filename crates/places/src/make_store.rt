@@ -1,10 +1,11 @@
 // A new store in an empty file.
-ghost use Rattle.std.specs.Prelude.{◌≡◌, ⊤};
+ghost use Rattle.std.specs.Prelude.{◌≡◌};
 ghost use Rattle.pl_desk.specs.Counts.{CountsAt};
-ghost use Rattle.places.specs.Ending.{EndsNew, MayEnd};
+ghost use Rattle.places.specs.Ending.{EndsNew, EndsTask};
 
 use crate::say::say_all;
 use crate::status::Status;
+use crate::task::Task;
 use pl_desk::Desk;
 use pl_store::create;
 use std::alloc::Global;
@@ -12,7 +13,7 @@ use std::alloc::Global;
 /// Writes the store before its first command into the desk's file, and says `new`. A stop within it
 /// may leave a file that stands for no store.
 pub fn make_store<D: Desk>(alloc: Global, desk: &mut D) -> Status
-    ensures status { MayEnd ⊥ ⊤ ⊥ ⊥ result }
+    ensures status { EndsTask Task.New result }
     ensures ends { EndsNew D.Desk result desk.old desk.new }
     ensures says_counted { CountsAt (result ≡ Status.SayFault)
         (D.line_faults desk.old) (D.line_faults desk.new) }

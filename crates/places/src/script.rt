@@ -1,5 +1,5 @@
 // A script on a store in memory, and on one in a file.
-ghost use Rattle.std.specs.Prelude.{◌≡◌, ⊤, ℕ, List, Some, true, false};
+ghost use Rattle.std.specs.Prelude.{◌≡◌, ℕ, List, Some, true, false};
 ghost use Rattle.pl_base.specs.Store.{Store, opening};
 ghost use Rattle.pl_base.specs.Live.{slot_limit};
 ghost use Rattle.pl_desk.specs.Calls.{LeavesFile};
@@ -8,20 +8,21 @@ ghost use Rattle.pl_desk.specs.Settling.{ShowsThen};
 ghost use Rattle.pl_store.specs.Ending.{KeepsFinished, RefusesFile, StandsForNone};
 ghost use Rattle.pl_store.specs.Session.{Stands};
 ghost use Rattle.pl_script.specs.Script.{script};
-ghost use Rattle.places.specs.Ending.{EndsUnopened, IfTold, LeavesAtEnd, MayEnd};
+ghost use Rattle.places.specs.Ending.{EndsTask, EndsUnopened, IfTold, LeavesAtEnd};
 ghost use Rattle.places.specs.Status.{EndsAs};
 ghost use Rattle.places.specs.Stops.{ShowsAnswered, ShowsUnopened};
 
 use crate::run_script::run_script;
 use crate::status::Status;
 use crate::stop::Stop;
+use crate::task::Task;
 use pl_desk::{Desk, Source};
 use pl_store::{Keeper, Memory, SLOT_LIMIT, reopen};
 use std::alloc::Global;
 
 /// Runs the script of the input on a store in memory, from the one before its first command on.
 pub fn try_script<S: Source, D: Desk>(alloc: Global, input: &mut S, desk: &mut D) -> Status
-    ensures status { MayEnd ⊤ ⊥ ⊥ ⊥ result }
+    ensures status { EndsTask Task.Try result }
     ensures ends { IfTold (S.left input.old) (D.said desk.old) (λ bytes before.
         LeavesAtEnd D.Desk result false desk.old opening bytes before (S.left input.new) desk.new) }
     ensures stops { IfTold (S.left input.old) (D.said desk.old) (λ bytes before.
@@ -43,7 +44,7 @@ pub fn try_script<S: Source, D: Desk>(alloc: Global, input: &mut S, desk: &mut D
 
 /// Runs the script of the input on the store that the desk's file stands for.
 pub fn run_stored<S: Source, D: Desk>(alloc: Global, input: &mut S, desk: &mut D) -> Status
-    ensures status { MayEnd ⊥ ⊥ ⊤ ⊥ result }
+    ensures status { EndsTask Task.Run result }
     ensures ends { (file : List ℕ) (start : Store) → D.held desk.old ≡ Some file → Stands file start
         → IfTold (S.left input.old) (D.said desk.old) (λ bytes before.
         LeavesAtEnd D.Desk result true desk.old start bytes before (S.left input.new) desk.new) }

@@ -1,11 +1,11 @@
-use Rattle.std.specs.Prelude.{⊤}
-use Rattle.std.proofs.Common.{◌∙◌, ◌≡◌, inr, subst, sym}
+use Rattle.std.proofs.Common.{◌∙◌, ◌≡◌, refl, subst, sym}
 use Rattle.std.proofs.lemmas.Option.{MatchOption-at_some}
 use Rattle.pl_base.specs.Store.{Store}
 use Rattle.pl_base.specs.Live.{slot_limit}
 use Rattle.pl_desk.specs.Settling.{settles_on}
 use Rattle.pl_desk.specs.Shown.{ShowsOnly}
 use Rattle.pl_store.specs.Session.{session_store}
+use Rattle.places.specs.declared.task.Task.TheVariants as tasks
 use Rattle.places.specs.Importing.{EndsImport, ShowsImport}
 use Rattle.places.specs.Status.{done_or}
 use Rattle.places.specs.Stops.{ShowsUnopened}
@@ -66,5 +66,5 @@ returns-in-Err-clause-ends g c = λ file start held stands bytes before told beg
 
 pub returns-in-Err-clause-status : goal.returns-in-Err-clause-status
 returns-in-Err-clause-status g c =
-    opening_may_end ⊥ ⊥ ⊥ ⊤ (inr tt) g.D.Desk slot_limit c.in-Err.ended c.from.result c.args.desk.now
+    opening_may_end tasks.Import refl g.D.Desk slot_limit c.in-Err.ended c.from.result c.args.desk.now
     c.reopen.new.desk c.from.ensures c.in-Err.ensures.ends

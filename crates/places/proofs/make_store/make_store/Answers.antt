@@ -1,5 +1,4 @@
-use Rattle.std.specs.Prelude.{⊤}
-use Rattle.std.proofs.Common.{◌≡◌, Err, inl, inr, subst, sym}
+use Rattle.std.proofs.Common.{◌≡◌, Err, refl, subst, sym}
 use Rattle.std.proofs.lemmas.Option.{MatchOption-at_some}
 use Rattle.pl_base.specs.Store.{opening}
 use Rattle.pl_desk.specs.AnyMoment.{rests_less, still_rests}
@@ -11,8 +10,9 @@ use Rattle.pl_store.specs.declared.session.Session.{Session}
 use Rattle.pl_store.specs.Ending.{IsFinished, Makes, MakesStore}
 use Rattle.pl_store.specs.Session.{Stands, session_bytes, session_store}
 use Rattle.pl_store.specs.StandsLaws.{stands_by}
-use Rattle.places.specs.Ending.{EndsNew, MadeOfEmpty, MayEnd}
+use Rattle.places.specs.Ending.{EndsNew, EndsTask, MadeOfEmpty}
 use Rattle.places.specs.declared.status.Status.{Status}
+use Rattle.places.specs.declared.task.Task.TheVariants as tasks
 use Rattle.places.specs.Status.{without_session}
 use Rattle.places.proofs.make_store.make_store.Goals as goal
 
@@ -33,14 +33,14 @@ made desk session old mid new makes kept file is =
 -- how a making ends that gives no session
 not_made : {D : Type 0} (desk : Ghosts D) (e : Ended) (s : Status) (old new : D) → s ≡ without_session e
     → Makes desk (Err e) old new
-    → desk.said new ≡ desk.said old → EndsNew desk s old new × MayEnd ⊥ ⊤ ⊥ ⊥ s
+    → desk.said new ≡ desk.said old → EndsNew desk s old new × EndsTask tasks.New s
 not_made desk ended.DeviceFault s old new is makes unsaid =
-    subst (λ (t : Status). EndsNew desk t old new × MayEnd ⊥ ⊤ ⊥ ⊥ t) (sym is) ((unsaid, makes), inr (inl tt))
+    subst (λ (t : Status). EndsNew desk t old new × EndsTask tasks.New t) (sym is) ((unsaid, makes), tt)
 not_made desk ended.NoMemory s old new is makes unsaid =
-    subst (λ (t : Status). EndsNew desk t old new × MayEnd ⊥ ⊤ ⊥ ⊥ t) (sym is) ((unsaid, makes), inr (inl tt))
+    subst (λ (t : Status). EndsNew desk t old new × EndsTask tasks.New t) (sym is) ((unsaid, makes), tt)
 not_made desk ended.NotAStore s old new is makes unsaid = absurd makes
 not_made desk (ended.NotEmpty n) s old new is makes unsaid =
-    subst (λ (t : Status). EndsNew desk t old new × MayEnd ⊥ ⊤ ⊥ ⊥ t) (sym is) ((unsaid, makes), tt)
+    subst (λ (t : Status). EndsNew desk t old new × EndsTask tasks.New t) (sym is) ((unsaid, makes), refl)
 
 pub returns-in-Err-clause-ends : goal.returns-in-Err-clause-ends
 returns-in-Err-clause-ends g c =

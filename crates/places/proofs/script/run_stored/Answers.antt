@@ -1,5 +1,4 @@
-use Rattle.std.specs.Prelude.{⊤}
-use Rattle.std.proofs.Common.{◌∙◌, ◌≡◌, inl, inr, true, subst, sym}
+use Rattle.std.proofs.Common.{◌∙◌, ◌≡◌, refl, subst, sym, true}
 use Rattle.std.proofs.lemmas.Option.{MatchOption-at_some}
 use Rattle.pl_base.specs.Store.{Store}
 use Rattle.pl_base.specs.Live.{slot_limit}
@@ -7,6 +6,7 @@ use Rattle.pl_desk.specs.Settling.{settles_on}
 use Rattle.pl_desk.specs.Shown.{ShowsOnly}
 use Rattle.pl_store.specs.Session.{session_store}
 use Rattle.pl_script.specs.Script.{script}
+use Rattle.places.specs.declared.task.Task.TheVariants as tasks
 use Rattle.places.specs.Ending.{LeavesAtEnd}
 use Rattle.places.specs.Stops.{ShowsAnswered, ShowsUnopened}
 use Rattle.places.proofs.OpeningLemmas.{ends_without, no_refusal, opening_may_end, script_may_end, shows_opening}
@@ -55,11 +55,11 @@ returns-in-Err-clause-ends g c = λ file start held stands bytes before told beg
 
 pub returns-in-Ok-clause-status : goal.returns-in-Ok-clause-status
 returns-in-Ok-clause-status g c =
-    script_may_end ⊥ ⊥ ⊤ ⊥ c.run_script.result c.status_of.result (inr tt) c.status_of.ensures
+    script_may_end tasks.Run c.run_script.result c.status_of.result refl c.status_of.ensures
 
 pub returns-in-Err-clause-status : goal.returns-in-Err-clause-status
 returns-in-Err-clause-status g c =
-    opening_may_end ⊥ ⊥ ⊤ ⊥ (inl tt) g.D.Desk slot_limit c.in-Err.ended c.from.result c.args.desk.now
+    opening_may_end tasks.Run refl g.D.Desk slot_limit c.in-Err.ended c.from.result c.args.desk.now
     c.reopen.new.desk c.from.ensures c.in-Err.ensures.ends
 
 pub returns-in-Ok-clause-refused : goal.returns-in-Ok-clause-refused

@@ -1,9 +1,9 @@
-use Rattle.std.specs.Prelude.{⊤}
-use Rattle.std.proofs.Common.{false, inl, inr, subst}
+use Rattle.std.proofs.Common.{false, inl, inr, refl, subst}
 use Rattle.pl_base.specs.Store.{Store, opening}
 use Rattle.pl_base.specs.Live.{slot_limit}
 use Rattle.pl_desk.specs.Shown.{ShowsOnly}
 use Rattle.pl_script.specs.Script.{script}
+use Rattle.places.specs.declared.task.Task.TheVariants as tasks
 use Rattle.places.specs.Ending.{LeavesAtEnd}
 use Rattle.places.specs.Stops.{ShowsAnswered}
 use Rattle.places.proofs.OpeningLemmas.{ends_unread, script_may_end, shows_unopened}
@@ -40,4 +40,4 @@ returns-in-Err-clause-stops g c = λ bytes before told begun. let desk = g.D.Des
 
 pub returns-in-Ok-clause-status : goal.returns-in-Ok-clause-status
 returns-in-Ok-clause-status g c =
-    script_may_end ⊤ ⊥ ⊥ ⊥ c.run_script.result c.status_of.result (inl tt) c.status_of.ensures
+    script_may_end tasks.Try c.run_script.result c.status_of.result refl c.status_of.ensures

@@ -1,0 +1,115 @@
+use Rattle.std.proofs.Common.{◌≡◌, ◌∙◌, ap, sym}
+use Rattle.std.proofs.lemmas.Option.{MatchOption-at_some}
+use Rattle.pl_base.specs.Store.{Store}
+use Rattle.pl_desk.specs.Settling.{settles_on}
+use Rattle.pl_store.specs.Session.{session_store}
+use Rattle.places.specs.Exporting.{ShowsExport, export_text}
+use Rattle.places.specs.Stops.{ShowsUnopened}
+use Rattle.places.proofs.ExportLemmas.{export_unopened, not_done, opened_shows, rests_still, said_part, said_shows}
+use Rattle.places.proofs.ExportLemmas.{said_whole, settled_rests}
+use Rattle.places.proofs.export.export_stored.Goals as goal
+
+-- ---- no store was opened
+
+pub returns-in-Err-clause-ends : goal.returns-in-Err-clause-ends
+returns-in-Err-clause-ends g c = λ file start before held stands begun.
+    export_unopened g.D.Desk c.in-Err.ended c.from.result file start before c.args.desk.now c.reopen.new.desk
+    g.met.D.Desk.counts_now c.from.ensures held c.in-Err.ensures.ends stands c.reopen.ensures.line.said begun
+    (c.reopen.ensures.any_moment file held)
+
+pub returns-in-Err-clause-stops : goal.returns-in-Err-clause-stops
+returns-in-Err-clause-stops g c = λ file start before held stands begun.
+    opened_shows g.D.Desk file start before c.args.desk.now c.reopen.new.desk stands begun
+    (c.reopen.ensures.any_moment file held)
+
+pub returns-in-Err-clause-returns : goal.returns-in-Err-clause-returns
+returns-in-Err-clause-returns g c = λ done. absurd (not_done c.in-Err.ended c.from.result c.from.ensures done)
+
+-- ---- no text was made
+
+pub returns-in-Err-export_text-clause-ends : goal.returns-in-Err-export_text-clause-ends
+returns-in-Err-export_text-clause-ends g c = λ file start before held stands begun.
+    let opens = c.in-Ok.ensures.ends.1 in
+    let is : session_store c.in-Ok.session ≡ start = sym (MatchOption-at_some _ _ file held opens.only start stands) in (
+      c.reopen.ensures.line.said ∙ begun,
+      settled_rests g.D.Desk c.in-Ok.session start c.reopen.new.desk is (opens.settled file held),
+    )
+
+pub returns-in-Err-export_text-clause-stops : goal.returns-in-Err-export_text-clause-stops
+returns-in-Err-export_text-clause-stops g c = λ file start before held stands begun.
+    opened_shows g.D.Desk file start before c.args.desk.now c.reopen.new.desk stands begun
+    (c.reopen.ensures.any_moment file held)
+
+-- ---- the text was said
+
+pub returns-in-Ok-say_all-clause-ends : goal.returns-in-Ok-say_all-clause-ends
+returns-in-Ok-say_all-clause-ends g c = λ file start before held stands begun.
+    let desk = g.D.Desk in let mid = c.reopen.new.desk in let new = c.say_all.new.desk in
+    let opens = c.in-Ok.ensures.ends.1 in
+    let is : session_store c.in-Ok.session ≡ start = sym (MatchOption-at_some _ _ file held opens.only start stands) in (
+      said_whole desk before c.as_bytes.result.now (export_text start) mid new (c.reopen.ensures.line.said ∙ begun)
+          c.in-Ok-say_all.ensures.whole
+          (c.as_bytes.ensures.value ∙ c.as_str.ensures ∙ c.in-Ok-export_text.ensures.text
+          ∙ ap (λ (s : Store). export_text s) is),
+      rests_still desk start mid new (settled_rests desk c.in-Ok.session start mid is (opens.settled file held))
+          c.say_all.ensures.file.kept,
+    )
+
+pub returns-in-Ok-say_all-clause-stops : goal.returns-in-Ok-say_all-clause-stops
+returns-in-Ok-say_all-clause-stops g c = λ file start before held stands begun.
+    let desk = g.D.Desk in let old = c.args.desk.now in let mid = c.reopen.new.desk in
+    let new = c.say_all.new.desk in let opens = c.in-Ok.ensures.ends.1 in
+    let is : session_store c.in-Ok.session ≡ start = sym (MatchOption-at_some _ _ file held opens.only start stands) in
+    settles_on desk old mid new (ShowsUnopened desk old before) (ShowsExport desk start before)
+    (opened_shows desk file start before old mid stands begun (c.reopen.ensures.any_moment file held))
+    (said_shows desk start before c.as_bytes.result.now mid new
+    (settled_rests desk c.in-Ok.session start mid is (opens.settled file held))
+    (c.as_bytes.ensures.value ∙ c.as_str.ensures ∙ c.in-Ok-export_text.ensures.text
+    ∙ ap (λ (s : Store). export_text s) is)
+    (c.say_all.ensures.shows before (c.reopen.ensures.line.said ∙ begun)))
+
+pub returns-in-Ok-say_all-clause-finished : goal.returns-in-Ok-say_all-clause-finished
+returns-in-Ok-say_all-clause-finished g c = λ file held finished.
+    let kept = c.say_all.ensures.file.kept in let as_before = c.reopen.ensures.finished file held finished in
+    (kept.held ∙ as_before.0, kept.written ∙ as_before.1)
+
+pub returns-in-Ok-say_all-clause-no_store : goal.returns-in-Ok-say_all-clause-no_store
+returns-in-Ok-say_all-clause-no_store g c = λ file held none.
+    absurd (none (session_store c.in-Ok.session) (MatchOption-at_some _ _ file held c.in-Ok.ensures.ends.1.stands))
+
+-- ---- a front of it was said
+
+pub returns-clause-ends : goal.returns-clause-ends
+returns-clause-ends g c = λ file start before held stands begun.
+    let desk = g.D.Desk in let mid = c.reopen.new.desk in let new = c.say_all.new.desk in
+    let opens = c.in-Ok.ensures.ends.1 in
+    let is : session_store c.in-Ok.session ≡ start = sym (MatchOption-at_some _ _ file held opens.only start stands) in (
+      said_part desk before c.as_bytes.result.now (export_text start) mid new (c.reopen.ensures.line.said ∙ begun)
+          c.in-Err-say_all.ensures.front
+          (c.as_bytes.ensures.value ∙ c.as_str.ensures ∙ c.in-Ok-export_text.ensures.text
+          ∙ ap (λ (s : Store). export_text s) is),
+      rests_still desk start mid new (settled_rests desk c.in-Ok.session start mid is (opens.settled file held))
+          c.say_all.ensures.file.kept,
+    )
+
+pub returns-clause-stops : goal.returns-clause-stops
+returns-clause-stops g c = λ file start before held stands begun.
+    let desk = g.D.Desk in let old = c.args.desk.now in let mid = c.reopen.new.desk in
+    let new = c.say_all.new.desk in let opens = c.in-Ok.ensures.ends.1 in
+    let is : session_store c.in-Ok.session ≡ start = sym (MatchOption-at_some _ _ file held opens.only start stands) in
+    settles_on desk old mid new (ShowsUnopened desk old before) (ShowsExport desk start before)
+    (opened_shows desk file start before old mid stands begun (c.reopen.ensures.any_moment file held))
+    (said_shows desk start before c.as_bytes.result.now mid new
+    (settled_rests desk c.in-Ok.session start mid is (opens.settled file held))
+    (c.as_bytes.ensures.value ∙ c.as_str.ensures ∙ c.in-Ok-export_text.ensures.text
+    ∙ ap (λ (s : Store). export_text s) is)
+    (c.say_all.ensures.shows before (c.reopen.ensures.line.said ∙ begun)))
+
+pub returns-clause-finished : goal.returns-clause-finished
+returns-clause-finished g c = λ file held finished.
+    let kept = c.say_all.ensures.file.kept in let as_before = c.reopen.ensures.finished file held finished in
+    (kept.held ∙ as_before.0, kept.written ∙ as_before.1)
+
+pub returns-clause-no_store : goal.returns-clause-no_store
+returns-clause-no_store g c = λ file held none.
+    absurd (none (session_store c.in-Ok.session) (MatchOption-at_some _ _ file held c.in-Ok.ensures.ends.1.stands))
