@@ -1,60 +1,12 @@
-// Runs on a store in memory that is kept as a file.
-use pl_base::NoMemory;
-use pl_desk::{MemDesk, MemSource};
-use places::{Status, run};
+// Runs that are done and say what is wanted.
+use pl_desk::MemDesk;
 use std::alloc::Global;
 use std::process::Abort;
+use std::test::Fail;
+use trials_desks::done;
 
-/// The worked file: a bookmark with two tags for the menu, and three nodes for the toolbar.
-pub const WORKED: &str = "<!DOCTYPE NETSCAPE-Bookmark-file-1>\n\
-    <!-- This is an automatically generated file.\n\
-    It will be read and overwritten.\n\
-    DO NOT EDIT! -->\n\
-    <META HTTP-EQUIV=\"Content-Type\" CONTENT=\"text/html; charset=UTF-8\">\n\
-    <TITLE>Bookmarks</TITLE>\n\
-    <H1>Bookmarks</H1>\n\
-    <DL><p>\n\
-    <DT><H3 ADD_DATE=\"1700000000\" LAST_MODIFIED=\"1700000100\" \
-    PERSONAL_TOOLBAR_FOLDER=\"true\">Bookmarks bar</H3>\n\
-    <DL><p>\n\
-    <DT><A HREF=\"https://a.example/\" ADD_DATE=\"1700000000\" \
-    ICON=\"data:image/png;base64,AAAA\">A &amp; B</A>\n\
-    <DT><H3 ADD_DATE=\"1700000001\" LAST_MODIFIED=\"1700000002\">Sub</H3>\n\
-    <DL><p>\n\
-    <DT><A HREF=\"https://b.example/x\" ADD_DATE=\"1700000003\">B</A>\n\
-    </DL><p>\n\
-    <DT><A HREF=\"not a url\" ADD_DATE=\"1700000004\">C</A>\n\
-    </DL><p>\n\
-    <DT><A HREF=\"https://c.example/\" TAGS=\"red,Blue\">D</A>\n\
-    </DL><p>\n";
-
+/// What is said of the import of the worked file.
 pub const SAID: &[u8] = b"imported\titems\t4\ttags\t2\tskipped\t1\n";
-
-// `run` in memory: a test compares what it says, and has no use for its clauses.
-fn in_memory(alloc: Global, words: &[&str], input: &mut MemSource, desk: &mut MemDesk) -> Status {
-    run(alloc, words, input, desk)
-}
-
-/// How a run of these words ends on the desk.
-pub fn run_on(alloc: Global, words: &[&str], bytes: &[u8], desk: &mut MemDesk) -> Status {
-    match MemSource::over(alloc, bytes, 4_096, &[]) {
-        Ok(mut input) => in_memory(alloc, words, &mut input, desk),
-        Err(NoMemory) => Status::NoMemory,
-    }
-}
-
-/// A desk with the bytes of another, on which nothing was said yet.
-pub fn copied(alloc: Global, desk: &MemDesk, fails: &[u32]) -> Result<MemDesk, NoMemory> {
-    MemDesk::holding(alloc, desk.bytes(), fails)
-}
-
-/// A new store.
-pub fn new_store(rt: &impl Abort, alloc: Global, fails: &[u32]) -> Result<MemDesk, NoMemory> {
-    let mut desk = MemDesk::holding(alloc, &[], &[])?;
-    let status = run_on(alloc, &["new", "s"], b"", &mut desk);
-    assert_eq!(rt; status, Status::Done);
-    copied(alloc, &desk, fails)
-}
 
 /// A store after what a run of these words makes of it, which ends so and says this.
 pub fn goes_on(
@@ -64,10 +16,8 @@ pub fn goes_on(
     words: &[&str],
     bytes: &[u8],
     said: &[u8],
-) -> Result<MemDesk, NoMemory> {
-    let mut next = copied(alloc, desk, &[])?;
-    let status = run_on(alloc, words, bytes, &mut next);
-    assert_eq!(rt; status, Status::Done);
+) -> Result<MemDesk, Fail> {
+    let next = done(alloc, desk, words, bytes)?;
     assert_eq!(rt; next.said(), said);
     Ok(next)
 }

@@ -1,7 +1,8 @@
 // What an import makes of a store, told by the lines of a script. All was worked out by hand.
-use crate::desks::{SAID, WORKED, goes_on, new_store};
+use crate::desks::{SAID, goes_on};
 use std::alloc::Global;
 use std::test::Fail;
+use trials_desks::{WORKED, new_store};
 
 const IMPORT: &[&str] = &["import", "s"];
 
@@ -35,7 +36,7 @@ const TOLD: &[u8] = b"rows\t1\nbookmark\t7\tD\thttps://c.example/\n\
 #[test]
 fn imports_into_a_new_store(rt: HostRuntime) -> Result<(), Fail> {
     let alloc = rt.alloc();
-    let desk = new_store(&rt, alloc, &[])?;
+    let desk = new_store(alloc, &[])?;
     let desk = goes_on(&rt, alloc, &desk, IMPORT, WORKED.as_bytes(), SAID)?;
     goes_on(&rt, alloc, &desk, RUN, LINES, TOLD)?;
     Ok(())
@@ -57,7 +58,7 @@ const AGAIN_TOLD: &[u8] =
 #[test]
 fn imports_twice(rt: HostRuntime) -> Result<(), Fail> {
     let alloc = rt.alloc();
-    let desk = new_store(&rt, alloc, &[])?;
+    let desk = new_store(alloc, &[])?;
     let desk = goes_on(&rt, alloc, &desk, IMPORT, WORKED.as_bytes(), SAID)?;
     // Without its last line the file says the same.
     let front = WORKED.strip_suffix("</DL><p>\n").ok_or("no last line")?;
@@ -91,7 +92,7 @@ const PARTLY_TOLD: &[u8] = b"rows\t1\nbookmark\t11\tD\thttps://c.example/\n\
 #[test]
 fn finds_what_is_there(rt: HostRuntime) -> Result<(), Fail> {
     let alloc = rt.alloc();
-    let desk = new_store(&rt, alloc, &[])?;
+    let desk = new_store(alloc, &[])?;
     let desk = goes_on(&rt, alloc, &desk, RUN, BEFORE, BEFORE_TOLD)?;
     let desk = goes_on(&rt, alloc, &desk, IMPORT, WORKED.as_bytes(), PARTLY)?;
     goes_on(&rt, alloc, &desk, RUN, PARTLY_LINES, PARTLY_TOLD)?;
@@ -137,7 +138,7 @@ fn imported(alloc: Global, body: &str) -> Result<String, Fail> {
 #[test]
 fn imports_short_files(rt: HostRuntime) -> Result<(), Fail> {
     let alloc = rt.alloc();
-    let desk = new_store(&rt, alloc, &[])?;
+    let desk = new_store(alloc, &[])?;
     for (body, reply, menu, tags) in FILES {
         let text = imported(alloc, body)?;
         let said = format!(in alloc; "imported\t{reply}\n")?;
@@ -159,7 +160,7 @@ fn imports_short_files(rt: HostRuntime) -> Result<(), Fail> {
 #[test]
 fn cuts_long_titles(rt: HostRuntime) -> Result<(), Fail> {
     let alloc = rt.alloc();
-    let desk = new_store(&rt, alloc, &[])?;
+    let desk = new_store(alloc, &[])?;
     let title = "x".repeat(alloc, 4_097)?;
     let body = format!(in alloc; "<H3>{title}")?;
     let text = imported(alloc, body.as_str())?;

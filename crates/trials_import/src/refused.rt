@@ -1,11 +1,12 @@
 // What an import refuses, and what it leaves then: nothing was said, and the file is as it was.
-use crate::desks::{copied, goes_on, new_store, run_on};
+use crate::desks::goes_on;
 use pl_base::Refusal;
 use pl_desk::MemDesk;
 use places::Status;
 use std::alloc::Global;
 use std::process::Abort;
 use std::test::Fail;
+use trials_desks::{copied, new_store, run_on};
 
 const IMPORT: &[&str] = &["import", "s"];
 
@@ -35,7 +36,7 @@ const NO_BOOKMARKS: &[(&[u8], u64)] = &[
 #[test]
 fn refuses_what_holds_no_bookmarks(rt: HostRuntime) -> Result<(), Fail> {
     let alloc = rt.alloc();
-    let desk = new_store(&rt, alloc, &[])?;
+    let desk = new_store(alloc, &[])?;
     for (bytes, at) in NO_BOOKMARKS {
         expect_refused(&rt, alloc, &desk, bytes, Status::NotBookmarks(*at))?;
     }
@@ -46,7 +47,7 @@ fn refuses_what_holds_no_bookmarks(rt: HostRuntime) -> Result<(), Fail> {
 #[test]
 fn refuses_long_files(rt: HostRuntime) -> Result<(), Fail> {
     let alloc = rt.alloc();
-    let desk = new_store(&rt, alloc, &[])?;
+    let desk = new_store(alloc, &[])?;
     let blanks = " ".repeat(alloc, 16_777_216)?;
     let bytes = blanks.as_bytes();
     expect_refused(&rt, alloc, &desk, bytes, Status::TooLong(16_777_216))?;
@@ -67,7 +68,7 @@ fn folders(alloc: Global, count: usize) -> Result<String, Fail> {
 #[test]
 fn refuses_more_rows_than_fifty_thousand(rt: HostRuntime) -> Result<(), Fail> {
     let alloc = rt.alloc();
-    let desk = new_store(&rt, alloc, &[])?;
+    let desk = new_store(alloc, &[])?;
     let text = folders(alloc, 50_001)?;
     let ends = Status::ImportRefused(Refusal::TooMany(50_001));
     assert_eq!(rt; ends.number(), 11);
@@ -78,7 +79,7 @@ fn refuses_more_rows_than_fifty_thousand(rt: HostRuntime) -> Result<(), Fail> {
 #[test]
 fn takes_fifty_thousand_rows(rt: HostRuntime) -> Result<(), Fail> {
     let alloc = rt.alloc();
-    let desk = new_store(&rt, alloc, &[])?;
+    let desk = new_store(alloc, &[])?;
     let text = folders(alloc, 50_000)?;
     let said = b"imported\titems\t50000\ttags\t0\tskipped\t0\n";
     let next = goes_on(&rt, alloc, &desk, IMPORT, text.as_bytes(), said)?;

@@ -4,7 +4,6 @@ ghost use Rattle.std.specs.Prelude.{◌≡◌, ◌<◌, ◌≤◌, IfOk};
 ghost use Rattle.pl_base.specs.Live.{slot_limit};
 ghost use Rattle.pl_step.specs.Step.{HasDates};
 
-use crate::desks::WORKED;
 use pl_base::{Ids, Steps, Txt};
 use pl_engine::Engine;
 use pl_nbread::read;
@@ -16,6 +15,7 @@ use std::marker::Brand;
 use std::process::Abort;
 use std::sync::ledger::{Blank, Ledger};
 use std::test::Fail;
+use trials_desks::WORKED;
 
 // The import of the worked file.
 fn worked(alloc: Global) -> Result<Command, Fail>

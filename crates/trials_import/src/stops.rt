@@ -2,13 +2,14 @@
 // one after, and the latter once a byte of the reply was said.
 ghost use Rattle.std.specs.Prelude.{◌<◌};
 
-use crate::desks::{SAID, WORKED, copied, new_store, run_on};
+use crate::desks::SAID;
 use pl_base::NoMemory;
 use pl_desk::MemDesk;
 use places::Status;
 use std::alloc::Global;
 use std::process::Abort;
 use std::test::Fail;
+use trials_desks::{WORKED, copied, new_store, run_on};
 
 const IMPORT: &[&str] = &["import", "s"];
 
@@ -40,7 +41,7 @@ fn expect_either(
 #[test]
 fn a_stop_leaves_all_of_it_or_none(rt: HostRuntime) -> Result<(), Fail> {
     let alloc = rt.alloc();
-    let mut desk = new_store(&rt, alloc, &[])?;
+    let mut desk = new_store(alloc, &[])?;
     let status = run_on(alloc, IMPORT, WORKED.as_bytes(), &mut desk);
     assert_eq!(rt; status, Status::Done);
     assert_eq!(rt; desk.said(), SAID);
@@ -54,8 +55,8 @@ fn a_stop_leaves_all_of_it_or_none(rt: HostRuntime) -> Result<(), Fail> {
     Ok(())
 }
 
-fn failed(rt: &impl Abort, alloc: Global, call: u32) -> Result<Status, NoMemory> {
-    let mut desk = new_store(rt, alloc, &[call])?;
+fn failed(rt: &impl Abort, alloc: Global, call: u32) -> Result<Status, Fail> {
+    let mut desk = new_store(alloc, &[call])?;
     let status = run_on(alloc, IMPORT, WORKED.as_bytes(), &mut desk);
     let begun = desk.said().len();
     let mut again = copied(alloc, &desk, &[])?;

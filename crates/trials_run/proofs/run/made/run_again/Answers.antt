@@ -1,4 +1,3 @@
-use Rattle.std.specs.Prelude.{codes}
 use Rattle.std.proofs.Common.{◌≡◌, ◌++◌, IsSome, inr, refl, true, sym, subst}
 use Rattle.pl_base.specs.Live.{slot_limit}
 use Rattle.pl_desk.specs.AnyMoment.{held_left}
@@ -21,7 +20,7 @@ returns-in-DeviceFault g c = record {
       let in_first = held_left desk g.met.D.Desk.only_now g.met.D.Desk.shown_now old file.0 some file.1 in
       let ends : LeavesAtEnd desk status.DeviceFault true old start one before (left c.run.new.input) mid =
       rw c.in-DeviceFault.is at (c.run.ensures.ends true start
-      (inr ((codes "s", refl), refl, (file.0, file.1, stands file.0 in_first))) one before told begun) in
+      (inr (refl, refl, (file.0, file.1, stands file.0 in_first))) one before told begun) in
       let some_mid = said_by desk old start one before (left c.run.new.input) mid ends in
       let later = some_is (desk.held mid) ((g.met.D.Desk.told_together mid).1 some_mid) in
       let in_mid = held_left desk g.met.D.Desk.only_now g.met.D.Desk.shown_now mid later.0 some_mid later.1 in
@@ -31,6 +30,6 @@ returns-in-DeviceFault g c = record {
       let last : LeavesAtEnd desk status.Done true mid (after slot_limit start here.done) two line
       (left c.run-in-DeviceFault.new.input) new =
       rw is at (c.run-in-DeviceFault.ensures.ends true (after slot_limit start here.done)
-      (inr ((codes "s", refl), refl, (later.0, later.1, here.stands))) two line told_too here.text) in
+      (inr (refl, refl, (later.0, later.1, here.stands))) two line told_too here.text) in
       goes_on desk mid start two before (desk.said mid) later.0 here (left c.run-in-DeviceFault.new.input) new last;
 }

@@ -1,4 +1,3 @@
-use Rattle.std.specs.Prelude.{codes}
 use Rattle.std.proofs.Common.{◌++◌, inr, refl, true}
 use Rattle.pl_base.specs.Live.{slot_limit}
 use Rattle.pl_step.specs.Run.{after, replies}
@@ -14,11 +13,11 @@ returns-in-Done g c = record {
       λ done file start is stands one two before told told_too begun.
       let ends : LeavesAtEnd g.D.Desk status.Done true c.args.desk.now start one before
       (g.S.Source.left c.run.new.input) c.run.new.desk =
-      rw c.in-Done.is at (c.run.ensures.ends true start (inr ((codes "s", refl), refl, (file, is, stands))) one before
+      rw c.in-Done.is at (c.run.ensures.ends true start (inr (refl, refl, (file, is, stands))) one before
       told begun) in
       let next =
       c.run-in-Done.ensures.replies true (after slot_limit start (script one))
-      (inr ((codes "s", refl), refl, (ends.1.file, ends.1.is_held, ends.1.has))) two
+      (inr (refl, refl, (ends.1.file, ends.1.is_held, ends.1.has))) two
       (before ++ texts (replies slot_limit start (script one))) told_too ends.0.all_said in
       let all : SaysAll (after slot_limit start (script one)) two
       (before ++ texts (replies slot_limit start (script one))) (g.S.Source.left c.run-in-Done.new.input)

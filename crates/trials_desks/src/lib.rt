@@ -1,0 +1,7 @@
+//! What the tests of imports and exports share: runs on a store in memory that is kept as a file. It
+//! has no tests, so that it is proved once.
+#![tactic(auto)]
+
+mod desks;
+
+pub use desks::{WORKED, copied, done, new_store, run_on, said_text};
