@@ -6,7 +6,7 @@ ghost use Rattle.pl_drill.specs.Drill.{random_after};
 
 use crate::draws::Draws;
 use crate::lines::{bar, bookmark, day, expire, tag, title, visit};
-use pl_base::{NoMemory, VisitId};
+use pl_base::{MICROS_PER_DAY, NoMemory, VisitId};
 use std::alloc::Global;
 
 /// A drill has no more lines behind its first.
@@ -14,8 +14,6 @@ pub const MOST_LINES: u32 = 100_000;
 
 // The day on which each drill begins.
 const FIRST_DAY: u32 = 19_000;
-
-const MICROS_PER_DAY: u64 = 86_400_000_000;
 
 // Visits are kept for so many days before the day.
 const EXPIRED_AFTER: u32 = 60;

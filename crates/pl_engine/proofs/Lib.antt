@@ -2,7 +2,6 @@ mod BookmarkAllowed
 mod BroughtBack
 mod ChildItems
 mod FreshPage
-mod IdWalk
 mod ImportSettled
 mod ImportedPages
 mod ImportedRows
@@ -10,19 +9,15 @@ mod ItemStep
 mod ItemTitled
 mod ItemsGone
 mod ListParts
-mod Listed
 mod LiveTitled
 mod LostItems
 mod NewPages
-mod Offered
 mod PageSlots
-mod PageTold
 mod Removals
 mod TagAllowed
 mod TagMade
 mod TitleStep
 mod Titled
 mod Untagged
-mod Views
 mod VisitAllowed
 mod VisitStep

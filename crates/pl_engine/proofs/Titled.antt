@@ -57,12 +57,6 @@ cut_title-le text = choose (leb (length text) longest_title) refl
 
 -- ---- the page that has the URL
 
-pub target_by : (kept : Kept) (url text : List ℕ) (found : Option PageId) (page : PageId) → text ≡ url
-    → found ≡ option_map (λ (p : Page). p.id) (find_page text (store_of kept).pages) → found ≡ Some page
-    → IsTargetOf kept url (Known page)
-target_by kept url text found page same is some =
-    subst (λ (u : List ℕ). IsTargetOf kept u (Known page)) same (sym is ∙ some)
-
 -- no other page has its URL
 only_url : (front : List KeptPage) (p : KeptPage) (rest : List KeptPage)
     → AllPairs (λ (a b : KeptPage). a.page.url ≢ b.page.url) (front ++ p ∷ rest)

@@ -1,14 +1,9 @@
-mod bar;
 mod bookmark;
 mod change;
 mod gained;
 mod history;
 mod import;
 mod insert;
-mod list;
-mod origin;
-mod page;
-mod query;
 mod remove;
 mod slots;
 mod tag;
@@ -24,20 +19,16 @@ ghost use Rattle.pl_base.specs.Touched.{IsWithin, changed, bytes_before};
 ghost use Rattle.pl_history.specs.Sound.{IsSound};
 ghost use Rattle.pl_nbwrite.specs.Plain.{IsPlain};
 ghost use Rattle.pl_outline.specs.Outline.{bookmarks};
+ghost use Rattle.pl_step.specs.Commands.{HasDates, MayWantMemory, is_change};
 ghost use Rattle.pl_step.specs.Refused.{has_changed};
 ghost use Rattle.pl_step.specs.Step as spec;
 ghost use Rattle.pl_engine.specs.Returns.{Returns};
 
-use crate::engine::bar::{bar, fill};
 use crate::engine::bookmark::bookmark;
 use crate::engine::change::{move_item, retitle};
 use crate::engine::history::{day, expire, forget, trim, unvisit};
 use crate::engine::import::import;
 use crate::engine::insert::{folder, separator};
-use crate::engine::list::list;
-use crate::engine::origin::{origin, stats};
-use crate::engine::page::page;
-use crate::engine::query::{place, query};
 use crate::engine::remove::remove;
 use crate::engine::tag::{tag, untag};
 use crate::engine::title::title;
@@ -47,6 +38,7 @@ use pl_history::total_up;
 use pl_nbread::Tree;
 use pl_outline::tree;
 use pl_step::{Command, Reply};
+use pl_told::{bar, fill, list, origin, page, place, query, stats};
 use std::alloc::Global;
 use std::sync::ledger::Ledger;
 
@@ -107,13 +99,13 @@ impl<R: Rows + Drop> Engine<R> {
         command: &Command,
         steps: &mut Steps<L>,
     ) -> Result<(Engine<R>, Reply), NoMemory>
-        requires dates { spec.HasDates command.now }
+        requires dates { HasDates command.now }
         ensures step { IfOk result (λ done. (done.1, store_of (R.kept done.0.rows))
             ≡ spec.perform self.limit (store_of (R.kept self.rows)) command.now) }
         ensures refused { IfOk result (λ done. (refusal : Refusal)
             → done.1 ≡ Reply.Refused refusal → done.0.rows ≡ self.rows) }
         // A command of a kind that changes nothing leaves the very same rows.
-        ensures unchanged { IfOk result (λ done. spec.is_change command.now ≡ false
+        ensures unchanged { IfOk result (λ done. is_change command.now ≡ false
             → done.0.rows ≡ self.rows) }
         ensures good { IfOk result (λ done. IsGood (store_of (R.kept done.0.rows))) }
         ensures right { IfOk result (λ done. IsRight (R.kept done.0.rows)) }
@@ -125,7 +117,7 @@ impl<R: Rows + Drop> Engine<R> {
         ensures limit { IfOk result (λ done. done.0.limit ≡ self.limit) }
 
         // A move and a visit that is not recorded want no memory.
-        ensures no_memory { IsErr result → spec.MayWantMemory command.now }
+        ensures no_memory { IsErr result → MayWantMemory command.now }
     {
         let Engine {
             alloc,

@@ -22,8 +22,7 @@ ghost use Rattle.pl_graft.specs.Tally.{page_weight, tag_weight, tree_weight, wei
 
 use crate::pages::Pages;
 use crate::tags::{Entering, Tags};
-use pl_base::{NoMemory, Rows, Steps, cut_title};
-use pl_history::chunks;
+use pl_base::{NoMemory, Rows, Steps, chunks, cut_title};
 use pl_link::{Canon, split};
 use pl_nbread::{Node, Tree};
 use pl_words::{TagName, fold};

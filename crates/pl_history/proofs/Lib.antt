@@ -11,6 +11,7 @@ pub mod NewTotals
 pub mod OriginParts
 pub mod PageCounts
 pub mod PageOrder
+pub mod PagesTold
 pub mod ReadyPage
 pub mod RemovedRows
 pub mod RemovedVisits

@@ -1,6 +1,6 @@
 -- Where a visit goes, and what the rows have there.
 use Rattle.std.proofs.Common.{◌≡◌, ◌≢◌, ◌∙◌, ◌+◌, ◌==◌, ◌&&◌, ◌||◌, ℕ, All, Bool, true, false, List, []}
-use Rattle.std.proofs.Common.{◌∷◌, Option, Some, None, ap, bytes_eq, find, if◌then◌else◌, map, refl, sym}
+use Rattle.std.proofs.Common.{◌∷◌, Option, Some, None, ap, bytes_eq, find, if◌then◌else◌, map, refl, subst, sym}
 use Rattle.std.specs.List.{AllByRecursion, list_any}
 use Rattle.std.specs.Option.{is_none, option_map}
 use Rattle.std.proofs.lemmas.Bool.{false≢true}
@@ -104,3 +104,11 @@ slots_new kept url origin transition date source target =
     (ap (λ (b : Bool). if b then 0 else 1)
     (list_any-map (λ (p : Page). same_origin p.url url) (λ (p : KeptPage). p.page) kept.pages)
     ∙ has_origin kept url origin target.1)
+
+-- ---- the page that was found
+
+pub target_by : (kept : Kept) (url text : List ℕ) (found : Option PageId) (page : PageId) → text ≡ url
+    → found ≡ option_map (λ (p : Page). p.id) (find_page text (store_of kept).pages) → found ≡ Some page
+    → IsTargetOf kept url (Known page)
+target_by kept url text found page same is some =
+    subst (λ (u : List ℕ). IsTargetOf kept u (Known page)) same (sym is ∙ some)

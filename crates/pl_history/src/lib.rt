@@ -24,7 +24,7 @@ pub use expiration::{expire, forget};
 pub use find::{Target, find_page, find_target, is_place};
 pub use removal::{Removed, remove_visits};
 pub use settle::settle_all;
-pub use slots::{chunks, slots_after};
+pub use slots::slots_after;
 pub use tags::{add_tag, is_tagged};
 pub use totals::total_up;
 pub use trimming::trim;

@@ -1,4 +1,4 @@
-// How many slots texts take, and a store after a visit.
+// How many slots a store takes after a visit.
 ghost use Rattle.std.specs.Prelude.{◌≡◌, ◌≤◌, ◌<◌, ◌+◌, Option, is_none, if◌then◌else◌};
 ghost use Rattle.pl_base.specs.declared.id.VisitId.{VisitId};
 ghost use Rattle.pl_base.specs.Live as live;
@@ -8,19 +8,9 @@ ghost use Rattle.pl_base.specs.Visiting as visiting;
 ghost use Rattle.pl_history.specs.Target.{IsTargetOf};
 
 use crate::Target;
-use pl_base::{Micros, Rows, Slot, Steps, Transition};
+use pl_base::{Micros, Rows, Slot, Steps, Transition, chunks};
 use pl_link::Canon;
 use std::sync::ledger::Ledger;
-
-/// A text takes a slot for each so many bytes.
-const CHUNK_SIZE: usize = 120;
-
-/// The slots of a text.
-pub fn chunks(text: &str) -> u64
-    ensures { result ≡ live.chunks text.now }
-{
-    text.len().div_ceil(CHUNK_SIZE) as u64
-}
 
 // The slots of a new page with its first visit, and of its origin where that is new.
 fn new_slots(url: &Canon, origin: Option<Slot>) -> u64

@@ -9,7 +9,6 @@ mod NodeAdded
 mod OneMore
 mod OwnTags
 mod PagesMore
-pub mod PagesTold
 mod PileLaws
 mod PlainNodes
 mod PlainTrees
@@ -21,6 +20,7 @@ mod Spines
 mod TagMarks
 mod TagsBack
 mod TagsBelow
+mod TagsKnown
 mod TagsMade
 mod TagsOnce
 mod TreeTold

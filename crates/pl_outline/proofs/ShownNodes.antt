@@ -1,16 +1,13 @@
 -- What is shown of an item without its tags, by the pages alone.
-use Rattle.std.proofs.Common.{◌≡◌, ◌≢◌, ◌∙◌, ◌<◌, ◌≤◌, ◌+◌, ◌*◌, ◌/◌, ◌++◌, ◌==◌, ◌||◌, ◌&&◌, ℕ, All, Bool, true, false}
+use Rattle.std.proofs.Common.{◌≡◌, ◌∙◌, ◌<◌, ◌≤◌, ◌+◌, ◌*◌, ◌/◌, ◌++◌, ◌==◌, ◌||◌, ◌&&◌, ℕ, All, Bool, true, false}
 use Rattle.std.proofs.Common.{List, [], ◌∷◌, Option, Some, None, IfSome, ap, arith, bytes_eq, eq-eqb, find}
-use Rattle.std.proofs.Common.{if◌then◌else◌, inl, inr, length, map, refl, subst, suc, sym}
+use Rattle.std.proofs.Common.{if◌then◌else◌, length, map, refl, subst, suc, sym}
 use Rattle.std.specs.Prelude.{IsTrue, not}
 use Rattle.std.specs.List.{AllByRecursion, AllPairs, list_any}
-use Rattle.std.specs.List.Sorted.{IsStrictlyIncreasing}
 use Rattle.std.specs.Option.{is_none, is_some, option_and_then, option_map, unwrap_or}
-use Rattle.std.proofs.lemmas.Bool.{and_parts, both_ways, cases_lt, eqb-true, le-leb, ne_eqb}
-use Rattle.std.proofs.lemmas.List.{get_or_append_left, get_or_push, length_push, map_push}
-use Rattle.std.proofs.lemmas.List.Elements.{All-from_recursion, All-map, All-push, All-weaker, recursion_from_All}
+use Rattle.std.proofs.lemmas.Bool.{and_parts, eqb-true, le-leb, ne_eqb}
+use Rattle.std.proofs.lemmas.List.Elements.{recursion_from_All}
 use Rattle.std.proofs.lemmas.List.Kept.{AllPairs-from_increasing}
-use Rattle.std.proofs.lemmas.List.Quantifiers.{all_pairs_push}
 use Rattle.std.proofs.lemmas.Slice.Eq.{bytes_eq-Decides}
 use Rattle.pl_base.specs.declared.date.Micros.{Micros}
 use Rattle.pl_base.specs.declared.id.ItemId.{ItemId}
@@ -33,6 +30,7 @@ use Rattle.pl_tree.proofs.OneParent.{found_holds, found_passes}
 use Rattle.pl_outline.specs.Outline.{node_of, separator_node, whole_seconds}
 use Rattle.pl_outline.proofs.Bare.{HasPages, bare}
 use Rattle.pl_outline.proofs.OneMore.{grown}
+use Rattle.pl_outline.proofs.PagesMore.{has_pages_for}
 
 -- ---- what is shown
 
@@ -220,68 +218,9 @@ url_fits (Some u) store h = has_url store u h
 
 -- ---- pages with one more
 
-ascends_push : (ns : List ℕ) (n : ℕ) → IsStrictlyIncreasing ns → All (λ m. m < n) ns
-    → IsStrictlyIncreasing (ns ++ n ∷ [])
-ascends_push ns n ascending below k within =
-    let whole : k + 1 < length ns + 1 = rw (length_push ns n) at within in
-    let first : k < length ns = omega arith in
-    elim (cases_lt (k + 1) (length ns)) [
-      | inl inside ↦
-          rw (get_or_append_left ns (n ∷ []) 0 k first, get_or_append_left ns (n ∷ []) 0 (k + 1) inside)
-          (ascending k inside)
-      | inr past ↦
-          let last : length ns ≡ k + 1 = omega arith in
-          rw (get_or_append_left ns (n ∷ []) 0 k first, get_or_push ns n 0 (k + 1) last) (below k 0 first)
-    ]
-
-none_found : (test : Page → Bool) (pages : List Page) → find test pages ≡ None → All (λ (p : Page). test p ≡ false) pages
-none_found test pages none = All-from_recursion (λ (p : Page). test p ≡ false) pages (go pages none)
-  where
-    go : (ps : List Page) → find test ps ≡ None
-        → AllByRecursion (λ (p : Page). test p ≡ false) ps
-    go [] is = tt
-    go (p ∷ ps) is = choose (test p) refl is (go ps)
-      where
-        choose : (b : Bool) → test p ≡ b → (if b then Some p else find test ps) ≡ None
-            → (find test ps ≡ None → AllByRecursion (λ (q : Page). test q ≡ false) ps)
-            → AllByRecursion (λ (q : Page). test q ≡ false) (p ∷ ps)
-        choose true passes here rest = absurd (cc)
-        choose false fails here rest = (fails, rest here)
-
-pub pages_more : (store : Store) (url : List ℕ) → HasPages store → HasPages (with_page_for store url)
-pages_more store url h = choose (find_page url store.pages) refl
-  where
-    more : Store
-    more =
-        record store {
-          pages = store.pages ++ new_page store url ∷ [];
-          ids = record store.ids { page = store.ids.page + 1 };
-        }
-
-    choose : (o : Option Page) → find_page url store.pages ≡ o → HasPages (if is_none o then more else store)
-    choose None none =
-        record {
-          ascending =
-              subst IsStrictlyIncreasing
-              (sym (map_push (λ (p : Page). p.id.0) store.pages (new_page store url)))
-              (ascends_push (map (λ (p : Page). p.id.0) store.pages) store.ids.page h.ascending
-              (All-map (λ m. m < store.ids.page) (λ (p : Page). p.id.0) store.pages h.below));
-          below =
-              All-push (λ (p : Page). p.id.0 < store.ids.page + 1) store.pages (new_page store url)
-              (All-weaker (λ (p : Page). p.id.0 < store.ids.page) (λ (p : Page). p.id.0 < store.ids.page + 1)
-              (λ p lt. omega arith) store.pages h.below)
-              (omega arith);
-          urls =
-              all_pairs_push (λ (p q : Page). p.url ≢ q.url) store.pages (new_page store url) h.urls
-              (All-weaker (λ (p : Page). bytes_eq p.url url ≡ false) (λ (p : Page). p.url ≢ url)
-              (λ p fails same. both_ways (bytes_eq p.url url) fails ((bytes_eq-Decides p.url url).1 same)) store.pages
-              (none_found (λ (p : Page). bytes_eq p.url url) store.pages none));
-        }
-    choose (Some p) found = h
-
 pub pages_more_of : (url : Option (List ℕ)) (store : Store) → HasPages store → HasPages (with_page_of url store)
 pages_more_of None store h = h
-pages_more_of (Some u) store h = pages_more store u h
+pages_more_of (Some u) store h = has_pages_for store u h
 
 -- ---- the item of a node
 

@@ -30,6 +30,7 @@ use Rattle.pl_outline.proofs.Bare.{HasPages}
 use Rattle.pl_outline.proofs.PagesMore.{found_for, has_pages_for, has_pages_same, marks_page, page_for_same}
 use Rattle.pl_outline.proofs.PagesMore.{page_of_url}
 use Rattle.pl_outline.proofs.TagMarks.{AreKnown, has_text, known_entered, marks, marks_entered, or_false, row_ids}
+use Rattle.pl_outline.proofs.ShownNodes.{pages_more_of}
 
 -- a URL has a tag
 abbrev pub url_marks : Store → List ℕ → List ℕ → Bool
@@ -99,10 +100,6 @@ there_tag store id date name there =
 ready_page_of : (url : Option (List ℕ)) (store : Store) → IsReady store → IsReady (with_page_of url store)
 ready_page_of None store r = r
 ready_page_of (Some url) store r = ready_page store url r
-
-pub has_pages_of : (url : Option (List ℕ)) (store : Store) → HasPages store → HasPages (with_page_of url store)
-has_pages_of None store h = h
-has_pages_of (Some url) store h = has_pages_for store url h
 
 -- the page of a node is that of a URL where the URLs are one
 page_is : (url : Option (List ℕ)) (store : Store) (other : List ℕ) → HasPages store
@@ -219,7 +216,7 @@ module _ (Known : List ℕ → Type 0) (one : (a b : List ℕ) → Known a → K
             ready = ready_item_of store parent node s.ready takes m.formed m.title;
             pages =
                 has_pages_same (with_page_of node.url store) (with_item_of parent node store) refl refl
-                (has_pages_of node.url store s.pages);
+                (pages_more_of node.url store s.pages);
             titles = subst (AreKnown Known) (sym rows_item) s.titles;
           }
 

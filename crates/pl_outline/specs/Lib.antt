@@ -1,2 +1,3 @@
+pub mod KnownTags
 pub mod Outline
 pub mod Pile

@@ -3,5 +3,6 @@
 
 mod node;
 mod outline;
+mod tags;
 
 pub use outline::tree;

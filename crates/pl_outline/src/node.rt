@@ -1,17 +1,19 @@
 // The node of an item.
-ghost use Rattle.std.specs.Prelude.{◌≡◌, ◌<◌, Some, true, IfOk, IfSome};
+ghost use Rattle.std.specs.Prelude.{◌≡◌, Some, true, IfOk, IfSome, OnOk};
 ghost use Rattle.std.specs.Option.{option_and_then, option_map};
 ghost use Rattle.pl_base.specs.Good.{IsGood};
 ghost use Rattle.pl_base.specs.Rows.{has_page, store_of};
 ghost use Rattle.pl_base.specs.Store.{page_url};
 ghost use Rattle.pl_base.specs.Tree.{has_item, item_at};
+ghost use Rattle.pl_outline.specs.KnownTags.{KnowsTags};
 ghost use Rattle.pl_outline.specs.Outline as spec;
 
+use crate::tags::KnownTags;
 use pl_base::{
     ItemId, ItemKind, MICROS_PER_SECOND, Micros, NoMemory, PageId, Rows, Seq, Steps, Txt,
 };
 use pl_link::Canon;
-use pl_marks::{canon_of, page_tags};
+use pl_marks::canon_of;
 use pl_nbread::Node;
 use pl_words::TagName;
 use std::alloc::Global;
@@ -47,13 +49,16 @@ fn tags<R: Rows, L: Ledger>(
     alloc: Global,
     rows: &R,
     page: Option<PageId>,
+    known: &mut KnownTags,
     steps: &mut Steps<L>,
 ) -> Result<Seq<TagName>, NoMemory>
     requires good { IsGood (store_of (R.kept rows.now)) }
-    ensures { IfOk result (λ tags. tags ≡ spec.tags_at (store_of (R.kept rows.now)) page) }
+    requires known { KnowsTags (store_of (R.kept rows.now)) known.old }
+    ensures tags { IfOk result (λ tags. tags ≡ spec.tags_at (store_of (R.kept rows.now)) page) }
+    ensures known { OnOk result (KnowsTags (store_of (R.kept rows.now)) known.new) }
 {
     match page {
-        Some(page) => page_tags(alloc, rows, page, steps),
+        Some(page) => known.of_page(alloc, rows, page, steps),
         None => Ok(Seq::from(Vec::new(alloc))),
     }
 }
@@ -78,11 +83,14 @@ pub(crate) fn node<R: Rows, L: Ledger>(
     rows: &R,
     item: ItemId,
     depth: u32,
+    known: &mut KnownTags,
     steps: &mut Steps<L>,
 ) -> Result<Node, NoMemory>
     requires item { has_item (R.kept rows.now).items item ≡ true }
     requires good { IsGood (store_of (R.kept rows.now)) }
-    ensures { IfOk result (λ node. Some node
+    requires known { KnowsTags (store_of (R.kept rows.now)) known.old }
+    ensures known { OnOk result (KnowsTags (store_of (R.kept rows.now)) known.new) }
+    ensures node { IfOk result (λ node. Some node
         ≡ option_map (spec.node_of (store_of (R.kept rows.now)) depth)
         (item_at (R.kept rows.now).items item)) }
 {
@@ -97,6 +105,6 @@ pub(crate) fn node<R: Rows, L: Ledger>(
         title: rows.item_title(item, steps)?,
         added: whole_seconds(row.added),
         modified: whole_seconds(row.modified),
-        tags: tags(alloc, rows, row.page, steps)?,
+        tags: tags(alloc, rows, row.page, known, steps)?,
     })
 }

@@ -5,10 +5,12 @@ ghost use Rattle.pl_base.specs.Rows.{store_of};
 ghost use Rattle.pl_base.specs.Store.{opening};
 ghost use Rattle.pl_graft.specs.Import.{imported};
 ghost use Rattle.pl_nbwrite.specs.Plain.{IsPlain};
+ghost use Rattle.pl_outline.specs.KnownTags.{KnowsTags};
 ghost use Rattle.pl_outline.specs.Outline.{bookmarks, listed};
 ghost use Rattle.pl_outline.specs.Pile.{placed};
 
 use crate::node::node;
+use crate::tags::KnownTags;
 use pl_base::{ItemId, NoMemory, Rows, Seq, Steps};
 use pl_nbread::{Node, Tree};
 use std::alloc::Global;
@@ -37,16 +39,19 @@ fn list<R: Rows, L: Ledger>(
     alloc: Global,
     rows: &R,
     root: ItemId,
+    known: &mut KnownTags,
     steps: &mut Steps<L>,
 ) -> Result<Seq<Node>, NoMemory>
-    requires { IsGood (store_of (R.kept rows.now)) }
-    ensures { IfOk result (λ nodes. nodes ≡ listed (store_of (R.kept rows.now)) root) }
+    requires good { IsGood (store_of (R.kept rows.now)) }
+    requires known { KnowsTags (store_of (R.kept rows.now)) known.old }
+    ensures nodes { IfOk result (λ nodes. nodes ≡ listed (store_of (R.kept rows.now)) root) }
+    ensures known { OnOk result (KnowsTags (store_of (R.kept rows.now)) known.new) }
 {
     let mut nodes = Vec::new(alloc);
     let mut places = Vec::new(alloc);
     push(&mut places, rows.first_child(root, steps), 0)?;
     while let Some(place) = places.pop() {
-        nodes.push(node(alloc, rows, place.item, place.depth, steps)?)?;
+        nodes.push(node(alloc, rows, place.item, place.depth, known, steps)?)?;
         push(
             &mut places,
             rows.next_sibling(place.item, steps),
@@ -75,11 +80,12 @@ pub fn tree<R: Rows, L: Ledger>(
     ensures plain { IfOk result IsPlain }
     ensures returns { IfOk result (λ tree. bookmarks (imported tree opening) ≡ tree) }
 {
+    let mut known = KnownTags::new(alloc);
     Ok(Tree {
-        menu: list(alloc, rows, ItemId(2), steps)?,
-        toolbar: list(alloc, rows, ItemId(3), steps)?,
-        unfiled: list(alloc, rows, ItemId(5), steps)?,
-        mobile: list(alloc, rows, ItemId(6), steps)?,
+        menu: list(alloc, rows, ItemId(2), &mut known, steps)?,
+        toolbar: list(alloc, rows, ItemId(3), &mut known, steps)?,
+        unfiled: list(alloc, rows, ItemId(5), &mut known, steps)?,
+        mobile: list(alloc, rows, ItemId(6), &mut known, steps)?,
         skipped: 0,
     })
 }

@@ -3,7 +3,6 @@
 
 mod check;
 mod flat;
-mod slots;
 
 pub use flat::Flat;
 pub use pl_form::CheckError;

@@ -32,7 +32,7 @@ use Rattle.pl_query.specs.declared.shown.Subject.{Subject}
 use Rattle.pl_query.specs.Candidates.{candidate_of, is_wanted, mark_subject, marks_part, page_part, page_subject}
 use Rattle.pl_query.specs.Candidates.{part_of, parts_of, subject_of, visit_subject, visits_in_times, visits_part}
 use Rattle.pl_query.specs.Candidates.{wanted_marks}
-use Rattle.pl_query.specs.Conditions.{history_holds, in_times, is_in_parents, page_holds}
+use Rattle.pl_conditions.specs.Conditions.{history_holds, in_times, is_in_parents, page_holds}
 use Rattle.pl_query.specs.Order.{Row}
 use Rattle.pl_query.specs.QueryAnswer.{bookmark_row, bookmark_row_of, bookmark_rows, has_visit_in_times}
 use Rattle.pl_query.specs.QueryAnswer.{history_row, marked_page}

@@ -29,7 +29,7 @@ use Rattle.pl_query.specs.declared.shown.Subject.{Subject}
 use Rattle.pl_query.specs.declared.shown.Subject.TheVariants.{Page as OfPage, Visit as OfVisit, Bookmark}
 use Rattle.pl_query.specs.Candidates.{candidate_of, is_wanted, mark_subject, marks_part, page_part, page_subject}
 use Rattle.pl_query.specs.Candidates.{sort_value, visit_subject, visits_in_times, visits_part, wanted_marks}
-use Rattle.pl_query.specs.Conditions.{history_holds, in_times, is_in_parents, page_holds}
+use Rattle.pl_conditions.specs.Conditions.{history_holds, in_times, is_in_parents, page_holds}
 use Rattle.pl_query.specs.Order.{Row}
 use Rattle.pl_query.specs.QueryAnswer.{has_visit_in_times}
 use Rattle.pl_query.specs.Subjects.{row_at, row_of_mark, row_of_page, row_of_visit}

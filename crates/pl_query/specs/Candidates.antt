@@ -27,7 +27,7 @@ use Rattle.pl_query.specs.declared.ordering.SortValue.TheVariants.{Nothing, Text
 use Rattle.pl_query.specs.declared.ordering.SortValue.TheVariants.{Number, Score}
 use Rattle.pl_query.specs.declared.shown.Subject.{Subject}
 use Rattle.pl_query.specs.declared.shown.Subject.TheVariants.{Page, Visit as OfVisit, Bookmark}
-use Rattle.pl_query.specs.Conditions.{history_holds, in_times, is_in_parents, page_holds}
+use Rattle.pl_conditions.specs.Conditions.{history_holds, in_times, is_in_parents, page_holds}
 use Rattle.pl_query.specs.Order.{Row, date_cmp, text_cmp}
 use Rattle.pl_query.specs.QueryAnswer.{has_visit_in_times}
 use Rattle.pl_query.specs.Subjects.{row_of_mark, row_of_page, row_of_visit, subject_id}

@@ -17,7 +17,7 @@ use Rattle.pl_place.specs.declared.kinds.ResultType.{ResultType}
 use Rattle.pl_place.specs.declared.kinds.ResultType.TheVariants.{Pages, Visits}
 use Rattle.pl_place.specs.declared.query.Query.{Query}
 use Rattle.pl_query.specs.declared.result_row.ResultRow.{ResultRow}
-use Rattle.pl_query.specs.Conditions.{history_holds, in_times, is_in_parents, page_holds}
+use Rattle.pl_conditions.specs.Conditions.{history_holds, in_times, is_in_parents, page_holds}
 use Rattle.pl_query.specs.Order.{Row, comes_before}
 
 -- ---- the rows of each kind

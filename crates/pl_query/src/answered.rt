@@ -10,12 +10,12 @@ ghost use Rattle.pl_query.specs.QueryAnswer as spec;
 ghost use Rattle.pl_query.specs.QueryAnswer.{limited, told_row};
 ghost use Rattle.pl_query.specs.Subjects.{row_at};
 
-use crate::asked::Asked;
 use crate::candidates::candidates;
 use crate::ordering::{Candidate, put_in_order};
 use crate::result_row::ResultRow;
 use crate::shown::{Subject, date, mark, title};
 use pl_base::{NoMemory, Rows, Steps};
+use pl_conditions::Asked;
 use pl_marks::tag_text;
 use pl_place::Query;
 use std::alloc::Global;

@@ -2,7 +2,7 @@
 ghost use Rattle.std.specs.Prelude.{◌≡◌, ◌++◌, ◌∷◌, [], Some, true, is_some, map, IfOk, OnOk};
 ghost use Rattle.pl_base.specs.Good.{IsGood};
 ghost use Rattle.pl_base.specs.Rows.{IsRight, KeptPage, has_page, page_at, store_of};
-ghost use Rattle.pl_query.specs.Asked.{IsAsked};
+ghost use Rattle.pl_conditions.specs.Asked.{IsAsked};
 ghost use Rattle.pl_query.specs.Candidates.{candidate_of, part_of, parts_of, sort_value};
 ghost use Rattle.pl_query.specs.Candidates.{subject_of};
 ghost use Rattle.pl_query.specs.Order.{Row};
@@ -12,13 +12,13 @@ mod bookmarks;
 mod pages;
 mod visits;
 
-use crate::asked::Asked;
 use crate::candidates::bookmarks::add_bookmarks;
 use crate::candidates::pages::add_page;
 use crate::candidates::visits::add_visits;
 use crate::ordering::{Candidate, sort_value};
 use crate::shown::Subject;
 use pl_base::{NoMemory, PageId, Rows, Steps};
+use pl_conditions::Asked;
 use pl_place::{QueryType, ResultType, Sort};
 use std::alloc::Global;
 use std::sync::ledger::Ledger;

@@ -2,9 +2,7 @@
 #![tactic(auto)]
 
 mod answered;
-mod asked;
 mod candidates;
-mod conditions;
 mod mark_dates;
 mod ordering;
 mod result_row;

@@ -1,6 +1,6 @@
 // The lines of the address bar.
 ghost use Rattle.std.specs.Prelude.{IfOk};
-ghost use Rattle.pl_step.specs.Step.{HasDates};
+ghost use Rattle.pl_step.specs.Commands.{HasDates};
 ghost use Rattle.pl_script.specs.LineError.{ReadsAs};
 ghost use Rattle.pl_script.specs.Script as spec;
 

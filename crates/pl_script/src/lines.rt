@@ -1,6 +1,6 @@
 // One line.
 ghost use Rattle.std.specs.Prelude.{◌≡◌, IfOk, IfSome, IsErrOf};
-ghost use Rattle.pl_step.specs.Step.{HasDates};
+ghost use Rattle.pl_step.specs.Commands.{HasDates};
 ghost use Rattle.pl_base.specs.Date.{IsDate, IsDay};
 ghost use Rattle.pl_script.specs.DayText as days;
 ghost use Rattle.pl_script.specs.LineError.{BecomesLineError, MayHaveTexts, ReadsAs, ReadsEntry};

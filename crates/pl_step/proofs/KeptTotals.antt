@@ -9,7 +9,7 @@ use Rattle.pl_step.specs.declared.reply.Reply.TheVariants.{Removed, Item, List, 
 use Rattle.pl_step.specs.declared.reply.Reply.TheVariants.{Fill, NoFill, Imported, Refused}
 use Rattle.pl_step.specs.declared.command.Command.{Command}
 use Rattle.pl_step.specs.Refused.{has_changed, is_refused}
-use Rattle.pl_step.specs.Step.{is_change}
+use Rattle.pl_step.specs.Commands.{is_change}
 
 -- the refusal of a reply that is one
 refusal_in : (reply : Reply) → is_refused reply ≡ true → (refusal : Refusal) × (reply ≡ Refused refusal)

@@ -1,3 +1,4 @@
+pub mod Commands
 pub mod Parsed
 pub mod Refused
 pub mod Run

@@ -5,7 +5,7 @@ use Rattle.pl_step.specs.declared.reply.Reply.{Reply}
 use Rattle.pl_step.specs.declared.reply.Reply.TheVariants.{Day, Visit, Done, Page, Origin, Stats}
 use Rattle.pl_step.specs.declared.reply.Reply.TheVariants.{Removed, Item, List, Rows, Place, Bar}
 use Rattle.pl_step.specs.declared.reply.Reply.TheVariants.{Fill, NoFill, Imported, Refused}
-use Rattle.pl_step.specs.Step.{is_change}
+use Rattle.pl_step.specs.Commands.{is_change}
 
 -- the reply is a refusal
 abbrev pub is_refused : Reply → Bool

@@ -1,5 +1,5 @@
 ghost use Rattle.std.specs.Prelude.{◌≡◌};
-ghost use Rattle.pl_step.specs.Step.{is_change};
+ghost use Rattle.pl_step.specs.Commands.{is_change};
 
 use pl_base::{Day, ItemId, Micros, Transition, Txt, VisitId};
 use pl_link::Canon;

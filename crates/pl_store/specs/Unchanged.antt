@@ -4,7 +4,7 @@ use Rattle.pl_base.specs.declared.refusal.Refusal.{Refusal}
 use Rattle.pl_step.specs.declared.command.Command.{Command}
 use Rattle.pl_step.specs.declared.reply.Reply.{Reply}
 use Rattle.pl_step.specs.declared.reply.Reply.TheVariants.{Refused}
-use Rattle.pl_step.specs.Step.{is_change}
+use Rattle.pl_step.specs.Commands.{is_change}
 
 -- the command was refused, or is of a kind that never changes the store
 abbrev pub ChangesNothing : Command → Reply → Type 0

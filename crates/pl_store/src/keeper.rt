@@ -3,7 +3,8 @@ ghost use Rattle.std.specs.Prelude.{◌≡◌, ◌≤◌, List, ℕ, Some, false
 ghost use Rattle.pl_desk.specs.Shown.{AtAnyMoment};
 ghost use Rattle.pl_desk.specs.Counts.{Counts};
 ghost use Rattle.pl_desk.specs.Calls.{KeepsLine};
-ghost use Rattle.pl_step.specs.Step.{HasDates, perform};
+ghost use Rattle.pl_step.specs.Commands.{HasDates};
+ghost use Rattle.pl_step.specs.Step.{perform};
 ghost use Rattle.pl_store.specs.Keeper.{IsKept, IsReadyFrom, LeavesEither, is_file, keeper_limit};
 ghost use Rattle.pl_store.specs.Keeper.{ready_limit, ready_store, keeper_store};
 

@@ -1,7 +1,8 @@
 ghost use Rattle.std.specs.Prelude.{◌≡◌, ◌≤◌, IfOk};
 ghost use Rattle.pl_base.specs.Store.{opening};
 ghost use Rattle.pl_base.specs.Live.{slot_limit};
-ghost use Rattle.pl_step.specs.Step.{HasDates, perform};
+ghost use Rattle.pl_step.specs.Commands.{HasDates};
+ghost use Rattle.pl_step.specs.Step.{perform};
 ghost use Rattle.pl_store.specs.Session.{memory_limit, memory_store};
 
 use crate::uncounted;

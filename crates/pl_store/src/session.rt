@@ -33,7 +33,8 @@ impl Session {
     ghost use Rattle.pl_engine.specs.Returns.{Returns};
     ghost use Rattle.pl_nbwrite.specs.Plain.{IsPlain};
     ghost use Rattle.pl_outline.specs.Outline.{bookmarks};
-    ghost use Rattle.pl_step.specs.Step.{HasDates, is_change, perform};
+    ghost use Rattle.pl_step.specs.Commands.{HasDates, is_change};
+    ghost use Rattle.pl_step.specs.Step.{perform};
     ghost use Rattle.pl_store.specs.Session.{IsPreparedFrom, session_limit, next_limit, next_store};
     ghost use Rattle.pl_store.specs.Session.{session_store, writes_nothing};
 

@@ -7,7 +7,8 @@ ghost use Rattle.pl_form.specs.Form.{StandsFor};
 ghost use Rattle.pl_nbwrite.specs.Plain.{IsPlain};
 ghost use Rattle.pl_outline.specs.Outline.{bookmarks};
 ghost use Rattle.pl_plain.specs.Flat.{IsBase, bytes_of, kept_of};
-ghost use Rattle.pl_step.specs.Step.{HasDates, is_change, perform};
+ghost use Rattle.pl_step.specs.Commands.{HasDates, is_change};
+ghost use Rattle.pl_step.specs.Step.{perform};
 
 use pl_base::{NoMemory, Refusal, Steps, Touched};
 use pl_engine::Engine;

@@ -42,8 +42,8 @@ use Rattle.places.specs.declared.answer_error.AnswerError.TheVariants as answer
 use Rattle.places.specs.declared.drill.Drilling.{Drilling}
 use Rattle.places.specs.declared.status.Status.{Status}
 use Rattle.places.specs.declared.status.Status.TheVariants as status
-use Rattle.places.specs.declared.task.Task.{Task}
-use Rattle.places.specs.declared.task.Task.TheVariants as tasks
+use Rattle.pl_task.specs.declared.task.Task.{Task}
+use Rattle.pl_task.specs.declared.task.Task.TheVariants as tasks
 use Rattle.places.specs.Drilling.{Drilled, EndsDrill, IsSmall, LeavesLines, ShowsDrill}
 use Rattle.places.specs.Drilling.{StandsForSome, all_drilled, drill_status, drilled, line_done, so_far, summary}
 use Rattle.places.specs.Drilling.{summary_of, told, told_all}
@@ -51,7 +51,7 @@ use Rattle.places.specs.Ending.{EndsTask}
 use Rattle.places.specs.Lines.{entries_in}
 use Rattle.places.specs.Said.{Says}
 use Rattle.places.specs.Status.{answer_status, without_session}
-use Rattle.places.specs.Task.{drill_task, task_of}
+use Rattle.pl_task.specs.Task.{drill_task, task_of}
 use Rattle.places.specs.Stops.{LeavesOfAnswer, ShowsFront, ShowsUnopened}
 
 -- ---- replies

@@ -29,7 +29,7 @@ use Rattle.places.specs.Status.{EndsIn}
 use Rattle.places.specs.Progress.{HasRead, IsAt, ended_entries, entries_read}
 use Rattle.places.specs.Said.{Says, texts}
 use Rattle.places.specs.Stops.{LeavesAtEntry, ShowsAnswered}
-use Rattle.places.specs.Limits.{script_limit}
+use Rattle.pl_task.specs.Task.{script_limit}
 use Rattle.places.proofs.EntryLemmas.{keeps_here, leaves_here, leaves_script}
 use Rattle.places.proofs.StopLemmas.{shows_here, shows_script}
 

@@ -36,7 +36,7 @@ use Rattle.places.specs.declared.answer_error.AnswerError.{AnswerError}
 use Rattle.places.specs.declared.answer_error.AnswerError.TheVariants as answer
 use Rattle.places.specs.declared.status.Status.{Status}
 use Rattle.places.specs.declared.status.Status.TheVariants as status
-use Rattle.places.specs.declared.task.Task.TheVariants as tasks
+use Rattle.pl_task.specs.declared.task.Task.TheVariants as tasks
 use Rattle.places.specs.Ending.{EndsTask}
 use Rattle.places.specs.Importing.{EndsImport, Imports, IsTaken, LeavesRead, LeavesStart, ReadsFront, ShowsImport}
 use Rattle.places.specs.Importing.{StopsCommit, StopsImport, StopsParsing, StopsReading, after_import, import_of}

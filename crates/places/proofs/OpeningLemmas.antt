@@ -27,15 +27,15 @@ use Rattle.places.specs.declared.status.Status.{Status}
 use Rattle.places.specs.declared.status.Status.TheVariants as status
 use Rattle.places.specs.declared.stop.Stop.{Stop}
 use Rattle.places.specs.declared.stop.Stop.TheVariants as stop
-use Rattle.places.specs.declared.task.Task.{Task}
-use Rattle.places.specs.declared.task.Task.TheVariants as tasks
+use Rattle.pl_task.specs.declared.task.Task.{Task}
+use Rattle.pl_task.specs.declared.task.Task.TheVariants as tasks
 use Rattle.places.specs.Ending.{BeginsWith, EndsScript, EndsTask, IsHeld, LeavesAtEnd, LeavesWithin, SaysFront}
-use Rattle.places.specs.Limits.{script_limit}
+use Rattle.pl_task.specs.Task.{script_limit}
 use Rattle.places.specs.Progress.{HasRead, entries_read}
 use Rattle.places.specs.Said.{Says, SaysOfAnswer, SaysPart, SaysUntil, SaysWhole, texts}
 use Rattle.places.specs.Status.{EndsAs, without_session}
 use Rattle.places.specs.Stops.{LeavesAtEntry, LeavesOfAnswer, ShowsAnswered, ShowsUnopened}
-use Rattle.places.specs.Task.{input_limit, opens_store}
+use Rattle.pl_task.specs.Task.{input_limit, opens_store}
 use Rattle.places.proofs.ProgressLemmas.{replies-append}
 use Rattle.places.proofs.StopLemmas.{shows_nothing}
 

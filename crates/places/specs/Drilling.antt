@@ -1,5 +1,5 @@
--- What a drill makes of a store, shows while it runs, and leaves at each of its ends, where the desk
--- tells its content.
+-- What a drill makes of a store, shows while it runs, and leaves at each of its ends, where the
+-- desk tells its content.
 use Rattle.std.specs.Prelude.{◌≡◌, ◌⊎◌, ⊤, ℕ, zero, suc, ◌+◌, ◌<◌, ◌≤◌, true, List, [], ◌∷◌, ◌++◌}
 use Rattle.std.specs.Prelude.{codes, decimal, length, take, Option, Some, Result, Ok, Err}
 use Rattle.std.specs.List.{count_by}
@@ -24,8 +24,8 @@ use Rattle.places.specs.declared.answer_error.AnswerError.TheVariants as answer
 use Rattle.places.specs.declared.drill.Drilling.{Drilling}
 use Rattle.places.specs.declared.status.Status.{Status}
 use Rattle.places.specs.declared.status.Status.TheVariants as status
-use Rattle.places.specs.declared.task.Task.{Task}
-use Rattle.places.specs.declared.task.Task.TheVariants as tasks
+use Rattle.pl_task.specs.declared.task.Task.{Task}
+use Rattle.pl_task.specs.declared.task.Task.TheVariants as tasks
 use Rattle.places.specs.Ending.{IsHeld}
 use Rattle.places.specs.Lines.{entries_in}
 use Rattle.places.specs.Status.{answer_status}

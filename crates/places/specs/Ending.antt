@@ -19,13 +19,13 @@ use Rattle.places.specs.declared.status.Status.{Status}
 use Rattle.places.specs.declared.status.Status.TheVariants as status
 use Rattle.places.specs.declared.stop.Stop.{Stop}
 use Rattle.places.specs.declared.stop.Stop.TheVariants as stop
-use Rattle.places.specs.declared.task.Task.{Task}
-use Rattle.places.specs.declared.task.Task.TheVariants as tasks
-use Rattle.places.specs.Limits.{script_limit}
+use Rattle.pl_task.specs.declared.task.Task.{Task}
+use Rattle.pl_task.specs.declared.task.Task.TheVariants as tasks
+use Rattle.pl_task.specs.Task.{script_limit}
 use Rattle.places.specs.Progress.{HasRead, ended_entries, entries_read}
 use Rattle.places.specs.Said.{Says, SaysUntil, texts}
 use Rattle.places.specs.Stops.{LeavesAtEntry}
-use Rattle.places.specs.Task.{input_limit, opens_store}
+use Rattle.pl_task.specs.Task.{input_limit, opens_store}
 
 -- how an answer's error stops a run
 abbrev pub Becomes : AnswerError → Stop → Type 0

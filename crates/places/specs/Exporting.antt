@@ -1,5 +1,5 @@
--- What `export` says of a store, shows while it runs, and leaves at each of its ends, where the desk
--- tells its content.
+-- What `export` says of a store, shows while it runs, and leaves at each of its ends, where the
+-- desk tells its content.
 use Rattle.std.specs.Prelude.{◌≡◌, ◌⊎◌, ℕ, ◌<◌, true, false, List, ◌++◌, length, take}
 use Rattle.std.specs.Prelude.{Option, Some, None}
 use Rattle.pl_base.specs.Live.{slot_limit}
@@ -16,8 +16,8 @@ use Rattle.pl_store.specs.Keeper.{Keeps}
 use Rattle.pl_store.specs.Session.{Stands}
 use Rattle.places.specs.declared.status.Status.{Status}
 use Rattle.places.specs.declared.status.Status.TheVariants as status
-use Rattle.places.specs.declared.task.Task.{Task}
-use Rattle.places.specs.declared.task.Task.TheVariants as tasks
+use Rattle.pl_task.specs.declared.task.Task.{Task}
+use Rattle.pl_task.specs.declared.task.Task.TheVariants as tasks
 use Rattle.places.specs.Ending.{IsHeld}
 use Rattle.places.specs.Importing.{after_import, import_of}
 

@@ -19,8 +19,8 @@ use Rattle.pl_store.specs.Keeper.{Keeps, LeavesEither}
 use Rattle.pl_store.specs.Session.{Stands}
 use Rattle.places.specs.declared.status.Status.{Status}
 use Rattle.places.specs.declared.status.Status.TheVariants as status
-use Rattle.places.specs.declared.task.Task.{Task}
-use Rattle.places.specs.declared.task.Task.TheVariants as tasks
+use Rattle.pl_task.specs.declared.task.Task.{Task}
+use Rattle.pl_task.specs.declared.task.Task.TheVariants as tasks
 use Rattle.places.specs.Ending.{IfTold, IsHeld, LeavesUnopened}
 
 -- ---- what is asked for

@@ -8,4 +8,3 @@ pub mod Progress
 pub mod Said
 pub mod Status
 pub mod Stops
-pub mod Task

@@ -1,10 +1,6 @@
--- The limits of a script and of what is kept of a line.
+-- The limit of what is kept of a line.
 use Rattle.std.specs.Prelude.{ℕ, ◌+◌}
 use Rattle.pl_script.specs.Script.{longest_line}
-
--- so many bytes of a script are read at most
-abbrev pub script_limit : ℕ
-script_limit = 2_147_483_648
 
 -- So many bytes of a line are kept at most, which tell its entry: past the longest line two more,
 -- of which the last may be the CR before its LF.

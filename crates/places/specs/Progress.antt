@@ -12,7 +12,8 @@ use Rattle.pl_store.specs.Keeper.{IsKept, is_file, keeper_limit, keeper_store}
 use Rattle.pl_script.specs.Script.{script}
 use Rattle.places.specs.declared.script_run.ScriptRun.{ScriptRun}
 use Rattle.places.specs.declared.answer_error.AnswerError.{AnswerError}
-use Rattle.places.specs.Limits.{kept_of_line, script_limit}
+use Rattle.pl_task.specs.Task.{script_limit}
+use Rattle.places.specs.Limits.{kept_of_line}
 use Rattle.places.specs.Lines.{ended_lines, entries_of, open_line}
 use Rattle.places.specs.Said.{Says, texts}
 use Rattle.places.specs.Stops.{LeavesAtEntry, ShowsAnswered}

@@ -12,7 +12,7 @@ use Rattle.places.specs.declared.status.Status.TheVariants.{NotEmpty, NotBookmar
 use Rattle.places.specs.declared.status.Status.TheVariants.{ImportRefused}
 use Rattle.places.specs.declared.stop.Stop.{Stop}
 use Rattle.places.specs.declared.stop.Stop.TheVariants as stop
-use Rattle.places.specs.Limits.{script_limit}
+use Rattle.pl_task.specs.Task.{script_limit}
 
 -- the exit status of the program
 abbrev pub status_number : Status → ℕ

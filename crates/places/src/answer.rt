@@ -4,7 +4,7 @@ ghost use Rattle.pl_desk.specs.Shown.{ShowsOnly};
 ghost use Rattle.pl_desk.specs.Counts.{CountsAt};
 ghost use Rattle.pl_desk.specs.Calls.{LeavesFile};
 ghost use Rattle.pl_step.specs.Run.{replies, after};
-ghost use Rattle.pl_step.specs.Step.{HasDates};
+ghost use Rattle.pl_step.specs.Commands.{HasDates};
 ghost use Rattle.pl_store.specs.Keeper.{IsKept, IsReadyFrom, is_file, keeper_limit};
 ghost use Rattle.pl_store.specs.Keeper.{keeper_store, ready_limit, ready_store};
 ghost use Rattle.pl_script.specs.Reply.{reply_text as text_of_reply};

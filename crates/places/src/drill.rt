@@ -11,7 +11,8 @@ ghost use Rattle.pl_desk.specs.Shown.{AtAnyMoment, ShowsOnly};
 ghost use Rattle.pl_drill.specs.Drill.{most_lines, tabbed};
 ghost use Rattle.pl_step.specs.Refused.{is_refused};
 ghost use Rattle.pl_script.specs.Reply.{reply_text as text_of_reply};
-ghost use Rattle.pl_step.specs.Step.{HasDates, perform};
+ghost use Rattle.pl_step.specs.Commands.{HasDates};
+ghost use Rattle.pl_step.specs.Step.{perform};
 ghost use Rattle.pl_store.specs.Ending.{KeepsFinished, RefusesFile, StandsForNone};
 ghost use Rattle.pl_store.specs.Keeper.{IsKept, is_file, keeper_limit, keeper_store};
 ghost use Rattle.pl_store.specs.Session.{Stands, StandsForEither};
@@ -25,13 +26,13 @@ ghost use Rattle.places.specs.Stops.{LeavesOfAnswer, ShowsUnopened};
 use crate::answer_error::AnswerError;
 use crate::say::say_all;
 use crate::status::Status;
-use crate::task::Task;
 use pl_base::{NoMemory, Txt};
 use pl_desk::Desk;
 use pl_drill::Drill;
 use pl_script::{LineError, line, reply_text};
 use pl_step::{Command, Reply};
 use pl_store::{Keeper, SLOT_LIMIT, reopen};
+use pl_task::Task;
 use std::alloc::Global;
 
 // A drill behind some of its lines.

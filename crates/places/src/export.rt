@@ -12,11 +12,11 @@ ghost use Rattle.places.specs.Stops.{ShowsUnopened};
 
 use crate::say::say_all;
 use crate::status::Status;
-use crate::task::Task;
 use pl_base::{NoMemory, Txt};
 use pl_desk::Desk;
 use pl_nbwrite::text;
 use pl_store::{SLOT_LIMIT, Session, reopen};
+use pl_task::Task;
 use std::alloc::Global;
 
 /// Says the bookmark file of the store that the desk's file stands for. No change is made to the

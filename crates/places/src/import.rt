@@ -9,7 +9,7 @@ ghost use Rattle.pl_desk.specs.Shown.{ShowsOnly};
 ghost use Rattle.pl_nbread.specs.BookmarkFile.{file_limit, offset};
 ghost use Rattle.pl_nbread.specs.BookmarkTree.{tree_of};
 ghost use Rattle.pl_nbread.specs.WellFormed.{AreWellFormed};
-ghost use Rattle.pl_step.specs.Step.{HasDates};
+ghost use Rattle.pl_step.specs.Commands.{HasDates};
 ghost use Rattle.pl_store.specs.Ending.{KeepsFinished, RefusesFile, StandsForNone};
 ghost use Rattle.pl_store.specs.Keeper.{IsKept, is_file, keeper_limit, keeper_store};
 ghost use Rattle.pl_store.specs.Session.{Stands};
@@ -22,11 +22,11 @@ ghost use Rattle.places.specs.Stops.{ShowsUnopened};
 use crate::answer::conclude;
 use crate::input::{PIECE, next_piece};
 use crate::status::Status;
-use crate::task::Task;
 use pl_desk::{Desk, Source};
 use pl_nbread::{FILE_LIMIT, ReadError, Tree, read};
 use pl_step::{Command, Reply};
 use pl_store::{Keeper, SLOT_LIMIT, reopen};
+use pl_task::Task;
 use std::alloc::Global;
 
 /// Imports the bookmark file that the input holds into the store that the desk's file stands for.

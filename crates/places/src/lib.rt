@@ -18,7 +18,6 @@ mod script;
 mod script_run;
 mod status;
 mod stop;
-mod task;
 
 ghost use Rattle.std.specs.Prelude.{◌≡◌, ℕ, List, Some, None, true};
 ghost use Rattle.pl_base.specs.Live.{slot_limit};
@@ -33,7 +32,7 @@ ghost use Rattle.places.specs.Ending.{OfScript};
 ghost use Rattle.places.specs.Exporting.{ComesBack, EndsExport, OfExport, ShowsExport};
 ghost use Rattle.places.specs.Importing.{EndsImport, OfImport, ShowsImport};
 ghost use Rattle.places.specs.Stops.{ShowsAnswered, ShowsUnopened};
-ghost use Rattle.places.specs.Task.{asked_of, input_limit, opens_store};
+ghost use Rattle.pl_task.specs.Task.{asked_of, input_limit, opens_store};
 
 use crate::drill::drill_stored;
 use crate::export::export_stored;
@@ -41,19 +40,19 @@ use crate::import::import_stored;
 use crate::make_store::make_store;
 use crate::script::{run_stored, try_script};
 use pl_desk::{Desk, Source};
+use pl_task::Task;
 pub use status::Status;
 use std::alloc::Global;
-pub use task::Task;
 
 /// Runs what the words ask for. `new` writes the store before its first command into the desk's
 /// file, and says `new`. `run` runs the script of the input on the store that the file holds, and
 /// `try` on a store in memory, of which the desk's file knows nothing; both say the reply to each
 /// line as it comes, and the file of `run` holds a command before a byte of its reply is said.
 /// `import` puts the bookmark file of the input into the store that the file holds, as one command,
-/// and says its reply. `export` says the bookmark file of the store that the file holds. `drill` runs
-/// a line that says the day and so many generated ones, each committed as those of `run` are, and
-/// says a summary once the file holds them all. `NoMemory` may come at any place: then nothing of its
-/// command was said or is in the file.
+/// and says its reply. `export` says the bookmark file of the store that the file holds. `drill`
+/// runs a line that says the day and so many generated ones, each committed as those of `run` are,
+/// and says a summary once the file holds them all. `NoMemory` may come at any place: then nothing
+/// of its command was said or is in the file.
 pub fn run<S: Source, D: Desk>(alloc: Global, words: &[&str], input: &mut S, desk: &mut D) -> Status
     // Which words may end so. Others are refused, and then nothing is called.
     ensures status { MayEnd (asked_of words.now) result }
@@ -112,8 +111,8 @@ pub fn run<S: Source, D: Desk>(alloc: Global, words: &[&str], input: &mut S, des
         → OfExport D.Desk (asked_of words.now) desk.old (λ start before. ComesBack start) }
 
     // A drill runs generated lines, each committed as `run` does, and says nothing until all are in
-    // the file. A stop at any moment leaves the store after some of them, and the one after all where
-    // a byte of the summary was said.
+    // the file. A stop at any moment leaves the store after some of them, and the one after all
+    // where a byte of the summary was said.
     ensures drills { OfDrill D.Desk (asked_of words.now) desk.old (λ count seed start before.
         EndsDrill D.Desk result count seed desk.old start before desk.new) }
     ensures drill_stops { OfDrill D.Desk (asked_of words.now) desk.old (λ count seed start before.

@@ -5,9 +5,9 @@ ghost use Rattle.places.specs.Ending.{EndsNew, EndsTask};
 
 use crate::say::say_all;
 use crate::status::Status;
-use crate::task::Task;
 use pl_desk::Desk;
 use pl_store::create;
+use pl_task::Task;
 use std::alloc::Global;
 
 /// Writes the store before its first command into the desk's file, and says `new`. A stop within it

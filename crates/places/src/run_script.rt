@@ -16,10 +16,8 @@ use crate::script_run::ScriptRun;
 use crate::stop::Stop;
 use pl_desk::{Desk, Source};
 use pl_store::Keeper;
+use pl_task::SCRIPT_LIMIT;
 use std::alloc::Global;
-
-/// Reading stops where this many bytes were read.
-pub const SCRIPT_LIMIT: usize = 2_147_483_648;
 
 /// Answers the lines of the input as they come.
 pub fn run_script<S: Source, D: Desk>(

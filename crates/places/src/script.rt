@@ -15,9 +15,9 @@ ghost use Rattle.places.specs.Stops.{ShowsAnswered, ShowsUnopened};
 use crate::run_script::run_script;
 use crate::status::Status;
 use crate::stop::Stop;
-use crate::task::Task;
 use pl_desk::{Desk, Source};
 use pl_store::{Keeper, Memory, SLOT_LIMIT, reopen};
+use pl_task::Task;
 use std::alloc::Global;
 
 /// Runs the script of the input on a store in memory, from the one before its first command on.

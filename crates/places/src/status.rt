@@ -2,10 +2,10 @@ ghost use Rattle.std.specs.Prelude.{◌≡◌};
 ghost use Rattle.places.specs.Status.{status_number, status_value};
 
 use crate::answer_error::AnswerError;
-use crate::run_script::SCRIPT_LIMIT;
 use crate::stop::Stop;
 use pl_base::{NoMemory as OutOfMemory, Refusal};
 use pl_store::Ended;
+use pl_task::SCRIPT_LIMIT;
 use std::alloc::AllocError;
 
 /// How a run ended.

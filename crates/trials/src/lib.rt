@@ -6,10 +6,6 @@
 #[cfg(test)]
 mod base;
 #[cfg(test)]
-mod desk;
-#[cfg(test)]
-mod file;
-#[cfg(test)]
 mod form;
 #[cfg(test)]
 mod link;
@@ -23,5 +19,3 @@ mod roots;
 mod rows;
 #[cfg(test)]
 mod score;
-#[cfg(test)]
-mod source;

@@ -27,8 +27,13 @@ pub const WORKED: &str = "<!DOCTYPE NETSCAPE-Bookmark-file-1>\n\
     <DT><A HREF=\"https://c.example/\" TAGS=\"red,Blue\">D</A>\n\
     </DL><p>\n";
 
-// `run` in memory: a test compares what it says, and has no use for its clauses.
-fn in_memory(alloc: Global, words: &[&str], input: &mut MemSource, desk: &mut MemDesk) -> Status {
+/// `run` in memory: a test compares what it says, and has no use for its clauses.
+pub fn in_memory(
+    alloc: Global,
+    words: &[&str],
+    input: &mut MemSource,
+    desk: &mut MemDesk,
+) -> Status {
     run(alloc, words, input, desk)
 }
 

@@ -2,7 +2,7 @@
 // file wants three pages and eight items, and leaves an opening store 29 slots.
 ghost use Rattle.std.specs.Prelude.{◌≡◌, ◌<◌, ◌≤◌, IfOk};
 ghost use Rattle.pl_base.specs.Live.{slot_limit};
-ghost use Rattle.pl_step.specs.Step.{HasDates};
+ghost use Rattle.pl_step.specs.Commands.{HasDates};
 
 use pl_base::{Ids, Steps, Txt};
 use pl_engine::Engine;

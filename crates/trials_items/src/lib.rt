@@ -1,4 +1,4 @@
-//! Tests of folds, tag names and items, by their public names. There is nothing else here, since a
+//! Tests of items, by their public names. There is nothing else here, since a
 //! crate with tests of its own is proved twice; apart from those of the other layers, so that none
 //! waits for the others.
 #![tactic(auto)]
@@ -13,5 +13,3 @@ mod tree;
 mod tree_damages;
 #[cfg(test)]
 mod tree_file;
-#[cfg(test)]
-mod words;

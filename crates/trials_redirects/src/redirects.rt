@@ -1,6 +1,6 @@
 // Visits with sources: what the file keeps of every page after each of them.
 ghost use Rattle.std.specs.Prelude.{◌≡◌, ◌<◌, IfOk};
-ghost use Rattle.pl_step.specs.Step.{HasDates};
+ghost use Rattle.pl_step.specs.Commands.{HasDates};
 
 use pl_base::{Micros, PageId, Refusal, Rows, Steps, Transition, VisitId};
 use pl_desk::MemDesk;
@@ -168,7 +168,8 @@ fn perform_and_check(
 ) -> Result<Session, Fail>
     requires { HasDates command.now }
 {
-    let (session, _) = perform(session, command, desk)?;
+    let (session, reply) = perform(session, command, desk)?;
+    drop(reply);
     check_file::<Brand>(rt, alloc, desk.bytes(), marks, Blank::new(1))?;
     Ok(session)
 }
@@ -178,7 +179,9 @@ fn check_table(rt: &impl Abort, alloc: Global, table: &[Step]) -> Result<(), Fai
     let mut session = create(alloc, &mut desk)?;
     for (url, transition, source, marks) in table {
         let command = visit_from(alloc, *url, *transition, 0, *source)?;
-        session = perform_and_check(rt, alloc, session, &command, &mut desk, *marks)?;
+        let performed = perform_and_check(rt, alloc, session, &command, &mut desk, *marks);
+        drop(command);
+        session = performed?;
     }
     Ok(())
 }
@@ -214,7 +217,9 @@ const SOURCE: [Kept; 2] = [(100, 1, false), (25, 1, true)];
 fn with_source(rt: &impl Abort, alloc: Global, desk: &mut MemDesk) -> Result<Session, Fail> {
     let session = create(alloc, desk)?;
     let source = visit_from(alloc, A, Transition::Link, 1, 0)?;
-    perform_and_check(rt, alloc, session, &source, desk, &SOURCE[..1])
+    let performed = perform_and_check(rt, alloc, session, &source, desk, &SOURCE[..1]);
+    drop(source);
+    performed
 }
 
 // The visit to a target at its date.
@@ -254,7 +259,9 @@ fn check_orders(
         // The first of them is no redirect.
         has_led = has_led || target != 0;
         let command = target_visit(rt, alloc, target, dates)?;
-        session = perform_target(rt, alloc, session, &command, &mut desk, has_led)?;
+        let performed = perform_target(rt, alloc, session, &command, &mut desk, has_led);
+        drop(command);
+        session = performed?;
     }
     Ok(())
 }
@@ -271,8 +278,12 @@ fn takes_targets_in_any_order(rt: HostRuntime) -> Result<(), Fail> {
 
 fn refuse_lost_source(rt: &impl Abort, alloc: Global, memory: Memory) -> Result<Memory, Fail> {
     let lost = visit_from(alloc, B, Transition::Link, 0, 9)?;
-    let (memory, reply) = memory.step(&lost)?;
-    assert!(rt; reply == Reply::Refused(Refusal::NoVisit(VisitId(9))));
+    let stepped = memory.step(&lost);
+    drop(lost);
+    let (memory, reply) = stepped?;
+    let is_refused = reply == Reply::Refused(Refusal::NoVisit(VisitId(9)));
+    drop(reply);
+    assert!(rt; is_refused);
     Ok(memory)
 }
 
@@ -281,7 +292,12 @@ fn refuse_lost_source(rt: &impl Abort, alloc: Global, memory: Memory) -> Result<
 fn refuses_a_source_that_is_no_visit(rt: HostRuntime) -> Result<(), Fail> {
     let alloc = rt.alloc();
     let memory = refuse_lost_source(&rt, alloc, Memory::opening(alloc, SLOT_LIMIT)?)?;
-    let (_, reply) = memory.step(&first(alloc)?)?;
-    assert!(rt; reply == FIRST_REPLY);
+    let command = first(alloc)?;
+    let stepped = memory.step(&command);
+    drop(command);
+    let (_, reply) = stepped?;
+    let is_first = reply == FIRST_REPLY;
+    drop(reply);
+    assert!(rt; is_first);
     Ok(())
 }

@@ -3,24 +3,17 @@ ghost use Rattle.std.specs.Prelude.{◌<◌};
 // What the program says, with values that were worked out by hand.
 
 mod bookmarks;
-mod cuts;
 mod faults;
 mod history;
 mod lines;
-mod made;
 mod origins;
 mod rows;
-mod stored;
 
 use pl_desk::{MemDesk, MemSource};
-use places::{Status, run};
+use places::Status;
 use std::alloc::{AllocError, Global};
 use std::process::Abort;
-
-// `run` in memory: a test compares what it says, and has no use for its clauses.
-fn in_memory(alloc: Global, words: &[&str], input: &mut MemSource, desk: &mut MemDesk) -> Status {
-    run(alloc, words, input, desk)
-}
+use trials_desks::in_memory;
 
 // What `try` ends in and says on a script that comes in pieces of at most this many bytes.
 fn tried(alloc: Global, script: &[u8], piece: usize) -> Result<(Status, Vec<u8>), AllocError>

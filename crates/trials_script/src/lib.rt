@@ -9,3 +9,5 @@ mod query_lines;
 mod script;
 #[cfg(test)]
 mod tree_lines;
+#[cfg(test)]
+mod written;

@@ -1,8 +1,9 @@
 // Lines of queries and of the address bar, the columns at which they are refused, counted by hand,
 // and what their replies are written as.
+use crate::written::expect_text;
 use pl_base::{Micros, NoMemory, PageId, Refusal, Seq, Txt};
 use pl_query::ResultRow;
-use pl_script::{LineError, line, reply_text};
+use pl_script::{LineError, line};
 use pl_step::{BarRow, Command, Reply};
 use std::alloc::Global;
 use std::process::Abort;
@@ -78,6 +79,7 @@ fn reads_bars(rt: HostRuntime) -> Result<(), Fail> {
     for (bytes, most, typed) in BARS {
         let command = line(rt.alloc(), bytes)?;
         expect_bar(&rt, &command, *most, typed);
+        drop(command);
     }
     Ok(())
 }
@@ -93,6 +95,7 @@ fn expect_fill(rt: &impl Abort, command: &Option<Command>, typed: &str) {
 fn reads_fills(rt: HostRuntime) -> Result<(), Fail> {
     let command = line(rt.alloc(), b"fill\tmoz\\\\")?;
     expect_fill(&rt, &command, "moz\\");
+    drop(command);
     Ok(())
 }
 
@@ -120,52 +123,46 @@ fn bar(alloc: Global) -> Result<Reply, NoMemory> {
 
 #[test]
 fn writes_bars(rt: HostRuntime) -> Result<(), Fail> {
-    let alloc = rt.alloc();
-    let reply = bar(alloc)?;
-    let text = reply_text(alloc, &reply)?;
+    let reply = bar(rt.alloc())?;
     let want = "rows\t2\npage\t3\t2000\thttps://a.example/\ta\\tb\npage\t12\t-1\tu:\\\\\t\n";
-    assert_eq!(rt; text.as_str(), want);
-    Ok(())
+    expect_text(&rt, rt.alloc(), reply, want)
 }
 
 #[test]
 fn writes_no_rows(rt: HostRuntime) -> Result<(), Fail> {
     let alloc = rt.alloc();
     let found = Reply::Rows(Seq::from(Vec::new(alloc)));
-    let text = reply_text(alloc, &found)?;
-    assert_eq!(rt; text.as_str(), "rows\t0\n");
+    expect_text(&rt, alloc, found, "rows\t0\n")?;
     let offered = Reply::Bar(Seq::from(Vec::new(alloc)));
-    let text = reply_text(alloc, &offered)?;
-    assert_eq!(rt; text.as_str(), "rows\t0\n");
-    Ok(())
+    expect_text(&rt, alloc, offered, "rows\t0\n")
 }
 
 #[test]
 fn writes_canonical_texts(rt: HostRuntime) -> Result<(), Fail> {
-    let alloc = rt.alloc();
-    let reply = Reply::Place(Txt::copied(alloc, "place:terms=a\\b")?);
-    let text = reply_text(alloc, &reply)?;
-    assert_eq!(rt; text.as_str(), "place\tplace:terms=a\\\\b\n");
-    Ok(())
+    let text = Txt::copied(rt.alloc(), "place:terms=a\\b")?;
+    let want = "place\tplace:terms=a\\\\b\n";
+    expect_text(&rt, rt.alloc(), Reply::Place(text), want)
 }
 
 #[test]
 fn writes_groups(rt: HostRuntime) -> Result<(), Fail> {
     let alloc = rt.alloc();
-    let reply = Reply::Fill {
-        group: Txt::copied(alloc, "mozilla.org")?,
+    let group = Txt::copied(alloc, "mozilla.org")?;
+    let fill = Reply::Fill {
+        group,
         total: 18_446_744_073_709_551_615,
     };
-    let text = reply_text(alloc, &reply)?;
-    assert_eq!(rt; text.as_str(), "fill\tmozilla.org\t18446744073709551615\n");
-    let text = reply_text(alloc, &Reply::NoFill)?;
-    assert_eq!(rt; text.as_str(), "nofill\n");
-    Ok(())
+    expect_text(
+        &rt,
+        alloc,
+        fill,
+        "fill\tmozilla.org\t18446744073709551615\n",
+    )?;
+    expect_text(&rt, alloc, Reply::NoFill, "nofill\n")
 }
 
-fn found(alloc: Global) -> Result<Reply, NoMemory> {
-    let mut rows = Vec::new(alloc);
-    rows.push(ResultRow {
+fn undated_row(alloc: Global) -> Result<ResultRow, NoMemory> {
+    Ok(ResultRow {
         id: 3,
         url: Txt::copied(alloc, "u:\\")?,
         title: Txt::copied(alloc, "a\tb")?,
@@ -173,8 +170,11 @@ fn found(alloc: Global) -> Result<Reply, NoMemory> {
         count: 2,
         frecency: -1,
         tags: Txt::copied(alloc, "red,Blue\n")?,
-    })?;
-    rows.push(ResultRow {
+    })
+}
+
+fn dated_row(alloc: Global) -> Result<ResultRow, NoMemory> {
+    Ok(ResultRow {
         id: 12,
         url: Txt::copied(alloc, "https://a.example/")?,
         title: Txt::copied(alloc, "")?,
@@ -182,17 +182,20 @@ fn found(alloc: Global) -> Result<Reply, NoMemory> {
         count: 0,
         frecency: 100,
         tags: Txt::copied(alloc, "")?,
-    })?;
+    })
+}
+
+fn found(alloc: Global) -> Result<Reply, NoMemory> {
+    let mut rows = Vec::new(alloc);
+    rows.push(undated_row(alloc)?)?;
+    rows.push(dated_row(alloc)?)?;
     Ok(Reply::Rows(Seq::from(rows)))
 }
 
 #[test]
 fn writes_found_rows(rt: HostRuntime) -> Result<(), Fail> {
-    let alloc = rt.alloc();
-    let reply = found(alloc)?;
-    let text = reply_text(alloc, &reply)?;
+    let reply = found(rt.alloc())?;
     let want = "rows\t2\nrow\t3\tu:\\\\\ta\\tb\t-\t2\t-1\tred,Blue\\n\n\
         row\t12\thttps://a.example/\t\t7\t0\t100\t\n";
-    assert_eq!(rt; text.as_str(), want);
-    Ok(())
+    expect_text(&rt, rt.alloc(), reply, want)
 }

@@ -2,8 +2,9 @@
 // written as. In the tables `https://a.example/` has 18 bytes, so behind `visit` and a TAB the
 // transition stands at column 26, the date at 28, and behind a date of one digit the source at 30;
 // behind `title` the text at 26.
+use crate::written::expect_text;
 use pl_base::{IdKind, ItemId, Micros, NoMemory, PageId, Refusal, Transition, Txt, VisitId};
-use pl_script::{LineError, escaped, line, reply_text};
+use pl_script::{LineError, escaped, line};
 use pl_step::{Command, Reply};
 use std::alloc::Global;
 use std::process::Abort;
@@ -113,14 +114,16 @@ fn refuses_by_the_first_cause(rt: HostRuntime) {
 fn passes_over_comments(rt: HostRuntime) -> Result<(), Fail> {
     let cases: [&[u8]; 3] = [b"", b"#", b"# visit\t\xff"];
     for bytes in cases {
-        assert!(rt; line(rt.alloc(), bytes)?.is_none());
+        let command = line(rt.alloc(), bytes)?;
+        assert!(rt; command.is_none());
+        drop(command);
     }
     Ok(())
 }
 
 fn expect_visit(
     rt: &impl Abort,
-    command: Option<Command>,
+    command: &Option<Command>,
     text: &[u8],
     kind: Transition,
     when: Micros,
@@ -136,9 +139,9 @@ fn expect_visit(
             },
         ) => {
             assert_eq!(rt; url.text().as_bytes(), text);
-            assert_eq!(rt; transition, kind);
-            assert_eq!(rt; date, when);
-            assert!(rt; source == from);
+            assert_eq!(rt; *transition, kind);
+            assert_eq!(rt; *date, when);
+            assert!(rt; *source == from);
         }
         _ => assert!(rt; false, "no visit"),
     }
@@ -187,7 +190,8 @@ const VISITS: &[(&[u8], &[u8], Transition, u64, Option<VisitId>)] = &[
 fn reads_visits(rt: HostRuntime) -> Result<(), Fail> {
     for (bytes, text, kind, micros, from) in VISITS {
         let command = line(rt.alloc(), bytes)?;
-        expect_visit(&rt, command, text, *kind, Micros(*micros), *from);
+        expect_visit(&rt, &command, text, *kind, Micros(*micros), *from);
+        drop(command);
     }
     Ok(())
 }
@@ -214,6 +218,7 @@ fn reads_titles(rt: HostRuntime) -> Result<(), Fail> {
     for (bytes, title) in TITLES {
         let command = line(rt.alloc(), bytes)?;
         expect_title(&rt, &command, title);
+        drop(command);
     }
     Ok(())
 }
@@ -229,6 +234,7 @@ fn expect_page(rt: &impl Abort, command: &Option<Command>) {
 fn reads_pages(rt: HostRuntime) -> Result<(), Fail> {
     let command = line(rt.alloc(), b"page\tHTTPS://A.example")?;
     expect_page(&rt, &command);
+    drop(command);
     Ok(())
 }
 
@@ -270,8 +276,7 @@ const REFUSALS: &[(Refusal, &str)] = &[
 #[test]
 fn writes_refusals(rt: HostRuntime) -> Result<(), Fail> {
     for (refusal, written) in REFUSALS {
-        let text = reply_text(rt.alloc(), &Reply::Refused(*refusal))?;
-        assert_eq!(rt; text.as_str(), *written);
+        expect_text(&rt, rt.alloc(), Reply::Refused(*refusal), written)?;
     }
     Ok(())
 }
@@ -283,11 +288,8 @@ fn writes_replies(rt: HostRuntime) -> Result<(), Fail> {
         page: PageId(3),
         frecency: -1,
     };
-    let text = reply_text(rt.alloc(), &visit)?;
-    assert_eq!(rt; text.as_str(), "visit\t12\tpage\t3\tfrecency\t-1\n");
-    let text = reply_text(rt.alloc(), &Reply::Done)?;
-    assert_eq!(rt; text.as_str(), "ok\n");
-    Ok(())
+    expect_text(&rt, rt.alloc(), visit, "visit\t12\tpage\t3\tfrecency\t-1\n")?;
+    expect_text(&rt, rt.alloc(), Reply::Done, "ok\n")
 }
 
 fn page(
@@ -314,13 +316,11 @@ fn page(
 fn writes_pages(rt: HostRuntime) -> Result<(), Fail> {
     let alloc = rt.alloc();
     let bare = page(alloc, None, (true, false, false), ("u:", "", ""))?;
-    let text = reply_text(alloc, &bare)?;
-    assert_eq!(rt; text.as_str(), "page\t7\t-1\t11\t-\t1\t0\t0\tu:\t\t\n");
+    let want = "page\t7\t-1\t11\t-\t1\t0\t0\tu:\t\t\n";
+    expect_text(&rt, alloc, bare, want)?;
     let texts = ("https://a.example/\\", "a\tb\nc\rd\\", "red,Blue");
     let full = page(alloc, Some(Micros(10)), (false, true, true), texts)?;
-    let text = reply_text(alloc, &full)?;
     let want =
         "page\t7\t-1\t11\t10\t0\t1\t1\thttps://a.example/\\\\\ta\\tb\\nc\\rd\\\\\tred,Blue\n";
-    assert_eq!(rt; text.as_str(), want);
-    Ok(())
+    expect_text(&rt, alloc, full, want)
 }

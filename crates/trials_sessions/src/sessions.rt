@@ -1,8 +1,8 @@
 ghost use Rattle.std.specs.Prelude.{IfOk};
 ghost use Rattle.pl_base.specs.Date.{IsDate};
-ghost use Rattle.pl_step.specs.Step.{HasDates};
+ghost use Rattle.pl_step.specs.Commands.{HasDates};
 
-use pl_base::{Micros, PageId, Transition, VisitId};
+use pl_base::{DeviceFault, Micros, PageId, Transition, VisitId};
 use pl_desk::MemDesk;
 use pl_link::Canon;
 use pl_step::{Command, Reply};
@@ -53,6 +53,20 @@ pub const SECOND_REPLY: Reply = Reply::Visit {
     frecency: 100,
 };
 
+// The session with the reply, which is dropped by name where a call of the file failed.
+fn handed_on(
+    committed: Result<Session, DeviceFault>,
+    reply: Reply,
+) -> Result<(Session, Reply), Fail> {
+    match committed {
+        Ok(session) => Ok((session, reply)),
+        Err(fault) => {
+            drop(reply);
+            Err(fault.into())
+        }
+    }
+}
+
 /// Performs a command and commits it.
 pub fn perform(
     session: Session,
@@ -62,6 +76,5 @@ pub fn perform(
     requires { HasDates command.now }
 {
     let (prepared, reply) = session.prepare(command)?;
-    let session = prepared.commit(desk)?;
-    Ok((session, reply))
+    handed_on(prepared.commit(desk), reply)
 }

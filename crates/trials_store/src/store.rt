@@ -1,6 +1,6 @@
 // Sessions over files in memory, and stores without a file.
 ghost use Rattle.std.specs.Prelude.{◌≡◌, ◌<◌, IfOk};
-ghost use Rattle.pl_step.specs.Step.{HasDates};
+ghost use Rattle.pl_step.specs.Commands.{HasDates};
 
 mod openings;
 mod stops;
@@ -43,7 +43,9 @@ fn expect_no_page_ids<L: Ledger>(
     requires some { 0 < blank.parts }
 {
     let (_, reply) = engine.apply(command, &mut Steps::<L>::none(blank))?;
-    assert!(rt; reply == Reply::Refused(Refusal::NoIds(IdKind::Page)));
+    let is_refused = reply == Reply::Refused(Refusal::NoIds(IdKind::Page));
+    drop(reply);
+    assert!(rt; is_refused);
     Ok(())
 }
 
@@ -57,7 +59,9 @@ fn expect_step(
     requires { HasDates command.now }
 {
     let (memory, answer) = memory.step(command)?;
-    assert!(rt; answer == *reply);
+    let is_same = answer == *reply;
+    drop(answer);
+    assert!(rt; is_same);
     Ok(memory)
 }
 
@@ -68,7 +72,9 @@ fn expect_first(
     reply: &Reply,
 ) -> Result<Memory, Fail> {
     let command = first(alloc)?;
-    expect_step(rt, memory, &command, reply)
+    let stepped = expect_step(rt, memory, &command, reply);
+    drop(command);
+    stepped
 }
 
 fn expect_second(
@@ -78,7 +84,9 @@ fn expect_second(
     reply: &Reply,
 ) -> Result<Memory, Fail> {
     let command = second(alloc)?;
-    expect_step(rt, memory, &command, reply)
+    let stepped = expect_step(rt, memory, &command, reply);
+    drop(command);
+    stepped
 }
 
 // A new store takes 6 slots. The visit adds an origin, a page, a slot for its URL and itself.
@@ -104,8 +112,11 @@ fn a_store_in_memory_answers(rt: HostRuntime) -> Result<(), Fail> {
 #[test]
 fn an_engine_without_ids_refuses(rt: HostRuntime) -> Result<(), Fail> {
     let alloc = rt.alloc();
+    let engine = without_page_ids(alloc)?;
     let command = first(alloc)?;
-    expect_no_page_ids::<Brand>(&rt, without_page_ids(alloc)?, &command, Blank::new(1))
+    let expected = expect_no_page_ids::<Brand>(&rt, engine, &command, Blank::new(1));
+    drop(command);
+    expected
 }
 
 // The session after a command, which has this reply.
@@ -119,7 +130,9 @@ fn expect_performed(
     requires { HasDates command.now }
 {
     let (session, answer) = perform(session, command, desk)?;
-    assert!(rt; answer == *reply);
+    let is_same = answer == *reply;
+    drop(answer);
+    assert!(rt; is_same);
     Ok(session)
 }
 
@@ -131,7 +144,9 @@ fn perform_first(
     desk: &mut MemDesk,
 ) -> Result<Session, Fail> {
     let command = first(alloc)?;
-    expect_performed(rt, session, &command, reply, desk)
+    let performed = expect_performed(rt, session, &command, reply, desk);
+    drop(command);
+    performed
 }
 
 fn perform_second(
@@ -141,7 +156,9 @@ fn perform_second(
     desk: &mut MemDesk,
 ) -> Result<Session, Fail> {
     let command = second(alloc)?;
-    expect_performed(rt, session, &command, &SECOND_REPLY, desk)
+    let performed = expect_performed(rt, session, &command, &SECOND_REPLY, desk);
+    drop(command);
+    performed
 }
 
 // A refused command leaves nothing to commit.
@@ -173,7 +190,9 @@ fn give_title(
     desk: &mut MemDesk,
 ) -> Result<Session, Fail> {
     let command = title_command(alloc)?;
-    expect_performed(rt, session, &command, &Reply::Done, desk)
+    let performed = expect_performed(rt, session, &command, &Reply::Done, desk);
+    drop(command);
+    performed
 }
 
 fn page_command(alloc: Global) -> Result<Command, Fail>
@@ -192,7 +211,9 @@ fn expect_page(
     requires { HasDates command.now }
 {
     let (_, reply) = perform(session, command, desk)?;
-    assert!(rt; matches!(reply, Reply::Page { .. }));
+    let is_page = matches!(reply, Reply::Page { .. });
+    drop(reply);
+    assert!(rt; is_page);
     Ok(())
 }
 
@@ -203,7 +224,9 @@ fn ask_page(
     desk: &mut MemDesk,
 ) -> Result<(), Fail> {
     let command = page_command(alloc)?;
-    expect_page(rt, session, &command, desk)
+    let asked = expect_page(rt, session, &command, desk);
+    drop(command);
+    asked
 }
 
 // A title that stands already is no change, and what is asked of a page is none.

@@ -7,8 +7,8 @@ ghost use Rattle.pl_history.specs.Sound.{IsSound};
 ghost use Rattle.pl_step.specs.Step as spec;
 
 use crate::engine::insert::room_refusal;
-use pl_base::{ItemId, Micros, NoMemory, Refusal, Rows, Steps, Txt, cut_title};
-use pl_history::{add_bookmark, chunks, find_target, page_for, slots_after};
+use pl_base::{ItemId, Micros, NoMemory, Refusal, Rows, Steps, Txt, chunks, cut_title};
+use pl_history::{add_bookmark, find_target, page_for, slots_after};
 use pl_link::{Canon, split};
 use pl_step::{Command, Reply};
 use pl_tree::{Place, TreeChange};

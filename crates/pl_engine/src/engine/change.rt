@@ -9,8 +9,7 @@ ghost use Rattle.pl_history.specs.Sound.{IsSound};
 ghost use Rattle.pl_step.specs.Step as spec;
 
 use crate::engine::slots::is_full;
-use pl_base::{ItemId, Micros, NoMemory, Refusal, Rows, Steps, Txt, cut_title};
-use pl_history::chunks;
+use pl_base::{ItemId, Micros, NoMemory, Refusal, Rows, Steps, Txt, chunks, cut_title};
 use pl_step::{Command, Reply};
 use pl_tree::{Place, TreeChange, TreeError};
 use std::sync::ledger::Ledger;

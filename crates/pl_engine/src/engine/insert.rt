@@ -10,9 +10,8 @@ ghost use Rattle.pl_engine.specs.Room.{item_room, plain_item};
 
 use crate::engine::slots::is_full;
 use pl_base::{
-    IdKind, Ids, ItemId, ItemKind, Micros, NoMemory, Refusal, Rows, Steps, Txt, cut_title,
+    IdKind, Ids, ItemId, ItemKind, Micros, NoMemory, Refusal, Rows, Steps, Txt, chunks, cut_title,
 };
-use pl_history::chunks;
 use pl_step::{Command, Reply};
 use pl_tree::{NewItem, Place, TreeChange, insert_allowed};
 use std::alloc::Global;

@@ -12,9 +12,9 @@ ghost use Rattle.pl_engine.specs.Room.{tag_room};
 ghost use Rattle.pl_history.specs.Target.{IsTargetOf};
 
 use crate::engine::slots::is_full;
-use pl_base::{IdKind, Ids, Micros, NoMemory, Refusal, Rows, Steps};
+use pl_base::{IdKind, Ids, Micros, NoMemory, Refusal, Rows, Steps, chunks};
 use pl_history::{
-    Target, add_tag, chunks, find_page, find_target, is_tagged, page_for, settle_all, slots_after,
+    Target, add_tag, find_page, find_target, is_tagged, page_for, settle_all, slots_after,
 };
 use pl_link::{Canon, split};
 use pl_step::{Command, Reply};

@@ -8,8 +8,8 @@ ghost use Rattle.pl_step.specs.Step as spec;
 ghost use Rattle.pl_engine.specs.Titled.{within_slots};
 
 use crate::engine::slots::is_full;
-use pl_base::{NoMemory, PageId, Refusal, Rows, Steps, Txt, cut_title};
-use pl_history::{chunks, find_page};
+use pl_base::{NoMemory, PageId, Refusal, Rows, Steps, Txt, chunks, cut_title};
+use pl_history::find_page;
 use pl_link::Canon;
 use pl_step::{Command, Reply};
 use std::sync::ledger::Ledger;

@@ -4,7 +4,7 @@ ghost use Rattle.std.specs.List.{sum_by};
 ghost use Rattle.pl_base.specs.Live as live;
 ghost use Rattle.pl_form.specs.Stored.{AreStored};
 
-use crate::slots::chunks;
+use pl_base::chunks;
 use pl_form::{StoredPage, StoredRows};
 
 /// The slots of 128 bytes that the store takes with so many origins.

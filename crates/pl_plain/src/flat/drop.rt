@@ -9,8 +9,7 @@ ghost use Rattle.pl_plain.specs.FlatRows.{has_name, renamed_row, totals_left};
 use crate::Flat;
 use crate::flat::row::FlatPage;
 use crate::flat::search::find_page;
-use crate::slots::chunks;
-use pl_base::{PageId, Slot};
+use pl_base::{PageId, Slot, chunks};
 
 // The page with this id goes.
 fn drop_row(pages: &mut Vec<FlatPage>, id: PageId)

@@ -9,8 +9,7 @@ ghost use Rattle.pl_plain.specs.Place.{IsSlotOf, grown};
 
 use crate::Flat;
 use crate::flat::row::FlatPage;
-use crate::slots::chunks;
-use pl_base::{NoMemory, PageId, Slot, Txt};
+use pl_base::{NoMemory, PageId, Slot, Txt, chunks};
 
 // Where there are to be so many origins, the last one may be new and has no total yet.
 fn grow(totals: &mut Vec<u64>, origins: u32) -> Result<(), NoMemory>

@@ -7,8 +7,7 @@ ghost use Rattle.pl_base.specs.Rows.{live_with_item, live_with_item_title, with_
 ghost use Rattle.pl_base.specs.Tree.{children_of, has_item, parent_of, removed, retitled};
 
 use crate::Flat;
-use crate::slots::chunks;
-use pl_base::{ItemId, ItemRow, Micros, NoMemory, Txt};
+use pl_base::{ItemId, ItemRow, Micros, NoMemory, Txt, chunks};
 
 impl Flat {
     ghost use Rattle.std.specs.Prelude.{ℕ, List};

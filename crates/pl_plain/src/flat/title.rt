@@ -8,8 +8,7 @@ ghost use Rattle.pl_plain.specs.FlatRows.{flat_page_ids, titled_row};
 use crate::Flat;
 use crate::flat::row::FlatPage;
 use crate::flat::search::{find_page, page_index};
-use crate::slots::chunks;
-use pl_base::{NoMemory, PageId, Txt};
+use pl_base::{NoMemory, PageId, Txt, chunks};
 
 // Gives a page its title.
 fn title_page(pages: &mut [FlatPage], id: PageId, title: Txt)

@@ -6,17 +6,16 @@ ghost use Rattle.pl_base.specs.Rows.{IsRight, KeptPage, has_page, page_at, store
 ghost use Rattle.pl_base.specs.Store.{Item};
 ghost use Rattle.pl_base.specs.Tree.{has_item, is_page, item_at};
 ghost use Rattle.pl_query.specs.declared.shown.Subject.TheVariants.{Bookmark};
-ghost use Rattle.pl_query.specs.Asked.{IsAsked};
+ghost use Rattle.pl_conditions.specs.Asked.{IsAsked};
 ghost use Rattle.pl_query.specs.Candidates as spec;
 ghost use Rattle.pl_query.specs.Candidates.{candidate_of, mark_subject, marks_part, wanted_marks};
 ghost use Rattle.pl_query.specs.Subjects.{row_at};
 
-use crate::asked::Asked;
 use crate::candidates::add;
-use crate::conditions::{is_in_parents, page_holds};
 use crate::ordering::Candidate;
 use crate::shown::Subject;
 use pl_base::{ItemId, NoMemory, PageId, Rows, Steps};
+use pl_conditions::{Asked, is_in_parents, page_holds};
 use pl_marks::tag_folder;
 use std::alloc::Global;
 use std::sync::ledger::Ledger;

@@ -4,17 +4,16 @@ ghost use Rattle.pl_base.specs.Good.{IsGood};
 ghost use Rattle.pl_base.specs.Rows.{IsRight, KeptPage, has_page, has_visit, page_at, store_of};
 ghost use Rattle.pl_base.specs.Rows.{visit_at};
 ghost use Rattle.pl_base.specs.Store.{Visit};
-ghost use Rattle.pl_query.specs.Asked.{IsAsked};
+ghost use Rattle.pl_conditions.specs.Asked.{IsAsked};
 ghost use Rattle.pl_query.specs.Candidates.{candidate_of, page_part, page_subject};
-ghost use Rattle.pl_query.specs.Conditions as conditions;
+ghost use Rattle.pl_conditions.specs.Conditions as conditions;
 ghost use Rattle.pl_query.specs.QueryAnswer as spec;
 
-use crate::asked::Asked;
 use crate::candidates::add;
-use crate::conditions::history_holds;
 use crate::ordering::Candidate;
 use crate::shown::{Subject, visit_date};
 use pl_base::{NoMemory, PageId, Rows, Steps, VisitId};
+use pl_conditions::{Asked, history_holds};
 use std::alloc::Global;
 use std::sync::ledger::Ledger;
 

@@ -5,17 +5,17 @@ ghost use Rattle.pl_base.specs.Rows.{IsRight, KeptPage, has_page, page_at, page_
 ghost use Rattle.pl_base.specs.Rows.{visit_at};
 ghost use Rattle.pl_base.specs.Store.{Visit};
 ghost use Rattle.pl_query.specs.declared.shown.Subject.TheVariants.{Visit as OfVisit};
-ghost use Rattle.pl_query.specs.Asked.{IsAsked};
+ghost use Rattle.pl_conditions.specs.Asked.{IsAsked};
 ghost use Rattle.pl_query.specs.Candidates.{candidate_of, visit_subject, visits_in_times};
 ghost use Rattle.pl_query.specs.Candidates.{visits_part};
 ghost use Rattle.pl_query.specs.Subjects.{row_at};
 
-use crate::asked::Asked;
 use crate::candidates::add;
 use crate::candidates::pages::{is_in_times, is_listed};
 use crate::ordering::Candidate;
 use crate::shown::Subject;
 use pl_base::{NoMemory, PageId, Rows, Steps, VisitId};
+use pl_conditions::Asked;
 use std::alloc::Global;
 use std::sync::ledger::Ledger;
 

@@ -1,9 +1,9 @@
 use Rattle.std.proofs.Common.{◌≡◌, ◌∙◌, Some, Option, ap, false, subst, sym, true}
 use Rattle.pl_base.specs.Store.{opening}
-use Rattle.places.specs.declared.task.Task.{Task}
-use Rattle.places.specs.declared.task.Task.TheVariants as tasks
+use Rattle.pl_task.specs.declared.task.Task.{Task}
+use Rattle.pl_task.specs.declared.task.Task.TheVariants as tasks
 use Rattle.places.specs.Ending.{BeginsWith}
-use Rattle.places.specs.Task.{asked_of, spelled}
+use Rattle.pl_task.specs.Task.{asked_of, spelled}
 use Rattle.places.proofs.DrillLemmas.{few_lines, same_drill}
 use Rattle.places.proofs.OpeningLemmas.{begins_in_memory, begins_on_file, says_at_end}
 use Rattle.places.proofs.run.Goals as goal

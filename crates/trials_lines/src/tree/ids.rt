@@ -1,13 +1,14 @@
 // Stores whose ids or slots are spent: which cause is told first.
-ghost use Rattle.std.specs.Prelude.{◌≡◌, ◌<◌, ◌≤◌};
+ghost use Rattle.std.specs.Prelude.{◌≡◌, ◌<◌, ◌≤◌, IfSome};
 ghost use Rattle.pl_base.specs.Live.{slot_limit};
-ghost use Rattle.pl_step.specs.Step.{HasDates};
+ghost use Rattle.pl_step.specs.Commands.{HasDates};
 
-use pl_base::{Ids, Steps, Txt};
+use crate::told::text_of;
+use pl_base::{Ids, NoMemory, Steps, Txt};
 use pl_engine::Engine;
 use pl_plain::Flat;
-use pl_script::{line, reply_text};
-use pl_step::Command;
+use pl_script::line;
+use pl_step::{Command, Reply};
 use pl_store::SLOT_LIMIT;
 use std::alloc::Global;
 use std::marker::Brand;
@@ -15,18 +16,46 @@ use std::process::Abort;
 use std::sync::ledger::{Blank, Ledger};
 use std::test::Fail;
 
+// The engine after a command, and the reply.
+fn stepped<L: Ledger>(
+    engine: Engine<Flat>,
+    command: Command,
+    steps: &mut Steps<L>,
+) -> Result<(Engine<Flat>, Reply), NoMemory>
+    requires { HasDates command }
+{
+    let stepped = engine.apply(&command, steps);
+    drop(command);
+    stepped
+}
+
 // The engine after a command, and the text of the reply.
 fn performed<L: Ledger>(
     alloc: Global,
     engine: Engine<Flat>,
-    command: &Command,
+    command: Command,
     steps: &mut Steps<L>,
 ) -> Result<(Engine<Flat>, Option<Txt>), Fail>
-    requires { HasDates command.now }
+    requires { HasDates command }
 {
-    let (engine, reply) = engine.apply(command, steps)?;
-    let text = reply_text(alloc, &reply)?;
+    let (engine, reply) = stepped(engine, command, steps)?;
+    let text = text_of(alloc, reply)?;
     Ok((engine, Some(text)))
+}
+
+// The engine after what a line gave, and the text of the reply, which a comment has not.
+fn answered_to<L: Ledger>(
+    alloc: Global,
+    engine: Engine<Flat>,
+    read: Option<Command>,
+    steps: &mut Steps<L>,
+) -> Result<(Engine<Flat>, Option<Txt>), Fail>
+    requires { IfSome read HasDates }
+{
+    match read {
+        Some(command) => performed(alloc, engine, command, steps),
+        None => Ok((engine, None)),
+    }
 }
 
 // The engine after a line, and the text of the reply, which a comment has not.
@@ -36,10 +65,8 @@ fn answered<L: Ledger>(
     text: &[u8],
     steps: &mut Steps<L>,
 ) -> Result<(Engine<Flat>, Option<Txt>), Fail> {
-    match line(alloc, text)? {
-        Some(command) => performed(alloc, engine, &command, steps),
-        None => Ok((engine, None)),
-    }
+    let read = line(alloc, text)?;
+    answered_to(alloc, engine, read, steps)
 }
 
 // The engine after a line, which has this reply.

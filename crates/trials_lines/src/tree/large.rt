@@ -1,8 +1,8 @@
 // A folder that is 5,000 deep, and one with 5,000 children.
 ghost use Rattle.std.specs.Prelude.{IfOk};
-ghost use Rattle.pl_step.specs.Step.{HasDates};
+ghost use Rattle.pl_step.specs.Commands.{HasDates};
 
-use crate::told::talked;
+use crate::told::{stepped, talked};
 use pl_base::{ItemId, Micros, Txt};
 use pl_link::Canon;
 use pl_step::{Command, Reply};
@@ -27,12 +27,18 @@ fn folder(alloc: Global, parent: u32) -> Result<Command, Fail>
     })
 }
 
+fn is_item(reply: Reply, id: u32) -> bool {
+    let is_item = reply == Reply::Item(ItemId(id));
+    drop(reply);
+    is_item
+}
+
 // The store with a new item, which has this id.
-fn with_item(rt: &impl Abort, memory: Memory, command: &Command, id: u32) -> Result<Memory, Fail>
-    requires { HasDates command.now }
+fn with_item(rt: &impl Abort, memory: Memory, command: Command, id: u32) -> Result<Memory, Fail>
+    requires { HasDates command }
 {
-    let (memory, reply) = memory.step(command)?;
-    assert!(rt; reply == Reply::Item(ItemId(id)));
+    let (memory, reply) = stepped(memory, command)?;
+    assert!(rt; is_item(reply, id));
     Ok(memory)
 }
 
@@ -44,7 +50,7 @@ fn with_folder(
     id: u32,
 ) -> Result<Memory, Fail> {
     let command = folder(alloc, parent)?;
-    with_item(rt, memory, &command, id)
+    with_item(rt, memory, command, id)
 }
 
 // Each folder holds the next one.
@@ -69,7 +75,7 @@ fn wide(rt: &impl Abort, alloc: Global) -> Result<Memory, Fail> {
 
 fn with_bookmark(rt: &impl Abort, alloc: Global, memory: Memory, id: u32) -> Result<Memory, Fail> {
     let command = bookmark(alloc)?;
-    with_item(rt, memory, &command, id)
+    with_item(rt, memory, command, id)
 }
 
 fn bookmark(alloc: Global) -> Result<Command, Fail>

@@ -1,7 +1,7 @@
 // Moves within a folder and between folders.
-ghost use Rattle.pl_step.specs.Step.{HasDates};
+ghost use Rattle.pl_step.specs.Commands.{HasDates};
 
-use crate::told::talked;
+use crate::told::{stepped, talked};
 use pl_base::{ItemId, Micros};
 use pl_step::{Command, Reply};
 use pl_store::{Memory, SLOT_LIMIT};
@@ -60,10 +60,16 @@ fn moving(item: u32, position: u32) -> Command
     }
 }
 
+fn is_done(reply: Reply) -> bool {
+    let is_done = reply == Reply::Done;
+    drop(reply);
+    is_done
+}
+
 // The store after the move.
 fn moved(rt: &impl Abort, memory: Memory, item: u32, position: u32) -> Result<Memory, Fail> {
-    let (memory, reply) = memory.step(&moving(item, position))?;
-    assert!(rt; reply == Reply::Done);
+    let (memory, reply) = stepped(memory, moving(item, position))?;
+    assert!(rt; is_done(reply));
     Ok(memory)
 }
 

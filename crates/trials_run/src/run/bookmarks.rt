@@ -1,11 +1,11 @@
 // A file by hand with bookmarks and tags: what `page` tells of them, and what they count in a
 // frecency.
-use super::in_memory;
 use pl_base::NoMemory;
 use pl_desk::{MemDesk, MemSource};
 use places::Status;
 use std::alloc::Global;
 use std::test::Fail;
+use trials_desks::in_memory;
 
 // The form's name, 3 pages, 652 plain bytes.
 const HEADER: &[u8; 20] = b"PLFLAT01\x03\0\0\0\x8c\x02\0\0\0\0\0\0";

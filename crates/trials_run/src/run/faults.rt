@@ -1,8 +1,8 @@
 // A call of the outside that fails, for each number of a call until a run meets none.
-use super::in_memory;
 use pl_desk::{MemDesk, MemSource};
 use places::Status;
 use std::test::Fail;
+use trials_desks::in_memory;
 
 // 40 bytes, whose lines end at 29, 30, 35 and 39.
 const SCRIPT: &[u8] = b"visit\thttps://a.example/\t1\t0\n\nfrob\n# a\nx";

@@ -1,8 +1,9 @@
 // Worked rows of whole scripts.
-use super::{expect_said, in_memory, tried};
+use super::{expect_said, tried};
 use pl_desk::{MemDesk, MemSource};
 use places::Status;
 use std::test::Fail;
+use trials_desks::in_memory;
 
 const ROWS: &[(&[u8], &[u8])] = &[
     (b"", b""),

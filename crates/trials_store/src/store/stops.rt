@@ -1,5 +1,5 @@
 // A stop of the machine within each call of two commits.
-ghost use Rattle.pl_step.specs.Step.{HasDates};
+ghost use Rattle.pl_step.specs.Commands.{HasDates};
 
 use super::*;
 
@@ -18,12 +18,16 @@ fn next_visit(session: Session, command: &Command) -> Result<VisitId, Fail>
     requires { HasDates command.now }
 {
     let (_, reply) = session.prepare(command)?;
-    Ok(visit_in(&reply).ok_or("no visit")?)
+    let visit = visit_in(&reply);
+    drop(reply);
+    Ok(visit.ok_or("no visit")?)
 }
 
 fn next_first(alloc: Global, session: Session) -> Result<VisitId, Fail> {
     let command = first(alloc)?;
-    next_visit(session, &command)
+    let next = next_visit(session, &command);
+    drop(command);
+    next
 }
 
 // How many commands the file holds, by the id of the visit that a session over it answers next.
@@ -80,7 +84,9 @@ fn first_whole(
     desk: &mut MemDesk,
 ) -> Result<Session, Fail> {
     let command = first(alloc)?;
-    expect_whole(rt, alloc, session, &command, &FIRST_REPLY, desk, 0)
+    let performed = expect_whole(rt, alloc, session, &command, &FIRST_REPLY, desk, 0);
+    drop(command);
+    performed
 }
 
 fn second_whole(
@@ -90,7 +96,9 @@ fn second_whole(
     desk: &mut MemDesk,
 ) -> Result<Session, Fail> {
     let command = second(alloc)?;
-    expect_whole(rt, alloc, session, &command, &SECOND_REPLY, desk, 1)
+    let performed = expect_whole(rt, alloc, session, &command, &SECOND_REPLY, desk, 1);
+    drop(command);
+    performed
 }
 
 #[test]

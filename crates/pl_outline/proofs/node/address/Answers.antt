@@ -3,7 +3,7 @@ use Rattle.std.specs.Option.{option_and_then}
 use Rattle.pl_base.specs.Rows.{Kept, store_of}
 use Rattle.pl_base.specs.Store.{page_url}
 use Rattle.pl_marks.proofs.KeptUrls.{url-of_store}
-use Rattle.pl_outline.proofs.PagesTold.{url_told}
+use Rattle.pl_history.proofs.PagesTold.{url_told}
 use Rattle.pl_outline.proofs.node.address.Goals as goal
 
 pub canon_of-requires : goal.canon_of-requires

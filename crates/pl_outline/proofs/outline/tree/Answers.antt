@@ -15,7 +15,7 @@ returns-clause-plain g c =
     let store : Store = store_of (g.R.Rows.kept c.args.rows.now) in
     subst IsPlain
     (sym (tree_told store c.in_ok-list.field-0 c.in_ok-list-2.field-0 c.in_ok-list-3.field-0 c.in_ok-list-4.field-0
-    c.in_ok-list.ensures c.in_ok-list-2.ensures c.in_ok-list-3.ensures c.in_ok-list-4.ensures))
+    c.in_ok-list.ensures.nodes c.in_ok-list-2.ensures.nodes c.in_ok-list-3.ensures.nodes c.in_ok-list-4.ensures.nodes))
     (plain store c.requires)
 
 pub returns-clause-returns : goal.returns-clause-returns
@@ -23,5 +23,5 @@ returns-clause-returns g c =
     let store : Store = store_of (g.R.Rows.kept c.args.rows.now) in
     subst (λ (t : Tree). bookmarks (imported t opening) ≡ t)
     (sym (tree_told store c.in_ok-list.field-0 c.in_ok-list-2.field-0 c.in_ok-list-3.field-0 c.in_ok-list-4.field-0
-    c.in_ok-list.ensures c.in_ok-list-2.ensures c.in_ok-list-3.ensures c.in_ok-list-4.ensures))
+    c.in_ok-list.ensures.nodes c.in_ok-list-2.ensures.nodes c.in_ok-list-3.ensures.nodes c.in_ok-list-4.ensures.nodes))
     (returned store c.requires)

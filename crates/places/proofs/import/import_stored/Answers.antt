@@ -5,7 +5,7 @@ use Rattle.pl_base.specs.Live.{slot_limit}
 use Rattle.pl_desk.specs.Settling.{settles_on}
 use Rattle.pl_desk.specs.Shown.{ShowsOnly}
 use Rattle.pl_store.specs.Session.{session_store}
-use Rattle.places.specs.declared.task.Task.TheVariants as tasks
+use Rattle.pl_task.specs.declared.task.Task.TheVariants as tasks
 use Rattle.places.specs.Importing.{EndsImport, ShowsImport}
 use Rattle.places.specs.Status.{done_or}
 use Rattle.places.specs.Stops.{ShowsUnopened}

@@ -12,7 +12,7 @@ use Rattle.pl_store.specs.Session.{Stands, session_bytes, session_store}
 use Rattle.pl_store.specs.StandsLaws.{stands_by}
 use Rattle.places.specs.Ending.{EndsNew, EndsTask, MadeOfEmpty}
 use Rattle.places.specs.declared.status.Status.{Status}
-use Rattle.places.specs.declared.task.Task.TheVariants as tasks
+use Rattle.pl_task.specs.declared.task.Task.TheVariants as tasks
 use Rattle.places.specs.Status.{without_session}
 use Rattle.places.proofs.make_store.make_store.Goals as goal
 

@@ -5,7 +5,7 @@ use Rattle.pl_desk.specs.Calls.{LeavesFile}
 use Rattle.pl_store.specs.Keeper.{IsKept, is_file, keeper_store}
 use Rattle.pl_script.specs.Script.{script}
 use Rattle.places.specs.Ending.{IfTold}
-use Rattle.places.specs.Limits.{script_limit}
+use Rattle.pl_task.specs.Task.{script_limit}
 use Rattle.places.specs.Stops.{ShowsAnswered}
 use Rattle.places.proofs.EndingLemmas.{IsBehind}
 use Rattle.places.proofs.run_script.run_script.Given as goal

@@ -6,7 +6,7 @@ use Rattle.pl_desk.specs.Settling.{settles_on}
 use Rattle.pl_desk.specs.Shown.{ShowsOnly}
 use Rattle.pl_store.specs.Session.{session_store}
 use Rattle.pl_script.specs.Script.{script}
-use Rattle.places.specs.declared.task.Task.TheVariants as tasks
+use Rattle.pl_task.specs.declared.task.Task.TheVariants as tasks
 use Rattle.places.specs.Ending.{LeavesAtEnd}
 use Rattle.places.specs.Stops.{ShowsAnswered, ShowsUnopened}
 use Rattle.places.proofs.OpeningLemmas.{ends_without, no_refusal, opening_may_end, script_may_end, shows_opening}

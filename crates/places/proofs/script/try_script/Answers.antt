@@ -3,7 +3,7 @@ use Rattle.pl_base.specs.Store.{Store, opening}
 use Rattle.pl_base.specs.Live.{slot_limit}
 use Rattle.pl_desk.specs.Shown.{ShowsOnly}
 use Rattle.pl_script.specs.Script.{script}
-use Rattle.places.specs.declared.task.Task.TheVariants as tasks
+use Rattle.pl_task.specs.declared.task.Task.TheVariants as tasks
 use Rattle.places.specs.Ending.{LeavesAtEnd}
 use Rattle.places.specs.Stops.{ShowsAnswered}
 use Rattle.places.proofs.OpeningLemmas.{ends_unread, script_may_end, shows_unopened}

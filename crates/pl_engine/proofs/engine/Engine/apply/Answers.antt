@@ -8,7 +8,8 @@ use Rattle.pl_step.specs.declared.reply.Reply.{Reply}
 use Rattle.pl_step.specs.declared.reply.Reply.TheVariants.{Refused}
 use Rattle.pl_history.specs.Sound.{IsSound}
 use Rattle.pl_step.specs.Refused.{is_refused}
-use Rattle.pl_step.specs.Step.{is_change, perform}
+use Rattle.pl_step.specs.Commands.{is_change}
+use Rattle.pl_step.specs.Step.{perform}
 use Rattle.pl_step.proofs.KeptTotals.{refused_changes_none, still}
 use Rattle.pl_engine.proofs.engine.Engine.apply.Given.{Over}
 use Rattle.pl_engine.proofs.engine.Engine.apply.Goals.{Joined-command, in-Visit+in_ok-reply-in-Visit}

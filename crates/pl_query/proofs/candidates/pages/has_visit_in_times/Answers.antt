@@ -4,7 +4,7 @@ use Rattle.pl_base.specs.Rows.{Kept, store_of}
 use Rattle.pl_base.specs.Store.{Visit}
 use Rattle.pl_marks.proofs.PageWalk.{there}
 use Rattle.pl_marks.proofs.VisitWalk.{IsVisitHere, at_here, has_here, visit_here, walk_ends, walk_goes_on, walk_nears}
-use Rattle.pl_query.specs.Conditions.{in_times}
+use Rattle.pl_conditions.specs.Conditions.{in_times}
 use Rattle.pl_query.proofs.PageParts.{NoneInTimes, any_of_page, none_more}
 use Rattle.pl_query.proofs.candidates.pages.has_visit_in_times.Goals as goal
 

@@ -1,7 +1,7 @@
 use Rattle.std.proofs.Common.{◌≡◌, ◌∙◌, ◌&&◌, Some, sym}
 use Rattle.std.proofs.lemmas.Result.{IfOk-weaker}
 use Rattle.pl_base.specs.Rows.{Kept, KeptPage, page_at, store_of}
-use Rattle.pl_query.specs.Conditions.{history_holds}
+use Rattle.pl_conditions.specs.Conditions.{history_holds}
 use Rattle.pl_query.specs.QueryAnswer.{has_visit_in_times}
 use Rattle.pl_query.proofs.PageParts.{listed_if, not_listed}
 use Rattle.pl_query.proofs.candidates.pages.is_listed.Goals as goal

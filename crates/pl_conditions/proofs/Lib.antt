@@ -1,0 +1,7 @@
+mod AskedLaws
+mod ConditionRows
+mod HostEnds
+mod ItemSearch
+mod MarkLaws
+mod TagFolds
+mod VisitSearch

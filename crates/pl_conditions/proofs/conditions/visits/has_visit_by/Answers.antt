@@ -1,0 +1,64 @@
+use Rattle.std.proofs.Common.{◌==◌, ◌∙◌, Bool, sym}
+use Rattle.pl_base.specs.Rows.{Kept}
+use Rattle.pl_base.specs.Store.{Visit}
+use Rattle.pl_base.specs.Transition.{transition_number}
+use Rattle.pl_marks.proofs.VisitWalk.{IsVisitHere, at_here, has_here, visit_here, walk_goes_on, walk_nears}
+use Rattle.pl_conditions.proofs.ItemSearch.{NonePasses, none_more}
+use Rattle.pl_conditions.proofs.VisitSearch.{no_visit, visit_passes}
+use Rattle.pl_conditions.proofs.conditions.visits.has_visit_by.Goals as goal
+
+pub has_transition-requires : goal.has_transition-requires
+has_transition-requires g c =
+    let kept : Kept = g.R.Rows.kept c.args.rows.now in
+    let test : Visit → Bool = λ v. transition_number v.transition == transition_number c.args.transition in
+    has_here kept c.args.page (NonePasses test) c.in-Some.visit (g.met.R.Rows.well_kept c.args.rows.now)
+    (visit_here kept c.args.page (NonePasses test) c.loop-next.next c.in-Some.visit c.loop-next.invariant c.in-Some.is)
+
+pub older-next-requires : goal.older-next-requires
+older-next-requires g c =
+    let kept : Kept = g.R.Rows.kept c.args.rows.now in
+    let test : Visit → Bool = λ v. transition_number v.transition == transition_number c.args.transition in
+    has_here kept c.args.page (NonePasses test) c.in-Some.visit (g.met.R.Rows.well_kept c.args.rows.now)
+    (visit_here kept c.args.page (NonePasses test) c.loop-next.next c.in-Some.visit c.loop-next.invariant c.in-Some.is)
+
+pub returns-then-has_transition : goal.returns-then-has_transition
+returns-then-has_transition g c =
+    let kept : Kept = g.R.Rows.kept c.args.rows.now in
+    let test : Visit → Bool = λ v. transition_number v.transition == transition_number c.args.transition in
+    let w : IsVisitHere kept c.args.page (NonePasses test) c.in-Some.visit =
+    visit_here kept c.args.page (NonePasses test) c.loop-next.next c.in-Some.visit c.loop-next.invariant
+    c.in-Some.is in
+    visit_passes kept c.args.page test (NonePasses test) c.in-Some.visit w
+    (sym (c.has_transition.ensures w.visit
+    (at_here kept c.args.page (NonePasses test) c.in-Some.visit (g.met.R.Rows.well_kept c.args.rows.now) w))
+    ∙ c.if-has_transition.true)
+
+pub loop-next-smaller : goal.loop-next-smaller
+loop-next-smaller g c =
+    let kept : Kept = g.R.Rows.kept c.args.rows.now in
+    let test : Visit → Bool = λ v. transition_number v.transition == transition_number c.args.transition in
+    walk_nears kept c.args.page (NonePasses test) c.loop-next.next c.in-Some.visit c.older-next.result
+    (g.met.R.Rows.well_kept c.args.rows.now)
+    (visit_here kept c.args.page (NonePasses test) c.loop-next.next c.in-Some.visit c.loop-next.invariant
+    c.in-Some.is)
+    c.in-Some.is c.older-next.ensures.older
+
+pub loop-next-preserved : goal.loop-next-preserved
+loop-next-preserved g c =
+    let kept : Kept = g.R.Rows.kept c.args.rows.now in
+    let test : Visit → Bool = λ v. transition_number v.transition == transition_number c.args.transition in
+    let w : IsVisitHere kept c.args.page (NonePasses test) c.in-Some.visit =
+    visit_here kept c.args.page (NonePasses test) c.loop-next.next c.in-Some.visit c.loop-next.invariant
+    c.in-Some.is in
+    walk_goes_on kept c.args.page (NonePasses test) (NonePasses test) c.in-Some.visit c.older-next.result
+    (g.met.R.Rows.well_kept c.args.rows.now) w c.older-next.ensures.older
+    (none_more test w.front w.visit w.so_far
+    (sym (c.has_transition.ensures w.visit
+    (at_here kept c.args.page (NonePasses test) c.in-Some.visit (g.met.R.Rows.well_kept c.args.rows.now) w))
+    ∙ c.if-has_transition.false))
+
+pub returns : goal.returns
+returns g c =
+    no_visit (g.R.Rows.kept c.args.rows.now) c.args.page
+    (λ (v : Visit). transition_number v.transition == transition_number c.args.transition) c.loop-next.next
+    c.loop-next.invariant (λ id some. c.in_default.not-Some id some)

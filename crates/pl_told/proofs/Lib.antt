@@ -1,0 +1,4 @@
+mod Listed
+mod Offered
+mod PageTold
+mod Views

@@ -1,0 +1,137 @@
+-- What the views of a store tell of its origins.
+use Rattle.std.proofs.Common.{◌≡◌, ◌≢◌, ◌∙◌, ◌<◌, ◌≤◌, ◌==◌, ℕ, List, [], ◌∷◌, Some, ap, arith, eq-eqb, filter_map}
+use Rattle.std.proofs.Common.{if◌then◌else◌, length, refl, subst, suc, sym, Ok, Err, Bool, ◌^◌}
+use Rattle.std.specs.List.{sum_by}
+use Rattle.std.specs.Option.{option_map}
+use Rattle.std.specs.Result.{IsOkAnd}
+use Rattle.std.proofs.lemmas.Bool.{ne_eqb}
+use Rattle.std.proofs.lemmas.List.{length-map}
+use Rattle.std.proofs.lemmas.List.Sums.{count_by-le-length}
+use Rattle.url.specs.Parser.{Parsed}
+use Rattle.url.specs.Parts.{Parts as Record}
+use Rattle.pl_base.specs.declared.refusal.Refusal.TheVariants.{NoPage}
+use Rattle.pl_base.specs.declared.view.View.{View}
+use Rattle.pl_base.specs.Address.{origin_of_url}
+use Rattle.pl_base.specs.Frecency.{frecency_of}
+use Rattle.pl_base.specs.Good.{IsGood}
+use Rattle.pl_base.specs.Live.{slot_limit}
+use Rattle.pl_base.specs.Rows.{IsWellKept, Kept, store_of}
+use Rattle.pl_base.specs.Store.{Item, Page, Store, item_id, root_folder, top_folders}
+use Rattle.pl_base.specs.Tree.{item_at}
+use Rattle.pl_base.specs.Totals.{Origin, Scored, is_origin, scored_pages, share, total_of}
+use Rattle.pl_base.specs.View.{AreViews, AreViewsOf, scored_views}
+use Rattle.pl_history.proofs.SmallTotals.{few_points}
+use Rattle.pl_link.specs.declared.parts.Parts.{Parts}
+use Rattle.pl_link.specs.Parts.{ArePartsOf}
+use Rattle.pl_step.specs.declared.reply.Reply.{Reply}
+use Rattle.pl_step.specs.declared.reply.Reply.TheVariants.{Origin as OriginReply, Refused}
+use Rattle.pl_step.specs.Step.{origin_passes, pages_of, told_origin}
+
+scored : (store : Store) (ps : List Page) (vs : List View) → AreViews store ps vs
+    → scored_views vs
+    ≡ filter_map (λ (p : Page). option_map (λ (o : Origin). (o, frecency_of store p)) (origin_of_url p.url)) ps
+scored store [] [] are = refl
+scored store [] (v ∷ vs) are = absurd are
+scored store (p ∷ ps) [] are = absurd are
+scored store (p ∷ ps) (v ∷ vs) are =
+    let rest = scored store ps vs are.1 in
+    rw (are.0.origin, ← are.0.frecency) (ap (λ (ss : List Scored). ((v.prefix, v.host), v.frecency) ∷ ss) rest)
+
+-- the origins of the views are those of the pages, with their frecencies
+pub scored_same : (store : Store) (views : List View) → AreViewsOf store views
+    → scored_views views ≡ scored_pages store
+scored_same store views are = scored store store.pages views are
+
+alike : (store : Store) (ps : List Page) (vs : List View) → AreViews store ps vs → length vs ≡ length ps
+alike store [] [] are = refl
+alike store [] (v ∷ vs) are = absurd are
+alike store (p ∷ ps) [] are = absurd are
+alike store (p ∷ ps) (v ∷ vs) are = ap suc (alike store ps vs are.1)
+
+-- there are as many views as pages
+pub as_many : (store : Store) (views : List View) → AreViewsOf store views → length views ≡ length store.pages
+as_many store views are = alike store store.pages views are
+
+some_item : (store : Store) → IsGood store → 1 ≤ length store.items
+some_item store good = choose store.items refl
+  where
+    choose : (items : List Item) → store.items ≡ items → 1 ≤ length store.items
+    choose [] none =
+        let there : item_at [] (item_id 1) ≡ Some (root_folder 1 top_folders) =
+        ap (λ (items : List Item). item_at items (item_id 1)) (sym none) ∙ good.roots.root in
+        absurd (cc)
+    choose (i ∷ items) is = rw is (omega arith)
+
+-- they are fewer than a store has slots
+pub few_views : (kept : Kept) (views : List View) → IsWellKept kept → IsGood (store_of kept)
+    → AreViewsOf (store_of kept) views → length views < slot_limit
+few_views kept views h good are =
+    omega (arith, as_many (store_of kept) views are, some_item (store_of kept) good, h.live)
+
+-- ---- an origin
+
+-- what is told of the origin with these parts
+abbrev pub told_by : List Scored → Parts → Reply
+told_by pages parts =
+    if pages_of pages (parts.prefix, parts.host) == 0 then Refused NoPage else
+    OriginReply parts.prefix parts.host parts.rev_host (total_of pages (parts.prefix, parts.host))
+    (pages_of pages (parts.prefix, parts.host)) (origin_passes pages (parts.prefix, parts.host))
+
+pub told_by_parts : (pages : List Scored) (url : Parsed Record) (parts : Parts)
+    → IsOkAnd url (λ found. ArePartsOf found parts) → told_by pages parts ≡ told_origin pages url
+told_by_parts pages (Ok found) parts are = rw (are.prefix, are.host, are.rev_host) refl
+told_by_parts pages (Err e) parts are = absurd are
+
+pub none_told : (pages : List Scored) (url : Parsed Record) (parts : Parts) (count : ℕ)
+    → IsOkAnd url (λ found. ArePartsOf found parts) → count ≡ pages_of pages (parts.prefix, parts.host)
+    → count ≡ 0 → Refused NoPage ≡ told_origin pages url
+none_told pages url parts count are is none =
+    sym (ap (λ (b : Bool). if b then Refused NoPage else
+    OriginReply parts.prefix parts.host parts.rev_host (total_of pages (parts.prefix, parts.host))
+    (pages_of pages (parts.prefix, parts.host)) (origin_passes pages (parts.prefix, parts.host)))
+    (eq-eqb (pages_of pages (parts.prefix, parts.host)) 0 (sym is ∙ none)))
+    ∙ told_by_parts pages url parts are
+
+pub some_told : (pages : List Scored) (url : Parsed Record) (parts : Parts) (count total : ℕ) (passes : Bool)
+    → IsOkAnd url (λ found. ArePartsOf found parts) → count ≡ pages_of pages (parts.prefix, parts.host)
+    → count ≢ 0 → total ≡ total_of pages (parts.prefix, parts.host)
+    → passes ≡ origin_passes pages (parts.prefix, parts.host)
+    → OriginReply parts.prefix parts.host parts.rev_host total count passes ≡ told_origin pages url
+some_told pages url parts count total passes are is some totals passing =
+    rw (totals, passing, is)
+    (sym (ap (λ (b : Bool). if b then Refused NoPage else
+    OriginReply parts.prefix parts.host parts.rev_host (total_of pages (parts.prefix, parts.host))
+    (pages_of pages (parts.prefix, parts.host)) (origin_passes pages (parts.prefix, parts.host)))
+    (ne_eqb (pages_of pages (parts.prefix, parts.host)) 0 (λ none. some (is ∙ none)))))
+    ∙ told_by_parts pages url parts are
+
+-- ---- totals over views
+
+-- what was told of the views holds of the pages
+pub of_pages : (P : List Scored → Type 0) (store : Store) (views given : List View) → AreViewsOf store views
+    → given ≡ views → P (scored_views given) → P (scored_pages store)
+of_pages P store views given are is holds =
+    subst P (ap scored_views is ∙ scored_same store views are) holds
+
+-- and the other way round
+pub of_views : (P : List Scored → Type 0) (store : Store) (views given : List View) → AreViewsOf store views
+    → given ≡ views → P (scored_pages store) → P (scored_views given)
+of_views P store views given are is holds =
+    subst P (sym (ap scored_views is ∙ scored_same store views are)) holds
+
+-- the sum of the totals fits
+pub small_sum : (kept : Kept) (views given : List View) → IsWellKept kept → AreViewsOf (store_of kept) views
+    → given ≡ views → sum_by (λ (s : Scored). share s.1) (scored_views given) < 2 ^ 36
+small_sum kept views given h are is =
+    of_views (λ (ss : List Scored). sum_by (λ (s : Scored). share s.1) ss < 2 ^ 36) (store_of kept) views given are is
+    (few_points kept h)
+
+-- no origin has more pages than there are views
+pub few_pages : (views : List View) (origin : Origin) → pages_of (scored_views views) origin ≤ length views
+few_pages views origin =
+    let seen : View → Scored = λ (v : View). ((v.prefix, v.host), v.frecency) in
+    omega (
+      arith,
+      count_by-le-length (λ (s : Scored). is_origin s.0 origin) (scored_views views),
+      length-map views seen,
+    )

@@ -1,0 +1,93 @@
+// What is known of the origin of an address, and of the whole store.
+ghost use Rattle.std.specs.Prelude.{◌≡◌, ◌&&◌, ℕ, List, bytes_eq, IfOk};
+ghost use Rattle.pl_base.specs.Address.{record_of};
+ghost use Rattle.pl_base.specs.Rows.{store_of};
+ghost use Rattle.pl_base.specs.Totals.{Scored, scored_pages};
+ghost use Rattle.pl_base.specs.View.{scored_views};
+ghost use Rattle.pl_history.specs.Sound.{IsSound};
+ghost use Rattle.pl_totals.specs.Standing.{StandsFor};
+ghost use Rattle.pl_step.specs.Step as spec;
+
+use pl_base::{NoMemory, Refusal, Rows, Steps, View};
+use pl_history::visit_count;
+use pl_link::{Canon, Parts, split};
+use pl_marks::views;
+use pl_step::Reply;
+use pl_totals::{Totals, without_www};
+use pl_tree::item_count;
+use std::alloc::Global;
+use std::sync::ledger::Ledger;
+
+fn has_origin(view: &View, parts: &Parts) -> bool
+    ensures { result
+        ≡ (bytes_eq view.now.prefix parts.now.prefix && bytes_eq view.now.host parts.now.host) }
+{
+    view.prefix.as_str() == parts.prefix.as_str() && view.host.as_str() == parts.host.as_str()
+}
+
+// How many of the pages have the origin of these parts.
+fn pages_of(views: &[View], parts: &Parts) -> usize
+    ensures { result ≡ spec.pages_of (scored_views views.now) (parts.now.prefix, parts.now.host) }
+{
+    views.iter().filter(|view| has_origin(view, parts)).count()
+}
+
+// Whether the group of a host passes; the empty host has none.
+fn passes(totals: &Totals, host: &str) -> bool
+    ensures { (pages : List Scored) → StandsFor totals.now pages → (prefix : List ℕ)
+        → result ≡ spec.origin_passes pages (prefix, host.now) }
+{
+    !host.is_empty() && totals.passes(without_www(host))
+}
+
+/// What is known of the origin of the URL.
+pub fn origin<R: Rows, L: Ledger>(
+    alloc: Global,
+    rows: &R,
+    url: &Canon,
+    steps: &mut Steps<L>,
+) -> Result<Reply, NoMemory>
+    requires sound { IsSound (R.kept rows.now) }
+    ensures { IfOk result (λ reply. reply
+        ≡ spec.told_origin (scored_pages (store_of (R.kept rows.now))) (record_of url.now)) }
+{
+    let parts = split(alloc, url)?;
+    let views = views(alloc, rows, steps)?;
+    let pages = pages_of(&views, &parts);
+    if pages == 0 {
+        return Ok(Reply::Refused(Refusal::NoPage));
+    }
+    let totals = Totals::over(alloc, &views)?;
+    let total = totals.total(parts.prefix.as_str(), parts.host.as_str());
+    let passes = passes(&totals, parts.host.as_str());
+    Ok(Reply::Origin {
+        prefix: parts.prefix,
+        host: parts.host,
+        reversed: parts.rev_host,
+        total,
+        pages: pages as u32,
+        passes,
+    })
+}
+
+/// How much the store holds.
+pub fn stats<R: Rows, L: Ledger>(
+    alloc: Global,
+    rows: &R,
+    steps: &mut Steps<L>,
+) -> Result<Reply, NoMemory>
+    requires sound { IsSound (R.kept rows.now) }
+    ensures { IfOk result (λ reply. reply ≡ spec.stats_reply (store_of (R.kept rows.now))) }
+{
+    let views = views(alloc, rows, steps)?;
+    let totals = Totals::over(alloc, &views)?;
+    let (origins, sum) = totals.sums();
+    Ok(Reply::Stats {
+        pages: views.len() as u32,
+        visits: visit_count(rows, steps),
+        items: item_count(alloc, rows, steps)?,
+        origins,
+        sum,
+        slots: rows.live(steps),
+    })
+}
