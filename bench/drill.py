@@ -5,9 +5,10 @@
 
 The lines of the drill are made here again, and done by Python's sqlite3 on a database in the same folder, each in a
 transaction of its own that is synced. Of three runs the least wall time is shown. The bytes that are written come from
-one more run of each under strace. It is no timed test: it fails only where a program fails, or where the two hold
-different numbers of pages, visits and items, or refused different numbers of lines. It needs python3, and installs
-strace by `apt-get` where it is missing.
+one more run of each under strace. The same lines are run by `places try` too, which has to refuse as many of them and
+to say the same of its store. It is no timed test: it fails only where a program fails, or where the two hold different
+numbers of pages, visits and items, or refused different numbers of lines. It needs python3, and installs strace by
+`apt-get` where it is missing.
 """
 import pathlib
 import re
@@ -106,7 +107,7 @@ class Peer:
         self.base.execute("UPDATE meta SET day = ?", (day,))
         self.base.execute(FRECENCY, {"day": day})
 
-    def visit(self, url, transition, date, source):
+    def visit(self, url, transition, date, source=None):
         if source and not self.one("SELECT 1 FROM moz_historyvisits WHERE id = ?", source):
             raise Refused
         page = self.page(url)
@@ -123,9 +124,9 @@ class Peer:
             "INSERT INTO moz_bookmarks (parent, fk, title, dateAdded) VALUES (?, ?, ?, ?)", (parent, page, title, date)
         ).lastrowid
 
-    def bookmark(self, url, title, date):
+    def bookmark(self, parent, _place, url, title, date):
         page = self.page(url)
-        self.insert(UNFILED, page, title, date)
+        self.insert(parent, page, title, date)
         self.score(page)
 
     def tag(self, url, name, date):
@@ -144,61 +145,68 @@ class Peer:
         self.base.execute("DELETE FROM moz_historyvisits WHERE visit_date < ?", (day * DAY,))
         self.base.execute(UNKEPT)
 
-    def bar(self, text):
-        return self.base.execute(
-            "SELECT id FROM moz_places WHERE url LIKE ? OR title LIKE ? ORDER BY frecency DESC, id LIMIT 10",
-            (f"%{text}%", f"%{text}%"),
+    def bar(self, most, text):
+        self.base.execute(
+            "SELECT id FROM moz_places WHERE url LIKE ? OR title LIKE ? ORDER BY frecency DESC, id LIMIT ?",
+            (f"%{text}%", f"%{text}%", most),
         ).fetchall()
 
     def sizes(self):
         return [self.one(f"SELECT count(*) FROM {table}") for table in ("moz_places", "moz_historyvisits", "moz_bookmarks")]
 
 
-def drawn(peer, chance, number, day, last):
-    """Does one line, and gives the day and the last visit behind it."""
+def drawn(chance, number, day, last):
+    """The fields of a line."""
     kind, host, path, tag = (chance.below(bound) for bound in (16, 50, 200, 9))
     url, date = f"https://h{host}.example/p{path}", day * DAY + number
     if kind < 10:
-        source = last if tag + 1 in (5, 6) else None
-        last = peer.visit(url, tag + 1, date, source)
-    elif kind == 10:
-        peer.bookmark(url, f"t{number}", date)
-    elif kind == 11:
-        peer.tag(url, f"tag{tag}", date)
-    elif kind == 12:
-        day += 1
-        peer.day(day)
-    elif kind == 13:
-        peer.title(url, f"page {number}")
-    elif kind == 14:
-        peer.expire(day - 60)
-    else:
-        peer.bar(f"p{path}")
-    return day, last
+        source = [last] if last and tag + 1 in (5, 6) else []
+        return ["visit", url, tag + 1, date, *source]
+    return [
+        ["bookmark", UNFILED, "end", url, f"t{number}", date],
+        ["tag", url, f"tag{tag}", date],
+        ["day", day + 1],
+        ["title", url, f"page {number}"],
+        ["expire", day - 60],
+        ["bar", 10, f"p{path}"],
+    ][kind - 10]
 
 
 def drill(path, count):
-    """Runs the drill on a new database: how many lines were refused, and the numbers of rows."""
-    peer, chance, day, last, refused = Peer(path), Chance(SEED), 19_000, None, 0
+    """Runs the drill on a new database: how many lines were refused and the numbers of rows, and the lines."""
+    peer, chance, day, last, refused, lines = Peer(path), Chance(SEED), 19_000, None, 0, []
     for number in range(count + 1):
+        name, *fields = ["day", day] if number == 0 else drawn(chance, number, day, last)
+        lines.append("\t".join(map(str, [name, *fields])))
         peer.base.execute("BEGIN")
         try:
-            if number == 0:
-                peer.day(day)
-            else:
-                day, last = drawn(peer, chance, number, day, last)
+            visit = getattr(peer, name)(*fields)
             peer.base.execute("COMMIT")
+            last = visit or last
         except Refused:
             peer.base.execute("ROLLBACK")
             refused += 1
-    return [refused, *peer.sizes()]
+        day = fields[0] if name == "day" else day
+    return [refused, *peer.sizes()], lines
+
+
+def in_memory(places, lines):
+    """How many of the lines `places try` refuses, and what it says of the store behind them."""
+    script = "\n".join([*lines, "stats", ""])
+    done = subprocess.run([places, "try"], input=script, capture_output=True, check=True, text=True)
+    said = done.stdout.splitlines()
+    return f"refused\t{sum(line.startswith('refused') for line in said)}", said[-1]
 
 
 def ours(places, store, count):
     done = subprocess.run([places, "drill", store, str(count), str(SEED)], capture_output=True, check=True, text=True)
-    first, second = done.stdout.splitlines()
-    told = second.split("\t")
-    return [int(first.split("\t")[3]), int(told[2]), int(told[4]), int(told[6])]
+    return done.stdout.splitlines()
+
+
+def numbers(said):
+    """How many lines were refused and the numbers of rows, as a summary says."""
+    told = said[1].split("\t")
+    return [int(said[0].split("\t")[3]), int(told[2]), int(told[4]), int(told[6])]
 
 
 def written(log, name):
@@ -215,26 +223,32 @@ def traced(work, name, command):
 
 
 def measure(places, work, count):
-    times, rows = {"places drill": [], "SQLite": []}, []
+    took, said, done = {"places drill": [], "SQLite": []}, [], []
     for run in range(RUNS):
         store, base = work / f"store{count}.{run}", work / f"base{count}.{run}"
         new_store(places, store)
-        for name, task in ("places drill", lambda: ours(places, store, count)), ("SQLite", lambda: drill(base, count)):
-            start = time.monotonic()
-            rows.append(task())
-            times[name].append(time.monotonic() - start)
-    if any(row != rows[0] for row in rows):
-        sys.exit(f"the numbers of refused lines, pages, visits and items differ: {rows}")
+        start = time.monotonic()
+        said.append(ours(places, store, count))
+        took["places drill"].append(time.monotonic() - start)
+        start = time.monotonic()
+        done.append(drill(base, count))
+        took["SQLite"].append(time.monotonic() - start)
+    rows, lines = done[0]
+    if any(summary != said[0] for summary in said) or numbers(said[0]) != rows:
+        sys.exit(f"the numbers of refused lines, pages, visits and items differ: {said}, and {rows}")
+    refused, stats = in_memory(places, lines)
+    if not said[0][0].endswith(refused) or stats != said[0][1]:
+        sys.exit(f"in memory the lines come to {refused} and {stats}, and in a file to {said[0]}")
     store = work / f"traced{count}"
     new_store(places, store)
     bytes_written = {
         "places drill": traced(work, store.name, [places, "drill", store, str(count), str(SEED)]),
         "SQLite": traced(work, f"peer{count}", [sys.executable, __file__, "--peer", work / f"peer{count}", str(count)]),
     }
-    print(f"\n{count} lines: {rows[0][0]} refused, {rows[0][1]} pages, {rows[0][2]} visits, {rows[0][3]} items")
+    print(f"\n{count} lines: {rows[0]} refused, {rows[1]} pages, {rows[2]} visits, {rows[3]} items; in memory the same")
     print(f"{'':16}{'wall, s':>10}{'lines a second':>16}{'bytes written':>16}")
-    for name, took in times.items():
-        print(f"{name:16}{min(took):10.2f}{(count + 1) / min(took):16.0f}{bytes_written[name]:16}")
+    for name, times in took.items():
+        print(f"{name:16}{min(times):10.2f}{(count + 1) / min(times):16.0f}{bytes_written[name]:16}")
 
 
 def main():
