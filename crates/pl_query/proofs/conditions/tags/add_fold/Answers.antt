@@ -1,8 +1,0 @@
-use Rattle.std.proofs.Common.{◌∙◌, sym}
-use Rattle.pl_marks.proofs.TagTree.{has_folder}
-use Rattle.pl_query.proofs.conditions.tags.add_fold.Goals as goal
-
-pub item_title-requires : goal.item_title-requires
-item_title-requires g c =
-    has_folder (g.R.Rows.kept c.args.rows.now) c.args.item c.in-Some.folder (g.met.R.Rows.well_kept c.args.rows.now)
-    (sym c.tag_folder.ensures ∙ c.in-Some.is)
