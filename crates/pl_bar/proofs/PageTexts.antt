@@ -16,11 +16,11 @@ use Rattle.pl_base.specs.Rows.{Kept, KeptPage, page_at, store_of, title_of, url_
 use Rattle.pl_base.specs.Store.{Store}
 use Rattle.pl_base.specs.View.{mark_title}
 use Rattle.pl_base.proofs.IdsLaws.{same_page}
+use Rattle.pl_base.proofs.LookUps.{found_passes}
 use Rattle.pl_link.specs.declared.parts.Parts.{Parts}
 use Rattle.pl_link.specs.Parts.{ArePartsOf}
 use Rattle.pl_link.proofs.PartsLemmas.{starts_with-prefix}
 use Rattle.pl_marks.specs.UrlParts.{HasParts}
-use Rattle.pl_marks.proofs.LookUps.{found_passes}
 use Rattle.pl_words.specs.Pieces.{found, in_address, searched}
 use Rattle.pl_bar.specs.AddressBar.{searched_title}
 use Rattle.pl_bar.specs.FoldedTexts.{if_asked}

@@ -1,11 +1,16 @@
 mod AddressRows
+pub mod Among
 mod ConstantRows
 mod HistoryRows
 pub mod IdsLaws
 pub mod ItemLaws
 pub mod ListLaws
+pub mod LookUps
 mod Numerals
+pub mod OneChanged
+pub mod OneParent
 pub mod OriginLaws
+pub mod PageOrder
 pub mod RootsLaws
 pub mod Searches
 pub mod SortLaws

@@ -45,7 +45,7 @@ passing : map (group_passes pages) (codes "a.example" ∷ codes "a.example:8080"
     ≡ true ∷ false ∷ false ∷ []
 passing = refl
 
--- a group just at the mean of 100, 50 and 0.. of which the last has no total, and one below it
+-- two origins at their mean of 75, and a third without a total; then 76 and 75, whose mean is 75.5
 abbrev even : List Scored
 even =
     scored (secure (codes "a.example")) (pos 75) ∷ scored (secure (codes "b.example")) (pos 75)

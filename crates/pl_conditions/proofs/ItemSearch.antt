@@ -13,12 +13,12 @@ use Rattle.pl_base.specs.Store.{Item, Store}
 use Rattle.pl_base.specs.Tags.{is_tag_entry}
 use Rattle.pl_base.specs.Tree.{is_page, item_at}
 use Rattle.pl_base.specs.View.{bookmarks_of}
+use Rattle.pl_base.proofs.LookUps.{found_passes}
+use Rattle.pl_base.proofs.OneParent.{same_item}
 use Rattle.pl_marks.specs.TagFolders.{tag_folder}
 use Rattle.pl_marks.proofs.ItemWalk.{IsItemHere, ItemWalk, having, walk_ends}
-use Rattle.pl_marks.proofs.LookUps.{found_passes}
 use Rattle.pl_marks.proofs.PageTags.{outside_is}
 use Rattle.pl_marks.proofs.PageWalk.{there}
-use Rattle.pl_marks.proofs.TagTree.{same_item}
 use Rattle.pl_conditions.specs.AskedParts.{is_mark_in}
 use Rattle.pl_conditions.specs.Conditions.{is_in_parents}
 

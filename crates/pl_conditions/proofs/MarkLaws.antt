@@ -6,7 +6,7 @@ use Rattle.pl_base.specs.declared.row.Mark.{Mark}
 use Rattle.pl_base.specs.Marks.{is_hidden, visit_count}
 use Rattle.pl_base.specs.Rows.{IsRight, Kept, KeptPage, mark_of, page_at, store_of, title_of, url_of}
 use Rattle.pl_base.proofs.IdsLaws.{same_page}
-use Rattle.pl_marks.proofs.LookUps.{found_passes}
+use Rattle.pl_base.proofs.LookUps.{found_passes}
 use Rattle.pl_marks.proofs.PageRows.{mark_in, right_mark}
 
 -- the page that is found has the id

@@ -23,8 +23,8 @@ use Rattle.pl_base.specs.Rows.{IsWellKept, Kept, KeptOrigin, KeptPage, has_page,
 use Rattle.pl_base.specs.Store.{Item, Page, Store, Visit}
 use Rattle.pl_base.specs.Tree.{is_page}
 use Rattle.pl_base.proofs.ListLaws.{All-from_map, AllPairs-from_map, AllPairs-map, list_any-map, weaker}
+use Rattle.pl_base.proofs.LookUps.{none_pass}
 use Rattle.pl_marks.specs.Refreshed.{IsRightPage}
-use Rattle.pl_marks.proofs.LookUps.{none_pass}
 use Rattle.pl_marks.proofs.PageWalk.{Ascend, ascend}
 use Rattle.pl_history.specs.Settled.{AreSettledBut}
 use Rattle.pl_history.specs.Sound.{AreStanding, IsSound, IsTypedRight}

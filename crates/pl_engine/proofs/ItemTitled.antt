@@ -21,9 +21,9 @@ use Rattle.pl_step.specs.declared.reply.Reply.TheVariants.{Done, Refused}
 use Rattle.pl_history.specs.Sound.{IsSound}
 use Rattle.pl_step.specs.Step.{after_retitle, is_full, perform}
 use Rattle.pl_base.proofs.ItemLaws.{once}
+use Rattle.pl_base.proofs.OneChanged.{sum_changed}
 use Rattle.pl_history.proofs.ItemMarks.{reference_changed, sound_alike}
 use Rattle.pl_engine.proofs.ItemStep.{done_reply, refused_reply}
-use Rattle.pl_engine.proofs.LiveTitled.{sum_changed}
 
 -- ---- slots
 

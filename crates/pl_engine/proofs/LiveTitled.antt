@@ -1,15 +1,14 @@
 -- The title that a page has in the rows, and how many slots the store takes once it has another.
 use Rattle.std.proofs.Common.{◌≡◌, ◌<◌, ◌≤◌, ◌+◌, ◌-◌, ◌==◌, ◌&&◌, ◌∙◌, if◌then◌else◌, ℕ, All, Bool, true, false}
-use Rattle.std.proofs.Common.{List, [], ◌∷◌, Option, Some, None, ap, arith, find, get_or, ltb, map, refl, suc, sym}
-use Rattle.std.specs.List.{AllPairs, sum_by}
+use Rattle.std.proofs.Common.{List, [], ◌∷◌, Option, Some, None, ap, arith, find, get_or, ltb, map, refl, sym}
+use Rattle.std.specs.List.{AllPairs}
 use Rattle.std.specs.Option.{option_map}
 use Rattle.std.proofs.lemmas.Bool.{eqb-true, ne_eqb}
 use Rattle.std.proofs.lemmas.Bool.Decides.{nat_tests}
 use Rattle.std.proofs.lemmas.List.{length-map}
-use Rattle.std.proofs.lemmas.List.Elements.{All-from_recursion, All-head, All-tail}
+use Rattle.std.proofs.lemmas.List.Elements.{All-from_recursion}
 use Rattle.std.proofs.lemmas.List.Folds.{map_fixed}
 use Rattle.std.proofs.lemmas.List.Kept.{AllPairs-from_increasing}
-use Rattle.std.proofs.lemmas.List.Sums.{sum_by-cons}
 use Rattle.pl_base.specs.declared.id.PageId.{PageId}
 use Rattle.pl_base.specs.declared.refusal.Refusal.TheVariants.{Full}
 use Rattle.pl_base.specs.Live.{chunks, live_slots, origin_count, slot_limit}
@@ -21,7 +20,8 @@ use Rattle.pl_step.specs.declared.reply.Reply.TheVariants.{Done, Refused}
 use Rattle.pl_step.specs.Step.{is_full}
 use Rattle.pl_engine.specs.Titled.{within_slots}
 use Rattle.pl_base.proofs.ListLaws.{AllPairs-from_map, sum_by-map}
-use Rattle.pl_marks.proofs.LookUps.{apart_ascending, found_one}
+use Rattle.pl_base.proofs.LookUps.{apart_ascending, found_one}
+use Rattle.pl_base.proofs.OneChanged.{sum_changed}
 
 -- ---- the title that stands
 
@@ -112,47 +112,6 @@ title_changes kept id title old is same =
     title_set id title old kept.pages is ∙ sym (title_kept id (with_title id title kept).pages)
     ∙ ap (λ (s : Store). title_in id s.pages) same ∙ title_kept id kept.pages ∙ sym is in
     cc
-
--- ---- one element changed
-
-map-none : {X : Type 0} (q : X → Bool) (f : X → X) (xs : List X) → All (λ x. q x ≡ false) xs
-    → map (λ x. if q x then f x else x) xs ≡ xs
-map-none q f [] none = refl
-map-none q f (x ∷ xs) none =
-    rw (All-head (λ y. q y ≡ false) x xs none, map-none q f xs (All-tail (λ y. q y ≡ false) x xs none)) refl
-
--- a sum in which the only element that passes a test is changed
-pub sum_changed : {X : Type 0} (q : X → Bool) (f : X → X) (n : X → ℕ) (xs : List X) (x : X)
-    → AllPairs (λ a b. q a ≡ true → q b ≡ false) xs → find q xs ≡ Some x
-    → sum_by n (map (λ y. if q y then f y else y) xs) + n x ≡ sum_by n xs + n (f x)
-sum_changed q f n [] x once found = absurd (cc)
-sum_changed {X} q f n (y ∷ ys) x once found =
-    choose (q y) refl found
-    (sum_changed q f n ys x (λ i j d before within. once (suc i) (suc j) d (omega arith) (omega arith)))
-  where
-    choose : (b : Bool) → q y ≡ b → (if b then Some y else find q ys) ≡ Some x
-        → (find q ys ≡ Some x → sum_by n (map (λ z. if q z then f z else z) ys) + n x ≡ sum_by n ys + n (f x))
-        → sum_by n ((if b then f y else y) ∷ map (λ z. if q z then f z else z) ys) + n x
-        ≡ sum_by n (y ∷ ys) + n (f x)
-    choose true passes here rest =
-        let same : y ≡ x = cc in
-        let others : map (λ z. if q z then f z else z) ys ≡ ys =
-        map-none q f ys (λ k d within. once 0 (suc k) d (omega arith) (omega arith) passes) in
-        omega (
-          arith,
-          sum_by-cons n (f y) (map (λ z. if q z then f z else z) ys),
-          sum_by-cons n y ys,
-          ap (sum_by n) others,
-          ap n same,
-          ap (λ z. n (f z)) same,
-        )
-    choose false fails here rest =
-        omega (
-          arith,
-          sum_by-cons n y (map (λ z. if q z then f z else z) ys),
-          sum_by-cons n y ys,
-          rest here,
-        )
 
 -- ---- slots
 

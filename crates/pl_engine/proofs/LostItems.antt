@@ -16,9 +16,9 @@ use Rattle.pl_base.specs.Store.{Item, Page, Store}
 use Rattle.pl_base.specs.Tree.{is_page, leaving}
 use Rattle.pl_base.proofs.IdsLaws.{same_page}
 use Rattle.pl_base.proofs.ListLaws.{AllPairs-from_map, list_any-alike, list_any-map, weaker}
+use Rattle.pl_base.proofs.LookUps.{none_pass}
 use Rattle.pl_tree.specs.Ancestors.{lies_in}
 use Rattle.pl_tree.specs.Changes.{loses_item, with_removed}
-use Rattle.pl_marks.proofs.LookUps.{none_pass}
 use Rattle.pl_history.specs.Sound.{IsSound}
 use Rattle.pl_history.specs.Settled.{AreSettledBut}
 use Rattle.pl_history.proofs.Dropped.{any_left}

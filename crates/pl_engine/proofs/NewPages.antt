@@ -22,8 +22,8 @@ use Rattle.pl_base.specs.Store.{Page, Store, Visit}
 use Rattle.pl_base.specs.Visits.{sample_of, visits_of}
 use Rattle.pl_base.proofs.IdsLaws.{same_page}
 use Rattle.pl_base.proofs.ListLaws.{All-from_map, list_any-map, weaker}
+use Rattle.pl_base.proofs.LookUps.{found_holds, found_where, none_pass}
 use Rattle.pl_marks.specs.Refreshed.{HaveCounts, Refreshes}
-use Rattle.pl_marks.proofs.LookUps.{found_holds, found_where, none_pass}
 use Rattle.pl_history.specs.Settled.{AreSettledBut}
 use Rattle.pl_history.proofs.KeptMark.{IsMarkAt, count_at, mark_at}
 use Rattle.pl_history.proofs.Settled.{refreshed_settled}

@@ -10,9 +10,9 @@ use Rattle.pl_base.specs.Removal.{forgotten}
 use Rattle.pl_base.specs.Rows.{Kept, has_visit, row_of, store_of, visit_at}
 use Rattle.pl_base.specs.Store.{Page, Store, Visit}
 use Rattle.pl_base.specs.Visiting.{find_page}
+use Rattle.pl_base.proofs.LookUps.{found_some}
 use Rattle.pl_history.specs.declared.removal.Removed.{Removed}
 use Rattle.pl_history.specs.Went.{went}
-use Rattle.pl_marks.proofs.LookUps.{found_some}
 use Rattle.pl_step.specs.declared.reply.Reply.{Reply}
 use Rattle.pl_step.specs.declared.reply.Reply.TheVariants.{Removed as RemovedReply}
 use Rattle.pl_step.specs.Step.{forget_step}

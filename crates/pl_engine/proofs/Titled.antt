@@ -27,9 +27,9 @@ use Rattle.pl_base.specs.Visiting.{find_page}
 use Rattle.pl_history.specs.Target.{IsTargetOf}
 use Rattle.pl_history.proofs.GoodRows.{good_of, items_of, items_still, standing_of}
 use Rattle.pl_history.proofs.KnownPage.{IsKnown, known, only_known}
-use Rattle.pl_marks.proofs.LookUps.{both}
 use Rattle.pl_marks.proofs.PageWalk.{part}
 use Rattle.pl_base.proofs.ListLaws.{list_any-alike, list_any-map}
+use Rattle.pl_base.proofs.LookUps.{both}
 
 -- ---- a title that is cut
 

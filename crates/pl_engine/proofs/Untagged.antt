@@ -17,8 +17,8 @@ use Rattle.pl_base.specs.Store.{Item, Store}
 use Rattle.pl_base.specs.Tags.{tags_of, tags_root}
 use Rattle.pl_base.specs.Tree.{child_items, children_of, is_page, item_at, leaving, removed}
 use Rattle.pl_base.proofs.ListLaws.{all-filter, list_any-map, weaker}
+use Rattle.pl_base.proofs.LookUps.{Apart, apart_ascending, found_holds, found_one, found_passes}
 use Rattle.pl_tree.specs.Tagged.{entry_in, tag_named, untagged_items, without_entry, without_unused}
-use Rattle.pl_marks.proofs.LookUps.{Apart, apart_ascending, found_holds, found_one, found_passes}
 use Rattle.pl_history.specs.Sound.{IsSound}
 use Rattle.pl_history.specs.Settled.{AreSettledBut}
 use Rattle.pl_engine.proofs.ChildItems.{children_hold, children_too}

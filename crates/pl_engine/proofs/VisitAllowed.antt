@@ -20,10 +20,10 @@ use Rattle.pl_base.specs.Store.{Page, Store, Visit}
 use Rattle.pl_history.specs.declared.find.Target.{Target}
 use Rattle.pl_history.specs.declared.find.Target.TheVariants.{Known, New}
 use Rattle.pl_base.specs.Visiting.{after_visit, find_page}
+use Rattle.pl_base.proofs.LookUps.{found_some}
 use Rattle.pl_step.specs.Step.{is_full, source_refusal, visit_refusal}
 use Rattle.pl_history.specs.Target.{HasRoom, IsTargetOf, WithTarget}
 use Rattle.pl_history.proofs.LiveAfter.{live_page}
-use Rattle.pl_marks.proofs.LookUps.{found_some}
 use Rattle.pl_history.proofs.Targets.{has_origin, slots_known, slots_new}
 use Rattle.pl_history.proofs.VisitRows.{store-with_page, store_with_page}
 

@@ -5,7 +5,7 @@ use Rattle.std.specs.List.{list_any}
 use Rattle.std.specs.Option.{is_none, is_some}
 use Rattle.std.proofs.lemmas.List.{length-map, length_push}
 use Rattle.std.proofs.lemmas.List.Folds.{list_any_none}
-use Rattle.std.proofs.lemmas.List.Sums.{sum_by-cons, sum_by_push}
+use Rattle.std.proofs.lemmas.List.Sums.{sum_by_push}
 use Rattle.pl_base.specs.declared.date.Micros.{Micros}
 use Rattle.pl_base.specs.declared.id.ItemId.{ItemId}
 use Rattle.pl_base.specs.declared.id.PageId.{PageId}
@@ -26,6 +26,7 @@ use Rattle.pl_tree.specs.declared.place.Place.TheVariants.{End}
 use Rattle.pl_tree.specs.Changes.{item_of, put, with_child, with_new}
 use Rattle.pl_tree.specs.Tagged.{new_entry, new_items, new_tag, tag_entry, tag_id, tag_named, tagged_items}
 use Rattle.pl_tree.specs.Tagged as tagged
+use Rattle.pl_tree.proofs.ChildSlots.{slots_child}
 use Rattle.pl_graft.specs.Import.{folder_of, folders_behind, node_row, page_of, tagged_store, with_item_of, with_list}
 use Rattle.pl_graft.specs.Import.{with_node, with_nodes, with_page_of, with_row, with_tag, with_tags, with_tags_of}
 use Rattle.pl_graft.specs.KnownPages.{IsOriginPage}
@@ -82,27 +83,6 @@ live_page store url origin none of =
 abbrev item_slots : List Item → ℕ
 item_slots items = length items + title_slots items
 
-title_child : (parent : ItemId) (place : Place) (id : ItemId) (items : List Item)
-    → title_slots (with_child parent place id items) ≡ title_slots items
-title_child parent place id [] = refl
-title_child parent place id (i ∷ items) = choose (i.id.0 == parent.0) (title_child parent place id items)
-  where
-    same_title : (b : Bool) → (if b then record i { children = put place id i.children } else i).title ≡ i.title
-    same_title true = refl
-    same_title false = refl
-
-    choose : (b : Bool) → title_slots (with_child parent place id items) ≡ title_slots items
-        → title_slots ((if b then record i { children = put place id i.children } else i)
-        ∷ with_child parent place id items) ≡ title_slots (i ∷ items)
-    choose b rest =
-        omega (
-          arith,
-          sum_by-cons (λ (j : Item). chunks j.title)
-              (if b then record i { children = put place id i.children } else i) (with_child parent place id items),
-          sum_by-cons (λ (j : Item). chunks j.title) i items,
-          ap chunks (same_title b),
-        )
-
 -- a child more at the end of the items
 slots_more : (parent : ItemId) (place : Place) (id : ItemId) (new : Item) (items : List Item)
     → item_slots (with_child parent place id items ++ new ∷ []) ≡ item_slots items + 1 + chunks new.title
@@ -114,7 +94,7 @@ slots_more parent place id new items =
       length-map items
           (λ (i : Item). if i.id.0 == parent.0 then record i { children = put place id i.children } else i),
       sum_by_push (λ (i : Item). chunks i.title) grown new,
-      title_child parent place id items,
+      slots_child parent place id items,
     )
 
 -- the slots of a store with other items

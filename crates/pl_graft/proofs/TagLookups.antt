@@ -23,7 +23,7 @@ use Rattle.pl_base.specs.declared.id.PageId.{PageId}
 use Rattle.pl_base.specs.Fold.{folded}
 use Rattle.pl_base.specs.Tree.{is_page}
 use Rattle.pl_base.proofs.ListLaws.{AllPairs-map, find-map, list_any-alike, list_any-map}
-use Rattle.pl_tree.proofs.OneParent.{found_holds, found_passes}
+use Rattle.pl_base.proofs.LookUps.{found_holds, found_passes}
 use Rattle.pl_graft.specs.declared.tags.TagFolder.{TagFolder}
 use Rattle.pl_graft.specs.declared.tags.Tags.{Tags}
 use Rattle.pl_graft.specs.KnownTags.{AreBelow, HasPairs, IsFolderOf, KnowsTags, has_pair, last_of, pair_cmp, stands_in}

@@ -19,7 +19,8 @@ use Rattle.pl_base.specs.Store.{Item, Store}
 use Rattle.pl_base.specs.Tags.{tags_of, tags_root}
 use Rattle.pl_base.specs.Tree.{children_of, has_item, item_at, item_title, is_page}
 use Rattle.pl_base.proofs.ListLaws.{found_in, to_map}
-use Rattle.pl_tree.proofs.OneParent.{both, found_passes, same_item}
+use Rattle.pl_base.proofs.LookUps.{both, found_passes}
+use Rattle.pl_base.proofs.OneParent.{same_item}
 use Rattle.pl_graft.specs.declared.tags.TagFolder.{TagFolder}
 use Rattle.pl_graft.specs.declared.tags.Tags.{Tags}
 use Rattle.pl_graft.specs.KnownTags.{HasPairs, IsOther, KnowsTags, has_entry, has_pair, last_id, last_of}

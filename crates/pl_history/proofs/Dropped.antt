@@ -21,11 +21,11 @@ use Rattle.pl_base.specs.Tree.{is_page}
 use Rattle.pl_base.proofs.IdsLaws.{same_page}
 use Rattle.pl_base.proofs.ListLaws.{All-from_map, list_any-map, map-map, weaker}
 use Rattle.pl_marks.specs.Refreshed.{IsRightPage}
-use Rattle.pl_marks.proofs.LookUps.{Apart, apart_ascending, both, none_pass, where_passes}
 use Rattle.pl_history.specs.Sound.{IsTypedRight}
 use Rattle.pl_base.specs.Removal.{is_standing}
 use Rattle.pl_history.specs.Settled.{AreSettledBut}
 use Rattle.pl_base.specs.Removal.{without_idle_pages}
+use Rattle.pl_base.proofs.LookUps.{Apart, apart_ascending, both, none_pass, where_passes}
 use Rattle.pl_history.proofs.GoodRows.{items_with}
 
 -- ---- lists

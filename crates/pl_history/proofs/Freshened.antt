@@ -26,8 +26,8 @@ use Rattle.pl_base.specs.Rows.{store_of, url_of, with_day}
 use Rattle.pl_base.specs.Store.{Page, Store}
 use Rattle.pl_base.proofs.IdsLaws.{few_ids, same_page}
 use Rattle.pl_base.proofs.ListLaws.{find-map, map-map, sum_by-agree, sum_by-map}
+use Rattle.pl_base.proofs.LookUps.{both, found_holds}
 use Rattle.pl_marks.specs.Refreshed.{HaveCounts, Refreshes}
-use Rattle.pl_marks.proofs.LookUps.{both, found_holds}
 use Rattle.pl_marks.proofs.PageWalk.{Ascend, above, ascend, first_behind, first_page, found_at, left}
 use Rattle.pl_marks.proofs.PageWalk.{next_behind, there, walk_nears}
 use Rattle.pl_history.specs.Fresh.{fresh, is_moved, with_fresh}

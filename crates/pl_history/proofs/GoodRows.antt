@@ -13,8 +13,8 @@ use Rattle.pl_base.specs.Store.{Item, Page, Store, Visit}
 use Rattle.pl_base.specs.Tags.{tags_of}
 use Rattle.pl_base.proofs.OriginLaws.{canon-store_url}
 use Rattle.pl_history.specs.Sound.{AreStanding}
-use Rattle.pl_marks.proofs.LookUps.{found_where}
 use Rattle.pl_base.proofs.ListLaws.{All-from_map, AllPairs-map, list_any-map, map-map}
+use Rattle.pl_base.proofs.LookUps.{found_where}
 
 -- ---- the items
 

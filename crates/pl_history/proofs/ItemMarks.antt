@@ -24,7 +24,7 @@ use Rattle.pl_marks.specs.Refreshed.{AreRightBut}
 use Rattle.pl_base.proofs.IdsLaws.{same_page}
 use Rattle.pl_base.proofs.ListLaws.{list_any-alike, list_any-map, sum_by-agree}
 use Rattle.pl_base.proofs.VisitsLaws.{all-latest_first}
-use Rattle.pl_marks.proofs.LookUps.{where_passes}
+use Rattle.pl_base.proofs.LookUps.{where_passes}
 use Rattle.pl_history.proofs.GoodRows.{good_of, standing_of}
 
 -- an item among these has the page

@@ -16,8 +16,8 @@ use Rattle.pl_base.specs.Rows.{IsWellKept, Kept, KeptPage}
 use Rattle.pl_base.specs.Rows.{next_visit, mark_of, page_at, store_of, with_visit}
 use Rattle.pl_base.specs.Store.{Visit}
 use Rattle.pl_marks.specs.Refreshed.{HaveCounts, visited_mark}
-use Rattle.pl_marks.proofs.LookUps.{apart_ascending, found_holds, found_one, found_passes}
 use Rattle.pl_base.proofs.IdsLaws.{few_ids, same_page}
+use Rattle.pl_base.proofs.LookUps.{apart_ascending, found_holds, found_one, found_passes}
 
 -- the page that the mark is kept of
 pub record IsMarkAt (kept : Kept) (id : PageId) (mark : Mark) : Type 0 where

@@ -21,11 +21,11 @@ use Rattle.pl_base.specs.Store.{Page, Store}
 use Rattle.pl_base.specs.Totals.{Origin, Scored, is_origin, scored_pages, share, total_of}
 use Rattle.pl_base.proofs.ListLaws.{weaker}
 use Rattle.pl_base.proofs.OriginLaws.{same_origin-by_texts, same_origin-self, same_origin-sym}
+use Rattle.pl_base.proofs.LookUps.{both}
 use Rattle.pl_history.specs.Sound.{IsSound}
 use Rattle.pl_history.proofs.PageCounts.{sum_le}
 use Rattle.pl_marks.proofs.PageTurns.{IsPageHere, PageTurns, turns_end}
 use Rattle.pl_history.proofs.SmallTotals.{few_kept, scored_by}
-use Rattle.pl_marks.proofs.LookUps.{both}
 use Rattle.pl_marks.proofs.PageWalk.{found_at, part, push}
 
 -- ---- one total

@@ -16,7 +16,7 @@ use Rattle.pl_base.specs.Visits.{visits_of}
 use Rattle.pl_base.proofs.ListLaws.{count_by-and-le, sum_by-agree, weaker}
 use Rattle.pl_base.proofs.IdsLaws.{few_ids}
 use Rattle.pl_base.proofs.VisitsLaws.{length-latest_first}
-use Rattle.pl_marks.proofs.LookUps.{Apart, apart_ascending}
+use Rattle.pl_base.proofs.LookUps.{Apart, apart_ascending}
 use Rattle.pl_marks.proofs.VisitWalk.{IsVisitHere}
 use Rattle.pl_marks.proofs.PageTurns.{IsPageHere}
 

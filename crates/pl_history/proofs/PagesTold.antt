@@ -11,7 +11,7 @@ use Rattle.pl_base.specs.Rows.{Kept, KeptPage, has_page, store_of, url_of}
 use Rattle.pl_base.specs.Store.{Item, Page, page_url}
 use Rattle.pl_base.specs.Tree.{item_at, item_row}
 use Rattle.pl_base.proofs.ListLaws.{list_any-map}
-use Rattle.pl_tree.proofs.OneParent.{found_holds}
+use Rattle.pl_base.proofs.LookUps.{found_holds}
 
 url_found : (pages : List KeptPage) (id : PageId)
     → option_map (λ (p : Page). p.url) (find (λ (p : Page). p.id.0 == id.0) (map (λ (p : KeptPage). p.page) pages))

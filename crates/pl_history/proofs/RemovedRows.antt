@@ -27,8 +27,8 @@ use Rattle.pl_base.specs.Store.{Page, Visit}
 use Rattle.pl_base.proofs.IdsLaws.{same_page}
 use Rattle.pl_base.proofs.ListLaws.{list_any-alike, list_any-map, weaker}
 use Rattle.pl_base.proofs.VisitsLaws.{Differ, Differ-ascending}
+use Rattle.pl_base.proofs.LookUps.{found_holds, none_pass}
 use Rattle.pl_marks.specs.Refreshed.{HaveCounts, IsRightPage, source_page, unvisited_mark}
-use Rattle.pl_marks.proofs.LookUps.{found_holds, none_pass}
 use Rattle.pl_history.specs.Borne.{WithRedirectPages}
 use Rattle.pl_history.specs.Settled.{AreOthersSettled}
 use Rattle.pl_history.specs.Sound.{IsTypedRight}

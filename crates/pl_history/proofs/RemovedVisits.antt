@@ -16,10 +16,11 @@ use Rattle.pl_base.specs.Rows.{IsWellKept, Kept, KeptPage, has_page, has_visit, 
 use Rattle.pl_base.specs.Store.{Store, Visit}
 use Rattle.pl_base.proofs.IdsLaws.{same_page}
 use Rattle.pl_base.proofs.ListLaws.{All-from_map, AllPairs-from_map}
+use Rattle.pl_base.proofs.PageOrder.{numbers}
 use Rattle.pl_history.specs.Settled.{AreOthersSettled, AreSettledBut}
 use Rattle.pl_history.specs.Sound.{IsSound}
 use Rattle.pl_history.proofs.GoodRows.{items_of}
-use Rattle.pl_history.proofs.PageOrder.{is_one, numbers}
+use Rattle.pl_history.proofs.PageOrder.{is_one}
 use Rattle.pl_history.proofs.RemovedRows.{differ_visits}
 use Rattle.pl_history.proofs.VisitsLeft.{Keeps, any_left, left_none, left_twice, one_fewer}
 

@@ -28,7 +28,7 @@ use Rattle.pl_marks.specs.Refreshed.{AreRightBut, HaveCounts, IsRightPage, Refre
 use Rattle.pl_base.proofs.IdsLaws.{same_page}
 use Rattle.pl_base.proofs.ListLaws.{sum_by-agree, weaker}
 use Rattle.pl_base.proofs.VisitsLaws.{all-latest_first}
-use Rattle.pl_marks.proofs.LookUps.{both, find_push, front, where_passes}
+use Rattle.pl_base.proofs.LookUps.{both, find_push, front, where_passes}
 use Rattle.pl_marks.proofs.VisitWalk.{hidden_by, visits_found}
 
 -- ---- what a visit leaves of another

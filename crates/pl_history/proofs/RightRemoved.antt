@@ -24,7 +24,7 @@ use Rattle.pl_base.specs.Visits.{latest_first, sample_of, visits_of}
 use Rattle.pl_marks.specs.Refreshed.{is_passing, source_page}
 use Rattle.pl_base.proofs.ListLaws.{sum_by-agree, sum_by-map, weaker}
 use Rattle.pl_base.proofs.VisitsLaws.{all-latest_first}
-use Rattle.pl_marks.proofs.LookUps.{apart_ascending, both, found_one, where_passes}
+use Rattle.pl_base.proofs.LookUps.{apart_ascending, both, found_one, where_passes}
 use Rattle.pl_marks.proofs.VisitWalk.{hidden_by, visits_found}
 use Rattle.pl_history.proofs.RightAfter.{led_apart}
 use Rattle.pl_history.proofs.VisitsLeft.{Keeps, among_is, among_one, any_left, count_left, filter_left, find_left}

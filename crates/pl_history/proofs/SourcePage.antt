@@ -13,8 +13,8 @@ use Rattle.pl_base.specs.Redirects.{is_redirect}
 use Rattle.pl_base.specs.Rows.{IsWellKept, Kept, KeptPage, has_page, mark_of, page_at, row_of, store_of, url_of}
 use Rattle.pl_base.specs.Rows.{visit_at}
 use Rattle.pl_base.specs.Store.{Page, Visit}
+use Rattle.pl_base.proofs.LookUps.{found_holds}
 use Rattle.pl_marks.specs.Refreshed.{AreRightBut, HaveCounts, Refreshes, source_page}
-use Rattle.pl_marks.proofs.LookUps.{found_holds}
 use Rattle.pl_history.proofs.RightAfter.{right_refreshed}
 use Rattle.pl_history.proofs.KeptMark.{IsMarkAt, count_at, mark_at, one_at, typed_at}
 use Rattle.pl_history.proofs.VisitRows.{store_same}

@@ -19,7 +19,7 @@ use Rattle.pl_base.specs.Store.{Store, Visit}
 use Rattle.pl_base.specs.Visits.{in_place, is_later, latest_first, visits_of}
 use Rattle.pl_base.proofs.ListLaws.{AllPairs-map, all-filter, list_any-alike, list_any-map, to_map, weaker}
 use Rattle.pl_base.proofs.VisitsLaws.{Differ, Differ-filter}
-use Rattle.pl_marks.proofs.LookUps.{Apart, apart_ascending, found_some}
+use Rattle.pl_base.proofs.LookUps.{Apart, apart_ascending, found_some}
 use Rattle.pl_marks.proofs.VisitWalk.{IsVisitOf, differ, visits_stand}
 use Rattle.pl_history.specs.Taken.{AreThese, ids_of}
 use Rattle.pl_history.proofs.SameVisits.{without_same}

@@ -13,7 +13,7 @@ use Rattle.pl_base.specs.Rows.{IsWellKept, Kept, KeptPage, has_page, page_at, st
 use Rattle.pl_base.specs.Store.{Page, Store, Visit}
 use Rattle.pl_base.proofs.ListLaws.{AllPairs-map, all-filter, list_any-alike, list_any-map, to_map, weaker}
 use Rattle.pl_base.proofs.SortLaws.{all_sorted, apart_sorted}
-use Rattle.pl_marks.proofs.LookUps.{Apart, apart_ascending, found_self, found_some}
+use Rattle.pl_base.proofs.LookUps.{Apart, apart_ascending, found_self, found_some}
 use Rattle.pl_history.specs.declared.trimming.StalePage.{StalePage}
 use Rattle.pl_history.specs.Stale.{stale_page, visits_of_pages}
 use Rattle.pl_history.specs.Taken.{AreThese, ids_of}

@@ -6,9 +6,10 @@ use Rattle.std.specs.List.Sorted.{IsNonDecreasingBy, IsPermutation}
 use Rattle.std.proofs.lemmas.Bool.{cases_eq, eq-eqb, ne_eqb}
 use Rattle.std.proofs.lemmas.List.{get_or-map, length-map}
 use Rattle.std.proofs.lemmas.List.Elements.{recursion_from_All}
-use Rattle.pl_items.proofs.Members.{In, at_in, in_permutation, in_place, pairs_head, pairs_tail}
+use Rattle.pl_items.proofs.Members.{in_permutation, in_place, pairs_head, pairs_tail}
 use Rattle.std.proofs.lemmas.List.Sorted.{sum_by-IsPermutation, IsPermutation-sym}
 use Rattle.std.proofs.lemmas.List.Sums.{sum_by-cons}
+use Rattle.pl_base.proofs.Among.{In, at_in}
 
 abbrev pub tick : Bool → ℕ
 tick b = if b then 1 else 0

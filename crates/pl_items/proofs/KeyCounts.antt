@@ -5,8 +5,9 @@ use Rattle.std.specs.List.{AllByRecursion, AllPairs, flat_map, sum_by}
 use Rattle.std.proofs.lemmas.List.Elements.{All-from_recursion}
 use Rattle.std.proofs.lemmas.List.Kept.{AllPairs-cons}
 use Rattle.std.proofs.lemmas.List.Sums.{sum_by-append, sum_by-cons}
+use Rattle.pl_base.proofs.Among.{In, all_from_in, at_in, in_back, in_either, in_front}
 use Rattle.pl_items.proofs.Ascending.{Ascends, Once, count-cons, counted, tick, tick_same}
-use Rattle.pl_items.proofs.Members.{In, all_from_in, at_in, in_back, in_either, in_front, pairs_head, pairs_tail}
+use Rattle.pl_items.proofs.Members.{pairs_head, pairs_tail}
 
 -- ---- sums over a part of a list
 

@@ -17,6 +17,7 @@ use Rattle.pl_base.specs.Good.{IsTree, child_ids}
 use Rattle.pl_base.specs.Store.{Item, item_id}
 use Rattle.pl_base.specs.Tree.{has_item}
 use Rattle.pl_base.proofs.ListLaws.{AllPairs-from_map, AllPairs-map, list_any-map, map-map, sum_by-map}
+use Rattle.pl_base.proofs.Among.{In, all_from_in, at_in, from_flat_map, from_map, in_flat_map, in_map}
 use Rattle.pl_items.specs.Nodes.{AreNodes, by_id, child_nodes, has_node, ids_under, item_of, items_of}
 use Rattle.pl_items.specs.TakenOut.{IsPlanted, Plants, item_waiting, node_of, waiting_ids, waiting_row}
 use Rattle.pl_items.specs.declared.by_id.Child.{Child}
@@ -25,7 +26,6 @@ use Rattle.pl_items.specs.declared.plant.Waiting.{Waiting}
 use Rattle.pl_items.proofs.Ascending.{Ascends, Once, ascends_from_pairs, count-cons, counted, once_from_pairs}
 use Rattle.pl_items.proofs.Ascending.{only, tick, tick_same}
 use Rattle.pl_items.proofs.KeyCounts.{count, count-flat_map, pairs_from_ascent, pairs_from_once, same_key, sum_of_part}
-use Rattle.pl_items.proofs.Members.{In, all_from_in, at_in, from_flat_map, from_map, in_flat_map, in_map}
 use Rattle.pl_items.proofs.Members.{in_permutation, in_place}
 use Rattle.pl_items.proofs.NodeOrder.{by_id-ascends, by_id-moves, node_key}
 use Rattle.pl_items.proofs.PlantSteps.{Apart, IsPlanting, IsReachedId, child_id, children_ids, item_id_of}

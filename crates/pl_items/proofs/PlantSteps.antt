@@ -12,11 +12,12 @@ use Rattle.std.proofs.lemmas.List.Quantifiers.{all_pairs_push}
 use Rattle.pl_base.specs.declared.id.ItemId.{ItemId}
 use Rattle.pl_base.specs.Store.{Item, item_id}
 use Rattle.pl_base.specs.Tree.{has_item}
+use Rattle.pl_base.proofs.Among.{In, at_in, from_flat_map, from_map}
 use Rattle.pl_items.specs.TakenOut.{children_rows, item_waiting, node_of, taken_out, waiting_row}
 use Rattle.pl_items.specs.declared.by_id.Child.{Child}
 use Rattle.pl_items.specs.declared.node.Node.{Node}
 use Rattle.pl_items.specs.declared.plant.Waiting.{Waiting}
-use Rattle.pl_items.proofs.Members.{In, at_in, from_flat_map, from_map, in_place}
+use Rattle.pl_items.proofs.Members.{in_place}
 use Rattle.pl_items.proofs.TakenItems.{IsWaiting, has_in, place_of, same_id, taken_out_is, waited_is}
 
 -- two items have different ids

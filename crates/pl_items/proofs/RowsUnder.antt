@@ -8,11 +8,11 @@ use Rattle.std.proofs.lemmas.List.Elements.{filter-append}
 use Rattle.pl_base.specs.declared.id.ItemId.{ItemId}
 use Rattle.pl_base.specs.Good.{child_ids}
 use Rattle.pl_base.specs.Store.{Item, item_id}
+use Rattle.pl_base.proofs.Among.{In, all_from_in, at_in}
 use Rattle.pl_items.specs.Nodes.{child_nodes, ids_under, is_parent}
 use Rattle.pl_items.specs.TakenOut.{children_rows, node_of}
 use Rattle.pl_items.specs.declared.by_id.Child.{Child}
 use Rattle.pl_items.specs.declared.node.Node.{Node}
-use Rattle.pl_items.proofs.Members.{In, all_from_in, at_in}
 use Rattle.pl_items.proofs.Members.{pairs_head, pairs_tail}
 use Rattle.pl_items.proofs.PlantSteps.{Apart, child_id, children_ids, item_id_of, nodes_of, parents}
 

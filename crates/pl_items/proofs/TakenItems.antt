@@ -9,9 +9,9 @@ use Rattle.pl_base.specs.declared.id.ItemId.{ItemId}
 use Rattle.pl_base.specs.Store.{Item}
 use Rattle.pl_base.specs.Tree.{has_item}
 use Rattle.pl_base.proofs.ListLaws.{list_any_last}
+use Rattle.pl_base.proofs.Among.{In}
 use Rattle.pl_items.specs.TakenOut.{emptied, item_waiting, taken_out}
 use Rattle.pl_items.specs.declared.plant.Waiting.{Waiting}
-use Rattle.pl_items.proofs.Members.{In}
 
 -- ---- the ids of items
 

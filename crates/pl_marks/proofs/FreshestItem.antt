@@ -17,15 +17,15 @@ use Rattle.pl_base.specs.Tags.{is_tag_entry}
 use Rattle.pl_base.specs.Tree.{has_item, is_page, item_at, item_row, item_title, reference_behind}
 use Rattle.pl_base.specs.View.{bookmarks_of, fresher_of, freshest, is_fresher, mark_title}
 use Rattle.pl_base.proofs.ListLaws.{AllPairs-from_map, all-filter}
+use Rattle.pl_base.proofs.LookUps.{found_passes, found_some}
+use Rattle.pl_base.proofs.OneParent.{same_item}
 use Rattle.pl_marks.specs.declared.bookmarks.Dated.{Dated}
 use Rattle.pl_marks.specs.Freshest.{dated, dated_bookmark, later}
 use Rattle.pl_marks.specs.TagFolders.{tag_folder}
 use Rattle.pl_marks.proofs.ItemWalk.{IsItemHere, ItemWalk, at_here, having, item_here, items_found, walk_ends}
 use Rattle.pl_marks.proofs.ItemWalk.{walk_goes_on}
-use Rattle.pl_marks.proofs.LookUps.{found_passes, found_some}
 use Rattle.pl_marks.proofs.PageTags.{is_outside, outside_is}
 use Rattle.pl_marks.proofs.PageWalk.{part}
-use Rattle.pl_marks.proofs.TagTree.{same_item}
 
 -- ---- one item more
 

@@ -14,7 +14,7 @@ use Rattle.pl_base.specs.Store.{Item}
 use Rattle.pl_base.specs.Tree.{first_item, has_item, is_page, item_at, item_behind, reference_behind, references}
 use Rattle.pl_base.proofs.IdsLaws.{same_page}
 use Rattle.pl_base.proofs.ListLaws.{all-filter, weaker}
-use Rattle.pl_marks.proofs.LookUps.{Apart, apart_ascending, found_self, found_some, where_passes}
+use Rattle.pl_base.proofs.LookUps.{Apart, apart_ascending, found_self, found_some, where_passes}
 use Rattle.pl_marks.proofs.PageWalk.{part}
 
 -- the items that have the page

@@ -2,7 +2,6 @@ pub mod FreshestItem
 pub mod ItemWalk
 pub mod KeptUrls
 pub mod LatestVisit
-pub mod LookUps
 pub mod PageRows
 pub mod PageScore
 pub mod PageTags

@@ -8,7 +8,7 @@ use Rattle.pl_base.specs.Frecency.{frecency_of}
 use Rattle.pl_base.specs.Marks.{is_hidden, visit_count}
 use Rattle.pl_base.specs.Rows.{IsRight, Kept, KeptPage, mark_of, page_at, store_of, title_of, url_of}
 use Rattle.pl_base.specs.Store.{Page, Store}
-use Rattle.pl_marks.proofs.LookUps.{found_holds}
+use Rattle.pl_base.proofs.LookUps.{found_holds}
 
 -- what the rows tell of the page is what is known of it
 pub record AreTold (kept : Kept) (p : KeptPage) (mark : Mark) (url title : List ℕ) : Type 0 where

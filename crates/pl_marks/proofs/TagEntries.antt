@@ -20,7 +20,7 @@ use Rattle.pl_base.specs.Store.{Item}
 use Rattle.pl_base.specs.Tags.{by_fold, is_before}
 use Rattle.pl_base.proofs.ListLaws.{all-filter, map-map, weaker}
 use Rattle.pl_base.proofs.SortLaws.{all_sorted}
-use Rattle.pl_marks.proofs.LookUps.{both}
+use Rattle.pl_base.proofs.LookUps.{both}
 
 -- the order of texts by their bytes
 abbrev pub text_cmp : List ℕ → List ℕ → Ordering

@@ -1,29 +1,25 @@
 -- Tag folders in the tree: the items of a page that are in one, and the tags that a page has.
-use Rattle.std.proofs.Common.{◌≡◌, ◌≢◌, ◌∙◌, ◌++◌, ◌==◌, ◌||◌, ℕ, Bool, true, false, List, [], ◌∷◌, Option, Some, None}
-use Rattle.std.proofs.Common.{IfSome, ap, arith, eq-eqb, filter, find, if◌then◌else◌, is_some, map, refl}
-use Rattle.std.proofs.Common.{subst, suc, sym}
-use Rattle.std.specs.List.{AllByRecursion, AllPairs, filter_map, list_any}
+use Rattle.std.proofs.Common.{◌≡◌, ◌∙◌, ◌==◌, ◌||◌, ℕ, Bool, true, false, List, [], ◌∷◌, Option, Some, None}
+use Rattle.std.proofs.Common.{IfSome, ap, eq-eqb, filter, find, if◌then◌else◌, is_some, map, refl}
+use Rattle.std.proofs.Common.{subst, sym}
+use Rattle.std.specs.List.{AllByRecursion, filter_map, list_any}
 use Rattle.std.specs.Option.{option_and_then, option_map}
-use Rattle.std.proofs.lemmas.Bool.{eqb-true, false_from_ne_true, false≢true}
-use Rattle.std.proofs.lemmas.List.Elements.{recursion_from_All}
-use Rattle.std.proofs.lemmas.List.Folds.{list_any-append}
+use Rattle.std.proofs.lemmas.Bool.{false≢true}
 use Rattle.pl_base.specs.declared.id.ItemId.{ItemId}
 use Rattle.pl_base.specs.declared.id.PageId.{PageId}
 use Rattle.pl_base.specs.declared.item.ItemRow.{ItemRow}
 use Rattle.pl_base.specs.Fold.{folded}
-use Rattle.pl_base.specs.Good.{IsGood, child_ids}
+use Rattle.pl_base.specs.Good.{IsGood}
 use Rattle.pl_base.specs.Rows.{IsWellKept, Kept, store_of}
-use Rattle.pl_base.specs.Store.{Item, item_id}
+use Rattle.pl_base.specs.Store.{Item}
 use Rattle.pl_base.specs.Tags.{has_tag, is_tags_root, tags_of, tags_root}
 use Rattle.pl_base.specs.Tree.{has_child, has_item, is_page, item_at, item_row, item_title, parent_of}
 use Rattle.pl_base.proofs.ListLaws.{weaker}
+use Rattle.pl_base.proofs.LookUps.{found_holds, found_passes, found_some, none_pass, where_passes}
+use Rattle.pl_base.proofs.OneParent.{IsParent, is_among, parents, same_item}
 use Rattle.pl_marks.specs.TagFolders.{tag_folder, tag_title, where_tag}
 use Rattle.pl_marks.proofs.ItemWalk.{IsItemOf, having, items_found}
-use Rattle.pl_marks.proofs.LookUps.{found_holds, found_passes, found_some, none_pass, where_passes}
 use Rattle.pl_marks.proofs.TagEntries.{differ_filter, differ_named, look, tag_entry, tags_found}
-
-pub same_item : (a b : ItemId) → (a.0 == b.0) ≡ true → a ≡ b
-same_item a b h = ap (λ (n : ℕ). record { 0 = n }) (eqb-true a.0 b.0 h)
 
 -- ---- lists that are looked up one by one
 
@@ -37,10 +33,6 @@ where_passed P test (x ∷ xs) all = choose (test x) refl all (where_passed P te
         → AllByRecursion (λ y. test y ≡ true → P y) (x ∷ xs)
     choose true is each rest = (λ _. each.0, rest each.1)
     choose false is each rest = (λ passes. absurd (false≢true (sym is ∙ passes)), rest each)
-
--- an id is among some
-abbrev pub is_among : ItemId → List ItemId → Bool
-is_among id ids = list_any (λ (c : ItemId). c.0 == id.0) ids
 
 among_push : (a b : Bool) → b ≡ true → (a || b) ≡ true
 among_push true b is = refl
@@ -141,70 +133,6 @@ passing test at (c ∷ cs) some = choose (at c) refl (passing test at cs)
 abbrev children_in : Option Item → List ItemId
 children_in None = []
 children_in (Some i) = i.children
-
--- ---- each child has one parent
-
-abbrev pub Once : List ItemId → Type 0
-Once [] = Unit {0}
-Once (c ∷ cs) = AllByRecursion (λ (d : ItemId). c ≢ d) cs × Once cs
-
-pub once : (ids : List ItemId) → AllPairs (λ (a b : ItemId). a ≢ b) ids → Once ids
-once [] pairs = tt
-once (c ∷ cs) pairs = (
-  recursion_from_All (λ (d : ItemId). c ≢ d) cs (λ k d within. pairs 0 (suc k) d (omega arith) (omega arith)),
-  once cs (λ i j d before within. pairs (suc i) (suc j) d (omega arith) (omega arith)),
-)
-
-pub once_behind : (cs ds : List ItemId) → Once (cs ++ ds) → Once ds
-once_behind [] ds one = one
-once_behind (c ∷ cs) ds one = once_behind cs ds one.1
-
-not_among : (cs ds : List ItemId) (c id : ItemId) → AllByRecursion (λ (d : ItemId). c ≢ d) (cs ++ ds) → c ≡ id
-    → is_among id ds ≡ true → ⊥
-not_among [] [] c id apart same some = absurd (cc)
-not_among [] (d ∷ ds) c id apart same some =
-    choose (d.0 == id.0) refl some (not_among [] ds c id apart.1 same)
-  where
-    choose : (b : Bool) → (d.0 == id.0) ≡ b → (b || is_among id ds) ≡ true → (is_among id ds ≡ true → ⊥) → ⊥
-    choose true is some rest = apart.0 (same ∙ sym (same_item d id is))
-    choose false is some rest = rest some
-not_among (b ∷ cs) ds c id apart same some = not_among cs ds c id apart.1 same some
-
-not_both : (cs ds : List ItemId) (id : ItemId) → Once (cs ++ ds) → is_among id cs ≡ true → is_among id ds ≡ true → ⊥
-not_both [] ds id one some other = absurd (cc)
-not_both (c ∷ cs) ds id one some other =
-    choose (c.0 == id.0) refl some (λ there. not_both cs ds id one.1 there other)
-  where
-    choose : (b : Bool) → (c.0 == id.0) ≡ b → (b || is_among id cs) ≡ true → (is_among id cs ≡ true → ⊥) → ⊥
-    choose true is some rest = not_among cs ds c id one.0 (same_item c id is) other
-    choose false is some rest = rest some
-
-any_child : (id : ItemId) (items : List Item) → list_any (has_child id) items ≡ is_among id (child_ids items)
-any_child id [] = refl
-any_child id (i ∷ items) =
-    ap (λ (b : Bool). has_child id i || b) (any_child id items)
-    ∙ sym (list_any-append (λ (c : ItemId). c.0 == id.0) i.children (child_ids items))
-
--- an item with the child is the one that is found
-abbrev pub IsParent : List Item → Item → Type 0
-IsParent items p = (id : ItemId) → has_child id p ≡ true → find (has_child id) items ≡ Some p
-
-parents_found : (items : List Item) → Once (child_ids items) → AllByRecursion (IsParent items) items
-parents_found [] one = tt
-parents_found (q ∷ qs) one = (
-  λ id has. rw has refl,
-  weaker (IsParent qs) (IsParent (q ∷ qs)) qs
-      (λ p found id has.
-      rw (false_from_ne_true (has_child id q)
-      (λ is. not_both q.children (child_ids qs) id one is
-      (sym (any_child id qs) ∙ found_some (has_child id) qs p (found id has))))
-      (found id has))
-      (parents_found qs (once_behind q.children (child_ids qs) one)),
-)
-
-pub parents : (kept : Kept) → IsGood (store_of kept) → AllByRecursion (IsParent kept.items) kept.items
-parents kept good =
-    parents_found kept.items (once (item_id 1 ∷ child_ids kept.items) good.tree.once).1
 
 -- ---- the tag folder of an item
 
@@ -361,10 +289,10 @@ tags_there kept page es h good have =
         let child_id : i.id ≡ child =
         same_item i.id child (found_passes (λ (j : Item). j.id.0 == child.0) items i child_at) in
         let below : find (has_child tag.id) items ≡ Some root =
-        found_holds (IsParent items) (λ (j : Item). j.id.0 == tags_root.0) items root (parents kept good) root_at tag.id
+        found_holds (IsParent items) (λ (j : Item). j.id.0 == tags_root.0) items root (parents items good.tree) root_at tag.id
         (ap (λ (c : ItemId). has_child c root) tag_id ∙ has) in
         let in_it : find (has_child i.id) items ≡ Some tag =
-        found_holds (IsParent items) (λ (j : Item). j.id.0 == id.0) items tag (parents kept good) tag_at i.id
+        found_holds (IsParent items) (λ (j : Item). j.id.0 == id.0) items tag (parents items good.tree) tag_at i.id
         (ap (λ (c : ItemId). has_child c tag) child_id ∙ within) in
         let title : tag_title items i.id ≡ Some tag.title =
         title_at items root tag i.id in_it below

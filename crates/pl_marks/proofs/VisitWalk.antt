@@ -21,11 +21,11 @@ use Rattle.pl_base.specs.Visits.{in_place, is_later, latest_first, visits_of}
 use Rattle.pl_score.specs.declared.sample.Sampled.{Sampled}
 use Rattle.pl_score.specs.Sample.{sampled_of}
 use Rattle.pl_marks.specs.Refreshed.{is_passing}
-use Rattle.pl_marks.proofs.LookUps.{apart_ascending, found_passes, found_self, found_some, where_passes}
 use Rattle.pl_marks.proofs.PageWalk.{part}
 use Rattle.pl_base.proofs.IdsLaws.{same_page}
 use Rattle.pl_base.proofs.ListLaws.{weaker}
 use Rattle.pl_base.proofs.VisitsLaws.{Differ, Differ-ascending, Differ-filter, all-in_place, all-latest_first}
+use Rattle.pl_base.proofs.LookUps.{apart_ascending, found_passes, found_self, found_some, where_passes}
 
 -- ---- no two visits have the same id
 

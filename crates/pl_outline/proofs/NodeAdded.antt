@@ -19,10 +19,10 @@ use Rattle.pl_base.specs.Title.{cut_title}
 use Rattle.pl_base.specs.Tree.{children_of, item_at, new_item}
 use Rattle.pl_base.specs.Visiting.{find_page, new_page, with_page_for}
 use Rattle.pl_base.proofs.ListLaws.{weaker}
+use Rattle.pl_base.proofs.LookUps.{found_holds}
 use Rattle.pl_nbread.specs.declared.tree.Node.{Node}
 use Rattle.pl_nbread.specs.WellFormed.{is_folder}
 use Rattle.pl_nbwrite.specs.Plain.{IsKept}
-use Rattle.pl_tree.proofs.OneParent.{found_holds}
 use Rattle.pl_graft.specs.Import.{folders_behind, innermost, node_row, page_of, with_item_of, with_node}
 use Rattle.pl_graft.specs.Import.{with_page_of, with_row}
 use Rattle.pl_graft.specs.Ready.{IsReady, Takes}

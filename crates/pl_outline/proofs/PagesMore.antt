@@ -23,7 +23,7 @@ use Rattle.pl_base.specs.Tree.{child_items, children_of, is_page, item_at}
 use Rattle.pl_base.specs.Visiting.{find_page, new_page, page_for, with_page_for}
 use Rattle.pl_base.proofs.IdsLaws.{same_page}
 use Rattle.pl_base.proofs.ListLaws.{list_any-map, weaker}
-use Rattle.pl_marks.proofs.LookUps.{Apart, apart_ascending, both, found_holds, found_passes}
+use Rattle.pl_base.proofs.LookUps.{Apart, apart_ascending, both, found_holds, found_passes}
 use Rattle.pl_graft.specs.Ready.{IsReady}
 use Rattle.pl_graft.specs.TagRows.{TagEntry, TagRow, entry_row, holds, tag_row, tag_rows}
 use Rattle.pl_outline.proofs.Bare.{HasPages}

@@ -24,7 +24,7 @@ use Rattle.pl_base.specs.Good.{IsGood, IsGoodItem, IsGoodPage, has_page_at, long
 use Rattle.pl_base.specs.Store.{Item, Page, Store, page_url}
 use Rattle.pl_base.proofs.ListLaws.{found_in}
 use Rattle.pl_base.proofs.OriginLaws.{store_url-from_canon}
-use Rattle.pl_marks.proofs.LookUps.{found_holds}
+use Rattle.pl_base.proofs.LookUps.{found_holds}
 use Rattle.pl_nbread.specs.declared.tree.Node.{Node}
 use Rattle.pl_nbread.specs.WellFormed.{is_bookmark, is_date, is_folder, is_formed}
 use Rattle.pl_nbwrite.specs.Plain.{IsKept, IsOwn, is_bare, is_whole}

@@ -5,7 +5,7 @@ use Rattle.std.proofs.lemmas.List.Sums.{list_all-from_AllPass}
 use Rattle.pl_base.specs.declared.id.ItemId.{ItemId}
 use Rattle.pl_base.specs.Good.{IsGood, IsGoodItem, longest_title}
 use Rattle.pl_base.specs.Store.{Item, Store, item_id}
-use Rattle.pl_marks.proofs.LookUps.{found_holds}
+use Rattle.pl_base.proofs.LookUps.{found_holds}
 use Rattle.pl_nbread.specs.declared.tree.Node.{Node}
 use Rattle.pl_nbread.specs.WellFormed.{is_formed}
 use Rattle.pl_nbwrite.specs.Plain.{IsKept, IsPlain}

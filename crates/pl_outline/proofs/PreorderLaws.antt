@@ -8,7 +8,7 @@ use Rattle.pl_base.specs.declared.id.ItemId.{ItemId}
 use Rattle.pl_base.specs.Store.{Item}
 use Rattle.pl_base.specs.Tree.{child_items, children_of, item_at}
 use Rattle.pl_base.proofs.ListLaws.{weaker}
-use Rattle.pl_marks.proofs.LookUps.{found_passes}
+use Rattle.pl_base.proofs.LookUps.{found_passes}
 use Rattle.pl_nbread.specs.declared.tree.Node.{Node}
 use Rattle.pl_nbread.specs.WellFormed.{begins, goes_on, is_folder, may_follow}
 use Rattle.pl_outline.specs.Outline.{preorder}

@@ -20,13 +20,13 @@ use Rattle.pl_base.specs.Title.{cut_title}
 use Rattle.pl_base.specs.Tree.{new_item}
 use Rattle.pl_base.specs.Visiting.{find_page, new_page, page_for, with_page_for}
 use Rattle.pl_base.proofs.ListLaws.{AllPairs-from_map}
+use Rattle.pl_base.proofs.LookUps.{found_holds, found_passes}
 use Rattle.pl_nbread.specs.declared.tree.Node.{Node}
 use Rattle.pl_nbwrite.specs.Plain.{IsKept, is_bare, is_whole}
 use Rattle.pl_graft.specs.Import.{node_row, page_of, with_page_of}
 use Rattle.pl_graft.proofs.NodeLaws.{IsFormed}
 use Rattle.pl_tree.specs.declared.place.Place.TheVariants.{End}
 use Rattle.pl_tree.specs.Changes.{put}
-use Rattle.pl_tree.proofs.OneParent.{found_holds, found_passes}
 use Rattle.pl_outline.specs.Outline.{node_of, separator_node, whole_seconds}
 use Rattle.pl_outline.proofs.Bare.{HasPages, bare}
 use Rattle.pl_outline.proofs.OneMore.{grown}

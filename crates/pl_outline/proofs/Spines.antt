@@ -14,10 +14,11 @@ use Rattle.pl_base.specs.Good.{IsTree}
 use Rattle.pl_base.specs.Store.{Item, Store, item_id, top_folders}
 use Rattle.pl_base.specs.Tags.{tags_root}
 use Rattle.pl_base.specs.Tree.{child_items, children_of, first_item, item_at, parent_of, sibling_behind}
+use Rattle.pl_base.proofs.LookUps.{found_holds}
+use Rattle.pl_base.proofs.OneParent.{root_alone}
 use Rattle.pl_tree.specs.Refused.{folder_refusal, is_closed, is_tag, parent_refusal}
 use Rattle.pl_tree.proofs.ChildWalk.{parent_here, sibling_here}
 use Rattle.pl_tree.proofs.GoodStores as stores
-use Rattle.pl_tree.proofs.OneParent.{found_holds, root_alone}
 use Rattle.pl_graft.specs.Import.{innermost}
 use Rattle.pl_graft.specs.Ready.{IsReady, Takes}
 use Rattle.pl_outline.proofs.OneMore.{WayDown, children_in}

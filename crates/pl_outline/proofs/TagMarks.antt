@@ -14,11 +14,11 @@ use Rattle.pl_base.specs.Tags.{tags_of, tags_root}
 use Rattle.pl_base.specs.Tree.{is_page}
 use Rattle.pl_base.proofs.IdsLaws.{same_page}
 use Rattle.pl_base.proofs.ListLaws.{from_map, list_any-alike, list_any-map, to_map, weaker}
-use Rattle.pl_marks.proofs.LookUps.{Apart, found_holds, found_passes}
+use Rattle.pl_base.proofs.LookUps.{Apart, found_holds, found_passes}
+use Rattle.pl_base.proofs.OneParent.{Once}
 use Rattle.pl_marks.proofs.PageWalk.{push}
 use Rattle.pl_tree.proofs.ChildWalk.{children_once}
 use Rattle.pl_tree.proofs.GoodStores as stores
-use Rattle.pl_tree.proofs.OneParent.{Once}
 use Rattle.pl_graft.specs.Ready.{IsReady}
 use Rattle.pl_graft.specs.TagRows.{TagEntry, TagRow, entered, holds, holds_in, new_row, row_with, tag_row, tag_rows}
 use Rattle.pl_graft.specs.TagRows.{with_entry, with_entry_in}

@@ -18,7 +18,7 @@ use Rattle.pl_base.specs.Visiting.{page_for}
 use Rattle.pl_base.proofs.ListLaws.{All-from_map, list_any-map, map-map, weaker}
 use Rattle.pl_base.proofs.RootsLaws.{has_roots, no_tags, roots_are_good, roots_are_tree, roots_ascend}
 use Rattle.pl_base.proofs.SortLaws.{sorted_moves}
-use Rattle.pl_marks.proofs.LookUps.{both}
+use Rattle.pl_base.proofs.LookUps.{both}
 use Rattle.pl_marks.proofs.TagEntries.{Differ, differ_filter, differ_named, look, one_list, order_ascends, order_looks}
 use Rattle.pl_marks.proofs.TagEntries.{tag_entry, tags_found, titles_are}
 use Rattle.pl_nbread.specs.declared.tree.Node.{Node}

@@ -16,12 +16,12 @@ use Rattle.pl_base.specs.Store.{Item, Page, Store, item_id}
 use Rattle.pl_base.specs.Tags.{is_tags_root, tags_root}
 use Rattle.pl_base.specs.Tree.{child_items, children_of, item_at, parent_of}
 use Rattle.pl_base.proofs.ListLaws.{weaker}
+use Rattle.pl_base.proofs.LookUps.{found_holds}
 use Rattle.pl_nbread.specs.declared.tree.Node.{Node}
 use Rattle.pl_tree.specs.declared.place.Place.TheVariants.{End}
 use Rattle.pl_tree.specs.Changes.{item_of, with_new}
 use Rattle.pl_tree.specs.Refused.{is_tag}
 use Rattle.pl_tree.specs.Tagged.{new_entry, new_tag, tag_entry, tag_named, tagged_items}
-use Rattle.pl_tree.proofs.OneParent.{found_holds}
 use Rattle.pl_words.specs.TagName.{is_tag_name}
 use Rattle.pl_words.proofs.TagTests.{named_by_test}
 use Rattle.pl_graft.specs.Import.{tagged_store, with_tag, with_tags, with_tags_of}

@@ -1,17 +1,17 @@
 -- The rows stay well kept under changes.
 use Rattle.std.proofs.Common.{◌≡◌, ◌≢◌, ◌+◌, ◌-◌, ◌<◌, ◌≤◌, ◌==◌, ◌&&◌, ◌++◌, ◌∙◌, ℕ, All}
-use Rattle.std.proofs.Common.{Bool, true, false, IsTrue, List, [], ◌∷◌, Some, ap, arith, eq-eqb, find}
-use Rattle.std.proofs.Common.{get_or, if◌then◌else◌, inl, inr, length, map, refl, subst, suc, sym}
+use Rattle.std.proofs.Common.{Bool, true, false, IsTrue, List, [], ◌∷◌, Some, ap, arith, eq-eqb}
+use Rattle.std.proofs.Common.{get_or, if◌then◌else◌, inl, inr, length, map, refl, subst, sym}
 use Rattle.std.specs.List.{AllPairs, list_any, sum_by}
 use Rattle.std.specs.List.Sorted.{IsStrictlyIncreasing}
 use Rattle.std.specs.Option.{IfSome}
 use Rattle.std.specs.Str.{is_utf8}
 use Rattle.std.proofs.lemmas.Bool.{and_parts, cases_lt, eqb-true, false≢true, ne_eqb}
 use Rattle.std.proofs.lemmas.List.{length-map, length_push, map_push}
-use Rattle.std.proofs.lemmas.List.Elements.{All-head, All-map, All-push, All-tail, All-weaker}
+use Rattle.std.proofs.lemmas.List.Elements.{All-map, All-push, All-weaker}
 use Rattle.std.proofs.lemmas.List.Folds.{Any-from_list_any, list_any-from_Any, list_any_none}
 use Rattle.std.proofs.lemmas.List.Quantifiers.{all_pairs_push}
-use Rattle.std.proofs.lemmas.List.Sums.{sum_by-cons, sum_by_push}
+use Rattle.std.proofs.lemmas.List.Sums.{sum_by_push}
 use Rattle.std.proofs.lemmas.Option.{IfSome_then}
 use Rattle.std.proofs.lemmas.Str.{IsUtf8-nil}
 use Rattle.pl_base.specs.declared.date.Day.{Day}
@@ -36,6 +36,7 @@ use Rattle.pl_plain.specs.Place.{IsSlotOf, urls_of}
 use Rattle.pl_base.proofs.ListLaws.{map-alike}
 use Rattle.pl_plain.proofs.Lists.{AreIds_push}
 use Rattle.pl_base.proofs.Searches.{rises}
+use Rattle.pl_base.proofs.OneChanged.{sum_changed}
 
 pub IsFlat-with_day : (day : Day) (kept : Kept) (origins live : ℕ) → IsDay day → IsFlat kept origins live
     → IsFlat (with_day day kept) origins live
@@ -181,45 +182,6 @@ IsFlat-with_title id title kept origins live after own filled few h =
     (All-weaker (λ (p : KeptPage). IsTitle p.page.title) (λ (p : KeptPage). IsTitle (new p))
     (λ p before. is_title_at (p.page.id.0 == id.0) title p.page.title own before) kept.pages h.titles)
     (filled ∙ ap (λ (pages : List KeptPage). live_slots (store_of (record kept { pages = pages }))) same) few h)
-
-map-none : {X : Type 0} (q : X → Bool) (f : X → X) (xs : List X) → All (λ x. q x ≡ false) xs
-    → map (λ x. if q x then f x else x) xs ≡ xs
-map-none q f [] none = refl
-map-none q f (x ∷ xs) none =
-    rw (All-head (λ y. q y ≡ false) x xs none, map-none q f xs (All-tail (λ y. q y ≡ false) x xs none)) refl
-
--- a sum in which the only element that passes a test is changed
-pub sum_changed : {X : Type 0} (q : X → Bool) (f : X → X) (n : X → ℕ) (xs : List X) (x : X)
-    → AllPairs (λ a b. q a ≡ true → q b ≡ false) xs → find q xs ≡ Some x
-    → sum_by n (map (λ y. if q y then f y else y) xs) + n x ≡ sum_by n xs + n (f x)
-sum_changed q f n [] x once found = absurd (cc)
-sum_changed {X} q f n (y ∷ ys) x once found =
-    choose (q y) refl found
-    (sum_changed q f n ys x (λ i j d before within. once (suc i) (suc j) d (omega arith) (omega arith)))
-  where
-    choose : (b : Bool) → q y ≡ b → (if b then Some y else find q ys) ≡ Some x
-        → (find q ys ≡ Some x → sum_by n (map (λ z. if q z then f z else z) ys) + n x ≡ sum_by n ys + n (f x))
-        → sum_by n ((if b then f y else y) ∷ map (λ z. if q z then f z else z) ys) + n x
-        ≡ sum_by n (y ∷ ys) + n (f x)
-    choose true passes here rest =
-        let same : y ≡ x = cc in
-        let others : map (λ z. if q z then f z else z) ys ≡ ys =
-        map-none q f ys (λ k d within. once 0 (suc k) d (omega arith) (omega arith) passes) in
-        omega (
-          arith,
-          sum_by-cons n (f y) (map (λ z. if q z then f z else z) ys),
-          sum_by-cons n y ys,
-          ap (sum_by n) others,
-          ap n same,
-          ap (λ z. n (f z)) same,
-        )
-    choose false fails here rest =
-        omega (
-          arith,
-          sum_by-cons n y (map (λ z. if q z then f z else z) ys),
-          sum_by-cons n y ys,
-          rest here,
-        )
 
 pub one_page : (id : PageId) (ps : List KeptPage) → IsStrictlyIncreasing (map (λ (p : KeptPage). p.page.id.0) ps)
     → AllPairs (λ (p q : KeptPage). (p.page.id.0 == id.0) ≡ true → (q.page.id.0 == id.0) ≡ false) ps

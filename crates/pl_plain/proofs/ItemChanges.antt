@@ -17,8 +17,9 @@ use Rattle.pl_base.proofs.ItemLaws.{count_inserted, count_moved, count_removed, 
 use Rattle.pl_base.proofs.ItemLaws.{ids_of, ids_removed, once, slots_inserted, slots_moved, slots_removed, title_slots}
 use Rattle.pl_base.proofs.ListLaws.{sum_by-agree, sum_by-map}
 use Rattle.pl_base.proofs.ItemLaws.{titles_changed, titles_inserted, titles_moved, titles_removed}
+use Rattle.pl_base.proofs.OneChanged.{sum_changed}
 use Rattle.pl_plain.specs.FlatRows.{IsFlat}
-use Rattle.pl_plain.proofs.FlatChanges.{slots_of, sum_changed}
+use Rattle.pl_plain.proofs.FlatChanges.{slots_of}
 use Rattle.pl_plain.proofs.Lists.{AreIds_push}
 
 -- other items and another next id, with which the rows take so many slots

@@ -19,8 +19,8 @@ use Rattle.pl_base.specs.Tree.{is_page, item_at}
 use Rattle.pl_base.specs.Visits.{is_later, visits_of}
 use Rattle.pl_base.proofs.IdsLaws.{same_page}
 use Rattle.pl_base.proofs.ListLaws.{all-filter, to_map, weaker}
+use Rattle.pl_base.proofs.LookUps.{Apart, apart_ascending, found_self, where_passes}
 use Rattle.pl_marks.proofs.ItemWalk.{having, items_found}
-use Rattle.pl_marks.proofs.LookUps.{Apart, apart_ascending, found_self, where_passes}
 use Rattle.pl_marks.proofs.VisitWalk.{IsVisitOf, visits_stand}
 use Rattle.pl_place.specs.declared.kinds.QueryType.{QueryType}
 use Rattle.pl_place.specs.declared.kinds.QueryType.TheVariants.{History, Bookmarks}

@@ -18,9 +18,9 @@ use Rattle.pl_base.specs.Tags.{is_tag_entry}
 use Rattle.pl_base.specs.Tree.{item_at}
 use Rattle.pl_base.specs.Visits.{in_place, is_later, latest_first, visits_of}
 use Rattle.pl_base.proofs.SortLaws.{sorted_moves}
+use Rattle.pl_base.proofs.LookUps.{found_passes}
+use Rattle.pl_base.proofs.OneParent.{same_item}
 use Rattle.pl_marks.proofs.ItemWalk.{having}
-use Rattle.pl_marks.proofs.LookUps.{found_passes}
-use Rattle.pl_marks.proofs.TagTree.{same_item}
 use Rattle.pl_marks.proofs.VisitWalk.{visit_is}
 use Rattle.pl_place.specs.declared.query.Query.{Query}
 use Rattle.pl_place.specs.declared.sort.Sort.{Sort}

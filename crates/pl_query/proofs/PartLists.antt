@@ -14,7 +14,7 @@ use Rattle.std.proofs.lemmas.List.Sorted.{IsPermutation-append, IsPermutation-ap
 use Rattle.std.proofs.lemmas.List.Sorted.{IsPermutation-trans}
 use Rattle.pl_base.specs.Sorting.{put_in_place, sorted_by}
 use Rattle.pl_base.proofs.ListLaws.{all-filter, to_map, weaker}
-use Rattle.pl_marks.proofs.LookUps.{Apart}
+use Rattle.pl_base.proofs.LookUps.{Apart}
 
 -- ---- equal lists in another order
 

@@ -16,7 +16,7 @@ use Rattle.pl_base.specs.Rows.{url_of, visit_at}
 use Rattle.pl_base.specs.Store.{Item, Page, Visit}
 use Rattle.pl_base.specs.Tree.{has_item, item_at, item_row, item_title}
 use Rattle.pl_base.proofs.IdsLaws.{same_page}
-use Rattle.pl_marks.proofs.LookUps.{found_passes, found_some}
+use Rattle.pl_base.proofs.LookUps.{found_passes, found_some}
 use Rattle.pl_marks.proofs.VisitWalk.{visit_is}
 use Rattle.pl_query.specs.declared.shown.Subject.{Subject}
 use Rattle.pl_query.specs.declared.shown.Subject.TheVariants.{Page as OfPage, Visit as OfVisit, Bookmark}

@@ -1,25 +1,22 @@
 -- The children of a folder, as they are listed.
-use Rattle.std.proofs.Common.{◌≡◌, ◌≢◌, ◌∙◌, ◌++◌, ◌==◌, ℕ, Bool, true, false, IsTrue, List, [], ◌∷◌}
-use Rattle.std.proofs.Common.{Option, Some, None, IfSome, ap, eq-eqb, find, if◌then◌else◌, map, refl, subst, sym}
-use Rattle.std.specs.List.{AllByRecursion, filter_map, list_any}
+use Rattle.std.proofs.Common.{◌≡◌, ◌∙◌, ◌++◌, ◌==◌, ℕ, true, IsTrue, List, [], ◌∷◌}
+use Rattle.std.proofs.Common.{Option, Some, None, ap, map, refl, subst, sym}
+use Rattle.std.specs.List.{AllByRecursion, filter_map}
 use Rattle.std.specs.Option.{option_and_then, option_map}
 use Rattle.std.proofs.lemmas.List.{map_push}
 use Rattle.std.proofs.lemmas.List.Elements.{recursion_from_All}
 use Rattle.pl_base.specs.declared.id.ItemId.{ItemId}
-use Rattle.pl_base.specs.declared.id.PageId.{PageId}
 use Rattle.pl_base.specs.declared.item.ItemRow.{ItemRow}
-use Rattle.pl_base.specs.Good.{IsGood, IsGoodItem, child_ids, has_page_at}
-use Rattle.pl_base.specs.Rows.{Kept, KeptPage, has_page, store_of, url_of}
-use Rattle.pl_base.specs.Store.{Item, Page, Store, item_id, page_url}
-use Rattle.pl_base.specs.Tree.{children_of, has_child, has_item, item_at, item_behind, item_row}
-use Rattle.pl_base.specs.Tree.{item_title, sibling_behind}
+use Rattle.pl_base.specs.Good.{IsGood, child_ids}
+use Rattle.pl_base.specs.Rows.{Kept, store_of}
+use Rattle.pl_base.specs.Store.{Item, Store, page_url}
+use Rattle.pl_base.specs.Tree.{children_of, has_item, item_at, item_row, item_title}
+use Rattle.pl_base.proofs.LookUps.{found_holds, found_passes, front as in_front}
+use Rattle.pl_base.proofs.OneParent.{same_item}
 use Rattle.pl_step.specs.declared.reply.ListRow.{ListRow}
 use Rattle.pl_step.specs.Step.{list_row}
 use Rattle.pl_tree.proofs.ChildWalk.{IsHere}
-use Rattle.pl_base.proofs.ListLaws.{list_any-map}
-use Rattle.pl_marks.proofs.LookUps.{found_holds, found_passes, front as in_front}
-use Rattle.pl_marks.proofs.PageWalk.{part, there}
-use Rattle.pl_marks.proofs.TagTree.{IsParent, Once, once, once_behind, parents, same_item}
+use Rattle.pl_marks.proofs.PageWalk.{part}
 
 -- what is listed of the items with these ids
 abbrev pub AreListed : Store → List ListRow → List ItemId → Type 0

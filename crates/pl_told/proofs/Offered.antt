@@ -18,7 +18,7 @@ use Rattle.pl_base.specs.Store.{Page, Store}
 use Rattle.pl_base.proofs.IdsLaws.{same_page}
 use Rattle.pl_base.proofs.ListLaws.{all-filter, found_in, some_in, to_map, weaker}
 use Rattle.pl_base.proofs.SortLaws.{all_sorted}
-use Rattle.pl_marks.proofs.LookUps.{apart_ascending, found_passes, found_self}
+use Rattle.pl_base.proofs.LookUps.{apart_ascending, found_passes, found_self}
 use Rattle.pl_marks.proofs.PageRows.{AreTold, right_mark, told_at}
 use Rattle.pl_words.specs.Bar.{marks_of, words_of}
 use Rattle.pl_words.specs.declared.bar_text.Marks.{Marks}

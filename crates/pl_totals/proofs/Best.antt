@@ -16,8 +16,9 @@ use Rattle.std.proofs.lemmas.List.{map-append}
 use Rattle.std.proofs.lemmas.Map.Lookups.{exact_bytes}
 use Rattle.std.proofs.lemmas.List.Sorted.{IsStrictWeakOrder-by_number, IsStrictWeakOrder-flip, ranks_by}
 use Rattle.pl_base.proofs.SortLaws.{ranks_alike, then_by, then_ranks}
+use Rattle.pl_base.proofs.Among.{In, in_front}
 use Rattle.pl_totals.specs.Groups.{Grouped, is_ahead, or_best}
-use Rattle.pl_totals.proofs.Members.{In, in_front, in_last, in_pushed}
+use Rattle.pl_totals.proofs.Members.{in_last, in_pushed}
 use Rattle.pl_totals.proofs.Sorted.{itself}
 
 -- an entry of the map as a group
@@ -91,7 +92,7 @@ pub best_passed : (test : Grouped → Bool) (all : List Grouped) (best : Option 
 best_passed test all None g fails none = λ z h.
     elim (in_pushed z all g h) as (λ _. test z ≡ false) [ inl old ↦ none z old | inr e ↦ ap test e ∙ fails ]
 best_passed test all (Some b) g fails h = (
-  in_front b all (g ∷ []) h.0,
+  in_front all (g ∷ []) b h.0,
   h.1,
   λ z member passes.
       elim (in_pushed z all g member) as (λ _. is_ahead z b ≡ false) [
@@ -125,7 +126,7 @@ best_more test all (Some b) g passes h = choose (is_ahead g b) refl
           ],
     )
     choose false behind = (
-      in_front b all (g ∷ []) h.0,
+      in_front all (g ∷ []) b h.0,
       h.1,
       λ z member is.
           elim (in_pushed z all g member) as (λ _. is_ahead z b ≡ false) [

@@ -6,7 +6,7 @@ use Rattle.std.specs.List.{slice_get}
 use Rattle.std.specs.List.Sorted.{ties}
 use Rattle.std.proofs.lemmas.Bool.{cases_Bool}
 use Rattle.pl_base.specs.Sorting.{put_in_place, sorted_by}
-use Rattle.pl_totals.proofs.Members.{In}
+use Rattle.pl_base.proofs.Among.{In}
 
 -- the first of the sorted list is a member of the list, and none comes before it
 abbrev Leads : {A : Type 0} → (A → A → Bool) → List A → List A → Type 0

@@ -13,12 +13,13 @@ use Rattle.pl_base.specs.Sorting.{sorted_by}
 use Rattle.pl_base.specs.Totals.{Origin, Scored, distinct, group_passes, group_total, is_in_group, is_origin}
 use Rattle.pl_base.specs.Totals.{origins_of, origins_with_total, sum_of_totals, total_of, without_www}
 use Rattle.pl_base.proofs.SortLaws.{sorted_map}
+use Rattle.pl_base.proofs.Among.{In, from_filter, from_map, in_filter, in_map}
 use Rattle.pl_totals.specs.declared.totals.Totals.{Totals}
 use Rattle.pl_totals.specs.Filling.{best_group, group_names, is_better, is_filling}
 use Rattle.pl_totals.specs.Groups.{Grouped, fills, is_ahead}
 use Rattle.pl_totals.specs.Standing.{StandsFor, kept_group}
 use Rattle.pl_totals.proofs.Best.{IsBest, ahead_ranks, ahead_tied, entry}
-use Rattle.pl_totals.proofs.Members.{In, at_place, from_filter, from_map, in_filter, in_map, place_of}
+use Rattle.pl_totals.proofs.Members.{at_place, place_of}
 use Rattle.pl_totals.proofs.Sorted.{first_sorted, none_sorted}
 
 -- ---- the entries
@@ -30,7 +31,7 @@ module _ {S : Type 0} (m : HashMap (String Global) ℕ S) where
 
   pub entry_told : IsUnique string_eq m → (g : Grouped) → In g (map entry m.entries) → total_in g.0 ≡ g.1
   entry_told unique g member =
-      let from = from_map entry g m.entries member in
+      let from = from_map entry m.entries g member in
       let place = place_of from.0 m.entries from.1 in
       let found : get_by_text m (string_bytes from.0.0) ≡ Some from.0.1
       = hash_map_get_place string_eq_equiv m place.0 from.0.0 from.0.1 unique place.1 in
@@ -47,7 +48,7 @@ module _ {S : Type 0} (m : HashMap (String Global) ℕ S) where
           let place = place_from_lookup (λ (k : String Global). bytes_eq group (string_bytes k)) m.entries n is in
           let same : group ≡ string_bytes place.1 = (bytes_eq-Decides group (string_bytes place.1)).0 place.3 in
           subst (λ (g : List ℕ). In (g, n) (map entry m.entries)) (sym same)
-          (in_map entry (place.1, n) m.entries (at_place (place.1, n) m.entries place.0 place.2))
+          (in_map entry m.entries (place.1, n) (at_place (place.1, n) m.entries place.0 place.2))
 
 -- ---- the groups of the pages
 
@@ -55,7 +56,7 @@ in_distinct : (o : Origin) (os : List Origin) → In o (distinct os) → In o os
 in_distinct o [] h = absurd h
 in_distinct o (x ∷ os) (inl e) = inl e
 in_distinct o (x ∷ os) (inr h) =
-    inr (in_distinct o os (from_filter (λ other. not (is_origin other x)) o (distinct os) h).0)
+    inr (in_distinct o os (from_filter (λ other. not (is_origin other x)) (distinct os) o h).0)
 
 -- where a sum over those that pass is positive, one passes
 one_passes : {A : Type 0} (f : A → ℕ) (test : A → Bool) (xs : List A) → 0 < sum_by f (filter test xs)
@@ -73,13 +74,13 @@ one_passes {A} f test (x ∷ xs) some = choose (test x) refl some (one_passes f 
 pub named : (pages : List Scored) (group : List ℕ) → 0 < group_total pages group → In group (group_names pages)
 named pages group some =
     let r = one_passes (total_of pages) (is_in_group group) (origins_of pages) some in
-    let page = from_map (λ (s : Scored). s.0) r.0 pages (in_distinct r.0 (map (λ (s : Scored). s.0) pages) r.1) in
+    let page = from_map (λ (s : Scored). s.0) pages r.0 (in_distinct r.0 (map (λ (s : Scored). s.0) pages) r.1) in
     let inside : is_in_group group page.0.0 ≡ true = ap (is_in_group group) (sym page.2) ∙ r.2 in
     let parts = and_parts (not (length page.0.0.1 == 0)) (bytes_eq (without_www page.0.0.1) group) inside in
     let same : without_www page.0.0.1 ≡ group = (bytes_eq-Decides (without_www page.0.0.1) group).0 parts.1 in
     subst (λ (g : List ℕ). In g (group_names pages)) same
-    (in_map (λ (s : Scored). without_www s.0.1) page.0 (filter (λ (s : Scored). not (length s.0.1 == 0)) pages)
-    (in_filter (λ (s : Scored). not (length s.0.1 == 0)) page.0 pages page.1 parts.0))
+    (in_map (λ (s : Scored). without_www s.0.1) (filter (λ (s : Scored). not (length s.0.1 == 0)) pages) page.0
+    (in_filter (λ (s : Scored). not (length s.0.1 == 0)) pages page.0 page.1 parts.0))
 
 -- ---- the best of the groups
 
@@ -107,9 +108,9 @@ module _ (totals : Totals) (text : List ℕ) (pages : List Scored) (stands : Sta
   -- a group that passes is among the entries
   entered : (g : Grouped) → In g (map with_total filling) → In g entries × (fills totals text g ≡ true)
   entered g member =
-      let from = from_map with_total g filling member in
+      let from = from_map with_total filling g member in
       let group : List ℕ = from.0 in
-      let kept = from_filter (is_filling pages text) group (group_names pages) from.1 in
+      let kept = from_filter (is_filling pages text) (group_names pages) group from.1 in
       let told : kept_group totals group ≡ group_total pages group = stands.groups group in
       let some : 0 < kept_group totals group = omega (arith, positive group kept.1) in
       let here : In (group, kept_group totals group) entries = total_entered totals.groups group some in
@@ -123,8 +124,8 @@ module _ (totals : Totals) (text : List ℕ) (pages : List Scored) (stands : Sta
       let same : with_total g.0 ≡ g = ap (λ n. (g.0, n)) total in
       let is : is_filling pages text g.0 ≡ true = sym (fills_as g.0) ∙ ap (fills totals text) same ∙ passes in
       subst (λ (h : Grouped). In h (map with_total filling)) same
-      (in_map with_total g.0 filling
-      (in_filter (is_filling pages text) g.0 (group_names pages) (named pages g.0 (positive g.0 is)) is))
+      (in_map with_total filling g.0
+      (in_filter (is_filling pages text) (group_names pages) g.0 (named pages g.0 (positive g.0 is)) is))
 
   first_of : (groups : List (List ℕ))
       → option_map with_total (slice_get groups 0) ≡ slice_get (map with_total groups) 0

@@ -16,6 +16,7 @@ use Rattle.pl_base.specs.Store.{Item, item_id}
 use Rattle.pl_base.specs.Tree.{adopting, children_of, has_item, leaving, moved, parent_of, put_behind}
 use Rattle.pl_base.specs.Tree.{without_id}
 use Rattle.pl_base.proofs.ItemLaws.{count_inserted, slots_inserted}
+use Rattle.pl_base.proofs.LookUps.{found_some}
 use Rattle.pl_tree.specs.declared.place.Place.{Place}
 use Rattle.pl_tree.specs.declared.tree_change.TreeChange.TheVariants.{Insert, Move}
 use Rattle.pl_tree.specs.Places.{before}
@@ -24,7 +25,6 @@ use Rattle.pl_tree.proofs.Causes.{may_change, or_none, takes}
 use Rattle.pl_tree.proofs.ChildLists.{from_without}
 use Rattle.pl_tree.proofs.LookedUp.{parent_of_child}
 use Rattle.pl_tree.proofs.MappedItems.{has_map}
-use Rattle.pl_tree.proofs.OneParent.{found_some}
 use Rattle.pl_tree.proofs.PutPlaces.{before_in}
 use Rattle.pl_tree.proofs.RefusalSteps.{next_cause}
 use Rattle.pl_tree.proofs.TreeLaws.{child_once}

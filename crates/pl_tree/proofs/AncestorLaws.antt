@@ -15,9 +15,9 @@ use Rattle.pl_base.specs.Good.{IsTree, child_ids}
 use Rattle.pl_base.specs.Store.{Item}
 use Rattle.pl_base.specs.Tree.{has_child, has_item, parent_of}
 use Rattle.pl_base.proofs.ListLaws.{weaker}
+use Rattle.pl_base.proofs.LookUps.{both, found_some}
+use Rattle.pl_base.proofs.OneParent.{IsParent, any_child, is_among, parents, root_alone, same_item}
 use Rattle.pl_tree.specs.Ancestors.{ancestors, lies_in}
-use Rattle.pl_tree.proofs.OneParent.{IsParent, any_child, both, found_some, is_among, parents, root_alone}
-use Rattle.pl_tree.proofs.OneParent.{same_item}
 
 -- ---- counts of two tests, the first of which passes no more than the second
 

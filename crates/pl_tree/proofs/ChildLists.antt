@@ -12,10 +12,11 @@ use Rattle.pl_base.specs.Good.{child_ids}
 use Rattle.pl_base.specs.Store.{Item}
 use Rattle.pl_base.specs.Tree.{leaving, without_id}
 use Rattle.pl_base.proofs.ItemLaws.{bare}
+use Rattle.pl_base.proofs.Among.{In, from_filter, in_back, in_drop, in_either, in_filter, in_front, in_take}
 use Rattle.pl_tree.specs.declared.place.Place.{Place}
 use Rattle.pl_tree.specs.Changes.{position, put, put_at}
-use Rattle.pl_tree.proofs.Among.{Ascends, In, count, count-append, count-cons, from_filter, in_back, in_drop}
-use Rattle.pl_tree.proofs.Among.{in_either, in_filter, in_front, in_take, not_counted, tick}
+use Rattle.pl_tree.proofs.KeyCounts.{Ascends, count, count-append, count-cons}
+use Rattle.pl_tree.proofs.KeyCounts.{not_counted, tick}
 use Rattle.pl_tree.proofs.LookedUp.{id_key, item_key}
 use Rattle.pl_tree.proofs.MappedItems.{changed_at, changed_here, changed_other}
 

@@ -16,12 +16,11 @@ use Rattle.pl_base.specs.Store.{Item, item_id}
 use Rattle.pl_base.specs.Tree.{children_of, first_item, has_child, has_item, item_at, item_behind}
 use Rattle.pl_base.specs.Tree.{parent_of, sibling_behind}
 use Rattle.pl_base.proofs.IdsLaws.{few_ids}
+use Rattle.pl_base.proofs.LookUps.{both, found_holds, found_passes}
+use Rattle.pl_base.proofs.OneParent.{IsParent, Once, is_among, once, once_behind, parents, same_item}
 use Rattle.pl_tree.specs.declared.place.Place.{Place}
 use Rattle.pl_tree.specs.declared.place.Place.TheVariants.{End, Number}
 use Rattle.pl_tree.specs.Places.{before, is_item, last_item, others}
-use Rattle.pl_tree.proofs.OneParent.{IsParent, Once, both, found_holds, found_passes, is_among, once}
-use Rattle.pl_tree.proofs.OneParent.{once_behind, parents}
-use Rattle.pl_tree.proofs.OneParent.{same_item}
 
 -- ---- ids that stand once
 

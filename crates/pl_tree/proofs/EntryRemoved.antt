@@ -10,7 +10,8 @@ use Rattle.pl_base.specs.Store.{Item, Store}
 use Rattle.pl_base.specs.Tags.{tags_root}
 use Rattle.pl_base.specs.Tree.{child_items, children_of, has_item, item_at, parent_of, removed}
 use Rattle.pl_base.proofs.ItemLaws.{bare}
-use Rattle.pl_tree.proofs.Among.{Ascends, In, in_map}
+use Rattle.pl_base.proofs.Among.{In, in_map}
+use Rattle.pl_tree.proofs.KeyCounts.{Ascends}
 use Rattle.pl_tree.proofs.ChildLists.{left_other, without_other}
 use Rattle.pl_tree.proofs.GoodEntered.{no_tags_root}
 use Rattle.pl_tree.proofs.GoodRows.{HasGoodRows, good_rows, with_tags}

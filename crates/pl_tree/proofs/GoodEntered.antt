@@ -13,10 +13,11 @@ use Rattle.pl_base.specs.Store.{Item, Store}
 use Rattle.pl_base.specs.Tags.{tags_root}
 use Rattle.pl_base.specs.Tree.{child_items, children_of, item_at}
 use Rattle.pl_base.proofs.ItemLaws.{bare}
+use Rattle.pl_base.proofs.Among.{In, in_map}
 use Rattle.pl_tree.specs.declared.place.Place.TheVariants.{End}
 use Rattle.pl_tree.specs.Changes.{item_of, put, with_new}
 use Rattle.pl_tree.specs.Tagged.{new_entry}
-use Rattle.pl_tree.proofs.Among.{Ascends, In, in_map}
+use Rattle.pl_tree.proofs.KeyCounts.{Ascends}
 use Rattle.pl_tree.proofs.ChildLists.{grown, grown_new}
 use Rattle.pl_tree.proofs.GoodRows.{HasGoodRows, with_tags}
 use Rattle.pl_tree.proofs.InsertedChildren.{from_children}

@@ -11,10 +11,11 @@ use Rattle.pl_base.specs.Store.{Item, Store, item_id}
 use Rattle.pl_base.specs.Tree.{has_item, leaving, without_id}
 use Rattle.pl_base.proofs.ItemLaws.{bare}
 use Rattle.pl_base.proofs.ListLaws.{map-map}
+use Rattle.pl_base.proofs.Among.{In, from_map, in_map}
 use Rattle.pl_tree.specs.declared.place.Place.{Place}
 use Rattle.pl_tree.specs.Ancestors.{lies_in}
 use Rattle.pl_tree.specs.Changes.{put, with_moved}
-use Rattle.pl_tree.proofs.Among.{Ascends, In, Once, count, from_map, in_map}
+use Rattle.pl_tree.proofs.KeyCounts.{Ascends, Once, count}
 use Rattle.pl_tree.proofs.Causes.{MayChange, Takes}
 use Rattle.pl_tree.proofs.ChildLists.{bare_grown, count_grown, count_left, from_grown, from_without, grown, grown_id}
 use Rattle.pl_tree.proofs.ChildLists.{grown_new, grown_old, left_other, none_left, without_other}

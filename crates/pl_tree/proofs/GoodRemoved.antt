@@ -9,7 +9,7 @@ use Rattle.pl_base.specs.Tags.{tags_root}
 use Rattle.pl_tree.specs.Ancestors.{lies_in}
 use Rattle.pl_tree.specs.Changes.{with_removed}
 use Rattle.pl_tree.specs.Refused.{is_entry, is_tag}
-use Rattle.pl_tree.proofs.Among.{Ascends}
+use Rattle.pl_tree.proofs.KeyCounts.{Ascends}
 use Rattle.pl_tree.proofs.Causes.{MayChange}
 use Rattle.pl_tree.proofs.GoodRows.{HasGoodRows, good_rows, with_tags}
 use Rattle.pl_tree.proofs.Insides.{LiesLaws, parent_inside}

@@ -21,11 +21,12 @@ use Rattle.pl_base.specs.Good.{HasGoodItems, IsTagName, IsTitle, child_ids, has_
 use Rattle.pl_base.specs.Store.{Item, Store, item_id}
 use Rattle.pl_base.specs.Tags.{is_tags_root, tags_root}
 use Rattle.pl_base.specs.Tree.{child_items, children_of, has_item, item_at, new_item}
+use Rattle.pl_base.proofs.Among.{In, all_from_in, at_in}
 use Rattle.pl_tree.specs.declared.place.Place.TheVariants.{End}
 use Rattle.pl_tree.specs.Changes.{item_of, with_child}
 use Rattle.pl_tree.specs.Refused.{is_tag, parent_refusal}
 use Rattle.pl_tree.specs.Tagged.{new_entry, new_items, new_tag, tag_entry, tag_named, tagged_items}
-use Rattle.pl_tree.proofs.Among.{Ascends, In, Once, all_from_in, at_in}
+use Rattle.pl_tree.proofs.KeyCounts.{Ascends, Once}
 use Rattle.pl_tree.proofs.Causes.{Takes, not_refused, takes}
 use Rattle.pl_tree.proofs.ChildLists.{grown}
 use Rattle.pl_tree.proofs.GoodInserted.{inserted_good}

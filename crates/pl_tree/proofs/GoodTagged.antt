@@ -20,12 +20,13 @@ use Rattle.pl_base.specs.Store.{Item, Store, item_id}
 use Rattle.pl_base.specs.Tags.{tags_root}
 use Rattle.pl_base.specs.Tree.{child_items, children_of, is_page, item_at, removed}
 use Rattle.pl_base.proofs.ItemLaws.{bare}
+use Rattle.pl_base.proofs.Among.{In, from_map, in_back, in_either, in_front, in_map}
 use Rattle.pl_tree.specs.declared.place.Place.TheVariants.{End}
 use Rattle.pl_tree.specs.Changes.{item_of, put, with_new}
 use Rattle.pl_tree.specs.Refused.{tag_refusal, untag_refusal}
 use Rattle.pl_tree.specs.Tagged.{entry_in, new_entry, new_items, new_tag, tag_entry, tag_named, untagged_items}
 use Rattle.pl_tree.specs.Tagged.{with_tagged}
-use Rattle.pl_tree.proofs.Among.{Ascends, In, from_map, in_back, in_either, in_front, in_map}
+use Rattle.pl_tree.proofs.KeyCounts.{Ascends}
 use Rattle.pl_tree.proofs.Causes.{if_none}
 use Rattle.pl_tree.proofs.ChildLists.{grown, grown_id, grown_new}
 use Rattle.pl_tree.proofs.EntryRemoved.{if_none_left, unused_good}

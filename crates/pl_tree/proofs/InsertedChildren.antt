@@ -12,9 +12,10 @@ use Rattle.pl_base.specs.Good.{child_ids}
 use Rattle.pl_base.specs.Store.{Item}
 use Rattle.pl_base.specs.Tree.{child_items, children_of, item_at}
 use Rattle.pl_base.proofs.ItemLaws.{bare}
+use Rattle.pl_base.proofs.Among.{In, from_map, in_either}
 use Rattle.pl_tree.specs.declared.place.Place.TheVariants.{End}
 use Rattle.pl_tree.specs.Changes.{put}
-use Rattle.pl_tree.proofs.Among.{Ascends, In, from_map, in_either}
+use Rattle.pl_tree.proofs.KeyCounts.{Ascends}
 use Rattle.pl_tree.proofs.ChildLists.{bare_grown, from_grown, grown, grown_id}
 use Rattle.pl_tree.proofs.LookedUp.{child_of, children_in, filter_map-alike, found_at, from_filter_map, id_key}
 use Rattle.pl_tree.proofs.LookedUp.{in_child_ids, item_key}

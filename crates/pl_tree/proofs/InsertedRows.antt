@@ -14,10 +14,11 @@ use Rattle.pl_base.specs.Store.{Item, Store, item_id}
 use Rattle.pl_base.specs.Tree.{has_item, item_at, new_item}
 use Rattle.pl_base.proofs.ItemLaws.{bare}
 use Rattle.pl_base.proofs.ListLaws.{list_any_push}
+use Rattle.pl_base.proofs.Among.{In, from_map, in_back, in_either, in_front, in_map}
 use Rattle.pl_tree.specs.declared.place.Place.{Place}
 use Rattle.pl_tree.specs.Changes.{put, with_child}
-use Rattle.pl_tree.proofs.Among.{Ascends, In, Once, count, count-append, from_map, in_back}
-use Rattle.pl_tree.proofs.Among.{in_either, in_front, in_map, not_counted}
+use Rattle.pl_tree.proofs.KeyCounts.{Ascends, Once, count, count-append}
+use Rattle.pl_tree.proofs.KeyCounts.{not_counted}
 use Rattle.pl_tree.proofs.ChildLists.{bare_grown, count_grown, from_grown, grown, grown_id, grown_new, grown_old}
 use Rattle.pl_tree.proofs.GoodRows.{HasGoodRows}
 use Rattle.pl_tree.proofs.KeptItems.{all_good, good_children, good_item, good_still}

@@ -11,12 +11,14 @@ use Rattle.pl_base.specs.Good.{HasGoodItems, IsTree, end_of_ids}
 use Rattle.pl_base.specs.Rows.{IsWellKept, Kept, store_of}
 use Rattle.pl_base.specs.Store.{Item, item_id, root_folder, top_folders}
 use Rattle.pl_base.specs.Tree.{children_of, has_item}
-use Rattle.pl_tree.proofs.Among.{Ascends, In, all_from_in, at_in, from_flat_map, from_map, in_back, in_either}
-use Rattle.pl_tree.proofs.Among.{in_flat_map, in_front, in_map}
+use Rattle.pl_base.proofs.LookUps.{found_some}
+use Rattle.pl_base.proofs.OneParent.{Once, is_among, not_both}
+use Rattle.pl_base.proofs.Among.{In, all_from_in, at_in, from_flat_map, from_map, in_back, in_either, in_flat_map}
+use Rattle.pl_base.proofs.Among.{in_front, in_map}
+use Rattle.pl_tree.proofs.KeyCounts.{Ascends}
 use Rattle.pl_tree.proofs.ChildWalk.{children_once, few_items, take_all}
 use Rattle.pl_tree.proofs.LookedUp.{among_in, at_its_id, child_of, children_in, id_key, in_among, in_child_ids, in_has}
 use Rattle.pl_tree.proofs.LookedUp.{item_key, parent_of_child}
-use Rattle.pl_tree.proofs.OneParent.{Once, found_some, is_among, not_both}
 use Rattle.pl_tree.proofs.TreeLaws.{child_known, child_once, first_no_child, ids_ascend, reaches}
 
 -- ---- ids that stand once

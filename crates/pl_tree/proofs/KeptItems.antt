@@ -11,7 +11,7 @@ use Rattle.pl_base.specs.declared.item.ItemKind.TheVariants.{Folder}
 use Rattle.pl_base.specs.Date.{IsDate}
 use Rattle.pl_base.specs.Good.{IsGoodItem, IsTitle}
 use Rattle.pl_base.specs.Store.{Item, Page, Store}
-use Rattle.pl_tree.proofs.Among.{In, all_from_in, at_in}
+use Rattle.pl_base.proofs.Among.{In, all_from_in, at_in}
 
 pub good_item : (store : Store) (i : Item) → All (IsGoodItem store) store.items → In i store.items
     → IsGoodItem store i

@@ -8,7 +8,7 @@ use Rattle.pl_base.specs.Good.{HasRoots, IsTopFolder}
 use Rattle.pl_base.specs.Store.{Item, Store, item_id, root_folder}
 use Rattle.pl_base.specs.Tree.{item_at}
 use Rattle.pl_base.proofs.ItemLaws.{bare}
-use Rattle.pl_tree.proofs.Among.{In, all_from_in, at_in}
+use Rattle.pl_base.proofs.Among.{In, all_from_in, at_in}
 
 -- the numbers of the five folders below item 1
 abbrev pub tops : List ℕ

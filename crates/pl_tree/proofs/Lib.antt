@@ -1,8 +1,8 @@
 mod Allowed
-mod Among
 pub mod AncestorLaws
 mod Causes
 mod ChildLists
+pub mod ChildSlots
 pub mod ChildWalk
 mod EntryRemoved
 pub mod GoodChanges
@@ -21,11 +21,11 @@ mod ItemWalk
 mod KeptItems
 mod KeptRoots
 mod KeptTags
+mod KeyCounts
 mod LookedUp
 mod MappedItems
 mod MoreItems
 mod MoreTags
-pub mod OneParent
 mod PageOrder
 mod PutPlaces
 mod RefusalSteps

@@ -10,7 +10,8 @@ use Rattle.pl_base.specs.declared.id.ItemId.{ItemId}
 use Rattle.pl_base.specs.Good.{child_ids}
 use Rattle.pl_base.specs.Store.{Item}
 use Rattle.pl_base.specs.Tree.{children_of, has_child, has_item, item_at, parent_of}
-use Rattle.pl_tree.proofs.Among.{Ascends, In, Once, at_in, count-append, counted, from_flat_map, in_flat_map}
+use Rattle.pl_base.proofs.Among.{In, at_in, from_flat_map, in_flat_map}
+use Rattle.pl_tree.proofs.KeyCounts.{Ascends, Once, count-append, counted}
 
 abbrev pub item_key : Item → ℕ
 item_key i = i.id.0

@@ -9,7 +9,8 @@ use Rattle.pl_base.specs.Good.{child_ids}
 use Rattle.pl_base.specs.Store.{Item}
 use Rattle.pl_base.specs.Tree.{has_item, item_at}
 use Rattle.pl_base.proofs.ItemLaws.{bare}
-use Rattle.pl_tree.proofs.Among.{Ascends, In}
+use Rattle.pl_base.proofs.Among.{In}
+use Rattle.pl_tree.proofs.KeyCounts.{Ascends}
 use Rattle.pl_tree.proofs.LookedUp.{found_at, item_key, same_id}
 
 -- an item, changed if it has the id

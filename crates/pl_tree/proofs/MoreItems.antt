@@ -12,10 +12,11 @@ use Rattle.pl_base.specs.Tags.{tags_root}
 use Rattle.pl_base.specs.Tree.{children_of, item_at}
 use Rattle.pl_base.proofs.ItemLaws.{bare, ids_changed}
 use Rattle.pl_base.proofs.ListLaws.{map-map}
+use Rattle.pl_base.proofs.Among.{In, from_map, in_either}
 use Rattle.pl_tree.specs.declared.place.Place.TheVariants.{End}
 use Rattle.pl_tree.specs.Changes.{put}
 use Rattle.pl_tree.specs.Refused.{is_tag}
-use Rattle.pl_tree.proofs.Among.{Ascends, In, Once, from_map, in_either}
+use Rattle.pl_tree.proofs.KeyCounts.{Ascends, Once}
 use Rattle.pl_tree.proofs.Causes.{Takes}
 use Rattle.pl_tree.proofs.ChildLists.{bare_grown, from_grown, grown, grown_id}
 use Rattle.pl_tree.proofs.InsertedChildren.{ascends_new, at_new, at_old, child_below, ids_other, rows_new, rows_other}

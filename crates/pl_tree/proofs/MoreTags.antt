@@ -14,11 +14,12 @@ use Rattle.pl_base.specs.Good.{HasGoodItems, child_ids}
 use Rattle.pl_base.specs.Store.{Item, Store, item_id}
 use Rattle.pl_base.specs.Tags.{tags_root}
 use Rattle.pl_base.specs.Tree.{child_items, children_of, item_at}
+use Rattle.pl_base.proofs.Among.{In, in_either}
 use Rattle.pl_tree.specs.declared.place.Place.TheVariants.{End}
 use Rattle.pl_tree.specs.Changes.{item_of, with_new}
 use Rattle.pl_tree.specs.Refused.{is_tag}
 use Rattle.pl_tree.specs.Tagged.{new_entry, new_items, new_tag, tag_named, tagged_items}
-use Rattle.pl_tree.proofs.Among.{Ascends, In, Once, in_either}
+use Rattle.pl_tree.proofs.KeyCounts.{Ascends, Once}
 use Rattle.pl_tree.proofs.Causes.{Takes}
 use Rattle.pl_tree.proofs.ChildLists.{grown}
 use Rattle.pl_tree.proofs.GoodEntered.{no_tags_root}

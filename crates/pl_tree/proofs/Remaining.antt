@@ -8,9 +8,10 @@ use Rattle.pl_base.specs.declared.id.ItemId.{ItemId}
 use Rattle.pl_base.specs.Store.{Item}
 use Rattle.pl_base.specs.Tree.{children_of, has_child, has_item, item_at, leaving, parent_of, removed, without_id}
 use Rattle.pl_base.proofs.ListLaws.{found_in}
+use Rattle.pl_base.proofs.LookUps.{found_some}
+use Rattle.pl_base.proofs.OneParent.{is_among, same_item}
 use Rattle.pl_tree.proofs.LookedUp.{children_in}
 use Rattle.pl_tree.proofs.MappedItems.{at_filter, at_map}
-use Rattle.pl_tree.proofs.OneParent.{found_some, is_among, same_item}
 
 -- an item without the children that are gone
 abbrev pub cleared : (ItemId → Bool) → Item → Item

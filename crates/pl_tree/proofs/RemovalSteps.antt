@@ -17,16 +17,18 @@ use Rattle.pl_base.specs.Store.{Item}
 use Rattle.pl_base.specs.Tree.{children_of, first_item, has_child, has_item, is_page, item_at, leaving, parent_of}
 use Rattle.pl_base.specs.Tree.{removed}
 use Rattle.pl_base.proofs.ListLaws.{found_in as found_where, list_any-alike}
+use Rattle.pl_base.proofs.LookUps.{found_some}
+use Rattle.pl_base.proofs.OneParent.{same_item}
+use Rattle.pl_base.proofs.Among.{In, all_from_in, from_filter, in_filter}
 use Rattle.pl_tree.specs.Ancestors.{ancestors, lies_in}
 use Rattle.pl_tree.specs.Changes.{loses_item, with_removed}
 use Rattle.pl_tree.specs.LostPages.{has_lost, has_page_of, page_in}
-use Rattle.pl_tree.proofs.Among.{Ascends, In, all_from_in, from_filter, in_filter}
+use Rattle.pl_tree.proofs.KeyCounts.{Ascends}
 use Rattle.pl_tree.proofs.AncestorLaws.{child_there, climbed, left_above, less_above, lies_in_child}
 use Rattle.pl_tree.proofs.AncestorLaws.{lies_in_parent, lies_in_self}
 use Rattle.pl_tree.proofs.ChildWalk.{fewer}
 use Rattle.pl_tree.proofs.LookedUp.{among_in, at_id, children_in, found_at, found_in, item_key, one_of_id}
 use Rattle.pl_tree.proofs.LookedUp.{parent_is, parent_of_child}
-use Rattle.pl_tree.proofs.OneParent.{found_some, same_item}
 use Rattle.pl_tree.proofs.Remaining.{all_remain, and_gone, at_remaining, children_remaining, cleared}
 use Rattle.pl_tree.proofs.Remaining.{has_remaining, none_gone}
 use Rattle.pl_tree.proofs.Remaining.{parent_remaining, remaining, remaining_as, removed_more}

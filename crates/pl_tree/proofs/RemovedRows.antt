@@ -10,7 +10,8 @@ use Rattle.pl_base.specs.Good.{HasRoots, IsGoodItem, IsTree, child_ids}
 use Rattle.pl_base.specs.Store.{Item, Store, item_id}
 use Rattle.pl_base.specs.Tree.{has_item, item_at, leaving, parent_of, without_id}
 use Rattle.pl_base.proofs.ItemLaws.{bare}
-use Rattle.pl_tree.proofs.Among.{Ascends, In, Once, from_filter, from_map, in_filter, in_map}
+use Rattle.pl_base.proofs.Among.{In, from_filter, from_map, in_filter, in_map}
+use Rattle.pl_tree.proofs.KeyCounts.{Ascends, Once}
 use Rattle.pl_tree.proofs.ChildLists.{count_kept, count_left, from_without, left_other, without_other}
 use Rattle.pl_tree.proofs.GoodRows.{HasGoodRows}
 use Rattle.pl_tree.proofs.Insides.{LiesLaws, parent_inside}

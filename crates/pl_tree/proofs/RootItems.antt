@@ -8,7 +8,8 @@ use Rattle.pl_base.specs.declared.item.ItemKind.TheVariants.{Folder}
 use Rattle.pl_base.specs.Good.{HasRoots, IsTopFolder, IsTree}
 use Rattle.pl_base.specs.Store.{Item, Store, item_id, root_folder, top_folders}
 use Rattle.pl_base.specs.Tree.{children_of, item_at, parent_of}
-use Rattle.pl_tree.proofs.Among.{Ascends, In, at_in, from_map, in_map}
+use Rattle.pl_base.proofs.Among.{In, at_in, from_map, in_map}
+use Rattle.pl_tree.proofs.KeyCounts.{Ascends}
 use Rattle.pl_tree.proofs.KeptRoots.{top_range, tops}
 use Rattle.pl_tree.proofs.LookedUp.{at_id, child_of, found_at, id_key, item_key, parent_is, parent_of_child, same_id}
 use Rattle.pl_tree.proofs.TreeLaws.{child_once, first_no_child}

@@ -11,8 +11,9 @@ use Rattle.pl_base.specs.Good.{HasGoodItems, HasTags, IsTagFolder, child_ids}
 use Rattle.pl_base.specs.Store.{Item, Store}
 use Rattle.pl_base.specs.Tags.{is_tags_root, tags_of, tags_root}
 use Rattle.pl_base.specs.Tree.{child_items, children_of, item_at, parent_of}
+use Rattle.pl_base.proofs.Among.{In, at_in}
 use Rattle.pl_tree.specs.Refused.{is_entry, is_tag}
-use Rattle.pl_tree.proofs.Among.{Ascends, In, at_in}
+use Rattle.pl_tree.proofs.KeyCounts.{Ascends}
 use Rattle.pl_tree.proofs.Causes.{MayChange, Takes}
 use Rattle.pl_tree.proofs.KeptItems.{good_item}
 use Rattle.pl_tree.proofs.KeptTags.{is_of_tags}

@@ -11,7 +11,7 @@ use Rattle.pl_base.specs.Tags.{tags_of, tags_root}
 use Rattle.pl_base.specs.Tree.{child_items, children_of, item_at}
 use Rattle.pl_base.proofs.ItemLaws.{bare}
 use Rattle.pl_base.proofs.ListLaws.{AllPairs-from_map, AllPairs-map}
-use Rattle.pl_tree.proofs.Among.{In, all_from_in, at_in, from_map, in_map}
+use Rattle.pl_base.proofs.Among.{In, all_from_in, at_in, from_map, in_map}
 use Rattle.pl_tree.proofs.LookedUp.{found_at, from_filter_map}
 
 -- the children of an item, without their own

@@ -1,10 +1,10 @@
 -- What is told of a tag where its folder was looked up.
-use Rattle.std.proofs.Common.{◌≡◌, ◌∙◌, ◌+◌, ◌-◌, ◌<◌, ◌≤◌, ◌==◌, ℕ, Bool, true, false, List, [], ◌∷◌}
+use Rattle.std.proofs.Common.{◌≡◌, ◌∙◌, ◌+◌, ◌-◌, ◌<◌, ◌≤◌, ◌==◌, ℕ, true, List}
 use Rattle.std.proofs.Common.{Option, Some, None, ap, arith, find, if◌then◌else◌, refl}
 use Rattle.std.specs.Prelude.{bytes_eq, unwrap_or}
 use Rattle.std.specs.Option.{is_none, option_and_then, option_map}
 use Rattle.std.proofs.lemmas.List.{length-map, length_push}
-use Rattle.std.proofs.lemmas.List.Sums.{sum_by-cons, sum_by_push}
+use Rattle.std.proofs.lemmas.List.Sums.{sum_by_push}
 use Rattle.pl_base.specs.declared.date.Micros.{Micros}
 use Rattle.pl_base.specs.declared.id.ItemId.{ItemId}
 use Rattle.pl_base.specs.declared.id.PageId.{PageId}
@@ -15,13 +15,13 @@ use Rattle.pl_base.specs.Rows.{Kept, store_of}
 use Rattle.pl_base.specs.Store.{Item, item_id}
 use Rattle.pl_base.specs.Tags.{tags_root}
 use Rattle.pl_base.specs.Tree.{child_items, children_of, has_item, is_page, item_at}
-use Rattle.pl_base.proofs.ItemLaws.{title_slots}
 use Rattle.pl_tree.specs.declared.new_item.NewItem.{NewItem}
 use Rattle.pl_tree.specs.declared.place.Place.{Place}
 use Rattle.pl_tree.specs.declared.place.Place.TheVariants.{End}
 use Rattle.pl_tree.specs.Changes.{item_of, put, with_child, with_inserted, with_new}
 use Rattle.pl_tree.specs.Refused.{tag_refusal}
 use Rattle.pl_tree.specs.Tagged.{entry_in, new_entry, new_tag, tag_entry, tag_named, with_tagged}
+use Rattle.pl_tree.proofs.ChildSlots.{slots_child}
 use Rattle.pl_tree.proofs.LookedUp.{found_at, found_in, from_filter_map, has_in}
 
 -- the id of an item
@@ -143,27 +143,6 @@ made_anew kept now page name title date made same is =
     ∙ tagged_anew kept page name date is
 
 -- ---- the slots that they take
-
-slots_child : (parent : ItemId) (place : Place) (id : ItemId) (items : List Item)
-    → title_slots (with_child parent place id items) ≡ title_slots items
-slots_child parent place id [] = refl
-slots_child parent place id (i ∷ items) = choose (i.id.0 == parent.0) (slots_child parent place id items)
-  where
-    same_title : (b : Bool) → (if b then record i { children = put place id i.children } else i).title ≡ i.title
-    same_title true = refl
-    same_title false = refl
-
-    choose : (b : Bool) → title_slots (with_child parent place id items) ≡ title_slots items
-        → title_slots ((if b then record i { children = put place id i.children } else i)
-        ∷ with_child parent place id items) ≡ title_slots (i ∷ items)
-    choose b rest =
-        omega (
-          arith,
-          sum_by-cons (λ (j : Item). chunks j.title)
-              (if b then record i { children = put place id i.children } else i) (with_child parent place id items),
-          sum_by-cons (λ (j : Item). chunks j.title) i items,
-          ap chunks (same_title b),
-        )
 
 live_of_inserted : (kept : Kept) (parent : ItemId) (place : Place) (new : NewItem)
     → live_slots (store_of (with_inserted parent place new kept))

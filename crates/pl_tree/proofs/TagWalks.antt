@@ -9,9 +9,10 @@ use Rattle.pl_base.specs.declared.id.ItemId.{ItemId}
 use Rattle.pl_base.specs.Good.{IsTree}
 use Rattle.pl_base.specs.Store.{Item}
 use Rattle.pl_base.specs.Tree.{child_items, children_of, has_item, item_at, sibling_behind}
+use Rattle.pl_base.proofs.LookUps.{found_passes}
+use Rattle.pl_base.proofs.OneParent.{same_item}
 use Rattle.pl_tree.proofs.ChildWalk.{IdWalk, IsHere, children_known, id_here, left, part, walk_ends, walk_goes_on}
 use Rattle.pl_tree.proofs.ChildWalk.{walk_nears}
-use Rattle.pl_tree.proofs.OneParent.{found_passes, same_item}
 
 module _ (items : List Item) (test : Item → Bool) where
   -- none of the items by these ids passes

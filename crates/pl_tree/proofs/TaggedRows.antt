@@ -13,10 +13,11 @@ use Rattle.pl_base.specs.Good.{IsTagName, child_ids}
 use Rattle.pl_base.specs.Store.{Item}
 use Rattle.pl_base.specs.Tags.{tags_root}
 use Rattle.pl_base.specs.Tree.{children_of, item_at}
+use Rattle.pl_base.proofs.Among.{In, all_from_in, in_either}
 use Rattle.pl_tree.specs.declared.place.Place.TheVariants.{End}
 use Rattle.pl_tree.specs.Changes.{item_of, with_new}
 use Rattle.pl_tree.specs.Tagged.{new_entry, new_tag}
-use Rattle.pl_tree.proofs.Among.{Ascends, In, all_from_in, in_either}
+use Rattle.pl_tree.proofs.KeyCounts.{Ascends}
 use Rattle.pl_tree.proofs.InsertedChildren.{rows_new, rows_other, rows_parent}
 use Rattle.pl_tree.proofs.LookedUp.{child_of, in_child_ids, item_key, same_id}
 use Rattle.pl_tree.proofs.TagRows.{HasTagRows, IsTagRow, child_rows, row_child}

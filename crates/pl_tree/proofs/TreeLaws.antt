@@ -12,8 +12,9 @@ use Rattle.pl_base.specs.Good.{IsReached, IsTree, child_ids}
 use Rattle.pl_base.specs.Store.{Item, item_id}
 use Rattle.pl_base.specs.Tree.{has_item}
 use Rattle.pl_base.proofs.ListLaws.{AllPairs-from_map}
-use Rattle.pl_tree.proofs.Among.{Ascends, In, Once, all_from_in, ascends_from_pairs, at_in, count}
-use Rattle.pl_tree.proofs.Among.{count-cons, counted, once_from_pairs, pairs_from_once, tick, tick_other, tick_same}
+use Rattle.pl_base.proofs.Among.{In, all_from_in, at_in}
+use Rattle.pl_tree.proofs.KeyCounts.{Ascends, Once, ascends_from_pairs, count}
+use Rattle.pl_tree.proofs.KeyCounts.{count-cons, counted, once_from_pairs, pairs_from_once, tick, tick_other, tick_same}
 use Rattle.pl_tree.proofs.LookedUp.{id_key, in_child_ids, in_has, item_key, same_id}
 
 pub ids_ascend : (items : List Item) → IsStrictlyIncreasing (map (λ (i : Item). i.id.0) items)

@@ -10,8 +10,9 @@ use Rattle.pl_base.specs.Rows.{Kept, store_of}
 use Rattle.pl_base.specs.Store.{Item, item_id, root_folder, top_folders}
 use Rattle.pl_base.specs.Tree.{has_item, item_at, item_row, parent_of}
 use Rattle.pl_base.proofs.ListLaws.{found_in}
+use Rattle.pl_base.proofs.LookUps.{found_passes, found_some}
+use Rattle.pl_base.proofs.OneParent.{same_item}
 use Rattle.pl_tree.proofs.AncestorLaws.{child_there}
-use Rattle.pl_tree.proofs.OneParent.{found_passes, found_some, same_item}
 
 -- what the rows tell of an item's parent
 pub parent_told : (items : List Item) (id : ItemId) (row : ItemRow)

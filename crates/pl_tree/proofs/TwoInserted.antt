@@ -13,15 +13,15 @@ use Rattle.pl_base.specs.Tags.{tags_root}
 use Rattle.pl_base.specs.Tree.{adopted, children_of, has_item, item_at, new_item}
 use Rattle.pl_base.proofs.ItemLaws.{count_inserted, slots_inserted}
 use Rattle.pl_base.proofs.ListLaws.{list_any_last}
+use Rattle.pl_base.proofs.LookUps.{found_some}
+use Rattle.pl_base.proofs.Among.{in_back}
 use Rattle.pl_tree.specs.declared.new_item.NewItem.{NewItem}
 use Rattle.pl_tree.specs.declared.place.Place.{Place}
 use Rattle.pl_tree.specs.declared.place.Place.TheVariants.{End}
 use Rattle.pl_tree.specs.Changes.{item_of, with_child, with_inserted}
 use Rattle.pl_tree.specs.Places.{before}
-use Rattle.pl_tree.proofs.Among.{in_back}
 use Rattle.pl_tree.proofs.KeptRoots.{tops}
 use Rattle.pl_tree.proofs.LookedUp.{at_its_id, children_in, same_id}
-use Rattle.pl_tree.proofs.OneParent.{found_some}
 use Rattle.pl_tree.proofs.PutPlaces.{child_put, item_inserted, its_children, row_of_new}
 use Rattle.pl_tree.proofs.TreeLaws.{ids_ascend}
 

@@ -9,7 +9,7 @@ use Rattle.pl_base.specs.Fold.{folded}
 use Rattle.pl_base.specs.Store.{Item}
 use Rattle.pl_base.specs.Tags.{tags_root}
 use Rattle.pl_base.specs.Tree.{removed}
-use Rattle.pl_tree.proofs.Among.{In, from_filter}
+use Rattle.pl_base.proofs.Among.{In, from_filter}
 use Rattle.pl_tree.proofs.RemovedChildren.{rows_left}
 use Rattle.pl_tree.proofs.TagRows.{HasTagRows, IsTagRow, child_rows}
 

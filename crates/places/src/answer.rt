@@ -66,7 +66,9 @@ pub fn answer<D: Desk>(
         }
         Err(LineError::NoMemory) => return Err(AnswerError::NoMemory),
     };
-    perform(alloc, keeper, &command, desk)
+    let answered = perform(alloc, keeper, &command, desk);
+    drop(command);
+    answered
 }
 
 // Answers a command: the store makes its step, the file takes it, and the reply is said.
@@ -105,7 +107,9 @@ fn perform<D: Desk>(
         (D.device_faults desk.old) (D.device_faults desk.new) }
 {
     let (ready, reply) = keeper.prepare(command)?;
-    conclude(alloc, ready, &reply, desk)
+    let concluded = conclude(alloc, ready, &reply, desk);
+    drop(reply);
+    concluded
 }
 
 /// Takes a command that was prepared: the file takes its step, and the reply is said. The reply's

@@ -78,7 +78,9 @@ impl Drilling {
             }
             Err(LineError::NoMemory) => return Err(AnswerError::NoMemory),
         };
-        self.perform(&command, desk)
+        let performed = self.perform(&command, desk);
+        drop(command);
+        performed
     }
 
     // Performs a command: the store makes its step, and the file takes it.

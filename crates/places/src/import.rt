@@ -93,7 +93,10 @@ fn import<S: Source, D: Desk>(
 {
     let bytes = read_all(alloc, input)?;
     let tree = tree_of(alloc, &bytes)?;
-    commit(alloc, keeper, &Command::Import(tree), desk)
+    let command = Command::Import(tree);
+    let committed = commit(alloc, keeper, &command, desk);
+    drop(command);
+    committed
 }
 
 // The whole input, which has to stay below the limit of a bookmark file.
@@ -161,8 +164,11 @@ fn commit<D: Desk>(
 {
     let (ready, reply) = keeper.prepare(command)?;
     if let Reply::Refused(refusal) = reply {
+        drop(reply);
         return Err(Status::ImportRefused(refusal));
     }
-    conclude(alloc, ready, &reply, desk)?;
+    let concluded = conclude(alloc, ready, &reply, desk);
+    drop(reply);
+    concluded?;
     Ok(())
 }

@@ -34,8 +34,9 @@ fn performed<L: Ledger>(
     requires { HasDates command.now }
 {
     let (engine, reply) = engine.apply(command, steps)?;
-    let text = reply_text(alloc, &reply)?;
-    Ok((engine, text))
+    let told = reply_text(alloc, &reply);
+    drop(reply);
+    Ok((engine, told?))
 }
 
 fn imported<L: Ledger>(
@@ -44,7 +45,9 @@ fn imported<L: Ledger>(
     steps: &mut Steps<L>,
 ) -> Result<(Engine<Flat>, Txt), Fail> {
     let command = worked(alloc)?;
-    performed(alloc, engine, &command, steps)
+    let imported = performed(alloc, engine, &command, steps);
+    drop(command);
+    imported
 }
 
 fn replies_in<L: Ledger>(
@@ -58,8 +61,10 @@ fn replies_in<L: Ledger>(
 {
     let mut steps = Steps::<L>::none(blank);
     let (engine, said) = imported(alloc, engine, &mut steps)?;
-    let (_, told) = performed(alloc, engine, &Command::Stats, &mut steps)?;
-    Ok((said, told))
+    let command = Command::Stats;
+    let stats = performed(alloc, engine, &command, &mut steps);
+    drop(command);
+    Ok((said, stats?.1))
 }
 
 // The replies to the import of the worked file, and then to `stats`.

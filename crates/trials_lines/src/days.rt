@@ -2,12 +2,12 @@
 // was at this day when it got the same rows.
 ghost use Rattle.std.specs.Prelude.{◌<◌};
 
-use crate::told::answered;
 use pl_base::Txt;
 use pl_store::{Memory, SLOT_LIMIT};
 use std::alloc::{AllocError, Global};
 use std::process::Abort;
 use std::test::Fail;
+use trials_memory::answered;
 
 const PAGES: u64 = 100;
 

@@ -1,11 +1,11 @@
 // The ids of the rows of a reply, in order.
-use crate::told::answered;
 use pl_query::ResultRow;
 use pl_step::{BarRow, Reply};
 use pl_store::{Memory, SLOT_LIMIT};
 use std::alloc::Global;
 use std::process::Abort;
 use std::test::Fail;
+use trials_memory::replied;
 
 // A store with pages of all kinds: 1 has two visits, two bookmarks and two tags; 2 a port and a
 // tag; 3 an IPv6 host and a download alone; 4 is a query and 5 is embedded, so both are hidden; 6
@@ -56,9 +56,10 @@ fn ids_in(alloc: Global, reply: &Reply) -> Result<Vec<u32>, Fail> {
     }
 }
 
-fn expect_ids(rt: &impl Abort, alloc: Global, reply: &Reply, wanted: &[u32]) -> Result<(), Fail> {
-    let ids = ids_in(alloc, reply)?;
-    assert_eq!(rt; ids.as_slice(), wanted);
+fn expect_ids(rt: &impl Abort, alloc: Global, reply: Reply, wanted: &[u32]) -> Result<(), Fail> {
+    let listed = ids_in(alloc, &reply);
+    drop(reply);
+    assert_eq!(rt; listed?.as_slice(), wanted);
     Ok(())
 }
 
@@ -66,7 +67,9 @@ fn expect_ids(rt: &impl Abort, alloc: Global, reply: &Reply, wanted: &[u32]) -> 
 pub fn store_of(alloc: Global, lines: &[&[u8]]) -> Result<Memory, Fail> {
     let mut memory = Memory::opening(alloc, SLOT_LIMIT)?;
     for line in lines {
-        memory = answered(alloc, memory, line)?.0;
+        let (after, reply) = replied(alloc, memory, line)?;
+        drop(reply);
+        memory = after;
     }
     Ok(memory)
 }
@@ -80,10 +83,10 @@ pub fn listed(
 ) -> Result<Memory, Fail> {
     let mut memory = memory;
     for (line, wanted) in lines {
-        let (after, reply) = answered(alloc, memory, line)?;
+        let (after, reply) = replied(alloc, memory, line)?;
         memory = after;
         if let Some(reply) = reply {
-            expect_ids(rt, alloc, &reply, wanted)?;
+            expect_ids(rt, alloc, reply, wanted)?;
         }
     }
     Ok(memory)

@@ -3,7 +3,6 @@ ghost use Rattle.std.specs.Prelude.{◌≡◌, ◌<◌, ◌≤◌, IfSome};
 ghost use Rattle.pl_base.specs.Live.{slot_limit};
 ghost use Rattle.pl_step.specs.Commands.{HasDates};
 
-use crate::told::text_of;
 use pl_base::{Ids, NoMemory, Steps, Txt};
 use pl_engine::Engine;
 use pl_plain::Flat;
@@ -15,6 +14,7 @@ use std::marker::Brand;
 use std::process::Abort;
 use std::sync::ledger::{Blank, Ledger};
 use std::test::Fail;
+use trials_memory::text_of;
 
 // The engine after a command, and the reply.
 fn stepped<L: Ledger>(

@@ -2,7 +2,7 @@
 ghost use Rattle.std.specs.Prelude.{IfOk};
 ghost use Rattle.pl_step.specs.Commands.{HasDates};
 
-use crate::told::{stepped, talked};
+use crate::told::talked;
 use pl_base::{ItemId, Micros, Txt};
 use pl_link::Canon;
 use pl_step::{Command, Reply};
@@ -11,6 +11,7 @@ use pl_tree::Place;
 use std::alloc::Global;
 use std::process::Abort;
 use std::test::Fail;
+use trials_memory::stepped;
 
 // The last of 5,000 items, the first of which is item 7.
 const LAST: u32 = 5_006;

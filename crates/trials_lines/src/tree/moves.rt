@@ -1,7 +1,7 @@
 // Moves within a folder and between folders.
 ghost use Rattle.pl_step.specs.Commands.{HasDates};
 
-use crate::told::{stepped, talked};
+use crate::told::talked;
 use pl_base::{ItemId, Micros};
 use pl_step::{Command, Reply};
 use pl_store::{Memory, SLOT_LIMIT};
@@ -9,6 +9,7 @@ use pl_tree::Place;
 use std::alloc::Global;
 use std::process::Abort;
 use std::test::Fail;
+use trials_memory::stepped;
 
 // Folder 7, with the separators 8 to 12.
 const FIVE: &[(&[u8], &str)] = &[

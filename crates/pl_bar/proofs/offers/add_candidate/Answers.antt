@@ -1,7 +1,7 @@
 use Rattle.std.proofs.Common.{◌==◌, ◌∙◌, ◌++◌, ◌∷◌, [], ap, rules, sym, w64, ℤ}
 use Rattle.std.proofs.lemmas.Int.{to_z-of_z}
 use Rattle.pl_base.specs.Rows.{Kept, KeptPage, mark_of}
-use Rattle.pl_marks.proofs.LookUps.{found_where}
+use Rattle.pl_base.proofs.LookUps.{found_where}
 use Rattle.pl_bar.proofs.Candidates.{mark_told, one_joins}
 use Rattle.pl_bar.proofs.offers.add_candidate.Goals as goal
 

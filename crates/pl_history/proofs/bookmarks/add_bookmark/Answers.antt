@@ -1,9 +1,9 @@
 use Rattle.std.proofs.Common.{◌+◌, ◌==◌, ◌∙◌, ap, List, refl, sym, ℕ}
 use Rattle.pl_base.specs.Rows.{Kept, KeptPage, has_page, mark_of, store_of}
 use Rattle.pl_base.specs.Store.{item_id}
+use Rattle.pl_base.proofs.LookUps.{found_where}
 use Rattle.pl_tree.specs.Changes.{with_inserted, with_new}
 use Rattle.pl_history.specs.Marked.{page_item}
-use Rattle.pl_marks.proofs.LookUps.{found_where}
 use Rattle.pl_history.proofs.GrownItems.{adds_new, mark_counted, sound_grown}
 use Rattle.pl_history.proofs.SourcePage.{source_store}
 use Rattle.pl_history.proofs.bookmarks.add_bookmark.Goals as goal

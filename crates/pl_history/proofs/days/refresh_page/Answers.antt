@@ -1,7 +1,7 @@
 use Rattle.std.proofs.Common.{◌==◌, ◌∙◌, Bool, Some, ap, rules, sym}
 use Rattle.std.specs.Prelude.{not}
 use Rattle.pl_base.specs.Rows.{KeptPage, mark_of}
-use Rattle.pl_marks.proofs.LookUps.{found_where}
+use Rattle.pl_base.proofs.LookUps.{found_where}
 use Rattle.pl_history.proofs.Freshened.{moved_page, rows_fresh, same_words}
 use Rattle.pl_history.proofs.KeptMark.{count_at, mark_at}
 use Rattle.pl_history.proofs.days.refresh_page.Goals as goal

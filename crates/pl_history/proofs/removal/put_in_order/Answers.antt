@@ -3,7 +3,8 @@ use Rattle.std.specs.List.Sorted.{IsStrictlyIncreasing}
 use Rattle.std.proofs.lemmas.List.Filters.{dedup_is}
 use Rattle.std.proofs.lemmas.List.Sorted.{list_any-IsPermutation}
 use Rattle.pl_base.specs.declared.id.PageId.{PageId}
-use Rattle.pl_history.proofs.PageOrder.{alike, ascend_once, is_one, numbers, one_once}
+use Rattle.pl_base.proofs.PageOrder.{alike, ascend_once, numbers}
+use Rattle.pl_history.proofs.PageOrder.{is_one, one_once}
 use Rattle.pl_history.proofs.removal.put_in_order.Goals as goal
 
 pub returns-clause-ascending : goal.returns-clause-ascending

@@ -3,8 +3,8 @@ use Rattle.std.specs.Option.{option_map}
 use Rattle.pl_base.specs.declared.row.Mark.{Mark}
 use Rattle.pl_base.specs.Rows.{Kept, KeptPage, has_page, mark_of, page_at, row_of, store_of, with_mark}
 use Rattle.pl_base.specs.Store.{Visit}
+use Rattle.pl_base.proofs.LookUps.{found_where}
 use Rattle.pl_marks.specs.Refreshed.{unvisited_mark}
-use Rattle.pl_marks.proofs.LookUps.{found_where}
 use Rattle.pl_history.specs.Settled.{AreOthersSettled}
 use Rattle.pl_history.proofs.RemovedRows.{count_suffices, unvisited_settled, unvisited_store}
 use Rattle.pl_history.proofs.SourcePage.{page_there}

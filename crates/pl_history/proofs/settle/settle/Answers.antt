@@ -1,7 +1,7 @@
 use Rattle.std.proofs.Common.{◌==◌, ◌∙◌, ap, sym}
 use Rattle.pl_base.specs.Rows.{KeptPage, mark_of}
 use Rattle.pl_base.specs.Removal.{without_idle_pages}
-use Rattle.pl_marks.proofs.LookUps.{found_where}
+use Rattle.pl_base.proofs.LookUps.{found_where}
 use Rattle.pl_history.proofs.Dropped.{dropped_fewer, dropped_settled, dropped_store}
 use Rattle.pl_history.proofs.KeptMark.{count_at, mark_at}
 use Rattle.pl_history.proofs.Settled.{refreshed_settled}

@@ -1,7 +1,7 @@
 use Rattle.std.proofs.Common.{◌+◌, ◌==◌, ◌∙◌, ap, sym}
 use Rattle.pl_base.specs.Rows.{Kept, KeptPage, has_page, mark_of, store_of}
+use Rattle.pl_base.proofs.LookUps.{found_where}
 use Rattle.pl_tree.specs.Tagged.{new_items, tagged_items}
-use Rattle.pl_marks.proofs.LookUps.{found_where}
 use Rattle.pl_history.proofs.GrownItems.{adds_tagged, mark_counted, sound_grown}
 use Rattle.pl_history.proofs.SourcePage.{source_store}
 use Rattle.pl_history.proofs.tags.add_tag.Goals as goal

@@ -2,7 +2,7 @@ use Rattle.std.proofs.Common.{◌∙◌, ◌+◌, ◌<◌, ◌==◌, ◌^◌, �
 use Rattle.std.proofs.lemmas.Int.{to_z-of_z}
 use Rattle.pl_base.specs.Rows.{Kept, KeptPage, mark_of, with_total}
 use Rattle.pl_base.specs.Totals.{share}
-use Rattle.pl_marks.proofs.LookUps.{found_where}
+use Rattle.pl_base.proofs.LookUps.{found_where}
 use Rattle.pl_history.proofs.NewTotals.{AreAdded, AreAsBefore, adds_more, all_added, behind_still, has_still}
 use Rattle.pl_history.proofs.NewTotals.{named_here, none_added, set_still, share_fits}
 use Rattle.pl_marks.proofs.PageTurns.{IsPageHere, has_here, page_here, turns_go_on, turns_near}

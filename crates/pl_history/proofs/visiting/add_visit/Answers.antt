@@ -3,10 +3,10 @@ use Rattle.std.proofs.lemmas.Int.{to_z-of_z}
 use Rattle.pl_base.specs.declared.row.VisitRow.{VisitRow}
 use Rattle.pl_base.specs.Marks.{visit_count}
 use Rattle.pl_base.specs.Rows.{Kept, KeptPage, has_page, mark_of, store_of, with_visit}
+use Rattle.pl_base.proofs.LookUps.{found_where}
 use Rattle.pl_marks.specs.Refreshed.{Refreshes}
 use Rattle.pl_history.specs.Added.{AddsVisit}
 use Rattle.pl_history.proofs.RightAfter.{counts_refreshed, counts_visited}
-use Rattle.pl_marks.proofs.LookUps.{found_where}
 use Rattle.pl_history.proofs.KeptMark.{count_told, few_counted, mark_made}
 use Rattle.pl_history.proofs.VisitMade.{added_after, afresh_made, right_still, sound_after}
 use Rattle.pl_history.proofs.visiting.add_visit.Goals as goal

@@ -1,9 +1,9 @@
 use Rattle.std.proofs.Common.{◌≡◌, ◌==◌, ◌∙◌, IfSome, subst, sym, true}
 use Rattle.pl_base.specs.Rows.{KeptPage, has_visit, mark_of, row_of}
 use Rattle.pl_base.specs.Store.{Visit}
+use Rattle.pl_base.proofs.LookUps.{found_where}
 use Rattle.pl_history.proofs.KeptMark.{count_at, mark_at}
 use Rattle.pl_history.proofs.SourcePage.{page_there, source_right, source_store}
-use Rattle.pl_marks.proofs.LookUps.{found_where}
 use Rattle.pl_history.proofs.visiting.refresh_source.Goals as goal
 
 pub unwrap-requires : goal.unwrap-requires

@@ -1,9 +1,9 @@
 use Rattle.std.proofs.Common.{◌==◌, ◌∙◌, Some, ap, false, is_some, sym, true}
 use Rattle.pl_base.specs.Store.{Item}
 use Rattle.pl_base.specs.Tree.{item_row}
+use Rattle.pl_base.proofs.LookUps.{found_where}
 use Rattle.pl_marks.specs.declared.bookmarks.Dated.{Dated}
 use Rattle.pl_marks.proofs.FreshestItem.{bookmark_is, dated_by_row}
-use Rattle.pl_marks.proofs.LookUps.{found_where}
 use Rattle.pl_marks.proofs.bookmarks.dated_bookmark.Goals as goal
 
 pub returns-then-is_some : goal.returns-then-is_some

@@ -8,9 +8,9 @@ use Rattle.pl_base.specs.Store.{Store}
 use Rattle.pl_base.specs.Tags.{is_bookmarked, tag_text}
 use Rattle.pl_base.specs.View.{mark_title}
 use Rattle.pl_base.proofs.IdsLaws.{same_page}
+use Rattle.pl_base.proofs.LookUps.{found_passes, found_where}
 use Rattle.pl_link.proofs.OriginParts.{origin_by_parts}
 use Rattle.pl_marks.proofs.KeptUrls.{url-of_store}
-use Rattle.pl_marks.proofs.LookUps.{found_passes, found_where}
 use Rattle.pl_marks.proofs.PageRows.{AreTold, mark_in, right_mark, told_at}
 use Rattle.pl_marks.proofs.page_views.page_view.Goals as goal
 

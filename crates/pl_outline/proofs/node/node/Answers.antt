@@ -1,7 +1,7 @@
 use Rattle.std.proofs.Common.{◌==◌, ◌∙◌, sym}
 use Rattle.pl_base.specs.Store.{Item}
 use Rattle.pl_base.specs.Tree.{item_row}
-use Rattle.pl_marks.proofs.LookUps.{found_where}
+use Rattle.pl_base.proofs.LookUps.{found_where}
 use Rattle.pl_history.proofs.PagesTold.{page_there}
 use Rattle.pl_outline.proofs.node.node.Goals as goal
 

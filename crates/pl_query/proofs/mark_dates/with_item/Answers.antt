@@ -3,7 +3,7 @@ use Rattle.pl_base.specs.declared.item.ItemRow.{ItemRow}
 use Rattle.pl_base.specs.Rows.{Kept, store_of}
 use Rattle.pl_base.specs.Store.{Item}
 use Rattle.pl_base.specs.Tree.{item_row}
-use Rattle.pl_marks.proofs.LookUps.{found_where}
+use Rattle.pl_base.proofs.LookUps.{found_where}
 use Rattle.pl_query.proofs.MarksLatest.{dates_alike, entry_is, inside, outside}
 use Rattle.pl_query.proofs.RowsShown.{item_is}
 use Rattle.pl_query.proofs.mark_dates.with_item.Goals as goal

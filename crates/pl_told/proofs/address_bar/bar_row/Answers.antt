@@ -1,8 +1,8 @@
 use Rattle.std.proofs.Common.{◌==◌, ◌∙◌, ℤ, ap, rules, sym, w64}
 use Rattle.std.proofs.lemmas.Int.{to_z-of_z}
 use Rattle.pl_base.specs.Rows.{KeptPage, mark_of}
+use Rattle.pl_base.proofs.LookUps.{found_where}
 use Rattle.pl_told.proofs.Offered.{bar_row_with, row_told}
-use Rattle.pl_marks.proofs.LookUps.{found_where}
 use Rattle.pl_told.proofs.address_bar.bar_row.Goals as goal
 
 pub unwrap-mark-requires : goal.unwrap-mark-requires

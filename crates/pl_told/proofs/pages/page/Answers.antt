@@ -1,10 +1,10 @@
 use Rattle.std.proofs.Common.{◌==◌, ◌∙◌, ap, rules, sym, w64, ℤ}
 use Rattle.std.proofs.lemmas.Int.{to_z-of_z}
 use Rattle.pl_base.specs.Rows.{KeptPage, mark_of}
+use Rattle.pl_base.proofs.LookUps.{found_where}
 use Rattle.pl_step.specs.declared.reply.Reply.TheVariants.{Page as PageReply}
 use Rattle.pl_history.proofs.KnownPage.{has_target}
 use Rattle.pl_told.proofs.PageTold.{told}
-use Rattle.pl_marks.proofs.LookUps.{found_where}
 use Rattle.pl_history.proofs.Targets.{target_by}
 use Rattle.pl_told.proofs.pages.page.Goals as goal
 

@@ -3,8 +3,9 @@ use Rattle.std.specs.List.Sorted.{IsStrictlyIncreasing}
 use Rattle.std.proofs.lemmas.List.Filters.{dedup_is}
 use Rattle.std.proofs.lemmas.List.Sorted.{list_any-IsPermutation}
 use Rattle.pl_base.specs.declared.id.PageId.{PageId}
+use Rattle.pl_base.proofs.PageOrder.{alike, ascend_once, numbers}
 use Rattle.pl_tree.specs.LostPages.{has_lost}
-use Rattle.pl_tree.proofs.PageOrder.{alike, ascend_once, lost_once, numbers}
+use Rattle.pl_tree.proofs.PageOrder.{lost_once}
 use Rattle.pl_tree.proofs.removal.put_in_order.Goals as goal
 
 pub returns-clause-ascending : goal.returns-clause-ascending

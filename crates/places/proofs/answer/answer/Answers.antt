@@ -1,11 +1,14 @@
 use Rattle.std.proofs.Common.{Err, List, ap, option_to_list, subst, sym, ◌∙◌}
+use Rattle.std.specs.Prelude.{OnOk}
 use Rattle.std.proofs.lemmas.Result.{err_from_is_err_and}
 use Rattle.pl_desk.specs.Shown.{ShowsOnly}
 use Rattle.pl_step.specs.declared.command.Command.{Command}
 use Rattle.pl_step.specs.Parsed.{Parsed}
+use Rattle.pl_step.specs.Run.{replies}
 use Rattle.pl_store.specs.Keeper.{is_file, keeper_limit, keeper_store}
 use Rattle.pl_store.specs.KeeperLaws.{kept_keeps, still_kept}
 use Rattle.places.specs.Lines.{entries_in}
+use Rattle.places.specs.Said.{Says, texts}
 use Rattle.places.specs.Stops.{ShowsAnswer}
 use Rattle.places.proofs.AnswerLemmas.{keeps_refused, refusing, unanswered}
 use Rattle.places.proofs.answer.answer.Goals as goal
@@ -59,9 +62,16 @@ returns-in_err-refuse-in-Err-Refused-clause-shows g c first before is kept = let
     c.in-Err-Refused.refusal before is (ap option_to_list read.entry) kept (c.refuse.ensures.shows before is)
 
 -- a command
+pub returns-clause-said : goal.returns-clause-said
+returns-clause-said g c = let desk = g.D.Desk in
+    let read = rw c.in-Ok-Some.field-0-is at c.in-Ok-Some.ensures in
+    subst (λ (entries : List (Parsed Command)). OnOk c.perform-answered.result (Says (desk.said c.args.desk.now)
+    (texts (replies (keeper_limit c.args.keeper) (keeper_store c.args.keeper) entries))
+    (desk.said c.perform-answered.new.desk))) (sym (ap option_to_list read.entry)) c.perform-answered.ensures.said
+
 pub returns-clause-shows : goal.returns-clause-shows
 returns-clause-shows g c first before is kept = let desk = g.D.Desk in
     let read = rw c.in-Ok-Some.field-0-is at c.in-Ok-Some.ensures in
-    subst (λ (entries : List (Parsed Command)). ShowsOnly desk c.args.desk.now c.perform.new.desk
+    subst (λ (entries : List (Parsed Command)). ShowsOnly desk c.args.desk.now c.perform-answered.new.desk
     (ShowsAnswer desk (is_file c.args.keeper) first (keeper_limit c.args.keeper) (keeper_store c.args.keeper) entries
-    before)) (sym (ap option_to_list read.entry)) (c.perform.ensures.shows first before is kept)
+    before)) (sym (ap option_to_list read.entry)) (c.perform-answered.ensures.shows first before is kept)

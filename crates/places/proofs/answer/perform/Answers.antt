@@ -22,44 +22,46 @@ returns-in_err-ready-clause-shows g c first before is kept = let desk = g.D.Desk
 -- the step that was taken is the command's
 pub returns-clause-store : goal.returns-clause-store
 returns-clause-store g c = let keeper = c.args.keeper in let ready = c.in_ok-ready.ready in
-    IfOk-weaker c.conclude.result (λ next. keeper_store next ≡ ready_store ready)
+    IfOk-weaker c.conclude-concluded.result (λ next. keeper_store next ≡ ready_store ready)
     (λ next. keeper_store next ≡ after (keeper_limit keeper) (keeper_store keeper) (Ok c.args.command.now ∷ []))
     (λ next is. is ∙ after_command (keeper_limit keeper) (keeper_store keeper) (ready_store ready) c.args.command.now
-    c.in_ok-ready.reply c.in_ok-ready.ensures.step) c.conclude.ensures.store
+    c.in_ok-ready.reply c.in_ok-ready.ensures.step) c.conclude-concluded.ensures.store
 
 pub returns-clause-kind : goal.returns-clause-kind
 returns-clause-kind g c = let keeper = c.args.keeper in
-    IfOk-weaker c.conclude.result _ (λ next. is_file next ≡ is_file keeper)
-    (λ next is. is keeper c.in_ok-ready.ensures.from) c.conclude.ensures.kind
+    IfOk-weaker c.conclude-concluded.result _ (λ next. is_file next ≡ is_file keeper)
+    (λ next is. is keeper c.in_ok-ready.ensures.from) c.conclude-concluded.ensures.kind
 
 pub returns-clause-kept : goal.returns-clause-kept
 returns-clause-kept g c = let keeper = c.args.keeper in
-    IfOk-weaker c.conclude.result _ _ (λ next is. is keeper c.in_ok-ready.ensures.from) c.conclude.ensures.kept
+    IfOk-weaker c.conclude-concluded.result _ _ (λ next is. is keeper c.in_ok-ready.ensures.from)
+    c.conclude-concluded.ensures.kept
 
 pub returns-clause-said : goal.returns-clause-said
 returns-clause-said g c = let keeper = c.args.keeper in let desk = g.D.Desk in
-    on_ok_weaker c.conclude.result (λ says. rw (text_of_command (keeper_limit keeper) (keeper_store keeper)
+    on_ok_weaker c.conclude-concluded.result (λ says. rw (text_of_command (keeper_limit keeper) (keeper_store keeper)
     (ready_store c.in_ok-ready.ready) c.args.command.now c.in_ok-ready.reply c.in_ok-ready.ensures.step) says)
-    c.conclude.ensures.said
+    c.conclude-concluded.ensures.said
 
 pub returns-clause-stopped : goal.returns-clause-stopped
 returns-clause-stopped g c = let keeper = c.args.keeper in let desk = g.D.Desk in
     rw (← replies_of_command (keeper_limit keeper) (keeper_store keeper) (ready_store c.in_ok-ready.ready)
-    c.args.command.now c.in_ok-ready.reply c.in_ok-ready.ensures.step) c.conclude.ensures.stopped
+    c.args.command.now c.in_ok-ready.reply c.in_ok-ready.ensures.step) c.conclude-concluded.ensures.stopped
 
 pub returns-clause-left : goal.returns-clause-left
 returns-clause-left g c = let keeper = c.args.keeper in let desk = g.D.Desk in
-    IfErr-weaker c.conclude.result _ _ (λ error left first kept.
-    subst (λ (s : Store). LeavesOfAnswer desk error (is_file keeper) first (keeper_store keeper) s c.conclude.new.desk)
+    IfErr-weaker c.conclude-concluded.result _ _ (λ error left first kept.
+    subst (λ (s : Store).
+    LeavesOfAnswer desk error (is_file keeper) first (keeper_store keeper) s c.conclude-concluded.new.desk)
     (after_command (keeper_limit keeper) (keeper_store keeper) (ready_store c.in_ok-ready.ready) c.args.command.now
     c.in_ok-ready.reply c.in_ok-ready.ensures.step)
-    (left keeper first c.in_ok-ready.ensures.from kept)) c.conclude.ensures.left
+    (left keeper first c.in_ok-ready.ensures.from kept)) c.conclude-concluded.ensures.left
 
 pub returns-clause-shows : goal.returns-clause-shows
 returns-clause-shows g c first before is kept = let keeper = c.args.keeper in let desk = g.D.Desk in
-    performing desk c.args.desk.now c.conclude.new.desk first keeper (keeper_limit keeper) c.args.command.now
+    performing desk c.args.desk.now c.conclude-concluded.new.desk first keeper (keeper_limit keeper) c.args.command.now
     c.in_ok-ready.reply (ready_store c.in_ok-ready.ready) before c.in_ok-ready.ensures.step
-    (c.conclude.ensures.shows keeper first before c.in_ok-ready.ensures.from is kept)
+    (c.conclude-concluded.ensures.shows keeper first before c.in_ok-ready.ensures.from is kept)
 
 pub returns-clause-alone : goal.returns-clause-alone
-returns-clause-alone g c memory = c.conclude.ensures.alone c.args.keeper c.in_ok-ready.ensures.from memory
+returns-clause-alone g c memory = c.conclude-concluded.ensures.alone c.args.keeper c.in_ok-ready.ensures.from memory

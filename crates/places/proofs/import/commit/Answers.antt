@@ -33,57 +33,61 @@ returns-in-Refused-clause-shows g c bytes before first imports begun kept =
     kept
 
 -- the answer failed
-pub returns-in_err-conclude-clause-ends : goal.returns-in_err-conclude-clause-ends
-returns-in_err-conclude-clause-ends g c =
-    let p = err_from_is_err_and c.from_residual-in_err-conclude.result c.from_residual-in_err-conclude.ensures.1 in
+pub returns-in_err-concluded-clause-ends : goal.returns-in_err-concluded-clause-ends
+returns-in_err-concluded-clause-ends g c =
+    let p = err_from_is_err_and c.from_residual-in_err-concluded.result c.from_residual-in_err-concluded.ensures.1 in
     rw (p.1, p.2) (λ bytes before first imports begun kept.
-    ends_failed g.D.Desk c.args.keeper c.args.command.now bytes before first c.args.desk.now c.conclude.new.desk
+    ends_failed g.D.Desk c.args.keeper c.args.command.now bytes before first c.args.desk.now
+    c.conclude-concluded.new.desk
     c.in_ok-ready.reply (ready_store c.in_ok-ready.ready) c.requires.limit c.requires.file imports begun
-    c.in_ok-ready.ensures.step c.in_err-conclude.field-0.0 (not_refused c.in_ok-ready.reply c.in_default.not-Refused)
-    c.in_err-conclude.ensures.stopped
-    (c.in_err-conclude.ensures.left c.args.keeper first c.in_ok-ready.ensures.from kept))
+    c.in_ok-ready.ensures.step c.in_err-concluded.field-0.0 (not_refused c.in_ok-ready.reply c.in_default.not-Refused)
+    c.in_err-concluded.ensures.stopped
+    (c.in_err-concluded.ensures.left c.args.keeper first c.in_ok-ready.ensures.from kept))
 
-pub returns-in_err-conclude-clause-shows : goal.returns-in_err-conclude-clause-shows
-returns-in_err-conclude-clause-shows g c bytes before first imports begun kept =
-    shows_taking g.D.Desk c.args.keeper c.args.command.now bytes before first c.args.desk.now c.conclude.new.desk
+pub returns-in_err-concluded-clause-shows : goal.returns-in_err-concluded-clause-shows
+returns-in_err-concluded-clause-shows g c bytes before first imports begun kept =
+    shows_taking g.D.Desk c.args.keeper c.args.command.now bytes before first c.args.desk.now
+    c.conclude-concluded.new.desk
     c.in_ok-ready.reply (ready_store c.in_ok-ready.ready) c.requires.limit c.requires.file imports begun
     c.in_ok-ready.ensures.step (not_refused c.in_ok-ready.reply c.in_default.not-Refused)
-    (c.conclude.ensures.shows c.args.keeper first before c.in_ok-ready.ensures.from begun kept)
+    (c.conclude-concluded.ensures.shows c.args.keeper first before c.in_ok-ready.ensures.from begun kept)
 
-pub returns-in_err-conclude-clause-stops : goal.returns-in_err-conclude-clause-stops
-returns-in_err-conclude-clause-stops g c =
-    let p = err_from_is_err_and c.from_residual-in_err-conclude.result c.from_residual-in_err-conclude.ensures.1 in
-    rw (p.1, p.2) (answer_stops c.in_err-conclude.field-0.0)
+pub returns-in_err-concluded-clause-stops : goal.returns-in_err-concluded-clause-stops
+returns-in_err-concluded-clause-stops g c =
+    let p = err_from_is_err_and c.from_residual-in_err-concluded.result c.from_residual-in_err-concluded.ensures.1 in
+    rw (p.1, p.2) (answer_stops c.in_err-concluded.field-0.0)
 
-pub returns-in_err-conclude-clause-says_counted : goal.returns-in_err-conclude-clause-says_counted
-returns-in_err-conclude-clause-says_counted g c = let desk = g.D.Desk in
-    let p = err_from_is_err_and c.from_residual-in_err-conclude.result c.from_residual-in_err-conclude.ensures.1 in
-    rw (p.1, p.2) (says_as c.in_err-conclude.field-0.0 (desk.line_faults c.args.desk.now)
-    (desk.line_faults c.conclude.new.desk) c.in_err-conclude.ensures.says_counted)
+pub returns-in_err-concluded-clause-says_counted : goal.returns-in_err-concluded-clause-says_counted
+returns-in_err-concluded-clause-says_counted g c = let desk = g.D.Desk in
+    let p = err_from_is_err_and c.from_residual-in_err-concluded.result c.from_residual-in_err-concluded.ensures.1 in
+    rw (p.1, p.2) (says_as c.in_err-concluded.field-0.0 (desk.line_faults c.args.desk.now)
+    (desk.line_faults c.conclude-concluded.new.desk) c.in_err-concluded.ensures.says_counted)
 
-pub returns-in_err-conclude-clause-device_counted : goal.returns-in_err-conclude-clause-device_counted
-returns-in_err-conclude-clause-device_counted g c = let desk = g.D.Desk in
-    let p = err_from_is_err_and c.from_residual-in_err-conclude.result c.from_residual-in_err-conclude.ensures.1 in
-    rw (p.1, p.2) (device_as c.in_err-conclude.field-0.0 (desk.device_faults c.args.desk.now)
-    (desk.device_faults c.conclude.new.desk) c.in_err-conclude.ensures.device_counted)
+pub returns-in_err-concluded-clause-device_counted : goal.returns-in_err-concluded-clause-device_counted
+returns-in_err-concluded-clause-device_counted g c = let desk = g.D.Desk in
+    let p = err_from_is_err_and c.from_residual-in_err-concluded.result c.from_residual-in_err-concluded.ensures.1 in
+    rw (p.1, p.2) (device_as c.in_err-concluded.field-0.0 (desk.device_faults c.args.desk.now)
+    (desk.device_faults c.conclude-concluded.new.desk) c.in_err-concluded.ensures.device_counted)
 
 -- the reply was said
 pub returns-clause-ends : goal.returns-clause-ends
 returns-clause-ends g c bytes before first imports begun kept = let desk = g.D.Desk in
-    let next = c.in_ok-conclude.field-0 in
-    ends_said desk c.args.keeper c.args.command.now bytes before first c.args.desk.now c.conclude.new.desk
+    let next = c.in_ok-concluded.field-0 in
+    ends_said desk c.args.keeper c.args.command.now bytes before first c.args.desk.now c.conclude-concluded.new.desk
     c.in_ok-ready.reply (ready_store c.in_ok-ready.ready) c.requires.limit c.requires.file imports begun
     c.in_ok-ready.ensures.step (not_refused c.in_ok-ready.reply c.in_default.not-Refused)
-    c.in_ok-conclude.ensures.said
+    c.in_ok-concluded.ensures.said
     (keeps_as desk (is_file next) true first (keeper_store next) (ready_store c.in_ok-ready.ready)
-    c.conclude.new.desk (c.in_ok-conclude.ensures.kind c.args.keeper c.in_ok-ready.ensures.from ∙ c.requires.file)
-    c.in_ok-conclude.ensures.store
-    (kept_keeps desk next first c.conclude.new.desk
-    (c.in_ok-conclude.ensures.kept c.args.keeper c.in_ok-ready.ensures.from first kept)))
+    c.conclude-concluded.new.desk
+    (c.in_ok-concluded.ensures.kind c.args.keeper c.in_ok-ready.ensures.from ∙ c.requires.file)
+    c.in_ok-concluded.ensures.store
+    (kept_keeps desk next first c.conclude-concluded.new.desk
+    (c.in_ok-concluded.ensures.kept c.args.keeper c.in_ok-ready.ensures.from first kept)))
 
 pub returns-clause-shows : goal.returns-clause-shows
 returns-clause-shows g c bytes before first imports begun kept =
-    shows_taking g.D.Desk c.args.keeper c.args.command.now bytes before first c.args.desk.now c.conclude.new.desk
+    shows_taking g.D.Desk c.args.keeper c.args.command.now bytes before first c.args.desk.now
+    c.conclude-concluded.new.desk
     c.in_ok-ready.reply (ready_store c.in_ok-ready.ready) c.requires.limit c.requires.file imports begun
     c.in_ok-ready.ensures.step (not_refused c.in_ok-ready.reply c.in_default.not-Refused)
-    (c.conclude.ensures.shows c.args.keeper first before c.in_ok-ready.ensures.from begun kept)
+    (c.conclude-concluded.ensures.shows c.args.keeper first before c.in_ok-ready.ensures.from begun kept)

@@ -38,7 +38,7 @@ returns-in_err-tree-clause-shows g c bytes before told begun first kept =
 pub returns-clause-ends : goal.returns-clause-ends
 returns-clause-ends g c bytes before told begun first kept =
     let whole = c.in_ok-bytes.ensures.whole bytes told in
-    rw whole.1 (c.commit.ensures.ends bytes before first
+    rw whole.1 (c.commit-committed.ensures.ends bytes before first
     (imports_tree c.in_ok-tree.tree c.in_ok-bytes.bytes.items bytes whole.0
     (rw c.deref.ensures.value at c.in_ok-tree.ensures.tree) (rw c.deref.ensures.value at c.in_ok-tree.ensures.bookmarks)
     c.in_ok-bytes.ensures.short) begun kept)
@@ -46,12 +46,13 @@ returns-clause-ends g c bytes before told begun first kept =
 pub returns-clause-shows : goal.returns-clause-shows
 returns-clause-shows g c bytes before told begun first kept =
     let whole = c.in_ok-bytes.ensures.whole bytes told in
-    c.commit.ensures.shows bytes before first
+    c.commit-committed.ensures.shows bytes before first
     (imports_tree c.in_ok-tree.tree c.in_ok-bytes.bytes.items bytes whole.0
     (rw c.deref.ensures.value at c.in_ok-tree.ensures.tree) (rw c.deref.ensures.value at c.in_ok-tree.ensures.bookmarks)
     c.in_ok-bytes.ensures.short) begun kept
 
 pub returns-clause-reads_counted : goal.returns-clause-reads_counted
 returns-clause-reads_counted g c = let faults = g.S.Source.faults in
-    stood (faults c.args.input.now) (faults c.read_all.new.input) (reads_none c.commit.result c.commit.ensures.stops)
+    stood (faults c.args.input.now) (faults c.read_all.new.input)
+    (reads_none c.commit-committed.result c.commit-committed.ensures.stops)
     (c.in_ok-bytes.ensures.counted.stands (λ same. absurd (cc)))

@@ -1,7 +1,7 @@
 use Rattle.std.proofs.Common.{◌==◌}
 use Rattle.pl_base.specs.Rows.{row_of}
 use Rattle.pl_base.specs.Store.{Visit}
-use Rattle.pl_marks.proofs.LookUps.{found_where}
+use Rattle.pl_base.proofs.LookUps.{found_where}
 use Rattle.pl_conditions.proofs.conditions.visits.has_transition.Goals as goal
 
 pub unwrap-row-requires : goal.unwrap-row-requires

@@ -1,6 +1,6 @@
 use Rattle.std.proofs.Common.{◌==◌, ◌∙◌, ap, not, sym}
 use Rattle.pl_base.specs.Rows.{KeptPage, mark_of}
-use Rattle.pl_marks.proofs.LookUps.{found_where}
+use Rattle.pl_base.proofs.LookUps.{found_where}
 use Rattle.pl_conditions.proofs.MarkLaws.{hidden_at}
 use Rattle.pl_conditions.proofs.conditions.visits.is_listed.Goals as goal
 

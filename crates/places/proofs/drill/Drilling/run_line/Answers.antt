@@ -67,11 +67,12 @@ module _ (g : Over) (c : After-drop-text-2 g) where
 
 pub returns-clause-left : goal.returns-clause-left
 returns-clause-left g c = let desk = g.D.Desk in let store = keeper_store c.args.self.keeper in
-    IfErr-weaker c.perform.result _ _ (λ error left first kept.
-    subst (λ (next : Store). LeavesOfAnswer desk error true first store next c.perform.new.desk)
-    (stepped g c) (left first kept)) c.perform.ensures.left
+    IfErr-weaker c.perform-performed.result _ _ (λ error left first kept.
+    subst (λ (next : Store). LeavesOfAnswer desk error true first store next c.perform-performed.new.desk)
+    (stepped g c) (left first kept)) c.perform-performed.ensures.left
 
 pub returns-clause-any_moment : goal.returns-clause-any_moment
 returns-clause-any_moment g c first before is kept = let store = keeper_store c.args.self.keeper in
-    subst (λ (next : Store). AtAnyMoment g.D.Desk c.args.desk.now c.perform.new.desk (StandsForEither store next))
-    (stepped g c) (c.perform.ensures.any_moment first before is kept)
+    subst (λ (next : Store).
+    AtAnyMoment g.D.Desk c.args.desk.now c.perform-performed.new.desk (StandsForEither store next))
+    (stepped g c) (c.perform-performed.ensures.any_moment first before is kept)

@@ -1,6 +1,6 @@
 -- Each child of a tree has one parent.
 use Rattle.std.proofs.Common.{◌≡◌, ◌≢◌, ◌∙◌, ◌++◌, ◌==◌, ◌||◌, ℕ, Bool, true, false, List, [], ◌∷◌, Option, Some, None}
-use Rattle.std.proofs.Common.{ap, arith, find, if◌then◌else◌, refl, subst, suc, sym}
+use Rattle.std.proofs.Common.{ap, arith, find, refl, suc, sym}
 use Rattle.std.specs.List.{AllByRecursion, AllPairs, list_any}
 use Rattle.std.specs.Option.{option_map}
 use Rattle.std.proofs.lemmas.Bool.{eqb-true, false_from_ne_true}
@@ -11,49 +11,10 @@ use Rattle.pl_base.specs.Good.{IsTree, child_ids}
 use Rattle.pl_base.specs.Store.{Item, item_id}
 use Rattle.pl_base.specs.Tree.{has_child, parent_of}
 use Rattle.pl_base.proofs.ListLaws.{weaker}
+use Rattle.pl_base.proofs.LookUps.{found_some}
 
 pub same_item : (a b : ItemId) → (a.0 == b.0) ≡ true → a ≡ b
 same_item a b h = ap (λ (n : ℕ). record { 0 = n }) (eqb-true a.0 b.0 h)
-
--- what holds of each, where two things do
-pub both : {X : Type 0} (P Q R : X → Type 0) (xs : List X) → ((x : X) → P x → Q x → R x) → AllByRecursion P xs
-    → AllByRecursion Q xs → AllByRecursion R xs
-both P Q R [] join ps qs = tt
-both P Q R (x ∷ xs) join ps qs = (join x ps.0 qs.0, both P Q R xs join ps.1 qs.1)
-
--- ---- what is found
-
-pub found_holds : {X : Type 0} (P : X → Type 0) (test : X → Bool) (xs : List X) (x : X) → AllByRecursion P xs
-    → find test xs ≡ Some x → P x
-found_holds P test [] x all found = absurd (cc)
-found_holds P test (y ∷ ys) x all found = choose (test y) found (found_holds P test ys x all.1)
-  where
-    choose : (b : Bool) → (if b then Some y else find test ys) ≡ Some x → (find test ys ≡ Some x → P x) → P x
-    choose true here rest =
-        let same : y ≡ x = cc in
-        subst P same all.0
-    choose false here rest = rest here
-
-pub found_passes : {X : Type 0} (test : X → Bool) (xs : List X) (x : X) → find test xs ≡ Some x → test x ≡ true
-found_passes test [] x found = absurd (cc)
-found_passes test (y ∷ ys) x found = choose (test y) refl found (found_passes test ys x)
-  where
-    choose : (b : Bool) → test y ≡ b → (if b then Some y else find test ys) ≡ Some x
-        → (find test ys ≡ Some x → test x ≡ true) → test x ≡ true
-    choose true is here rest =
-        let same : y ≡ x = cc in
-        subst (λ z. test z ≡ true) same is
-    choose false is here rest = rest here
-
--- where one is found, one passes
-pub found_some : {X : Type 0} (test : X → Bool) (xs : List X) (x : X) → find test xs ≡ Some x → list_any test xs ≡ true
-found_some test [] x found = absurd (cc)
-found_some test (y ∷ ys) x found = choose (test y) found (found_some test ys x)
-  where
-    choose : (b : Bool) → (if b then Some y else find test ys) ≡ Some x
-        → (find test ys ≡ Some x → list_any test ys ≡ true) → (b || list_any test ys) ≡ true
-    choose true here rest = refl
-    choose false here rest = rest here
 
 -- ---- ids that stand once
 

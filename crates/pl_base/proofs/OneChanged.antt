@@ -1,0 +1,45 @@
+-- A sum over a list in which one element is changed.
+use Rattle.std.proofs.Common.{◌≡◌, ◌+◌, ℕ, All, Bool, true, false, List, [], ◌∷◌, Some, ap, arith}
+use Rattle.std.proofs.Common.{find, if◌then◌else◌, map, refl, suc}
+use Rattle.std.specs.List.{AllPairs, sum_by}
+use Rattle.std.proofs.lemmas.List.Elements.{All-head, All-tail}
+use Rattle.std.proofs.lemmas.List.Sums.{sum_by-cons}
+
+map-none : {X : Type 0} (q : X → Bool) (f : X → X) (xs : List X) → All (λ x. q x ≡ false) xs
+    → map (λ x. if q x then f x else x) xs ≡ xs
+map-none q f [] none = refl
+map-none q f (x ∷ xs) none =
+    rw (All-head (λ y. q y ≡ false) x xs none, map-none q f xs (All-tail (λ y. q y ≡ false) x xs none)) refl
+
+-- a sum in which the only element that passes a test is changed
+pub sum_changed : {X : Type 0} (q : X → Bool) (f : X → X) (n : X → ℕ) (xs : List X) (x : X)
+    → AllPairs (λ a b. q a ≡ true → q b ≡ false) xs → find q xs ≡ Some x
+    → sum_by n (map (λ y. if q y then f y else y) xs) + n x ≡ sum_by n xs + n (f x)
+sum_changed q f n [] x once found = absurd (cc)
+sum_changed {X} q f n (y ∷ ys) x once found =
+    choose (q y) refl found
+    (sum_changed q f n ys x (λ i j d before within. once (suc i) (suc j) d (omega arith) (omega arith)))
+  where
+    choose : (b : Bool) → q y ≡ b → (if b then Some y else find q ys) ≡ Some x
+        → (find q ys ≡ Some x → sum_by n (map (λ z. if q z then f z else z) ys) + n x ≡ sum_by n ys + n (f x))
+        → sum_by n ((if b then f y else y) ∷ map (λ z. if q z then f z else z) ys) + n x
+        ≡ sum_by n (y ∷ ys) + n (f x)
+    choose true passes here rest =
+        let same : y ≡ x = cc in
+        let others : map (λ z. if q z then f z else z) ys ≡ ys =
+        map-none q f ys (λ k d within. once 0 (suc k) d (omega arith) (omega arith) passes) in
+        omega (
+          arith,
+          sum_by-cons n (f y) (map (λ z. if q z then f z else z) ys),
+          sum_by-cons n y ys,
+          ap (sum_by n) others,
+          ap n same,
+          ap (λ z. n (f z)) same,
+        )
+    choose false fails here rest =
+        omega (
+          arith,
+          sum_by-cons n y (map (λ z. if q z then f z else z) ys),
+          sum_by-cons n y ys,
+          rest here,
+        )
