@@ -1,12 +1,11 @@
 -- What a title makes of the rows: the step's store, and marks that stay right.
 use Rattle.std.proofs.Common.{◌≡◌, ◌≢◌, ◌≤◌, ◌==◌, ◌++◌, ◌∙◌, if◌then◌else◌, ℕ, All, Bool, true, false, IsTrue}
-use Rattle.std.proofs.Common.{List, [], ◌∷◌, Option, Some, ap, arith, bytes_eq, eq-eqb, get_or, length, map, refl}
+use Rattle.std.proofs.Common.{List, [], ◌∷◌, ap, arith, bytes_eq, eq-eqb, get_or, length, map, refl}
 use Rattle.std.proofs.Common.{leb, slice_index, subst, suc, sym, take, zero}
 use Rattle.std.specs.Fmt.{is_char_start}
 use Rattle.std.specs.Fmt.Cut.{floor_char_boundary}
 use Rattle.std.specs.Cmp.{both_ways}
 use Rattle.std.specs.List.{AllByRecursion, AllPairs}
-use Rattle.std.specs.Option.{option_map}
 use Rattle.std.proofs.lemmas.Bool.{cond_both}
 use Rattle.std.proofs.lemmas.Bool.Decides.{nat_tests}
 use Rattle.std.proofs.lemmas.List.{length-take}
@@ -23,7 +22,6 @@ use Rattle.pl_history.specs.declared.find.Target.TheVariants.{Known}
 use Rattle.pl_history.specs.Sound.{AreStanding, IsSound, IsTypedRight}
 use Rattle.pl_base.specs.Removal.{is_standing}
 use Rattle.pl_step.specs.Step.{after_title, title_page}
-use Rattle.pl_base.specs.Visiting.{find_page}
 use Rattle.pl_history.specs.Target.{IsTargetOf}
 use Rattle.pl_history.proofs.GoodRows.{good_of, items_of, items_still, standing_of}
 use Rattle.pl_history.proofs.KnownPage.{IsKnown, known, only_known}

@@ -10,4 +10,5 @@ use Rattle.pl_outline.specs.declared.tags.KnownTags.{KnownTags}
 -- the tags of each page that was asked for are those of the store
 abbrev pub KnowsTags : Store → KnownTags → Type 0
 KnowsTags store known =
-    (page : PageId) → IfSome (get nat_cmp known.by_page page.0) (λ tags. tags ≡ page_tags store page)
+    (page : PageId) → IfSome (get nat_cmp known.by_page page.0)
+    (λ tags. tags ≡ page_tags store page)

@@ -1,4 +1,5 @@
-// The answer to one line.
+// The answer to one line. A command and a reply are dropped by name, here and in an import and a
+// drill, which is cheaper to prove than that they go at a function's end.
 ghost use Rattle.std.specs.Prelude.{◌≡◌, ℕ, List, [], ◌∷◌, Some, Ok, Err, false, IfOk, IfErr, OnOk};
 ghost use Rattle.pl_desk.specs.Shown.{ShowsOnly};
 ghost use Rattle.pl_desk.specs.Counts.{CountsAt};
