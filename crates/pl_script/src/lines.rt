@@ -3,7 +3,8 @@ ghost use Rattle.std.specs.Prelude.{◌≡◌, IfOk, IfSome, IsErrOf};
 ghost use Rattle.pl_step.specs.Commands.{HasDates};
 ghost use Rattle.pl_base.specs.Date.{IsDate, IsDay};
 ghost use Rattle.pl_script.specs.DayText as days;
-ghost use Rattle.pl_script.specs.LineError.{BecomesLineError, MayHaveTexts, ReadsAs, ReadsEntry};
+ghost use Rattle.pl_script.specs.LineError.{BecomesLineError, HasTexts, MayHaveTexts};
+ghost use Rattle.pl_script.specs.LineError.{ReadsAs, ReadsEntry};
 ghost use Rattle.pl_script.specs.LineError.{QueryBecomesLineError, ReadsInPlace};
 ghost use Rattle.pl_script.specs.LineError.{TagBecomesLineError};
 ghost use Rattle.pl_script.specs.Script as spec;
@@ -104,7 +105,17 @@ fn command_line(alloc: Global, bytes: &[u8]) -> Result<Command, LineError>
         return Err(LineError::Refused(Refusal::BadLine(BEHIND_LONGEST_LINE)));
     }
     let mut fields = Fields::new(bytes);
-    match fields.word()? {
+    let word = fields.word()?;
+    line_of(alloc, word, fields)
+}
+
+// The command of a line that begins with the word, from its other fields.
+fn line_of(alloc: Global, word: Word, fields: Fields<'_>) -> Result<Command, LineError>
+    ensures command { ReadsAs (λ command. command) result (spec.line_of word fields.entry) }
+    ensures dates { IfOk result HasDates }
+    ensures no_memory { IsErrOf result LineError.NoMemory → HasTexts word }
+{
+    match word {
         Word::Day => day_line(fields),
         Word::Visit => visit_line(alloc, fields),
         Word::Title => title_line(alloc, fields),

@@ -184,25 +184,33 @@ fn refusal_text(alloc: Global, refusal: &Refusal) -> Result<String, NoMemory>
         ≡ spec.line_text (spec.reply_fields (Reply.Refused refusal.now))) }
 {
     let number = refusal.number();
-    Ok(match refusal {
-        Refusal::NoVisit(id) => format!(in alloc; "refused\t{number}\t{}\n", id.0)?,
-        Refusal::DayBack(kept) => format!(in alloc; "refused\t{number}\t{}\n", kept.0)?,
+    match refusal {
+        Refusal::NoVisit(id) => refused_for(alloc, number, u64::from(id.0)),
+        Refusal::DayBack(kept) => refused_for(alloc, number, u64::from(kept.0)),
         Refusal::NoItem(id) | Refusal::NotAFolder(id) | Refusal::Fixed(id) | Refusal::Inside(id) =>
-            format!(in alloc; "refused\t{number}\t{}\n", id.0)?,
+            refused_for(alloc, number, u64::from(id.0)),
         Refusal::BadPlace(position, length) => {
-            format!(in alloc; "refused\t{number}\t{position}\t{length}\n")?
+            Ok(format!(in alloc; "refused\t{number}\t{position}\t{length}\n")?)
         }
-        Refusal::NoIds(kind) => format!(in alloc; "refused\t{number}\t{}\n", kind.number())?,
-        Refusal::BadQuery(piece) => format!(in alloc; "refused\t{number}\t{piece}\n")?,
-        Refusal::TooMany(rows) => format!(in alloc; "refused\t{number}\t{rows}\n")?,
-        Refusal::Full(slots) => format!(in alloc; "refused\t{number}\t{slots}\n")?,
-        Refusal::BadLine(column) => format!(in alloc; "refused\t{number}\t{column}\n")?,
+        Refusal::NoIds(kind) => refused_for(alloc, number, u64::from(kind.number())),
+        Refusal::BadQuery(piece) => refused_for(alloc, number, *piece),
+        Refusal::TooMany(rows) => refused_for(alloc, number, *rows),
+        Refusal::Full(slots) => refused_for(alloc, number, *slots),
+        Refusal::BadLine(column) => refused_for(alloc, number, u64::from(*column)),
         Refusal::BadUrl
         | Refusal::NotRecorded
         | Refusal::NoPage
         | Refusal::DupTag
         | Refusal::BadDate
         | Refusal::BadTag
-        | Refusal::NoTag => format!(in alloc; "refused\t{number}\n")?,
-    })
+        | Refusal::NoTag => Ok(format!(in alloc; "refused\t{number}\n")?),
+    }
+}
+
+// The line of a refusal that tells one value.
+fn refused_for(alloc: Global, number: u8, value: u64) -> Result<String, NoMemory>
+    ensures { IfOk result (λ text. string_bytes text
+        ≡ spec.line_text (codes "refused" ∷ decimal number ∷ decimal value ∷ [])) }
+{
+    Ok(format!(in alloc; "refused\t{number}\t{value}\n")?)
 }
