@@ -196,3 +196,16 @@ pub fn touched_bytes<L: Ledger>(
     let change = flat.touched(steps)?;
     file_of(rt, alloc, &change)
 }
+
+/// A change that touches all pages leaves the file that the store was read from.
+pub fn check_same_file<L: Ledger>(
+    rt: &impl Abort,
+    alloc: Global,
+    flat: &mut Flat,
+    bytes: &[u8],
+    steps: &mut Steps<L>,
+) -> Result<(), NoMemory> {
+    let again = touched_bytes(rt, alloc, flat, steps)?;
+    assert!(rt; again.as_slice() == bytes);
+    Ok(())
+}

@@ -1,7 +1,7 @@
 // Trees of many items: wide, deep, and all in one folder with one page.
 ghost use Rattle.std.specs.Prelude.{◌≡◌, ◌<◌};
 
-use crate::items::{insert, move_item, remove, set, set_modified, touched_bytes};
+use crate::items::{check_same_file, insert, move_item, remove, set, set_modified};
 use crate::tree_file::{BOOKMARK, FOLDER, Item, file};
 use pl_base::{ItemId, ItemKind, ItemRow, Micros, NoMemory, PageId, Rows, Steps};
 use pl_plain::Flat;
@@ -16,6 +16,9 @@ const COUNT: u32 = 10_000;
 
 // The last of them.
 const LAST_ITEM: u32 = 7 + COUNT;
+
+// The ids that the next page, visit and item get.
+const NEXT_IDS: [u32; 3] = [2, 1, LAST_ITEM + 1];
 
 // One page, which has no visit and counts 140, and no page.
 const ONE_PAGE: &[u8; 47] = b"\x01\0\0\0\
@@ -167,14 +170,25 @@ fn keep_wide<L: Ledger>(
     check_width(rt, &flat, steps);
     move_there_and_back(rt, &mut flat, steps)?;
     check_width(rt, &flat, steps);
-    let again = touched_bytes(rt, alloc, &mut flat, steps)?;
-    assert!(rt; again.as_slice() == bytes);
+    check_same_file(rt, alloc, &mut flat, bytes, steps)?;
     come_and_go(rt, &mut flat, ItemId(7), steps)?;
     check_width(rt, &flat, steps);
     Ok(flat)
 }
 
 // The middle of the chain goes into another root, with all below it, and back.
+fn move_middle<L: Ledger>(
+    rt: &impl Abort,
+    flat: &mut Flat,
+    steps: &mut Steps<L>,
+) -> Result<(), Fail> {
+    let (above, middle) = (ItemId(7 + COUNT / 2), ItemId(8 + COUNT / 2));
+    move_item(rt, flat, middle, ItemId(5), None, steps)?;
+    assert_eq!(rt; flat.first_child(above, steps), None);
+    assert_eq!(rt; flat.first_child(ItemId(5), steps), Some(middle));
+    move_item(rt, flat, middle, above, None, steps)
+}
+
 fn keep_deep<L: Ledger>(
     rt: &impl Abort,
     alloc: Global,
@@ -182,17 +196,34 @@ fn keep_deep<L: Ledger>(
     steps: &mut Steps<L>,
 ) -> Result<(), Fail> {
     let mut flat = Flat::check(alloc, bytes)?;
-    let (above, middle) = (ItemId(7 + COUNT / 2), ItemId(8 + COUNT / 2));
-    move_item(rt, &mut flat, middle, ItemId(5), None, steps)?;
-    assert_eq!(rt; flat.first_child(above, steps), None);
-    assert_eq!(rt; flat.first_child(ItemId(5), steps), Some(middle));
-    move_item(rt, &mut flat, middle, above, None, steps)?;
+    move_middle(rt, &mut flat, steps)?;
     check_depth(rt, &flat, steps);
-    let again = touched_bytes(rt, alloc, &mut flat, steps)?;
-    assert!(rt; again.as_slice() == bytes);
+    check_same_file(rt, alloc, &mut flat, bytes, steps)?;
     come_and_go(rt, &mut flat, ItemId(LAST_ITEM), steps)?;
     check_depth(rt, &flat, steps);
     Ok(())
+}
+
+// The file in which folder 7 holds all others, which are of this kind and have this page.
+fn keep_file<L: Ledger>(
+    rt: &impl Abort,
+    alloc: Global,
+    rows: &[u8],
+    kind: u8,
+    page: u32,
+    steps: &mut Steps<L>,
+) -> Result<Flat, Fail> {
+    let ids = ids(alloc)?;
+    let items = wide(alloc, &ids, kind, page)?;
+    let bytes = file(rt, alloc, NEXT_IDS, rows, &items)?;
+    keep_wide(rt, alloc, &bytes, steps)
+}
+
+fn keep_chain<L: Ledger>(rt: &impl Abort, alloc: Global, steps: &mut Steps<L>) -> Result<(), Fail> {
+    let ids = ids(alloc)?;
+    let items = deep(alloc, &ids)?;
+    let bytes = file(rt, alloc, NEXT_IDS, NO_PAGES, &items)?;
+    keep_deep(rt, alloc, &bytes, steps)
 }
 
 fn keep_trees<L: Ledger>(rt: &impl Abort, alloc: Global, blank: Blank) -> Result<(), Fail>
@@ -201,15 +232,10 @@ fn keep_trees<L: Ledger>(rt: &impl Abort, alloc: Global, blank: Blank) -> Result
     requires some { 0 < blank.parts }
 {
     let steps = &mut Steps::<L>::none(blank);
-    let ids = ids(alloc)?;
-    let next = [2, 1, LAST_ITEM + 1];
-    let folders = file(rt, alloc, next, NO_PAGES, &wide(alloc, &ids, FOLDER, 0)?)?;
-    keep_wide(rt, alloc, &folders, steps)?;
-    let bookmarks = file(rt, alloc, next, ONE_PAGE, &wide(alloc, &ids, BOOKMARK, 1)?)?;
-    let flat = keep_wide(rt, alloc, &bookmarks, steps)?;
+    keep_file(rt, alloc, NO_PAGES, FOLDER, 0, steps)?;
+    let flat = keep_file(rt, alloc, ONE_PAGE, BOOKMARK, 1, steps)?;
     check_references(rt, &flat, steps);
-    let chain = file(rt, alloc, next, NO_PAGES, &deep(alloc, &ids)?)?;
-    keep_deep(rt, alloc, &chain, steps)
+    keep_chain(rt, alloc, steps)
 }
 
 #[test]

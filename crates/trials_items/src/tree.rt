@@ -3,7 +3,8 @@
 ghost use Rattle.std.specs.Prelude.{◌≡◌, ◌<◌};
 
 use crate::items::{
-    check_children, check_references, insert, move_item, remove, set, set_modified, touched_bytes,
+    check_children, check_references, check_same_file, insert, move_item, remove, set,
+    set_modified, touched_bytes,
 };
 use crate::tree_file::{ITEMS, Item, NEXT, ROWS, file};
 use ItemKind::{Bookmark, Folder, Separator};
@@ -278,11 +279,21 @@ fn check_title<L: Ledger>(
     Ok(())
 }
 
-// What the changes leave.
-fn check_left<L: Ledger>(rt: &impl Abort, flat: &Flat, steps: &mut Steps<L>) -> Result<(), Fail> {
-    for (parent, children) in LEFT_CHILDREN {
+// The children of these folders.
+fn check_folders<L: Ledger>(
+    rt: &impl Abort,
+    flat: &Flat,
+    folders: Children<'_>,
+    steps: &mut Steps<L>,
+) {
+    for (parent, children) in folders {
         check_children(rt, flat, *parent, children, steps);
     }
+}
+
+// What the changes leave.
+fn check_left<L: Ledger>(rt: &impl Abort, flat: &Flat, steps: &mut Steps<L>) -> Result<(), Fail> {
+    check_folders(rt, flat, LEFT_CHILDREN, steps);
     for (id, kind, parent, modified, title) in LEFT {
         let want = ItemRow {
             modified: Micros(*modified),
@@ -323,6 +334,22 @@ fn opening<L: Ledger>(alloc: Global, steps: &mut Steps<L>) -> Result<Flat, Fail>
     Ok(flat)
 }
 
+// The changes, one after another, and what each leaves.
+fn change_tree<L: Ledger>(
+    rt: &impl Abort,
+    flat: &mut Flat,
+    steps: &mut Steps<L>,
+) -> Result<(), Fail> {
+    for (change, folders, references, live) in CHANGES {
+        perform(rt, flat, change, steps)?;
+        check_folders(rt, flat, folders, steps);
+        check_references(rt, flat, 1, references, steps);
+        check_page(rt, flat, steps);
+        assert_eq!(rt; flat.live(steps), *live);
+    }
+    Ok(())
+}
+
 fn grow_tree<L: Ledger>(rt: &impl Abort, alloc: Global, blank: Blank) -> Result<(), Fail>
     requires name { blank.name ≡ L.name }
     requires parts { blank.parts ≡ L.parts }
@@ -331,15 +358,7 @@ fn grow_tree<L: Ledger>(rt: &impl Abort, alloc: Global, blank: Blank) -> Result<
     let steps = &mut Steps::<L>::none(blank);
     let mut flat = opening(alloc, steps)?;
     assert_eq!(rt; flat.live(steps), 9);
-    for (change, folders, references, live) in CHANGES {
-        perform(rt, &mut flat, change, steps)?;
-        for (parent, children) in *folders {
-            check_children(rt, &flat, *parent, children, steps);
-        }
-        check_references(rt, &flat, 1, references, steps);
-        check_page(rt, &flat, steps);
-        assert_eq!(rt; flat.live(steps), *live);
-    }
+    change_tree(rt, &mut flat, steps)?;
     check_left(rt, &flat, steps)?;
     let bytes = touched_bytes(rt, alloc, &mut flat, steps)?;
     check_file(rt, alloc, &bytes, steps)
@@ -378,6 +397,47 @@ const REFERENCES: &[(u32, &[u32])] = &[
     (6, &[]),
 ];
 
+// The rows of the file, which holds 5 origins, 5 pages, 5 URLs, a visit, 18 items and 6 titles.
+fn check_rows<L: Ledger>(rt: &impl Abort, flat: &Flat, steps: &mut Steps<L>) -> Result<(), Fail> {
+    for item in ITEMS {
+        check_item(rt, flat, item, steps)?;
+    }
+    let root = flat.item_at(ItemId(1), steps).ok_or("no root")?;
+    assert!(rt; root.parent.is_none());
+    assert_eq!(rt; flat.live(steps), 40);
+    Ok(())
+}
+
+fn check_pages<L: Ledger>(rt: &impl Abort, flat: &Flat, steps: &mut Steps<L>) {
+    for (page, items) in REFERENCES {
+        check_references(rt, flat, *page, items, steps);
+    }
+}
+
+// A folder goes into another root and back.
+fn move_there_and_back<L: Ledger>(
+    rt: &impl Abort,
+    flat: &mut Flat,
+    steps: &mut Steps<L>,
+) -> Result<(), Fail> {
+    move_item(rt, flat, ItemId(7), ItemId(5), Some(ItemId(14)), steps)?;
+    check_children(rt, flat, 5, &[14, 7], steps);
+    move_item(rt, flat, ItemId(7), ItemId(2), None, steps)
+}
+
+fn keep_rows<L: Ledger>(
+    rt: &impl Abort,
+    alloc: Global,
+    bytes: &[u8],
+    steps: &mut Steps<L>,
+) -> Result<(), Fail> {
+    let mut flat = Flat::check(alloc, bytes)?;
+    check_rows(rt, &flat, steps)?;
+    check_pages(rt, &flat, steps);
+    move_there_and_back(rt, &mut flat, steps)?;
+    Ok(check_same_file(rt, alloc, &mut flat, bytes, steps)?)
+}
+
 fn keep_tree<L: Ledger>(rt: &impl Abort, alloc: Global, blank: Blank) -> Result<(), Fail>
     requires name { blank.name ≡ L.name }
     requires parts { blank.parts ≡ L.parts }
@@ -385,24 +445,7 @@ fn keep_tree<L: Ledger>(rt: &impl Abort, alloc: Global, blank: Blank) -> Result<
 {
     let steps = &mut Steps::<L>::none(blank);
     let bytes = file(rt, alloc, NEXT, ROWS, ITEMS)?;
-    let mut flat = Flat::check(alloc, &bytes)?;
-    for item in ITEMS {
-        check_item(rt, &flat, item, steps)?;
-    }
-    for (page, items) in REFERENCES {
-        check_references(rt, &flat, *page, items, steps);
-    }
-    assert!(rt;
-        flat.item_at(ItemId(1), steps)
-            .is_some_and(|row| row.parent.is_none())
-    );
-    // 5 origins, 5 pages, 5 URLs, a visit, 18 items and 6 titles.
-    assert_eq!(rt; flat.live(steps), 40);
-    move_item(rt, &mut flat, ItemId(7), ItemId(5), Some(ItemId(14)), steps)?;
-    check_children(rt, &flat, 5, &[14, 7], steps);
-    move_item(rt, &mut flat, ItemId(7), ItemId(2), None, steps)?;
-    assert!(rt; touched_bytes(rt, alloc, &mut flat, steps)? == bytes);
-    Ok(())
+    keep_rows(rt, alloc, &bytes, steps)
 }
 
 #[test]
