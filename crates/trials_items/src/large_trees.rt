@@ -177,11 +177,7 @@ fn keep_wide<L: Ledger>(
 }
 
 // The middle of the chain goes into another root, with all below it, and back.
-fn move_middle<L: Ledger>(
-    rt: &impl Abort,
-    flat: &mut Flat,
-    steps: &mut Steps<L>,
-) -> Result<(), Fail> {
+fn detour<L: Ledger>(rt: &impl Abort, flat: &mut Flat, steps: &mut Steps<L>) -> Result<(), Fail> {
     let (above, middle) = (ItemId(7 + COUNT / 2), ItemId(8 + COUNT / 2));
     move_item(rt, flat, middle, ItemId(5), None, steps)?;
     assert_eq!(rt; flat.first_child(above, steps), None);
@@ -196,7 +192,7 @@ fn keep_deep<L: Ledger>(
     steps: &mut Steps<L>,
 ) -> Result<(), Fail> {
     let mut flat = Flat::check(alloc, bytes)?;
-    move_middle(rt, &mut flat, steps)?;
+    detour(rt, &mut flat, steps)?;
     check_depth(rt, &flat, steps);
     check_same_file(rt, alloc, &mut flat, bytes, steps)?;
     come_and_go(rt, &mut flat, ItemId(LAST_ITEM), steps)?;

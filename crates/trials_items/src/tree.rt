@@ -280,20 +280,15 @@ fn check_title<L: Ledger>(
 }
 
 // The children of these folders.
-fn check_folders<L: Ledger>(
-    rt: &impl Abort,
-    flat: &Flat,
-    folders: Children<'_>,
-    steps: &mut Steps<L>,
-) {
-    for (parent, children) in folders {
+fn check_lists<L: Ledger>(rt: &impl Abort, flat: &Flat, lists: Children<'_>, steps: &mut Steps<L>) {
+    for (parent, children) in lists {
         check_children(rt, flat, *parent, children, steps);
     }
 }
 
 // What the changes leave.
 fn check_left<L: Ledger>(rt: &impl Abort, flat: &Flat, steps: &mut Steps<L>) -> Result<(), Fail> {
-    check_folders(rt, flat, LEFT_CHILDREN, steps);
+    check_lists(rt, flat, LEFT_CHILDREN, steps);
     for (id, kind, parent, modified, title) in LEFT {
         let want = ItemRow {
             modified: Micros(*modified),
@@ -335,14 +330,10 @@ fn opening<L: Ledger>(alloc: Global, steps: &mut Steps<L>) -> Result<Flat, Fail>
 }
 
 // The changes, one after another, and what each leaves.
-fn change_tree<L: Ledger>(
-    rt: &impl Abort,
-    flat: &mut Flat,
-    steps: &mut Steps<L>,
-) -> Result<(), Fail> {
+fn change<L: Ledger>(rt: &impl Abort, flat: &mut Flat, steps: &mut Steps<L>) -> Result<(), Fail> {
     for (change, folders, references, live) in CHANGES {
         perform(rt, flat, change, steps)?;
-        check_folders(rt, flat, folders, steps);
+        check_lists(rt, flat, folders, steps);
         check_references(rt, flat, 1, references, steps);
         check_page(rt, flat, steps);
         assert_eq!(rt; flat.live(steps), *live);
@@ -358,7 +349,7 @@ fn grow_tree<L: Ledger>(rt: &impl Abort, alloc: Global, blank: Blank) -> Result<
     let steps = &mut Steps::<L>::none(blank);
     let mut flat = opening(alloc, steps)?;
     assert_eq!(rt; flat.live(steps), 9);
-    change_tree(rt, &mut flat, steps)?;
+    change(rt, &mut flat, steps)?;
     check_left(rt, &flat, steps)?;
     let bytes = touched_bytes(rt, alloc, &mut flat, steps)?;
     check_file(rt, alloc, &bytes, steps)
@@ -415,11 +406,7 @@ fn check_pages<L: Ledger>(rt: &impl Abort, flat: &Flat, steps: &mut Steps<L>) {
 }
 
 // A folder goes into another root and back.
-fn move_there_and_back<L: Ledger>(
-    rt: &impl Abort,
-    flat: &mut Flat,
-    steps: &mut Steps<L>,
-) -> Result<(), Fail> {
+fn detour<L: Ledger>(rt: &impl Abort, flat: &mut Flat, steps: &mut Steps<L>) -> Result<(), Fail> {
     move_item(rt, flat, ItemId(7), ItemId(5), Some(ItemId(14)), steps)?;
     check_children(rt, flat, 5, &[14, 7], steps);
     move_item(rt, flat, ItemId(7), ItemId(2), None, steps)
@@ -434,7 +421,7 @@ fn keep_rows<L: Ledger>(
     let mut flat = Flat::check(alloc, bytes)?;
     check_rows(rt, &flat, steps)?;
     check_pages(rt, &flat, steps);
-    move_there_and_back(rt, &mut flat, steps)?;
+    detour(rt, &mut flat, steps)?;
     Ok(check_same_file(rt, alloc, &mut flat, bytes, steps)?)
 }
 

@@ -1,5 +1,5 @@
 // An item that goes to another place, or has another title.
-ghost use Rattle.std.specs.Prelude.{◌≡◌, ◌≤◌, ℕ, List, length, true, IfOk, OnOk};
+ghost use Rattle.std.specs.Prelude.{◌≡◌, ◌≤◌, ℕ, List, length, None, true, IfOk, IsErr, OnOk};
 ghost use Rattle.pl_base.specs.Date.{IsDate};
 ghost use Rattle.pl_base.specs.Good.{longest_title};
 ghost use Rattle.pl_base.specs.Live.{slot_limit};
@@ -7,6 +7,7 @@ ghost use Rattle.pl_base.specs.Rows.{live_with_item_title, store_of};
 ghost use Rattle.pl_base.specs.Tree.{has_item};
 ghost use Rattle.pl_history.specs.Sound.{IsSound};
 ghost use Rattle.pl_step.specs.Step as spec;
+ghost use Rattle.pl_tree.specs.Refused as tree;
 
 use crate::engine::slots::is_full;
 use pl_base::{ItemId, Micros, NoMemory, Refusal, Rows, Steps, Txt, chunks, cut_title};
@@ -72,6 +73,10 @@ pub fn retitle<R: Rows, L: Ledger>(
         → reply ≡ Reply.Refused refusal → rows.new ≡ rows.old) }
     ensures base { OnOk result ((bytes : List ℕ) → R.base rows.old bytes → R.base rows.new bytes) }
     ensures sound { OnOk result (IsSound (R.kept rows.new)) }
+
+    // A title that is refused for its item wants no memory.
+    ensures no_memory { IsErr result
+        → tree.refusal (R.kept rows.old).items (TreeChange.Retitle item) ≡ None }
 {
     let change = TreeChange::Retitle { item };
     if let Some(refusal) = pl_tree::refused(rows, &change, steps) {
