@@ -330,7 +330,7 @@ fn opening<L: Ledger>(alloc: Global, steps: &mut Steps<L>) -> Result<Flat, Fail>
 }
 
 // The changes, one after another, and what each leaves.
-fn change<L: Ledger>(rt: &impl Abort, flat: &mut Flat, steps: &mut Steps<L>) -> Result<(), Fail> {
+fn grow<L: Ledger>(rt: &impl Abort, flat: &mut Flat, steps: &mut Steps<L>) -> Result<(), Fail> {
     for (change, folders, references, live) in CHANGES {
         perform(rt, flat, change, steps)?;
         check_lists(rt, flat, folders, steps);
@@ -349,7 +349,7 @@ fn grow_tree<L: Ledger>(rt: &impl Abort, alloc: Global, blank: Blank) -> Result<
     let steps = &mut Steps::<L>::none(blank);
     let mut flat = opening(alloc, steps)?;
     assert_eq!(rt; flat.live(steps), 9);
-    change(rt, &mut flat, steps)?;
+    grow(rt, &mut flat, steps)?;
     check_left(rt, &flat, steps)?;
     let bytes = touched_bytes(rt, alloc, &mut flat, steps)?;
     check_file(rt, alloc, &bytes, steps)
