@@ -1,5 +1,5 @@
 -- What is an element of a list.
-use Rattle.std.proofs.Common.{◌≡◌, ◌+◌, ◌++◌, ◌⊎◌, ◌∙◌, inl, inr, ℕ, Bool, true, false}
+use Rattle.std.proofs.Common.{◌≡◌, ◌++◌, ◌⊎◌, ◌∙◌, inl, inr, ℕ, Bool, true, false}
 use Rattle.std.proofs.Common.{List, [], ◌∷◌, ap, sym, subst, refl, drop, filter}
 use Rattle.std.proofs.Common.{if◌then◌else◌, map, take}
 use Rattle.std.specs.List.{AllByRecursion, flat_map}

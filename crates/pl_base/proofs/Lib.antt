@@ -10,9 +10,13 @@ mod Numerals
 pub mod OneChanged
 pub mod OneParent
 pub mod OriginLaws
+pub mod OriginSums
 pub mod PageOrder
+pub mod PagesMore
+mod PageSums
 pub mod RootsLaws
 pub mod Searches
+pub mod SmallFrecencies
 pub mod SortLaws
 pub mod TablesLaws
 mod TitleCuts

@@ -1,9 +1,12 @@
--- A sum over a list in which one element is changed.
-use Rattle.std.proofs.Common.{◌≡◌, ◌+◌, ℕ, All, Bool, true, false, List, [], ◌∷◌, Some, ap, arith}
-use Rattle.std.proofs.Common.{find, if◌then◌else◌, map, refl, suc}
-use Rattle.std.specs.List.{AllPairs, sum_by}
+-- A sum over a list in which one element is changed, or goes.
+use Rattle.std.proofs.Common.{◌≡◌, ◌+◌, ◌==◌, ℕ, All, Bool, true, false, List, [], ◌∷◌, Some, ap, arith}
+use Rattle.std.proofs.Common.{filter, find, get_or, if◌then◌else◌, map, not, refl, suc}
+use Rattle.std.specs.List.{AllByRecursion, AllPairs, sum_by}
+use Rattle.std.specs.List.Sorted.{IsStrictlyIncreasing}
+use Rattle.std.proofs.lemmas.Bool.{eqb-true, ne_eqb}
 use Rattle.std.proofs.lemmas.List.Elements.{All-head, All-tail}
 use Rattle.std.proofs.lemmas.List.Sums.{sum_by-cons}
+use Rattle.pl_base.proofs.Searches.{rises}
 
 map-none : {X : Type 0} (q : X → Bool) (f : X → X) (xs : List X) → All (λ x. q x ≡ false) xs
     → map (λ x. if q x then f x else x) xs ≡ xs
@@ -43,3 +46,23 @@ sum_changed {X} q f n (y ∷ ys) x once found =
           sum_by-cons n y ys,
           rest here,
         )
+
+-- a number that ascends stands once
+pub once_by_number : {X : Type 0} (key : X → ℕ) (n : ℕ) (xs : List X) → IsStrictlyIncreasing (map key xs)
+    → AllPairs (λ a b. (key a == n) ≡ true → (key b == n) ≡ false) xs
+once_by_number key n xs ascending i j d before within passes =
+    ne_eqb (key (get_or xs j d)) n
+    (λ same. omega (arith, eqb-true (key (get_or xs i d)) n passes, rises key xs ascending i j d before within))
+
+-- a sum without the elements that add nothing
+pub sum_but : {X : Type 0} (test : X → Bool) (f : X → ℕ) (xs : List X) → AllByRecursion (λ x. test x ≡ true → f x ≡ 0) xs
+    → sum_by f (filter (λ x. not (test x)) xs) ≡ sum_by f xs
+sum_but test f [] none = refl
+sum_but {X} test f (x ∷ xs) none = choose (test x) refl (sum_but test f xs none.1)
+  where
+    choose : (b : Bool) → test x ≡ b → sum_by f (filter (λ y. not (test y)) xs) ≡ sum_by f xs
+        → sum_by f (if not b then x ∷ filter (λ y. not (test y)) xs else filter (λ y. not (test y)) xs)
+        ≡ sum_by f (x ∷ xs)
+    choose true is rest = omega (arith, rest, none.0 is, sum_by-cons f x xs)
+    choose false is rest =
+        omega (arith, rest, sum_by-cons f x xs, sum_by-cons f x (filter (λ y. not (test y)) xs))

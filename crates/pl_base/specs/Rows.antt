@@ -2,7 +2,7 @@
 use Rattle.std.specs.Prelude.{◌≡◌, ◌≢◌, ◌↔◌, ◌&&◌, not, ℕ, ℤ, pos, ◌+◌, ◌≤◌, ◌<◌, ◌==◌, Bool}
 use Rattle.std.specs.Prelude.{true, false, IsTrue, IsFalse, Contains, List, [], ◌∷◌}
 use Rattle.std.specs.Prelude.{◌++◌, map, nat_lt, Option, Some, None, IfSome, if◌then◌else◌}
-use Rattle.std.specs.List.{All, AllPairs, filter, find, list_any}
+use Rattle.std.specs.List.{All, AllPairs, filter, filter_map, find, list_any}
 use Rattle.std.specs.List.Sorted.{IsPermutation}
 use Rattle.std.specs.Option.{option_and_then, option_map}
 use Rattle.pl_base.specs.declared.date.Day.{Day}
@@ -18,13 +18,13 @@ use Rattle.pl_base.specs.declared.row.VisitRow.{VisitRow}
 use Rattle.pl_base.specs.Address.{is_store_url, origin_of_url, same_origin}
 use Rattle.pl_base.specs.Date.{IsDate, IsDay}
 use Rattle.pl_base.specs.Frecency.{frecency_of}
-use Rattle.pl_base.specs.Good.{AreIds, IsTitle}
+use Rattle.pl_base.specs.Good.{AreIds, IsGood, IsTitle}
 use Rattle.pl_base.specs.Live.{live_slots, slot_limit}
 use Rattle.pl_base.specs.Marks.{is_hidden, visit_count}
 use Rattle.pl_base.specs.Redirects.{others_from, redirects_from}
 use Rattle.pl_base.specs.Removal.{visits_left}
 use Rattle.pl_base.specs.Store.{Store, Page, Visit, Item, item_id, roots}
-use Rattle.pl_base.specs.Totals.{scored_pages, total_of}
+use Rattle.pl_base.specs.Totals.{Origin, Scored, most_share, scored_pages, share, total_of}
 use Rattle.pl_base.specs.Tree.{inserted, retitled}
 use Rattle.pl_base.specs.Visits.{latest_first, visits_of}
 
@@ -210,6 +210,10 @@ totaled origin total a = if a.origin.0 == origin.0 then record a { total = total
 abbrev pub with_total : Slot → ℕ → Kept → Kept
 with_total origin total kept = record kept { origins = map (totaled origin total) kept.origins }
 
+-- the rows with these origins
+abbrev pub with_origins : List KeptOrigin → Kept → Kept
+with_origins origins kept = record kept { origins = origins }
+
 -- the slots of the store with a page of this URL more
 abbrev pub live_with_page : List ℕ → Kept → ℕ
 live_with_page url kept = live_slots (store_of (with_new_page url (record { 0 = 0 }) kept))
@@ -378,3 +382,23 @@ abbrev pub HaveTotals : Kept → Type 0
 HaveTotals kept =
     All (λ (p : KeptPage). total_at kept p.origin
     ≡ option_map (total_of (scored_pages (store_of kept))) (origin_of_url p.page.url)) kept.pages
+
+-- the store is good, what was computed of its pages is right, and its origins have their totals
+pub record IsSound (kept : Kept) : Type 0 where
+  pub good : IsGood (store_of kept)
+  pub right : IsRight kept
+  pub totals : HaveTotals kept
+
+-- the origins of the pages, and their frecencies as they were computed last
+abbrev pub kept_scores : Kept → List Scored
+kept_scores kept =
+    filter_map (λ (p : KeptPage). option_map (λ (o : Origin). (o, p.frecency))
+    (origin_of_url p.page.url)) kept.pages
+
+-- the total of each page's origin is the sum of the positive frecencies as its pages keep them,
+-- right or not, each of which is small
+pub record HaveSums (kept : Kept) : Type 0 where
+  pub sums :
+      All (λ (p : KeptPage). total_at kept p.origin
+      ≡ option_map (total_of (kept_scores kept)) (origin_of_url p.page.url)) kept.pages
+  pub small : All (λ (p : KeptPage). share p.frecency ≤ most_share) kept.pages

@@ -1,5 +1,5 @@
 -- The totals of origins, and which hosts the address bar fills in: `moz_origins` and its threshold.
-use Rattle.std.specs.Prelude.{ℕ, ◌*◌, ◌==◌, ◌&&◌, not, Bool, List, [], ◌∷◌, map, length}
+use Rattle.std.specs.Prelude.{ℕ, ◌*◌, ◌^◌, ◌==◌, ◌&&◌, not, Bool, List, [], ◌∷◌, map, length}
 use Rattle.std.specs.Prelude.{ℤ, pos, negsuc, bytes_eq, codes, drop, nat_eq, nat_le, nat_lt}
 use Rattle.std.specs.Prelude.{if◌then◌else◌}
 use Rattle.std.specs.List.{filter, filter_map, starts_with, sum_by}
@@ -20,6 +20,10 @@ Scored = Origin × ℤ
 abbrev pub share : ℤ → ℕ
 share (pos n) = n
 share (negsuc n) = 0
+
+-- no page of a store adds more to a total
+abbrev pub most_share : ℕ
+most_share = 2 ^ 37
 
 -- the origins are the same
 abbrev pub is_origin : Origin → Origin → Bool

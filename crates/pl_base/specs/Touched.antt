@@ -2,6 +2,7 @@
 -- begin with page 1.
 use Rattle.std.specs.Prelude.{ℕ, ◌+◌, ◌-◌, ◌*◌, ◌≤◌, ◌<◌, ◌≡◌, ◌==◌, ◌&&◌, Bool, true}
 use Rattle.std.specs.Prelude.{List, [], ◌∷◌, ◌++◌, map, take, drop, length, nat_lt}
+use Rattle.std.specs.Prelude.{Option, Some, None, IsSomeAnd}
 use Rattle.std.specs.List.{All, list_any}
 
 -- the bytes of a page
@@ -73,3 +74,23 @@ pub record IsWithin (change : Change) : Type 0 where
   pub some_page : 1 ≤ change.after
   pub below : All (λ n. n < change.after) (page_numbers change.pages)
   pub added : (n : ℕ) → change.before ≤ n → n < change.after → has_number n change.pages ≡ true
+
+-- what a page of these bytes holds
+abbrev pub page_of : ℕ → List ℕ → List ℕ
+page_of page bytes = take page_size (drop (bytes_before page) bytes)
+
+-- the page is not the same in all bytes that there may have been before
+abbrev pub MayDiffer : (List ℕ → Type 0) → List ℕ → ℕ → Type 0
+MayDiffer base bytes page =
+    ((before : List ℕ) → base before → page_of page before ≡ page_of page bytes) → ⊥
+
+-- ---- how many pages
+
+-- the most pages that a row more touches, but for those of its texts
+abbrev pub row_pages : ℕ
+row_pages = 12
+
+-- where a number of pages was told, it is told again, and at most by so many more
+abbrev pub IsAtMostMore : ℕ → Option ℕ → Option ℕ → Type 0
+IsAtMostMore more None new = Unit {0}
+IsAtMostMore more (Some old) new = IsSomeAnd new (λ count. count ≤ old + more)

@@ -1,11 +1,12 @@
 -- The bookmark tree: items by ascending id, each with the ids of its children in order.
-use Rattle.std.specs.Prelude.{ℕ, ◌==◌, not, Bool, false, List, [], ◌∷◌, ◌++◌, map}
-use Rattle.std.specs.Prelude.{Option, Some, None, if◌then◌else◌}
+use Rattle.std.specs.Prelude.{ℕ, zero, suc, ◌≡◌, ◌==◌, not, Bool, false, List, [], ◌∷◌, ◌++◌}
+use Rattle.std.specs.Prelude.{length, map, Option, Some, None, IsSomeAnd, if◌then◌else◌}
 use Rattle.std.specs.List.{filter, filter_map, find, list_any}
-use Rattle.std.specs.Option.{option_and_then, option_map}
+use Rattle.std.specs.Option.{option_and_then, option_map, option_or}
 use Rattle.pl_base.specs.declared.date.Micros.{Micros}
 use Rattle.pl_base.specs.declared.id.ItemId.{ItemId}
 use Rattle.pl_base.specs.declared.id.PageId.{PageId}
+use Rattle.pl_base.specs.declared.item.ItemKind.TheVariants.{Folder}
 use Rattle.pl_base.specs.declared.item.ItemRow.{ItemRow}
 use Rattle.pl_base.specs.Store.{Item}
 
@@ -18,6 +19,10 @@ item_at items id = find (λ (i : Item). i.id.0 == id.0) items
 -- an item has this id
 abbrev pub has_item : List Item → ItemId → Bool
 has_item items id = list_any (λ (i : Item). i.id.0 == id.0) items
+
+-- an item has this id, and is a folder
+abbrev pub IsFolder : List Item → ItemId → Type 0
+IsFolder items id = IsSomeAnd (item_at items id) (λ (i : Item). i.kind ≡ Folder)
 
 -- the title of the item with this id
 abbrev pub item_title : List Item → ItemId → Option (List ℕ)
@@ -49,6 +54,11 @@ abbrev pub first_item : List ItemId → Option ItemId
 first_item [] = None
 first_item (id ∷ ids) = Some id
 
+-- the last of some ids
+abbrev pub last_item : List ItemId → Option ItemId
+last_item [] = None
+last_item (id ∷ ids) = option_or (last_item ids) (Some id)
+
 -- the id that stands behind this one
 abbrev pub item_behind : ItemId → List ItemId → Option ItemId
 item_behind id [] = None
@@ -74,6 +84,17 @@ abbrev pub reference_behind : List Item → ItemId → Option ItemId
 reference_behind items id =
     option_and_then (λ (i : Item).
     option_and_then (λ page. item_behind id (references items page)) i.page) (item_at items id)
+
+-- an item and what it lies in: itself, its parent, the parent of that and so on, at most so many
+abbrev pub ancestors : ℕ → List Item → Option ItemId → List ItemId
+ancestors zero items at = []
+ancestors (suc n) items None = []
+ancestors (suc n) items (Some id) = id ∷ ancestors n items (parent_of items id)
+
+-- the item is `top` or lies below it: no item of a tree has more ancestors than there are items
+abbrev pub lies_in : List Item → ItemId → ItemId → Bool
+lies_in items top id =
+    list_any (λ (a : ItemId). a.0 == top.0) (ancestors (length items) items (Some id))
 
 -- an item without its id, its title and its children
 abbrev pub item_row : List Item → Item → ItemRow

@@ -3,6 +3,7 @@
 //! documentation of Mozilla Places.
 #![tactic(auto)]
 
+mod check_error;
 mod date;
 mod fault;
 mod id;
@@ -20,6 +21,7 @@ mod transition;
 mod txt;
 mod view;
 
+pub use check_error::CheckError;
 pub use date::{Day, MICROS_PER_DAY, MICROS_PER_SECOND, Micros};
 pub use fault::DeviceFault;
 pub use id::{IdKind, Ids, ItemId, PageId, Slot, VisitId};

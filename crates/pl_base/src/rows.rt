@@ -1,14 +1,15 @@
 ghost use Rattle.std.specs.Prelude.{◌≡◌, ◌≢◌, ◌↔◌, ◌+◌, ◌≤◌, ◌<◌, ℕ, List};
-ghost use Rattle.std.specs.Prelude.{[], Some, false, true, length, IfOk, IfSome, IsSomeAnd, OnOk};
+ghost use Rattle.std.specs.Prelude.{[], Some, false, true, length, IfOk, IfSome, IsSome};
+ghost use Rattle.std.specs.Prelude.{IsSomeAnd, OnOk, Option};
 ghost use Rattle.std.specs.List.{All};
 ghost use Rattle.std.specs.Option.{option_map};
 ghost use Rattle.pl_base.specs.declared.id.VisitId.{VisitId};
 ghost use Rattle.pl_base.specs.Address.{is_store_url};
 ghost use Rattle.pl_base.specs.Date.{IsDate, IsDay};
-ghost use Rattle.pl_base.specs.Good.{IsGood, end_of_ids, is_visited, longest_title};
-ghost use Rattle.pl_base.specs.Live.{live_slots, slot_limit};
+ghost use Rattle.pl_base.specs.Good.{end_of_ids, is_visited, longest_title};
+ghost use Rattle.pl_base.specs.Live.{chunks, live_slots, slot_limit};
 ghost use Rattle.pl_base.specs.Marks.{is_referenced};
-ghost use Rattle.pl_base.specs.Rows.{Kept, KeptPage, IsWellKept, IsRight, store_of};
+ghost use Rattle.pl_base.specs.Rows.{Kept, KeptPage, IsSound, IsWellKept, store_of};
 ghost use Rattle.pl_base.specs.Rows.{has_page, has_visit, mark_of, row_of, page_at, visit_at};
 ghost use Rattle.pl_base.specs.Rows.{page_behind, page_visits, first_id, older_visit, url_of};
 ghost use Rattle.pl_base.specs.Rows.{origin_of, IsOriginOf, WithPageIn, with_day, with_mark};
@@ -17,14 +18,16 @@ ghost use Rattle.pl_base.specs.Rows.{live_with_title, AreTargets, target_behind,
 ghost use Rattle.pl_base.specs.Rows.{live_with_item, live_with_item_title, with_item, with_items};
 ghost use Rattle.pl_base.specs.Rows.{has_origin, total_at, with_total, without_visit};
 ghost use Rattle.pl_base.specs.Store.{Store, Visit};
-ghost use Rattle.pl_base.specs.Touched.{changed, bytes_before, IsWithin};
-ghost use Rattle.pl_base.specs.Tree.{children_of, first_item, has_item, item_at, item_row};
-ghost use Rattle.pl_base.specs.Tree.{item_title, moved, parent_of, redated, reference_behind};
-ghost use Rattle.pl_base.specs.Tree.{references, removed, retitled, sibling_behind};
+ghost use Rattle.pl_base.specs.Touched.{IsAtMostMore, IsWithin, MayDiffer, bytes_before, changed};
+ghost use Rattle.pl_base.specs.Touched.{page_numbers, row_pages};
+ghost use Rattle.pl_base.specs.Tree.{IsFolder, children_of, first_item, has_item, item_at, item_row};
+ghost use Rattle.pl_base.specs.Tree.{item_title, last_item, lies_in, moved, parent_of, redated};
+ghost use Rattle.pl_base.specs.Tree.{reference_behind, references, removed, retitled};
+ghost use Rattle.pl_base.specs.Tree.{sibling_behind};
 
 use crate::{
-    Day, Ids, ItemId, ItemRow, Mark, Micros, NoMemory, OriginRow, PageId, Slot, Steps, Touched,
-    Txt, VisitId, VisitRow,
+    Day, Ids, ItemId, ItemKind, ItemRow, Mark, Micros, NoMemory, OriginRow, PageId, Slot, Steps,
+    Touched, Txt, VisitId, VisitRow,
 };
 use std::sync::ledger::Ledger;
 
@@ -34,8 +37,8 @@ pub const SLOT_LIMIT: u32 = 4_194_304;
 /// The rows of a store, however they are kept, and the bytes that a file
 /// of it holds from page 1 on.
 ///
-/// A call that answers `NoMemory` leaves the rows to be given up. `steps` counts the records that
-/// are read.
+/// A call that answers `NoMemory` leaves the rows to be given up. `steps` counts how often rows
+/// that stand in slots read one; rows without slots count nothing.
 pub trait Rows {
     /// The rows, and what was computed of them last.
     ghost kept: { Self → Kept };
@@ -52,6 +55,9 @@ pub trait Rows {
 
     /// Which bytes from page 1 on stand for a store.
     ghost form: { List ℕ → Store → Type 0 };
+
+    /// How many pages the next `touched` lists, where the rows tell it.
+    ghost pending: { Self → Option ℕ };
 
     fn day<L: Ledger>(&self, steps: &mut Steps<L>) -> Day
         ensures day { result ≡ (kept self.now).day }
@@ -115,6 +121,8 @@ pub trait Rows {
         requires live { live_with_page url.now (kept self.old) ≤ slot_limit }
         ensures page { IfOk result (λ page. page.0 ≡ (kept self.old).ids.page) }
         ensures kept { OnOk result (WithPageIn url.now origin (kept self.old) (kept self.new)) }
+        ensures pages { OnOk result (IsAtMostMore (row_pages + chunks url.now)
+            (pending self.old) (pending self.new)) }
         ensures base { OnOk result ((bytes : List ℕ) → base self.old bytes → base self.new bytes) };
 
     /// The page goes, which has no visit and no item, and its origin with its last page. The other
@@ -141,12 +149,14 @@ pub trait Rows {
     fn set_mark<L: Ledger>(&mut self, page: PageId, mark: Mark, steps: &mut Steps<L>)
         requires { has_page (kept self.old) page ≡ true }
         ensures kept { kept self.new ≡ with_mark page mark (kept self.old) }
+        ensures pages { IsAtMostMore 1 (pending self.old) (pending self.new) }
         ensures base { (bytes : List ℕ) → base self.old bytes → base self.new bytes }
         ensures cost { steps.new ≤ steps.old + most_reads };
 
     fn set_total<L: Ledger>(&mut self, origin: Slot, total: u64, steps: &mut Steps<L>)
         requires { has_origin (kept self.old) origin ≡ true }
         ensures kept { kept self.new ≡ with_total origin total (kept self.old) }
+        ensures pages { IsAtMostMore 1 (pending self.old) (pending self.new) }
         ensures base { (bytes : List ℕ) → base self.old bytes → base self.new bytes }
         ensures cost { steps.new ≤ steps.old + most_reads };
 
@@ -154,16 +164,19 @@ pub trait Rows {
         ensures row { result ≡ option_map row_of (visit_at (kept self.now) visit) }
         ensures cost { steps.new ≤ steps.old + most_reads };
 
+    /// How many visits there are.
+    fn visits<L: Ledger>(&self, steps: &mut Steps<L>) -> u32
+        ensures visits { result ≡ length (kept self.now).visits }
+        ensures cost { steps.new ≤ steps.old + most_reads };
+
     /// The latest visit of a page.
     fn latest<L: Ledger>(&self, page: PageId, steps: &mut Steps<L>) -> Option<VisitId>
-        requires { has_page (kept self.now) page ≡ true }
         ensures latest { result ≡ first_id (page_visits (kept self.now) page) }
         ensures cost { steps.new ≤ steps.old + most_reads };
 
     /// The visit of the same page that is next before it by date, and by id
     /// where dates are the same.
     fn older<L: Ledger>(&self, visit: VisitId, steps: &mut Steps<L>) -> Option<VisitId>
-        requires { has_visit (kept self.now) visit ≡ true }
         ensures older { result ≡ older_visit (kept self.now) visit }
         ensures cost { steps.new ≤ steps.old + most_reads };
 
@@ -190,6 +203,8 @@ pub trait Rows {
         requires live { live_slots (store_of (kept self.old)) < slot_limit }
         ensures visit { IfOk result (λ visit. visit.0 ≡ (kept self.old).ids.visit) }
         ensures kept { OnOk result (kept self.new ≡ with_visit row.now (kept self.old)) }
+        ensures pages { OnOk result (IsAtMostMore row_pages
+            (pending self.old) (pending self.new)) }
         ensures base { OnOk result ((bytes : List ℕ) → base self.old bytes → base self.new bytes) };
 
     /// The visit goes, and the visits that came from it came from none from then on. No memory is
@@ -198,6 +213,11 @@ pub trait Rows {
         requires { has_visit (kept self.old) visit ≡ true }
         ensures kept { kept self.new ≡ without_visit visit (kept self.old) }
         ensures base { (bytes : List ℕ) → base self.old bytes → base self.new bytes };
+
+    /// How many items there are, the roots among them.
+    fn items<L: Ledger>(&self, steps: &mut Steps<L>) -> u32
+        ensures items { result ≡ length (kept self.now).items }
+        ensures cost { steps.new ≤ steps.old + most_reads };
 
     fn item_at<L: Ledger>(&self, item: ItemId, steps: &mut Steps<L>) -> Option<ItemRow>
         ensures row { result ≡ option_map (item_row (kept self.now).items)
@@ -211,6 +231,10 @@ pub trait Rows {
 
     fn first_child<L: Ledger>(&self, item: ItemId, steps: &mut Steps<L>) -> Option<ItemId>
         ensures first { result ≡ first_item (children_of (kept self.now).items item) }
+        ensures cost { steps.new ≤ steps.old + most_reads };
+
+    fn last_child<L: Ledger>(&self, item: ItemId, steps: &mut Steps<L>) -> Option<ItemId>
+        ensures last { result ≡ last_item (children_of (kept self.now).items item) }
         ensures cost { steps.new ≤ steps.old + most_reads };
 
     /// The child of the same item that comes next.
@@ -237,9 +261,9 @@ pub trait Rows {
         after: Option<ItemId>,
         steps: &mut Steps<L>,
     ) -> Result<ItemId, NoMemory>
-        requires parent { IsSomeAnd row.now.parent
-            (λ id. has_item (kept self.old).items id ≡ true) }
+        requires parent { IsSomeAnd row.now.parent (IsFolder (kept self.old).items) }
         requires after { IfSome after (λ id. parent_of (kept self.old).items id ≡ row.now.parent) }
+        requires bookmark { IsSome row.now.page ↔ (row.now.kind ≡ ItemKind.Bookmark) }
         requires page { IfSome row.now.page (λ id. has_page (kept self.old) id ≡ true) }
         requires title { length title.now ≤ longest_title }
         requires added { IsDate row.now.added }
@@ -261,7 +285,8 @@ pub trait Rows {
         steps: &mut Steps<L>,
     )
         requires item { has_item (kept self.old).items item ≡ true }
-        requires parent { has_item (kept self.old).items parent ≡ true }
+        requires parent { IsFolder (kept self.old).items parent }
+        requires outside { lies_in (kept self.old).items item parent ≡ false }
         requires after { IfSome after (λ id.
             (id ≢ item) × (parent_of (kept self.old).items id ≡ Some parent)) }
         ensures kept { kept self.new
@@ -309,6 +334,13 @@ pub trait Rows {
             length (bytes self.old) ≡ bytes_before change.after) }
         ensures within { IfOk result IsWithin }
         ensures some { IfOk result (λ change. 1 ≤ change.before) }
+        // No page is listed that is the same in all bytes that the last call may have told of.
+        ensures needed { IfOk result (λ change.
+            All (MayDiffer (base self.old) (bytes self.old)) (page_numbers change.pages)) }
+        ensures listed { IfOk result (λ change.
+            IfSome (pending self.old) (λ count. length change.pages ≡ count)) }
+        ensures pending { OnOk result (IfSome (pending self.old) (λ count.
+            pending self.new ≡ Some 0)) }
         ensures kept { kept self.new ≡ kept self.old }
         ensures bytes { bytes self.new ≡ bytes self.old }
         ensures base { OnOk result ((base_bytes : List ℕ)
@@ -324,8 +356,6 @@ pub trait Rows {
     ghost targeted: { (rows : Self) (source : VisitId)
         → AreTargets (store_of (kept rows)) source (targets rows source) };
 
-    /// The bytes stand for a good store whose marks are right.
-    ghost stands: { (rows : Self)
-        → IsGood (store_of (kept rows)) → IsRight (kept rows)
-        → form (bytes rows) (store_of (kept rows)) };
+    /// The bytes stand for a good store whose marks and totals are right.
+    ghost stands: { (rows : Self) → IsSound (kept rows) → form (bytes rows) (store_of (kept rows)) };
 }

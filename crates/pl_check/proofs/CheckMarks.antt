@@ -21,9 +21,9 @@ use Rattle.pl_base.proofs.VisitsLaws.{all-latest_first, length-latest_first}
 use Rattle.pl_score.specs.declared.sample.Sampled.{Sampled}
 use Rattle.pl_score.specs.Sample.{sampled_of}
 use Rattle.pl_score.proofs.StoreSamples.{sampled-small}
-use Rattle.pl_form.specs.declared.stored.StoredPage.{StoredPage}
-use Rattle.pl_form.specs.declared.stored.StoredVisit.{StoredVisit}
-use Rattle.pl_form.specs.Stored.{Stored, stored_page, stored_store, visit_of}
+use Rattle.pl_stored.specs.declared.stored.StoredPage.{StoredPage}
+use Rattle.pl_stored.specs.declared.stored.StoredVisit.{StoredVisit}
+use Rattle.pl_stored.specs.Stored.{Stored, stored_page, stored_store, visit_of}
 use Rattle.pl_check.specs.Items.{has_reference}
 use Rattle.pl_check.specs.Samples.{told_sample}
 use Rattle.pl_check.proofs.CheckSamples.{of_page, visits_of-rows}

@@ -9,8 +9,8 @@ use Rattle.std.specs.List.{insert, position_or_len}
 use Rattle.pl_base.specs.declared.id.PageId.{PageId}
 use Rattle.pl_base.specs.Store.{Visit}
 use Rattle.pl_base.specs.Visits.{in_place, is_later, latest_first}
-use Rattle.pl_form.specs.declared.stored.StoredVisit.{StoredVisit}
-use Rattle.pl_form.specs.Stored.{visit_of}
+use Rattle.pl_stored.specs.declared.stored.StoredVisit.{StoredVisit}
+use Rattle.pl_stored.specs.Stored.{visit_of}
 use Rattle.pl_check.proofs.LatestVisits.{filter-reverse, walked, walked-push, map_at}
 
 -- the place before the first row that a visit is later than, and the end where there is none

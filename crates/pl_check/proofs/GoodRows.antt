@@ -21,8 +21,8 @@ use Rattle.pl_base.specs.Redirects.{visit_by_id}
 use Rattle.pl_base.specs.Store.{Page, Visit, item_id}
 use Rattle.pl_base.specs.Tree.{has_item}
 use Rattle.pl_base.specs.Touched.{ascends_above}
-use Rattle.pl_form.specs.declared.stored.StoredVisit.{StoredVisit}
-use Rattle.pl_form.specs.declared.stored.StoredPage.{StoredPage}
+use Rattle.pl_stored.specs.declared.stored.StoredVisit.{StoredVisit}
+use Rattle.pl_stored.specs.declared.stored.StoredPage.{StoredPage}
 use Rattle.pl_base.specs.Marks.{is_typed}
 use Rattle.pl_check.specs.Rows.{are_good, are_good_numbers, are_ids, have_good_ids, have_good_rows, have_own_urls}
 use Rattle.pl_check.specs.Rows.{is_good_page, is_good_source, is_good_visit, stored_page_ids, stored_visit_ids}
@@ -30,7 +30,8 @@ use Rattle.pl_check.specs.Rows.{is_kept, is_typed_visit}
 use Rattle.pl_check.specs.Items.{has_reference, has_root, has_top_folder, have_roots, is_good_item, item_ids}
 use Rattle.pl_check.specs.Items.{top_numbers}
 use Rattle.pl_check.specs.Tags.{HaveGoodTags}
-use Rattle.pl_form.specs.Stored.{AreStored, IsStoredPage, Stored, stored_page, stored_store, visit_of}
+use Rattle.pl_stored.specs.Stored.{AreStored, IsStoredPage, Stored, stored_page, stored_store}
+use Rattle.pl_stored.specs.Stored.{visit_of}
 use Rattle.pl_base.proofs.ListLaws.{All-from_map, list_any-map, map-map, AllPairs-from_map, AllPairs-map}
 use Rattle.pl_base.specs.Date.{last_date, last_day}
 use Rattle.pl_base.proofs.IdsLaws.{same_page}

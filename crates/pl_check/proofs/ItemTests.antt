@@ -21,8 +21,8 @@ use Rattle.pl_base.specs.Date.{last_date}
 use Rattle.pl_base.specs.Good.{IsGoodItem, has_page_at}
 use Rattle.pl_base.specs.Store.{Item, Page}
 use Rattle.pl_base.specs.Tree.{is_page}
-use Rattle.pl_form.specs.declared.stored.StoredPage.{StoredPage}
-use Rattle.pl_form.specs.Stored.{IsStoredItem, Stored, stored_page, stored_store}
+use Rattle.pl_stored.specs.declared.stored.StoredPage.{StoredPage}
+use Rattle.pl_stored.specs.Stored.{IsStoredItem, Stored, stored_page, stored_store}
 use Rattle.pl_check.specs.Items.{AreReferences, has_own_page, is_bookmark, is_folder, is_good_item}
 use Rattle.pl_check.specs.Items.{referenced_pages}
 use Rattle.pl_base.proofs.ListLaws.{list_any-map}

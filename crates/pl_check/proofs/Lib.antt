@@ -1,11 +1,17 @@
+pub mod AssessedPages
 pub mod CheckMarks
 pub mod CheckSamples
 pub mod Distinct
 pub mod GoodRows
+pub mod HeldRows
 pub mod ItemTests
 pub mod LatestVisits
 pub mod ListTests
+pub mod LiveRows
+pub mod NamedTotals
+pub mod OriginNames
 pub mod RootTests
 pub mod RowTests
+pub mod StoredTexts
 pub mod TagTests
 pub mod TagWalks

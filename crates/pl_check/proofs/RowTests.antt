@@ -3,7 +3,7 @@ use Rattle.std.proofs.Common.{◌≡◌, ◌∙◌, ◌&&◌, ◌+◌, ◌-◌, 
 use Rattle.std.proofs.Common.{bytes_eq, drop, get_or, length, sym, ap, arith, take, suc, drop-cons}
 use Rattle.std.specs.List.{list_any}
 use Rattle.std.proofs.lemmas.List.{length-drop, take_all}
-use Rattle.pl_form.specs.declared.stored.StoredPage.{StoredPage}
+use Rattle.pl_stored.specs.declared.stored.StoredPage.{StoredPage}
 use Rattle.pl_check.specs.Rows.{have_own_urls}
 
 -- the rows from one on: it, and those behind it

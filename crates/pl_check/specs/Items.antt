@@ -11,7 +11,7 @@ use Rattle.pl_base.specs.declared.item.ItemKind.TheVariants.{Bookmark, Folder, S
 use Rattle.pl_base.specs.Date.{last_date}
 use Rattle.pl_base.specs.Store.{Item, item_id}
 use Rattle.pl_base.specs.Tree.{is_page, item_at}
-use Rattle.pl_form.specs.declared.stored.StoredPage.{StoredPage}
+use Rattle.pl_stored.specs.declared.stored.StoredPage.{StoredPage}
 
 -- ---- pages
 

@@ -7,9 +7,9 @@ use Rattle.pl_base.specs.declared.id.VisitId.{VisitId}
 use Rattle.pl_base.specs.Date.{last_date, last_day}
 use Rattle.pl_base.specs.Marks.{is_typed}
 use Rattle.pl_base.specs.Touched.{ascends_above}
-use Rattle.pl_form.specs.declared.stored.StoredVisit.{StoredVisit}
-use Rattle.pl_form.specs.declared.stored.StoredPage.{StoredPage}
-use Rattle.pl_form.specs.Stored.{Stored}
+use Rattle.pl_stored.specs.declared.stored.StoredVisit.{StoredVisit}
+use Rattle.pl_stored.specs.declared.stored.StoredPage.{StoredPage}
+use Rattle.pl_stored.specs.Stored.{Stored}
 use Rattle.pl_check.specs.Items.{has_reference, have_roots, is_good_item, item_ids}
 
 -- the ids ascend from above 0, and lie below the next one

@@ -3,7 +3,7 @@ use Rattle.std.specs.Prelude.{Bool}
 use Rattle.pl_base.specs.Redirects.{is_redirect_source, source_transition}
 use Rattle.pl_base.specs.Store.{Visit}
 use Rattle.pl_base.specs.Tables.{bonus_of}
-use Rattle.pl_form.specs.Stored.{Stored, stored_store}
+use Rattle.pl_stored.specs.Stored.{Stored, stored_store}
 use Rattle.pl_score.specs.declared.sample.Sampled.{Sampled}
 
 -- what a visit counts, whose page is told to be an item's or not

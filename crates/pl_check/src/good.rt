@@ -9,14 +9,14 @@ ghost use Rattle.pl_check.specs.Items.{AreReferences, item_ids};
 ghost use Rattle.pl_base.specs.Marks as marks;
 ghost use Rattle.pl_base.specs.Touched.{ascends_above};
 ghost use Rattle.pl_check.specs.Rows as good;
-ghost use Rattle.pl_form.specs.Stored.{AreStored, stored_store};
+ghost use Rattle.pl_stored.specs.Stored.{AreStored, stored_store};
 
 use crate::items::{are_item_ids, have_good_items};
 use crate::references::References;
 use crate::roots::have_roots;
 use crate::tags::have_good_tags;
 use pl_base::{Day, Micros, NoMemory, PageId, Transition, VisitId};
-use pl_form::{StoredPage, StoredRows, StoredVisit};
+use pl_stored::{StoredPage, StoredRows, StoredVisit};
 use std::alloc::Global;
 
 /// Whether they are the rows of a good store, if its items are a tree.

@@ -10,7 +10,7 @@ ghost use Rattle.pl_check.specs.Items as good;
 ghost use Rattle.pl_check.specs.Items.{item_ids};
 
 use pl_base::{ItemId, ItemKind, Micros, PageId, TreeItem};
-use pl_form::StoredPage;
+use pl_stored::StoredPage;
 
 /// Whether the ids ascend from above 0, and lie below the next one.
 pub fn are_item_ids(items: &[TreeItem], next: u32) -> bool

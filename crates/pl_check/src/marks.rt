@@ -10,13 +10,13 @@ ghost use Rattle.pl_base.specs.Visits.{in_place, sample_of, sample_size};
 ghost use Rattle.pl_score.specs.Sample.{sampled_of};
 ghost use Rattle.pl_check.specs.Items.{has_reference};
 ghost use Rattle.pl_check.specs.Samples.{told_sample};
-ghost use Rattle.pl_form.specs.Stored.{AreStored, stored_page, stored_store, visit_of};
+ghost use Rattle.pl_stored.specs.Stored.{AreStored, stored_page, stored_store, visit_of};
 
 use crate::redirects::{is_redirect_source, source_transition};
 use crate::visit::is_later;
 use pl_base::{Mark, NoMemory, PageId};
-use pl_form::{StoredPage, StoredRows, StoredVisit};
 use pl_score::{SAMPLE_SIZE, Sampled, bonus, score};
+use pl_stored::{StoredPage, StoredRows, StoredVisit};
 use std::alloc::Global;
 
 /// What the definitions give of a page, which is told to be an item's or not, and to be a query or

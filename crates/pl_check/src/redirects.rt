@@ -1,11 +1,11 @@
 // Redirects among the visits of a file.
 ghost use Rattle.std.specs.Prelude.{◌≡◌};
 ghost use Rattle.pl_base.specs.Redirects as redirects;
-ghost use Rattle.pl_form.specs.Stored.{stored_store, visit_of};
+ghost use Rattle.pl_stored.specs.Stored.{stored_store, visit_of};
 
 use crate::visit::is_redirect_from;
 use pl_base::Transition;
-use pl_form::{StoredRows, StoredVisit};
+use pl_stored::{StoredRows, StoredVisit};
 
 /// The transition of the visit that a redirect came from.
 pub fn source_transition(rows: &StoredRows, visit: &StoredVisit) -> Option<Transition>

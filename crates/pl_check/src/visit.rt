@@ -4,12 +4,12 @@ ghost use Rattle.std.specs.Option.{option_map};
 ghost use Rattle.pl_base.specs.Redirects as redirects;
 ghost use Rattle.pl_base.specs.Rows.{row_of};
 ghost use Rattle.pl_base.specs.Visits as visits;
-ghost use Rattle.pl_form.specs.Stored.{visit_of};
+ghost use Rattle.pl_stored.specs.Stored.{visit_of};
 ghost use Rattle.pl_check.specs.Latest as latest;
 ghost use Rattle.pl_check.specs.Targets as targets;
 
 use pl_base::{PageId, VisitId, VisitRow};
-use pl_form::StoredVisit;
+use pl_stored::StoredVisit;
 
 /// Whether the date is later, or the same and the id greater.
 pub fn is_later(visit: &StoredVisit, other: &StoredVisit) -> bool

@@ -1,14 +1,13 @@
 -- Bookmarks that come back come back by the command.
-use Rattle.std.proofs.Common.{◌≡◌, ℕ, Bool, true, false, Option, Some, None, refl}
+use Rattle.std.proofs.Common.{◌≡◌, ℕ, false, Option, Some, None}
 use Rattle.std.proofs.lemmas.Bool.{true≢false}
 use Rattle.pl_base.specs.declared.refusal.Refusal.{Refusal}
-use Rattle.pl_base.specs.Store.{Store, opening}
+use Rattle.pl_base.specs.Store.{opening}
 use Rattle.pl_nbread.specs.declared.tree.Tree.{Tree}
 use Rattle.pl_graft.specs.Import.{imported}
 use Rattle.pl_outline.specs.Outline.{bookmarks}
-use Rattle.pl_step.specs.declared.command.Command.TheVariants.{Import}
 use Rattle.pl_step.specs.Refused.{is_refused}
-use Rattle.pl_step.specs.Step.{import_refusal, import_reply, perform, unless_refused}
+use Rattle.pl_step.specs.Step.{import_refusal, import_reply, unless_refused}
 use Rattle.pl_engine.specs.Returns.{Returns}
 
 pub brought_back : (limit : ℕ) (tree : Tree) → bookmarks (imported tree opening) ≡ tree → Returns limit tree

@@ -1,6 +1,6 @@
 -- What holds of the rows behind an import: each page stands there, and what was computed of a page that has no new
 -- item stays right.
-use Rattle.std.proofs.Common.{◌≡◌, ◌≢◌, ◌∙◌, ◌+◌, ◌<◌, ◌≤◌, ◌==◌, ◌&&◌, ◌||◌, ◌++◌, ℕ, All, Bool, true, false, IsTrue}
+use Rattle.std.proofs.Common.{◌≡◌, ◌≢◌, ◌∙◌, ◌<◌, ◌≤◌, ◌==◌, ◌&&◌, ◌||◌, ◌++◌, ℕ, All, Bool, true, false, IsTrue}
 use Rattle.std.proofs.Common.{List, [], ◌∷◌, Option, ap, arith, count_by, eq-eqb, filter, get_or}
 use Rattle.std.proofs.Common.{map, refl, subst, sym}
 use Rattle.std.specs.Prelude.{nat_le}
@@ -19,15 +19,16 @@ use Rattle.pl_base.specs.declared.id.PageId.{PageId}
 use Rattle.pl_base.specs.Good.{HasGoodItems, is_visited}
 use Rattle.pl_base.specs.Marks.{is_counted, visit_count}
 use Rattle.pl_base.specs.Removal.{is_standing, without_idle_pages}
-use Rattle.pl_base.specs.Rows.{IsWellKept, Kept, KeptOrigin, KeptPage, has_page, store_of}
+use Rattle.pl_base.specs.Rows.{HaveSums, IsSound, IsWellKept, Kept, KeptOrigin, KeptPage, has_page, store_of}
 use Rattle.pl_base.specs.Store.{Item, Page, Store, Visit}
 use Rattle.pl_base.specs.Tree.{is_page}
 use Rattle.pl_base.proofs.ListLaws.{All-from_map, AllPairs-from_map, AllPairs-map, list_any-map, weaker}
 use Rattle.pl_base.proofs.LookUps.{none_pass}
+use Rattle.pl_base.proofs.OriginSums.{sums_of_sound}
 use Rattle.pl_marks.specs.Refreshed.{IsRightPage}
 use Rattle.pl_marks.proofs.PageWalk.{Ascend, ascend}
 use Rattle.pl_history.specs.Settled.{AreSettledBut}
-use Rattle.pl_history.specs.Sound.{AreStanding, IsSound, IsTypedRight}
+use Rattle.pl_history.specs.Sound.{AreStanding, IsTypedRight}
 use Rattle.pl_history.proofs.GoodRows.{standing_of}
 use Rattle.pl_history.proofs.ItemMarks.{has_reference, right_alike}
 use Rattle.pl_history.proofs.TakenVisits.{any-filter}
@@ -220,11 +221,12 @@ module _ (old : Kept) (ids : Ids) (added : List KeptPage) (origins : List KeptOr
       stands true was now still some = refl
       stands false was now still some = still some
 
-  settled : IsWellKept old → IsWellKept (grown ids added origins items old) → All IsBlank added
+  settled : IsWellKept old → IsWellKept (grown ids added origins items old)
+      → HaveSums (grown ids added origins items old) → All IsBlank added
       → HasGoodItems (store_of (grown ids added origins items old))
       → AreSettledBut (gained (store_of old) (store_of (grown ids added origins items old)))
       (grown ids added origins items old)
-  settled h well blank good =
+  settled h well sums blank good =
       let new : Kept = grown ids added origins items old in
       let but : List PageId = gained (store_of old) (store_of new) in
       let new_item : PageId → Bool = has_new_item old.ids.item items in
@@ -265,6 +267,7 @@ module _ (old : Kept) (ids : Ids) (added : List KeptPage) (origins : List KeptOr
             All-append (IsTypedRight new) old.pages added standing.typed
             (λ k d within j e inside of _.
             absurd (omega (arith, ap (λ (i : PageId). i.0) of, below k d within j e inside)));
+        sums = sums;
       }
 
 -- ---- an import
@@ -302,7 +305,8 @@ imported_settled tree old new h well sound is g good =
     let same : new ≡ grown new.ids g.added new.origins new.items old = grows_is old new g in
     subst (λ (k : Kept). AreSettledBut (gained (store_of old) (store_of k)) k) (sym same)
     (settled old new.ids g.added new.origins new.items sound (new_items tree old new is) (new_held tree old new is g) h
-    (subst IsWellKept same well) g.blank (subst (λ (k : Kept). HasGoodItems (store_of k)) same good))
+    (subst IsWellKept same well) (subst HaveSums same (g.sums (sums_of_sound old h sound))) g.blank
+    (subst (λ (k : Kept). HasGoodItems (store_of k)) same good))
 
 -- no page goes
 pub imported_stands : (tree : Tree) (old new : Kept) → IsSound old → store_of new ≡ imported tree (store_of old)

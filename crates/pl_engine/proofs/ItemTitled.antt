@@ -18,7 +18,7 @@ use Rattle.pl_tree.specs.Refused.{refusal}
 use Rattle.pl_step.specs.declared.command.Command.TheVariants.{Retitle as RetitleCommand}
 use Rattle.pl_step.specs.declared.reply.Reply.{Reply}
 use Rattle.pl_step.specs.declared.reply.Reply.TheVariants.{Done, Refused}
-use Rattle.pl_history.specs.Sound.{IsSound}
+use Rattle.pl_base.specs.Rows.{IsSound}
 use Rattle.pl_step.specs.Step.{after_retitle, is_full, perform}
 use Rattle.pl_base.proofs.ItemLaws.{once}
 use Rattle.pl_base.proofs.OneChanged.{sum_changed}
@@ -132,10 +132,10 @@ retitle_done limit kept new id title text date live slots full none cut of_live 
     (same_full limit (live_slots store) live slots (live_slots after) full of_live same of_full ∙ here))
 
 pub sound_retitled : (kept new : Kept) (id : ItemId) (title : List ℕ) (date : Micros)
-    → new ≡ with_items (retitled id title date kept.items) kept → IsWellKept new → HasGoodItems (store_of new)
-    → IsSound kept → IsSound new
-sound_retitled kept new id title date is h good s =
-    sound_alike kept new kept.ids (retitled id title date kept.items) is h good
+    → new ≡ with_items (retitled id title date kept.items) kept → IsWellKept kept → IsWellKept new
+    → HasGoodItems (store_of new) → IsSound kept → IsSound new
+sound_retitled kept new id title date is well h good s =
+    sound_alike kept new kept.ids (retitled id title date kept.items) is well h good
     (λ page. reference_changed id (λ (i : Item). record i { title = title; modified = date }) kept.items page
     (λ i. refl))
     s

@@ -1,6 +1,7 @@
 mod BookmarkAllowed
 mod BroughtBack
 mod ChildItems
+mod FewPages
 mod FreshPage
 mod ImportSettled
 mod ImportedPages

@@ -11,15 +11,13 @@ use Rattle.std.proofs.lemmas.List.Kept.{AllPairs-from_increasing}
 use Rattle.pl_base.specs.declared.id.ItemId.{ItemId}
 use Rattle.pl_base.specs.declared.id.PageId.{PageId}
 use Rattle.pl_base.specs.Good.{HasGoodItems, IsGoodItem, has_page_at}
-use Rattle.pl_base.specs.Rows.{Kept, KeptPage, has_page, store_of, with_items}
+use Rattle.pl_base.specs.Rows.{IsSound, IsWellKept, Kept, KeptPage, has_page, store_of, with_items}
 use Rattle.pl_base.specs.Store.{Item, Page, Store}
-use Rattle.pl_base.specs.Tree.{is_page, leaving}
+use Rattle.pl_base.specs.Tree.{is_page, leaving, lies_in}
 use Rattle.pl_base.proofs.IdsLaws.{same_page}
 use Rattle.pl_base.proofs.ListLaws.{AllPairs-from_map, list_any-alike, list_any-map, weaker}
 use Rattle.pl_base.proofs.LookUps.{none_pass}
-use Rattle.pl_tree.specs.Ancestors.{lies_in}
 use Rattle.pl_tree.specs.Changes.{loses_item, with_removed}
-use Rattle.pl_history.specs.Sound.{IsSound}
 use Rattle.pl_history.specs.Settled.{AreSettledBut}
 use Rattle.pl_history.proofs.Dropped.{any_left}
 use Rattle.pl_history.proofs.ItemMarks.{has_reference}
@@ -83,7 +81,7 @@ eqb_turned m n = choose (n == m) refl
 
 -- ---- the rows
 
-module _ (old : Kept) (item : ItemId) (lost : List PageId) (sound : IsSound old)
+module _ (old : Kept) (item : ItemId) (lost : List PageId) (h : IsWellKept old) (sound : IsSound old)
     (losers : (page : PageId) → list_any (λ (l : PageId). l.0 == page.0) lost ≡ loses_item old.items item page) where
   -- an item has a page that is not among the losers as before
   same_items : (page : PageId) → list_any (λ (id : PageId). page.0 == id.0) lost ≡ false
@@ -98,7 +96,7 @@ module _ (old : Kept) (item : ItemId) (lost : List PageId) (sound : IsSound old)
       → HasGoodItems (store_of (with_items (with_removed item old.items) old))
       → AreSettledBut lost (with_items (with_removed item old.items) old)
   settled_but ascending good =
-      settled_with old (with_removed item old.items) lost sound
+      settled_with old (with_removed item old.items) lost h sound
       (All-from_recursion (λ (id : PageId). IsTrue (has_page old id)) lost
       (weaker (λ (id : PageId). list_any (λ (l : PageId). l.0 == id.0) lost ≡ true)
       (λ (id : PageId). IsTrue (has_page old id)) lost
@@ -115,11 +113,11 @@ module _ (old : Kept) (item : ItemId) (lost : List PageId) (sound : IsSound old)
       )))
       same_items good
 
-pub lost_settled : (old new : Kept) (item : ItemId) (lost : List PageId) → IsSound old
+pub lost_settled : (old new : Kept) (item : ItemId) (lost : List PageId) → IsWellKept old → IsSound old
     → new ≡ with_items (with_removed item old.items) old
     → IsStrictlyIncreasing (map (λ (page : PageId). page.0) lost)
     → ((page : PageId) → list_any (λ (l : PageId). l.0 == page.0) lost ≡ loses_item old.items item page)
     → HasGoodItems (store_of new) → AreSettledBut lost new
-lost_settled old new item lost sound is ascending losers good =
+lost_settled old new item lost h sound is ascending losers good =
     subst (AreSettledBut lost) (sym is)
-    (settled_but old item lost sound losers ascending (subst (λ (k : Kept). HasGoodItems (store_of k)) is good))
+    (settled_but old item lost h sound losers ascending (subst (λ (k : Kept). HasGoodItems (store_of k)) is good))

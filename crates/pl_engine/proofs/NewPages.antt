@@ -17,7 +17,9 @@ use Rattle.pl_base.specs.Frecency.{frecency_from, frecency_of, points, unvisited
 use Rattle.pl_base.specs.Good.{is_visited}
 use Rattle.pl_base.specs.Marks.{is_counted, is_hidden, is_referenced, visit_count}
 use Rattle.pl_base.specs.Removal.{is_standing}
-use Rattle.pl_base.specs.Rows.{IsWellKept, Kept, KeptPage, has_page, mark_of, page_at, store_of, url_of, with_mark}
+use Rattle.pl_base.specs.Rows.{HaveSums, IsWellKept, Kept, KeptPage, has_page, mark_of, page_at, store_of, url_of}
+use Rattle.pl_base.specs.Rows.{with_mark, with_origins}
+use Rattle.pl_base.specs.Totals.{most_share, share}
 use Rattle.pl_base.specs.Store.{Page, Store, Visit}
 use Rattle.pl_base.specs.Visits.{sample_of, visits_of}
 use Rattle.pl_base.proofs.IdsLaws.{same_page}
@@ -72,6 +74,10 @@ module _ (store : Store) (page : PageId) (n : IsNew store page) where
 
 -- ---- its mark
 
+pub small_new : (is_place : Bool) → share (unvisited_frecency true false is_place) ≤ most_share
+small_new true = omega arith
+small_new false = omega arith
+
 abbrev mark_with : Bool → ℕ → Bool → Mark
 mark_with is_place count typed =
     record {
@@ -86,7 +92,7 @@ new_there kept page n =
     sym (list_any-map (λ (p : Page). p.id.0 == page.0) (λ (p : KeptPage). p.page) kept.pages) ∙ n.there
 
 module _ (old new : Kept) (page : PageId) (is_place : Bool) (n : IsNew (store_of old) page)
-    (is : new ≡ with_mark page (new_mark is_place) old) where
+    (is : new ≡ with_origins new.origins (with_mark page (new_mark is_place) old)) where
   pub new_store : store_of new ≡ store_of old
   new_store =
       ap store_of is
@@ -113,15 +119,18 @@ module _ (old new : Kept) (page : PageId) (is_place : Bool) (n : IsNew (store_of
         hidden = is_place;
         rows =
             is
-            ∙ ap (λ (count : ℕ). with_mark page (mark_with is_place count false) old) (sym none)
-            ∙ ap (λ (typed : Bool). with_mark page (mark_with is_place mark.count typed) old) (sym never);
+            ∙ ap (λ (count : ℕ). with_origins new.origins (with_mark page (mark_with is_place count false) old))
+            (sym none)
+            ∙ ap (λ (typed : Bool). with_origins new.origins (with_mark page (mark_with is_place mark.count typed) old))
+            (sym never);
         scored = λ p of typed place. scored (store_of old) page n p is_place of (sym never ∙ typed) place;
         shown = λ p of place. shown (store_of old) page n p is_place of place;
       }
 
-  pub new_settled : IsWellKept old → (rest : List PageId) → Some is_place ≡ option_map is_place_url (url_of old page)
-      → AreSettledBut (page ∷ rest) old → AreSettledBut rest new
-  new_settled h rest place s =
+  pub new_settled : IsWellKept old → HaveSums new → (rest : List PageId)
+      → Some is_place ≡ option_map is_place_url (url_of old page) → AreSettledBut (page ∷ rest) old
+      → AreSettledBut rest new
+  new_settled h sums rest place s =
       let found : Option Mark = option_map mark_of (page_at old page) in
       choose found refl
       (found_where (λ (p : KeptPage). p.page.id.0 == page.0) mark_of old.pages found (new_there old page n) refl)
@@ -130,7 +139,7 @@ module _ (old new : Kept) (page : PageId) (is_place : Bool) (n : IsNew (store_of
       choose None at some = absurd (cc)
       choose (Some mark) at some =
           refreshed_settled old new page rest mark is_place (unvisited_frecency true false is_place) h (sym at) place
-          (stands (store_of old) page n) (refreshes mark s.counts (mark_at old page mark (sym at))) s
+          (stands (store_of old) page n) (refreshes mark s.counts (mark_at old page mark (sym at))) sums s
 
 -- ---- among others
 
@@ -177,4 +186,5 @@ settled_swapped kept front back s =
       right = λ k d within other. s.right k d within (sym (same (get_or kept.pages k d).page.id) ∙ other);
       by_row = λ k d within other. s.by_row k d within (sym (same (get_or kept.pages k d).page.id) ∙ other);
       typed = s.typed;
+      sums = s.sums;
     }

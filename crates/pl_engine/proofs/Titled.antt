@@ -5,21 +5,25 @@ use Rattle.std.proofs.Common.{leb, slice_index, subst, suc, sym, take, zero}
 use Rattle.std.specs.Fmt.{is_char_start}
 use Rattle.std.specs.Fmt.Cut.{floor_char_boundary}
 use Rattle.std.specs.Cmp.{both_ways}
-use Rattle.std.specs.List.{AllByRecursion, AllPairs}
+use Rattle.std.specs.List.{AllByRecursion, AllPairs, cons_option, filter_map}
+use Rattle.std.specs.Option.{option_map}
 use Rattle.std.proofs.lemmas.Bool.{cond_both}
 use Rattle.std.proofs.lemmas.Bool.Decides.{nat_tests}
 use Rattle.std.proofs.lemmas.List.{length-take}
 use Rattle.std.proofs.lemmas.List.Elements.{All-map, recursion_from_All}
 use Rattle.std.proofs.lemmas.Slice.Eq.{bytes_eq-Decides}
 use Rattle.pl_base.specs.declared.id.PageId.{PageId}
+use Rattle.pl_base.specs.Address.{origin_of_url}
 use Rattle.pl_base.specs.Frecency.{frecency_of}
 use Rattle.pl_base.specs.Good.{HasGoodItems, IsGood, longest_title}
 use Rattle.pl_base.specs.Marks.{is_hidden, visit_count}
-use Rattle.pl_base.specs.Rows.{IsWellKept, Kept, KeptPage, store_of, titled, with_title}
+use Rattle.pl_base.specs.Rows.{HaveSums, IsRight, IsSound, IsWellKept, Kept, KeptPage, store_of, titled, total_at}
+use Rattle.pl_base.specs.Rows.{with_title}
 use Rattle.pl_base.specs.Store.{Page, Store}
 use Rattle.pl_base.specs.Title.{cut_title}
+use Rattle.pl_base.specs.Totals.{Origin, Scored, most_share, share, total_of}
 use Rattle.pl_history.specs.declared.find.Target.TheVariants.{Known}
-use Rattle.pl_history.specs.Sound.{AreStanding, IsSound, IsTypedRight}
+use Rattle.pl_history.specs.Sound.{AreStanding, IsTypedRight}
 use Rattle.pl_base.specs.Removal.{is_standing}
 use Rattle.pl_step.specs.Step.{after_title, title_page}
 use Rattle.pl_history.specs.Target.{IsTargetOf}
@@ -28,6 +32,7 @@ use Rattle.pl_history.proofs.KnownPage.{IsKnown, known, only_known}
 use Rattle.pl_marks.proofs.PageWalk.{part}
 use Rattle.pl_base.proofs.ListLaws.{list_any-alike, list_any-map}
 use Rattle.pl_base.proofs.LookUps.{both}
+use Rattle.pl_base.proofs.OriginSums.{sums_of_sound, totals_of_sums}
 
 -- ---- a title that is cut
 
@@ -147,12 +152,58 @@ items_titled kept id title good =
     same_id true other p = refl
     same_id false other p = refl
 
+-- the origins of some pages, and their frecencies
+abbrev scores : List KeptPage → List Scored
+scores pages =
+    filter_map (λ (p : KeptPage). option_map (λ (o : Origin). (o, p.frecency)) (origin_of_url p.page.url)) pages
+
+-- a page keeps its URL and its frecency
+scores_titled : (id : PageId) (title : List ℕ) (pages : List KeptPage)
+    → scores (map (λ (p : KeptPage). if p.page.id.0 == id.0 then titled title p else p) pages) ≡ scores pages
+scores_titled id title [] = refl
+scores_titled id title (p ∷ pages) = choose (p.page.id.0 == id.0) (scores_titled id title pages)
+  where
+    choose : (b : Bool)
+        → scores (map (λ (q : KeptPage). if q.page.id.0 == id.0 then titled title q else q) pages) ≡ scores pages
+        → scores ((if b then titled title p else p)
+        ∷ map (λ (q : KeptPage). if q.page.id.0 == id.0 then titled title q else q) pages)
+        ≡ scores (p ∷ pages)
+    choose true rest =
+        ap (cons_option (option_map (λ (o : Origin). (o, p.frecency)) (origin_of_url p.page.url))) rest
+    choose false rest =
+        ap (cons_option (option_map (λ (o : Origin). (o, p.frecency)) (origin_of_url p.page.url))) rest
+
+sums_titled : (kept : Kept) (id : PageId) (title : List ℕ) → HaveSums kept → HaveSums (with_title id title kept)
+sums_titled kept id title had =
+    let Told : List Scored → KeptPage → Type 0 =
+    λ (ss : List Scored) (p : KeptPage). total_at kept p.origin ≡ option_map (total_of ss) (origin_of_url p.page.url) in
+    record {
+      sums = subst (λ (ss : List Scored). All (Told ss) (with_title id title kept).pages)
+          (sym (scores_titled id title kept.pages))
+          (each_titled (Told (scores kept.pages)) id title kept.pages (λ p told. told) had.sums);
+      small =
+          each_titled (λ (p : KeptPage). share p.frecency ≤ most_share) id title kept.pages (λ p small. small)
+          had.small;
+    }
+
 -- nothing that is kept of a page beside its texts depends on a title
-pub sound_titled : (kept new : Kept) (id : PageId) (title : List ℕ) → new ≡ with_title id title kept → IsWellKept new
-    → IsSound kept → IsSound new
-sound_titled kept new id title is h s =
+pub sound_titled : (kept new : Kept) (id : PageId) (title : List ℕ) → new ≡ with_title id title kept → IsWellKept kept
+    → IsWellKept new → IsSound kept → IsSound new
+sound_titled kept new id title is well h s =
     let store : Store = store_of kept in
     let standing : AreStanding kept = standing_of kept s.good in
+    let right : IsRight (with_title id title kept) =
+    record {
+      frecencies =
+          each_titled (λ (p : KeptPage). p.frecency ≡ frecency_of store p.page) id title kept.pages
+          (λ p is. is) s.right.frecencies;
+      counts =
+          each_titled (λ (p : KeptPage). p.count ≡ visit_count store p.page.id) id title kept.pages
+          (λ p is. is) s.right.counts;
+      hidden =
+          each_titled (λ (p : KeptPage). p.hidden ≡ is_hidden store p.page) id title kept.pages
+          (λ p is. is) s.right.hidden;
+    } in
     subst IsSound (sym is)
     (record {
       good =
@@ -163,15 +214,6 @@ sound_titled kept new id title is h s =
                 (λ p stands. stands) standing.by_row;
             typed = each_titled (IsTypedRight kept) id title kept.pages (λ p typed. typed) standing.typed;
           });
-      right = record {
-        frecencies =
-            each_titled (λ (p : KeptPage). p.frecency ≡ frecency_of store p.page) id title kept.pages
-            (λ p is. is) s.right.frecencies;
-        counts =
-            each_titled (λ (p : KeptPage). p.count ≡ visit_count store p.page.id) id title kept.pages
-            (λ p is. is) s.right.counts;
-        hidden =
-            each_titled (λ (p : KeptPage). p.hidden ≡ is_hidden store p.page) id title kept.pages
-            (λ p is. is) s.right.hidden;
-      };
+      right = right;
+      totals = totals_of_sums (with_title id title kept) right (sums_titled kept id title (sums_of_sound kept well s));
     })

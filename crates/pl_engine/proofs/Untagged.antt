@@ -19,7 +19,7 @@ use Rattle.pl_base.specs.Tree.{child_items, children_of, is_page, item_at, leavi
 use Rattle.pl_base.proofs.ListLaws.{all-filter, list_any-map, weaker}
 use Rattle.pl_base.proofs.LookUps.{Apart, apart_ascending, found_holds, found_one, found_passes}
 use Rattle.pl_tree.specs.Tagged.{entry_in, tag_named, untagged_items, without_entry, without_unused}
-use Rattle.pl_history.specs.Sound.{IsSound}
+use Rattle.pl_base.specs.Rows.{IsSound}
 use Rattle.pl_history.specs.Settled.{AreSettledBut}
 use Rattle.pl_engine.proofs.ChildItems.{children_hold, children_too}
 use Rattle.pl_history.proofs.Dropped.{any_left, not_both}
@@ -138,7 +138,7 @@ pub untagged_settled : (old new : Kept) (page : PageId) (name : List ℕ) → Is
     → HasGoodItems (store_of new) → AreSettledBut (page ∷ []) new
 untagged_settled old new page name h sound there is good =
     subst (AreSettledBut (page ∷ [])) (sym is)
-    (settled_with old (untagged_items page name old.items) (page ∷ []) sound
+    (settled_with old (untagged_items page name old.items) (page ∷ []) h sound
     (All-from_recursion (λ (id : PageId). IsTrue (has_page old id)) (page ∷ []) (there, tt))
     (λ i j d before within. absurd (omega arith))
     (λ id other.

@@ -10,19 +10,21 @@ mod tag;
 mod title;
 mod visit;
 
-ghost use Rattle.std.specs.Prelude.{◌≡◌, ◌≤◌, ℕ, List, false, length, IfOk, IsErr, OnOk};
+ghost use Rattle.std.specs.Prelude.{◌≡◌, ◌≤◌, ◌↔◌, ℕ, List, Some, false, length, IfOk, IfSome};
+ghost use Rattle.std.specs.Prelude.{IsErr, OnOk};
+ghost use Rattle.std.specs.List.{All};
 ghost use Rattle.std.proofs.Props.{props};
-ghost use Rattle.pl_base.specs.Good.{IsGood};
 ghost use Rattle.pl_base.specs.Live.{slot_limit};
-ghost use Rattle.pl_base.specs.Rows.{HaveTotals, IsRight, store_of};
-ghost use Rattle.pl_base.specs.Touched.{IsWithin, changed, bytes_before};
-ghost use Rattle.pl_history.specs.Sound.{IsSound};
+ghost use Rattle.pl_base.specs.Rows.{IsSound, store_of};
+ghost use Rattle.pl_base.specs.Touched.{IsWithin, MayDiffer, bytes_before, changed};
+ghost use Rattle.pl_base.specs.Touched.{page_numbers};
 ghost use Rattle.pl_nbwrite.specs.Plain.{IsPlain};
 ghost use Rattle.pl_outline.specs.Outline.{bookmarks};
 ghost use Rattle.pl_step.specs.Commands.{HasDates, MayWantMemory, is_change};
-ghost use Rattle.pl_step.specs.Refused.{has_changed};
 ghost use Rattle.pl_step.specs.Step as spec;
+ghost use Rattle.pl_engine.specs.Idle.{IsIdle};
 ghost use Rattle.pl_engine.specs.Returns.{Returns};
+ghost use Rattle.pl_engine.specs.VisitPages.{AddsFewPages};
 
 use crate::engine::bookmark::bookmark;
 use crate::engine::change::{move_item, retitle};
@@ -34,7 +36,6 @@ use crate::engine::tag::{tag, untag};
 use crate::engine::title::title;
 use crate::engine::visit::visit;
 use pl_base::{NoMemory, Refusal, Rows, Steps, Touched};
-use pl_history::total_up;
 use pl_nbread::Tree;
 use pl_outline::tree;
 use pl_step::{Command, Reply};
@@ -52,38 +53,14 @@ pub struct Engine<R: Rows> {
     rows: R,
     // How many slots of 128 bytes the store may take.
     limit: u32,
-    ghost good: { IsGood (store_of (R.kept rows)) } by { Prim.hlevel props },
-    ghost right: { IsRight (R.kept rows) } by { Prim.hlevel props },
-    ghost totals: { HaveTotals (R.kept rows) } by { Prim.hlevel props },
+    ghost sound: { IsSound (R.kept rows) } by { Prim.hlevel props },
     ghost most: { limit ≤ slot_limit },
-}
-
-// The total of each origin, where the command changed something.
-fn keep_totals<R: Rows, L: Ledger>(
-    rows: &mut R,
-    command: &Command,
-    reply: &Reply,
-    steps: &mut Steps<L>,
-)
-    requires sound { IsSound (R.kept rows.old) }
-    requires totals { has_changed command.now reply.now ≡ false → HaveTotals (R.kept rows.old) }
-    ensures totals { HaveTotals (R.kept rows.new) }
-    ensures same { has_changed command.now reply.now ≡ false → rows.new ≡ rows.old }
-    ensures store { store_of (R.kept rows.new) ≡ store_of (R.kept rows.old) }
-    ensures sound { IsSound (R.kept rows.new) }
-    ensures base { (bytes : List ℕ) → R.base rows.old bytes → R.base rows.new bytes }
-{
-    if command.is_change() && !reply.is_refused() {
-        total_up(rows, steps);
-    }
 }
 
 impl<R: Rows + Drop> Engine<R> {
     /// Over rows whose store may take so many slots of 128 bytes.
     pub fn over(alloc: Global, rows: R, limit: u32) -> Result<Engine<R>, NoMemory>
-        requires good { IsGood (store_of (R.kept rows)) }
-        requires right { IsRight (R.kept rows) }
-        requires totals { HaveTotals (R.kept rows) }
+        requires sound { IsSound (R.kept rows) }
         requires most { limit ≤ slot_limit }
         ensures rows { IfOk result (λ engine. engine.rows ≡ rows) }
         ensures stands { R.form (R.bytes rows) (store_of (R.kept rows)) }
@@ -107,9 +84,12 @@ impl<R: Rows + Drop> Engine<R> {
         // A command of a kind that changes nothing leaves the very same rows.
         ensures unchanged { IfOk result (λ done. is_change command.now ≡ false
             → done.0.rows ≡ self.rows) }
-        ensures good { IfOk result (λ done. IsGood (store_of (R.kept done.0.rows))) }
-        ensures right { IfOk result (λ done. IsRight (R.kept done.0.rows)) }
-        ensures totals { IfOk result (λ done. HaveTotals (R.kept done.0.rows)) }
+        // A title that stands already leaves them too.
+        ensures idle { IfOk result (λ done. IsIdle command.now (store_of (R.kept self.rows))
+            → done.0.rows ≡ self.rows) }
+        ensures pages { IfOk result (λ done. AddsFewPages command.now
+            (store_of (R.kept self.rows)) (R.pending self.rows) (R.pending done.0.rows)) }
+        ensures sound { IfOk result (λ done. IsSound (R.kept done.0.rows)) }
         ensures base { IfOk result (λ done. (bytes : List ℕ)
             → R.base self.rows bytes → R.base done.0.rows bytes) }
         ensures stands { IfOk result (λ done.
@@ -148,7 +128,7 @@ impl<R: Rows + Drop> Engine<R> {
             Command::Unvisit { visit } => unvisit(alloc, &mut rows, *visit, steps)?,
             Command::Forget { url } => forget(alloc, &mut rows, url, steps)?,
             Command::Expire { day } => expire(alloc, &mut rows, *day, steps)?,
-            Command::Trim { most } => trim(alloc, &mut rows, *most, steps)?,
+            Command::Trim { n } => trim(alloc, &mut rows, *n, steps)?,
             Command::Folder {
                 parent,
                 place,
@@ -192,7 +172,6 @@ impl<R: Rows + Drop> Engine<R> {
             Command::Fill { text } => fill(alloc, &rows, text, steps)?,
             Command::Import(tree) => import(alloc, &mut rows, limit, tree, steps)?,
         };
-        keep_totals(&mut rows, command, &reply, steps);
         Ok((Engine { alloc, rows, limit }, reply))
     }
 
@@ -216,7 +195,15 @@ impl<R: Rows + Drop> Engine<R> {
         ensures after { IfOk result (λ change.
             length (R.bytes self.new.rows) ≡ bytes_before change.after) }
         ensures within { IfOk result IsWithin }
-        ensures base { OnOk result (R.base self.new.rows (R.bytes self.new.rows)) }
+        ensures needed { IfOk result (λ change.
+            All (MayDiffer (R.base self.old.rows) (R.bytes self.new.rows))
+            (page_numbers change.pages)) }
+        ensures listed { IfOk result (λ change.
+            IfSome (R.pending self.old.rows) (λ count. length change.pages ≡ count)) }
+        ensures pending { OnOk result (IfSome (R.pending self.old.rows) (λ count.
+            R.pending self.new.rows ≡ Some 0)) }
+        ensures base { OnOk result ((base : List ℕ)
+            → R.base self.new.rows base ↔ (base ≡ R.bytes self.new.rows)) }
         ensures kept { R.kept self.new.rows ≡ R.kept self.old.rows }
         ensures bytes { R.bytes self.new.rows ≡ R.bytes self.old.rows }
         ensures limit { self.new.limit ≡ self.old.limit }

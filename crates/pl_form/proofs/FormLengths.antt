@@ -14,7 +14,7 @@ use Rattle.pl_base.specs.Touched.{bytes_before, page_size}
 use Rattle.pl_form.specs.Form.{FormRows, StandsFor, eight, filled_pages, four, header, in_pages, item_bytes}
 use Rattle.pl_form.specs.Form.{listed, most_pages, page_bytes, page_or_zero, plain_bytes, store_rows, text_bytes}
 use Rattle.pl_form.specs.Form.{visit_bytes}
-use Rattle.pl_form.proofs.FewChildren.{few_children, some_items}
+use Rattle.pl_stored.proofs.FewChildren.{few_children, some_items}
 use Rattle.pl_form.proofs.ReadingPlain.{filled-enough}
 
 -- ---- the plain bytes

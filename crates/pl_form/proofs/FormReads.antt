@@ -1,6 +1,6 @@
 -- Readers one after another.
 use Rattle.std.proofs.Common.{◌≡◌, ◌∙◌, ℕ, List, [], ◌++◌, Ok, Err, sym, ap, refl, append-nil, append_assoc}
-use Rattle.pl_form.specs.declared.check_error.CheckError.{CheckError}
+use Rattle.pl_base.specs.declared.check_error.CheckError.{CheckError}
 use Rattle.pl_form.specs.Reading.{Reads}
 
 -- The bytes of `front` were read, and `left` is left. Where the bytes begin with the form of a value, what was

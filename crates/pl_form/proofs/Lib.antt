@@ -1,5 +1,4 @@
 mod ConstantRows
-pub mod FewChildren
 pub mod FormLengths
 pub mod FormReads
 pub mod OneForm

@@ -22,9 +22,13 @@ use Rattle.pl_base.specs.Store.{item_id}
 use Rattle.pl_base.specs.Transition.{transition_at, transition_number}
 use Rattle.pl_form.specs.Form.{eight, filled_pages, four, in_pages, item_bytes, listed, page_or_zero}
 use Rattle.pl_form.specs.Form.{signed_eight, text_bytes, visit_or_zero}
-use Rattle.pl_form.specs.Reading.{IsAny, IsEight, IsFour, IsItemPage, IsSignedEight, IsSource, IsUrl}
-use Rattle.pl_form.specs.Stored.{AreIdsFour, AreListed, AreStored, HoldsRows, IsChild, IsShort, IsStoredItem}
-use Rattle.pl_form.specs.Stored.{IsStoredPage, IsStoredVisit, Stored, child_bytes, children_bytes, ids_bytes}
+use Rattle.pl_form.specs.Reading.{IsAny}
+use Rattle.pl_stored.specs.Fits.{IsEight, IsFour, IsItemPage, IsSignedEight, IsSource, IsUrl}
+use Rattle.pl_form.specs.Stored.{HoldsRows, IsShort}
+use Rattle.pl_stored.specs.Fits.{AreListed}
+use Rattle.pl_stored.specs.Stored.{AreIdsFour, AreStored, IsChild, IsStoredItem}
+use Rattle.pl_form.specs.Stored.{child_bytes, children_bytes, ids_bytes}
+use Rattle.pl_stored.specs.Stored.{IsStoredPage, IsStoredVisit, Stored}
 use Rattle.pl_form.specs.Stored.{stored_bytes, stored_page_bytes, stored_visit_bytes}
 use Rattle.pl_form.proofs.ReadingItems.{after_added, after_item_id, after_item_page, after_kind, after_modified}
 use Rattle.pl_form.proofs.ReadingItems.{item_page_bytes, item_pieces, kind_bytes, same_items}

@@ -1,11 +1,12 @@
 -- The rows of a whole file.
 use Rattle.std.proofs.Common.{◌≡◌, ◌∙◌, ◌==◌, ℕ, List, [], ◌++◌, true, false}
 use Rattle.std.proofs.Common.{Ok, Err, length, sym, ap, subst, append-nil}
-use Rattle.pl_form.specs.declared.check_error.CheckError.{CheckError}
-use Rattle.pl_form.specs.declared.check_error.CheckError.TheVariants.{NoMemory}
+use Rattle.pl_base.specs.declared.check_error.CheckError.{CheckError}
+use Rattle.pl_base.specs.declared.check_error.CheckError.TheVariants.{NoMemory}
 use Rattle.pl_form.specs.Form.{in_pages}
 use Rattle.pl_form.specs.Reading.{Reads}
-use Rattle.pl_form.specs.Stored.{AreStored, HoldsRows, IsShort, Stored, stored_bytes}
+use Rattle.pl_form.specs.Stored.{HoldsRows, IsShort, stored_bytes}
+use Rattle.pl_stored.specs.Stored.{AreStored, Stored}
 
 -- rows that are all of the bytes
 pub all_read : (reader plain rest : List ℕ) (got : Stored) → reader ≡ plain

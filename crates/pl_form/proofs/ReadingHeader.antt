@@ -5,11 +5,12 @@ use Rattle.std.specs.Result.{result_ok}
 use Rattle.std.proofs.lemmas.List.{take-take}
 use Rattle.pl_base.specs.Store.{Store}
 use Rattle.pl_base.specs.Touched.{bytes_before, page_size}
-use Rattle.pl_form.specs.declared.check_error.CheckError.{CheckError}
-use Rattle.pl_form.specs.declared.check_error.CheckError.TheVariants.{NoMemory, NotAStore}
+use Rattle.pl_base.specs.declared.check_error.CheckError.{CheckError}
+use Rattle.pl_base.specs.declared.check_error.CheckError.TheVariants.{NoMemory, NotAStore}
 use Rattle.pl_form.specs.Form.{StandsFor, eight, filled_pages, form_bytes, four}
 use Rattle.pl_form.specs.Form.{header, in_pages, most_pages, plain_bytes, store_rows}
-use Rattle.pl_form.specs.Reading.{IsAny, IsFour, Reads}
+use Rattle.pl_form.specs.Reading.{IsAny, Reads}
+use Rattle.pl_stored.specs.Fits.{IsFour}
 use Rattle.pl_form.proofs.FormLengths.{length-in_pages, stands_within}
 use Rattle.pl_form.proofs.ReadingNumbers.{front_is}
 use Rattle.pl_form.proofs.ReadingPlain.{blank, name, padding}

@@ -6,10 +6,13 @@ use Rattle.pl_base.specs.declared.item.ItemKind.{ItemKind}
 use Rattle.pl_base.specs.Good.{IsTitle}
 use Rattle.pl_base.specs.ItemKind.{item_kind_number}
 use Rattle.pl_base.specs.Store.{Item, item_id}
-use Rattle.pl_form.specs.declared.check_error.CheckError.{CheckError}
+use Rattle.pl_base.specs.declared.check_error.CheckError.{CheckError}
 use Rattle.pl_form.specs.Form.{eight, four, item_bytes, page_or_zero, text_bytes}
-use Rattle.pl_form.specs.Reading.{IsAny, IsEight, IsFour, IsItemPage, Reads}
-use Rattle.pl_form.specs.Stored.{AreListed, IsChild, IsStoredItem, child_bytes, children_bytes}
+use Rattle.pl_form.specs.Reading.{IsAny, Reads}
+use Rattle.pl_stored.specs.Fits.{IsEight, IsFour, IsItemPage}
+use Rattle.pl_form.specs.Stored.{child_bytes, children_bytes}
+use Rattle.pl_stored.specs.Fits.{AreListed}
+use Rattle.pl_stored.specs.Stored.{IsChild, IsStoredItem}
 use Rattle.pl_form.proofs.FormReads.{Reached, started, further, stopped, arrived, to_last}
 
 -- ---- children

@@ -5,11 +5,12 @@ use Rattle.std.specs.List.{flat_map}
 use Rattle.std.proofs.lemmas.List.{length-append, length_push}
 use Rattle.std.proofs.lemmas.List.Concat.{flat_map-append}
 use Rattle.std.proofs.lemmas.List.Elements.{All-nil, All-push, All-head, All-tail}
-use Rattle.pl_form.specs.declared.check_error.CheckError.{CheckError}
-use Rattle.pl_form.specs.declared.check_error.CheckError.TheVariants.{NoMemory}
+use Rattle.pl_base.specs.declared.check_error.CheckError.{CheckError}
+use Rattle.pl_base.specs.declared.check_error.CheckError.TheVariants.{NoMemory}
 use Rattle.pl_form.specs.Form.{four, listed}
-use Rattle.pl_form.specs.Reading.{IsFour, Reads}
-use Rattle.pl_form.specs.Stored.{AreListed}
+use Rattle.pl_form.specs.Reading.{Reads}
+use Rattle.pl_stored.specs.Fits.{IsFour}
+use Rattle.pl_stored.specs.Fits.{AreListed}
 
 -- these values stand first, and what follows them in the bytes
 pub record StandFirst {A : Type 0} (form : A → List ℕ) (IsOne : A → Type 0) (xs ys : List A)

@@ -8,9 +8,10 @@ use Rattle.std.specs.Int.{from_le_bytes}
 use Rattle.std.proofs.Math.Seq.{take-append_seam, drop-append_seam}
 use Rattle.std.proofs.lemmas.List.{take-append-drop}
 use Rattle.std.proofs.lemmas.Nat.{from_le_bytes-to_le_bytes_4, from_le_bytes-to_le_bytes_8}
-use Rattle.pl_form.specs.declared.check_error.CheckError.{CheckError}
+use Rattle.pl_base.specs.declared.check_error.CheckError.{CheckError}
 use Rattle.pl_form.specs.Form.{four, eight}
-use Rattle.pl_form.specs.Reading.{IsAny, IsFour, IsEight, Reads}
+use Rattle.pl_form.specs.Reading.{IsAny, Reads}
+use Rattle.pl_stored.specs.Fits.{IsFour, IsEight}
 
 -- a list that begins with another: the beginning, and what is left
 pub front_is : (xs ys others : List ℕ) (n : ℕ) → n ≡ length ys → xs ≡ ys ++ others → take n xs ≡ ys

@@ -2,9 +2,10 @@
 use Rattle.std.proofs.Common.{◌≡◌, ◌≢◌, ◌∙◌, ℕ, ◌+◌, ◌-◌, ◌*◌, ◌<◌, ◌≤◌, ◌^◌, List, [], ◌++◌, Result, Ok}
 use Rattle.std.proofs.Common.{Err, codes, length, replicate, sym, ap, refl, subst, arith, append_assoc}
 use Rattle.std.proofs.lemmas.List.{length-append}
-use Rattle.pl_form.specs.declared.check_error.CheckError.{CheckError}
+use Rattle.pl_base.specs.declared.check_error.CheckError.{CheckError}
 use Rattle.pl_form.specs.Form.{eight, filled_pages, four, header_rest, in_pages}
-use Rattle.pl_form.specs.Reading.{IsAny, IsEight, IsFour, Reads}
+use Rattle.pl_form.specs.Reading.{IsAny, Reads}
+use Rattle.pl_stored.specs.Fits.{IsEight, IsFour}
 use Rattle.pl_form.specs.Stored.{IsShort}
 use Rattle.pl_form.proofs.FormReads.{Reached, started, further, stopped}
 use Rattle.pl_form.proofs.ReadingNumbers.{front_is, rest_is}

@@ -4,12 +4,14 @@ use Rattle.pl_base.specs.declared.id.VisitId.{VisitId}
 use Rattle.pl_base.specs.declared.transition.Transition.{Transition}
 use Rattle.pl_base.specs.Good.{IsTitle}
 use Rattle.pl_base.specs.Transition.{transition_number}
-use Rattle.pl_form.specs.declared.check_error.CheckError.{CheckError}
-use Rattle.pl_form.specs.declared.stored.StoredVisit.{StoredVisit}
-use Rattle.pl_form.specs.declared.stored.StoredPage.{StoredPage}
+use Rattle.pl_base.specs.declared.check_error.CheckError.{CheckError}
+use Rattle.pl_stored.specs.declared.stored.StoredVisit.{StoredVisit}
+use Rattle.pl_stored.specs.declared.stored.StoredPage.{StoredPage}
 use Rattle.pl_form.specs.Form.{four, eight, signed_eight, flag, text_bytes, visit_or_zero}
-use Rattle.pl_form.specs.Reading.{IsAny, IsEight, IsFour, IsSignedEight, IsSource, IsUrl, Reads}
-use Rattle.pl_form.specs.Stored.{IsStoredPage, IsStoredVisit, stored_page_bytes, stored_visit_bytes}
+use Rattle.pl_form.specs.Reading.{IsAny, Reads}
+use Rattle.pl_stored.specs.Fits.{IsEight, IsFour, IsSignedEight, IsSource, IsUrl}
+use Rattle.pl_form.specs.Stored.{stored_page_bytes, stored_visit_bytes}
+use Rattle.pl_stored.specs.Stored.{IsStoredPage, IsStoredVisit}
 use Rattle.pl_form.proofs.FormReads.{Reached, started, further, stopped, arrived, to_last, regroup_five}
 
 -- ---- visits

@@ -4,13 +4,18 @@ use Rattle.std.specs.List.{flat_map}
 use Rattle.std.proofs.lemmas.List.{length-map}
 use Rattle.pl_base.specs.declared.id.Ids.{Ids}
 use Rattle.pl_base.specs.Store.{Item}
-use Rattle.pl_form.specs.declared.check_error.CheckError.{CheckError}
-use Rattle.pl_form.specs.declared.stored.StoredVisit.{StoredVisit}
-use Rattle.pl_form.specs.declared.stored.StoredPage.{StoredPage}
+use Rattle.pl_base.specs.declared.check_error.CheckError.{CheckError}
+use Rattle.pl_stored.specs.declared.stored.StoredVisit.{StoredVisit}
+use Rattle.pl_stored.specs.declared.stored.StoredPage.{StoredPage}
 use Rattle.pl_form.specs.Form.{four, item_bytes, listed, page_bytes, visit_bytes}
-use Rattle.pl_form.specs.Reading.{IsFour, Reads}
-use Rattle.pl_form.specs.Stored.{AreIdsFour, AreListed, AreStored, IsStoredItem, IsStoredPage, IsStoredVisit, Stored}
-use Rattle.pl_form.specs.Stored.{ids_bytes, page_row, stored_bytes, stored_page_bytes, stored_visit_bytes, visit_of}
+use Rattle.pl_form.specs.Reading.{Reads}
+use Rattle.pl_stored.specs.Fits.{IsFour}
+use Rattle.pl_stored.specs.Fits.{AreListed}
+use Rattle.pl_stored.specs.Stored.{AreIdsFour, AreStored, IsStoredItem, IsStoredPage, IsStoredVisit}
+use Rattle.pl_stored.specs.Stored.{Stored}
+use Rattle.pl_form.specs.Stored.{ids_bytes, page_row, stored_bytes, stored_page_bytes}
+use Rattle.pl_form.specs.Stored.{stored_visit_bytes}
+use Rattle.pl_stored.specs.Stored.{visit_of}
 use Rattle.pl_form.proofs.FormReads.{Reached, started, further, stopped, arrived, regroup_five, to_last}
 
 -- ---- the next ids

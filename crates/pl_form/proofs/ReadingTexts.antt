@@ -7,11 +7,12 @@ use Rattle.pl_base.specs.Address.{canon, if_store_url, serialized, record_of, te
 use Rattle.pl_base.specs.Good.{IsTitle, longest_title}
 use Rattle.pl_link.specs.declared.canon.CanonError.{CanonError}
 use Rattle.pl_link.specs.declared.canon.CanonError.TheVariants as canon_error
-use Rattle.pl_form.specs.declared.check_error.CheckError.{CheckError}
-use Rattle.pl_form.specs.declared.check_error.CheckError.TheVariants.{NotAStore, NoMemory}
-use Rattle.pl_form.specs.CheckErrors.{error_of}
+use Rattle.pl_base.specs.declared.check_error.CheckError.{CheckError}
+use Rattle.pl_base.specs.declared.check_error.CheckError.TheVariants.{NotAStore, NoMemory}
+use Rattle.pl_link.specs.CheckErrors.{error_of}
 use Rattle.pl_form.specs.Form.{four, text_bytes}
-use Rattle.pl_form.specs.Reading.{IsFour, IsUrl, Reads}
+use Rattle.pl_form.specs.Reading.{Reads}
+use Rattle.pl_stored.specs.Fits.{IsFour, IsUrl}
 use Rattle.pl_form.proofs.ReadingNumbers.{front_is, rest_is}
 
 -- a length was read, and so many bytes behind it

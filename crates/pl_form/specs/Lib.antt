@@ -1,4 +1,3 @@
-pub mod CheckErrors
 pub mod Form
 pub mod Reading
 pub mod Stored

@@ -1,39 +1,8 @@
 -- What it is to read a value at the beginning of bytes.
-use Rattle.std.specs.Prelude.{◌≡◌, ◌<◌, ◌^◌, ℕ, ℤ, List, ◌++◌, Option, Some, IfSome}
-use Rattle.std.specs.Prelude.{Ok, Err, Result, IfOk, MatchResult, Vec}
+use Rattle.std.specs.Prelude.{◌≡◌, ℕ, List, ◌++◌, Ok, Err, Result, IfOk, MatchResult, Vec}
 use Rattle.std.specs.declared.alloc.Global.{Global}
-use Rattle.std.specs.Int.{w64}
-use Rattle.std.specs.Int.RustNames.{FitsSigned}
-use Rattle.std.specs.Str.{IsUtf8}
-use Rattle.pl_base.specs.declared.id.PageId.{PageId}
-use Rattle.pl_base.specs.declared.id.VisitId.{VisitId}
-use Rattle.pl_base.specs.Address.{canon}
-use Rattle.pl_form.specs.declared.check_error.CheckError.{CheckError}
-use Rattle.pl_form.specs.declared.check_error.CheckError.TheVariants.{NoMemory}
-
--- a number of 4 bytes
-abbrev pub IsFour : ℕ → Type 0
-IsFour n = n < 2 ^ 32
-
--- a number of 8 bytes
-abbrev pub IsEight : ℕ → Type 0
-IsEight n = n < 2 ^ 64
-
--- a number of 8 bytes with its sign
-abbrev pub IsSignedEight : ℤ → Type 0
-IsSignedEight z = FitsSigned w64 z
-
--- a URL of the store
-abbrev pub IsUrl : List ℕ → Type 0
-IsUrl url = IsUtf8 url × (canon url ≡ Some url)
-
--- no visit, or the id of one
-abbrev pub IsSource : Option VisitId → Type 0
-IsSource source = IfSome source (λ id. (0 < id.0) × IsFour id.0)
-
--- no page, or the id of one
-abbrev pub IsItemPage : Option PageId → Type 0
-IsItemPage page = IfSome page (λ id. (0 < id.0) × IsFour id.0)
+use Rattle.pl_base.specs.declared.check_error.CheckError.{CheckError}
+use Rattle.pl_base.specs.declared.check_error.CheckError.TheVariants.{NoMemory}
 
 -- any value
 abbrev pub IsAny : {A : Type 0} → A → Type 0

@@ -1,11 +1,12 @@
 // Items at the beginning of bytes.
 ghost use Rattle.pl_form.specs.Form.{item_bytes, listed};
 ghost use Rattle.pl_form.specs.Reading.{Reads, items_of};
-ghost use Rattle.pl_form.specs.Stored.{AreListed, IsChild, IsStoredItem, children_bytes};
+ghost use Rattle.pl_form.specs.Stored.{children_bytes};
+ghost use Rattle.pl_stored.specs.Fits.{AreListed};
+ghost use Rattle.pl_stored.specs.Stored.{IsChild, IsStoredItem};
 
-use crate::CheckError;
 use crate::reader::Reader;
-use pl_base::{ItemId, Micros, TreeItem};
+use pl_base::{CheckError, ItemId, Micros, TreeItem};
 use std::alloc::Global;
 
 impl Reader<'_> {

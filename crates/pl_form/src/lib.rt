@@ -1,16 +1,13 @@
 //! The form in which a file holds the rows of a store, and how it is read.
 #![tactic(auto)]
 
-mod check_error;
 mod header;
 mod items;
 mod plain;
 mod read;
 mod reader;
-mod stored;
+mod rows;
 
-pub use check_error::CheckError;
 pub use header::named_pages;
 pub use plain::HEADER_REST;
 pub use read::{FileRows, read_rows};
-pub use stored::{StoredPage, StoredRows, StoredVisit};

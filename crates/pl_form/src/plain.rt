@@ -3,9 +3,8 @@ ghost use Rattle.pl_form.specs.Form.{filled_pages, in_pages};
 ghost use Rattle.pl_form.specs.Reading.{Reads};
 ghost use Rattle.pl_form.specs.Stored.{IsShort, plain_of};
 
-use crate::CheckError;
 use crate::reader::Reader;
-use pl_base::PAGE_SIZE;
+use pl_base::{CheckError, PAGE_SIZE};
 
 /// The plain bytes of a store, and its length in pages, with the gate's page and the header's.
 #[derive(Clone, Copy, Debug)]

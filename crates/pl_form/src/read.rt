@@ -2,12 +2,12 @@
 ghost use Rattle.std.specs.Prelude.{◌≡◌, ◌+◌, length, IfOk, MatchResult};
 ghost use Rattle.pl_base.specs.Touched.{behind_gate};
 ghost use Rattle.pl_form.specs.Form.{filled_pages};
-ghost use Rattle.pl_form.specs.Stored.{AreStored, HoldsRows, Stored, stored_bytes};
+ghost use Rattle.pl_form.specs.Stored.{HoldsRows, stored_bytes};
+ghost use Rattle.pl_stored.specs.Stored.{AreStored, Stored};
 
-use crate::CheckError;
 use crate::reader::Reader;
-use crate::stored::StoredRows;
-use pl_base::PAGE_SIZE;
+use pl_base::{CheckError, PAGE_SIZE};
+use pl_stored::StoredRows;
 use std::alloc::Global;
 
 /// The rows of a file, and the length of its store in pages.

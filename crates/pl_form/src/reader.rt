@@ -5,11 +5,12 @@ ghost use Rattle.pl_base.specs.Good.{IsTitle};
 ghost use Rattle.pl_base.specs.ItemKind.{item_kind_number};
 ghost use Rattle.pl_base.specs.Transition.{transition_number};
 ghost use Rattle.pl_form.specs.Form as form;
-ghost use Rattle.pl_form.specs.Reading.{IsAny, IsEight, IsFour, IsItemPage, IsSignedEight};
-ghost use Rattle.pl_form.specs.Reading.{IsSource, IsUrl, Reads};
+ghost use Rattle.pl_form.specs.Reading.{IsAny};
+ghost use Rattle.pl_stored.specs.Fits.{IsEight, IsFour, IsItemPage, IsSignedEight};
+ghost use Rattle.pl_form.specs.Reading.{Reads};
+ghost use Rattle.pl_stored.specs.Fits.{IsSource, IsUrl};
 
-use crate::CheckError;
-use pl_base::{ItemKind, LONGEST_TITLE, PageId, Transition, Txt, VisitId};
+use pl_base::{CheckError, ItemKind, LONGEST_TITLE, PageId, Transition, Txt, VisitId};
 use pl_link::Canon;
 use std::alloc::Global;
 use std::marker::Model;

@@ -43,9 +43,11 @@ impl<'d, D: Desk> Gate<'d, D> {
             → D.held self.old.desk.now ≡ Some file → Only file (D.may_leave self.new.desk.now) }
 
         // Before the first sync ends, a stop shows a file that it might have left at first; from
-        // then on each file that it shows stands for the one that a read gave.
+        // then on each file that it shows stands for the one that a read gave. Before it no byte is
+        // written, and it has ended where the device had no fault.
         ensures any_moment { (file : List ℕ) → D.held self.old.desk.now ≡ Some file
-            → Settles D.Desk self.old.desk.now self.new.desk.now (StandsAs file) }
+            → Settles D.Desk (result ≡ Err GateError.DeviceFault)
+            self.old.desk.now self.new.desk.now (StandsAs file) }
 
         ensures written { OnOk result
             ((file : List ℕ) → D.held self.old.desk.now ≡ Some file

@@ -7,6 +7,7 @@ use Rattle.std.proofs.lemmas.List.Elements.{All-append, All-nil}
 use Rattle.pl_base.specs.declared.id.PageId.{PageId}
 use Rattle.pl_base.specs.Rows.{Kept, KeptOrigin, KeptPage}
 use Rattle.pl_base.specs.Store.{Item}
+use Rattle.pl_base.proofs.OriginSums.{sums_still}
 use Rattle.pl_graft.specs.declared.grafting.Grafting.{Grafting}
 use Rattle.pl_graft.specs.Gained.{Grows, IsBlank, has_new_item}
 use Rattle.pl_graft.specs.Import.{entry_count}
@@ -28,6 +29,7 @@ grows_same old new day visits ids pages origins =
       opened = [];
       origins = origins ∙ sym (append-nil old.origins);
       no_totals = All-nil (λ (a : KeptOrigin). a.total ≡ 0);
+      sums = sums_still old new pages origins;
     }
 
 pub grows_then : (a b c : Kept) → Grows a b → Grows b c → Grows a c
@@ -47,6 +49,7 @@ grows_then a b c first next =
           ∙ append_assoc a.origins first.opened next.opened;
       no_totals =
           All-append (λ (a : KeptOrigin). a.total ≡ 0) first.opened next.opened first.no_totals next.no_totals;
+      sums = λ had. next.sums (first.sums had);
     }
 
 -- ---- the whole

@@ -16,11 +16,11 @@ use Rattle.pl_base.specs.declared.id.ItemId.{ItemId}
 use Rattle.pl_base.specs.declared.item.ItemKind.{ItemKind}
 use Rattle.pl_base.specs.declared.item.ItemKind.TheVariants.{Bookmark, Folder, Separator}
 use Rattle.pl_base.specs.Store.{Item, Store, item_id}
-use Rattle.pl_base.specs.Tree.{children_of, item_at}
+use Rattle.pl_base.specs.Tree.{children_of, item_at, last_item}
 use Rattle.pl_nbread.specs.declared.tree.Node.{Node}
 use Rattle.pl_nbread.specs.WellFormed.{is_folder}
 use Rattle.pl_tree.specs.declared.place.Place.TheVariants.{End}
-use Rattle.pl_tree.specs.Places.{before, last_item}
+use Rattle.pl_tree.specs.Places.{before}
 use Rattle.pl_graft.specs.declared.grafting.Open.{Open}
 use Rattle.pl_graft.specs.Import.{folder_of, folders_behind, innermost}
 use Rattle.pl_graft.specs.OpenFolders.{AreOpen, IsOpen, inner_of, opened, root_of}

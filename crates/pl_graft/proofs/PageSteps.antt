@@ -9,11 +9,13 @@ use Rattle.std.proofs.lemmas.List.Elements.{All-from_recursion, All-nil}
 use Rattle.pl_base.specs.declared.id.PageId.{PageId}
 use Rattle.pl_base.specs.declared.id.Slot.{Slot}
 use Rattle.pl_base.specs.Address.{same_origin}
-use Rattle.pl_base.specs.Rows.{IsOriginOf, IsWellKept, Kept, KeptOrigin, KeptPage, WithPageIn, has_page, next_page}
-use Rattle.pl_base.specs.Rows.{origin_of, page_at, store_of, with_new_page, with_origin}
+use Rattle.pl_base.specs.Rows.{HaveSums, IsOriginOf, IsWellKept, Kept, KeptOrigin, KeptPage, WithPageIn, has_page}
+use Rattle.pl_base.specs.Rows.{next_page, origin_of, page_at, store_of, with_new_page, with_origin}
 use Rattle.pl_base.specs.Store.{Page, Store}
 use Rattle.pl_base.specs.Visiting.{find_page, new_page, page_for, with_page_for}
 use Rattle.pl_base.proofs.ListLaws.{All-from_map, list_any-map}
+use Rattle.pl_base.proofs.OriginSums.{sums_with_page}
+use Rattle.pl_history.proofs.ReadyPage.{own_url}
 use Rattle.pl_history.proofs.VisitRows.{grown_store, store_with_page}
 use Rattle.pl_marks.proofs.PageWalk.{found_at, given, part, there}
 use Rattle.pl_graft.specs.declared.grafting.Grafting.{Grafting}
@@ -168,8 +170,9 @@ pub page_store : (old new : Kept) (url : List ℕ) (origin : Option Slot)
 page_store old new url origin none made =
     store_with_page old new url origin made ∙ sym (grown_is (store_of old) url none)
 
-grows_page : (old : Kept) (url : List ℕ) (origin : Slot) → Grows old (with_new_page url origin old)
-grows_page old url origin =
+grows_page : (old : Kept) (url : List ℕ) (origin : Slot) → (HaveSums old → HaveSums (with_new_page url origin old))
+    → Grows old (with_new_page url origin old)
+grows_page old url origin sums =
     record {
       day = refl;
       visits = refl;
@@ -182,11 +185,13 @@ grows_page old url origin =
       opened = [];
       origins = sym (append-nil old.origins);
       no_totals = All-nil (λ (a : KeptOrigin). a.total ≡ 0);
+      sums = sums;
     }
 
 grows_origin : (old : Kept) (url : List ℕ) (origin : Slot)
+    → (HaveSums old → HaveSums (with_new_page url origin (with_origin origin old)))
     → Grows old (with_new_page url origin (with_origin origin old))
-grows_origin old url origin =
+grows_origin old url origin sums =
     let opened : KeptOrigin = record { origin = origin; total = 0 } in
     record {
       day = refl;
@@ -200,16 +205,24 @@ grows_origin old url origin =
       opened = opened ∷ [];
       origins = refl;
       no_totals = All-from_recursion (λ (a : KeptOrigin). a.total ≡ 0) (opened ∷ []) (refl, tt);
+      sums = sums;
     }
 
 pub page_goes_on : (old new : Kept) (url : List ℕ) (origin : Option Slot) (before after : Grafting)
-    → WithPageIn url origin old new → after.made ≡ before.made → after.gained ≡ before.gained
-    → GoesOn old new before after
-page_goes_on old new url (Some origin) before after made counted gained =
-    goes_by_pages old new before after (subst (Grows old) (sym made) (grows_page old url origin))
+    → IsWellKept old → IsWellKept new → IsOriginOf old url origin → WithPageIn url origin old new
+    → after.made ≡ before.made → after.gained ≡ before.gained → GoesOn old new before after
+page_goes_on old new url (Some origin) before after well later named made counted gained =
+    goes_by_pages old new before after
+    (subst (Grows old) (sym made) (grows_page old url origin (λ had.
+    subst HaveSums made
+    (sums_with_page old new url (Some origin) well later had (own_url old new url (Some origin) later made) named
+    made))))
     (ap (λ (k : Kept). k.items) made) (ap (λ (k : Kept). k.ids.item) made) counted gained
-page_goes_on old new url None before after made counted gained =
-    goes_by_pages old new before after (subst (Grows old) (sym made.1) (grows_origin old url made.0))
+page_goes_on old new url None before after well later named made counted gained =
+    goes_by_pages old new before after
+    (subst (Grows old) (sym made.1) (grows_origin old url made.0 (λ had.
+    subst HaveSums made.1
+    (sums_with_page old new url None well later had (own_url old new url None later made) named made))))
     (ap (λ (k : Kept). k.items) made.1) (ap (λ (k : Kept). k.ids.item) made.1) counted gained
 
 pub page_standing : (old : Kept) (url : List ℕ) (before after : Grafting) → IsWellKept old

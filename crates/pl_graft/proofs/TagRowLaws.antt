@@ -17,13 +17,13 @@ use Rattle.pl_base.specs.declared.id.PageId.{PageId}
 use Rattle.pl_base.specs.Fold.{folded}
 use Rattle.pl_base.specs.Store.{Item, item_id}
 use Rattle.pl_base.specs.Tags.{tags_root}
-use Rattle.pl_base.specs.Tree.{child_items, is_page}
+use Rattle.pl_base.specs.Tree.{child_items, is_page, last_item}
 use Rattle.pl_base.proofs.ItemLaws.{bare}
 use Rattle.pl_base.proofs.ListLaws.{find-map, list_any-map, map-alike, map-map}
 use Rattle.pl_base.proofs.LookUps.{found_holds}
 use Rattle.pl_tree.specs.declared.place.Place.TheVariants.{End}
 use Rattle.pl_tree.specs.Changes.{item_of}
-use Rattle.pl_tree.specs.Places.{before, last_item}
+use Rattle.pl_tree.specs.Places.{before}
 use Rattle.pl_tree.specs.Tagged.{entry_in, new_entry, new_tag, tag_entry, tag_named}
 use Rattle.pl_tree.proofs.GoodStores.{tag_lists, with_entry as with_entry_at}
 use Rattle.pl_graft.specs.KnownTags.{last_of}

@@ -2,7 +2,7 @@
 use Rattle.std.specs.Prelude.{◌≡◌, ◌++◌, ℕ, false, List, Bool, ◌&&◌, map, nat_le, pos}
 use Rattle.std.specs.List.{All, filter, list_any}
 use Rattle.pl_base.specs.declared.id.PageId.{PageId}
-use Rattle.pl_base.specs.Rows.{Kept, KeptOrigin, KeptPage}
+use Rattle.pl_base.specs.Rows.{HaveSums, Kept, KeptOrigin, KeptPage}
 use Rattle.pl_base.specs.Store.{Item, Page, Store}
 use Rattle.pl_base.specs.Tree.{is_page}
 
@@ -24,7 +24,7 @@ pub record IsBlank (p : KeptPage) : Type 0 where
   pub hidden : p.hidden ≡ false
 
 -- there are pages and origins more, with nothing computed of them; day, visits and what was
--- computed of the others are as they were
+-- computed of the others are as they were, and so the sums of the totals hold still
 pub record Grows (old new : Kept) : Type 0 where
   pub day : new.day ≡ old.day
   pub visits : new.visits ≡ old.visits
@@ -35,3 +35,4 @@ pub record Grows (old new : Kept) : Type 0 where
   pub opened : List KeptOrigin
   pub origins : new.origins ≡ old.origins ++ opened
   pub no_totals : All (λ (a : KeptOrigin). a.total ≡ 0) opened
+  pub sums : HaveSums old → HaveSums new

@@ -1,9 +1,10 @@
 -- What holds of the rows once a page is dropped that has neither a visit nor an item.
 use Rattle.std.proofs.Common.{◌≡◌, ◌≢◌, ◌∙◌, ◌==◌, ◌&&◌, ◌||◌, All, Bool, true, false, IfSome, IsTrue, List, []}
 use Rattle.std.proofs.Common.{◌∷◌, Option, Some, None, ap, arith, filter, get_or, if◌then◌else◌, map, refl}
-use Rattle.std.proofs.Common.{◌+◌, ℕ, length, subst, suc, sym}
+use Rattle.std.proofs.Common.{◌+◌, ℕ, find, length, pos, subst, suc, sym}
 use Rattle.std.specs.Prelude.{not}
 use Rattle.std.specs.List.{AllByRecursion, list_any}
+use Rattle.std.specs.Option.{option_map}
 use Rattle.std.proofs.lemmas.Bool.{eqb-false, eqb-true, false_from_ne_true, false≢true, ne_eqb, not-true, or_from}
 use Rattle.std.proofs.lemmas.Bool.{or_parts}
 use Rattle.std.proofs.lemmas.List.{length-map}
@@ -12,10 +13,11 @@ use Rattle.std.proofs.lemmas.List.Elements.{All-from_recursion, All-map, recursi
 use Rattle.pl_base.specs.declared.date.Day.{Day}
 use Rattle.pl_base.specs.declared.id.Ids.{Ids}
 use Rattle.pl_base.specs.declared.id.PageId.{PageId}
+use Rattle.pl_base.specs.declared.row.Mark.{Mark}
 use Rattle.pl_base.specs.Good.{HasGoodItems, IsGoodItem, has_page_at, is_visited}
 use Rattle.pl_base.specs.Marks.{is_referenced, visit_count}
-use Rattle.pl_base.specs.Rows.{IsWellKept, Kept, KeptOrigin, KeptPage, WithoutPage, has_page, other_pages, store_of}
-use Rattle.pl_base.specs.Rows.{unnamed}
+use Rattle.pl_base.specs.Rows.{HaveSums, IsWellKept, Kept, KeptOrigin, KeptPage, WithoutPage, has_page, mark_of}
+use Rattle.pl_base.specs.Rows.{marked, other_pages, page_at, store_of, unnamed, with_mark, with_origins}
 use Rattle.pl_base.specs.Store.{Item, Page, Store, Visit}
 use Rattle.pl_base.specs.Tree.{is_page}
 use Rattle.pl_base.proofs.IdsLaws.{same_page}
@@ -23,7 +25,7 @@ use Rattle.pl_base.proofs.ListLaws.{All-from_map, list_any-map, map-map, weaker}
 use Rattle.pl_marks.specs.Refreshed.{IsRightPage}
 use Rattle.pl_history.specs.Sound.{IsTypedRight}
 use Rattle.pl_base.specs.Removal.{is_standing}
-use Rattle.pl_history.specs.Settled.{AreSettledBut}
+use Rattle.pl_history.specs.Settled.{AreSettledBut, Drops}
 use Rattle.pl_base.specs.Removal.{without_idle_pages}
 use Rattle.pl_base.proofs.LookUps.{Apart, apart_ascending, both, none_pass, where_passes}
 use Rattle.pl_history.proofs.GoodRows.{items_with}
@@ -89,13 +91,88 @@ page_left page id old new same other =
       each ps,
     )
 
+-- ---- the mark of a page that is to go
+
+-- a mark with nothing that counts
+abbrev pub no_mark : Mark
+no_mark = record { frecency = pos 0; count = 0; typed = false; hidden = false }
+
+-- the other pages are the same whatever its mark
+others_unmarked : (page : PageId) (mark : Mark) (ps : List KeptPage)
+    → other_pages page (map (λ (p : KeptPage). if p.page.id.0 == page.0 then marked mark p else p) ps)
+    ≡ other_pages page ps
+others_unmarked page mark [] = refl
+others_unmarked page mark (p ∷ ps) = choose (p.page.id.0 == page.0) refl (others_unmarked page mark ps)
+  where
+    left : List KeptPage
+    left = other_pages page (map (λ (q : KeptPage). if q.page.id.0 == page.0 then marked mark q else q) ps)
+
+    choose : (b : Bool) → (p.page.id.0 == page.0) ≡ b → left ≡ other_pages page ps
+        → (if not ((if b then marked mark p else p).page.id.0 == page.0) then (if b then marked mark p else p) ∷ left
+        else left) ≡ (if not b then p ∷ other_pages page ps else other_pages page ps)
+    choose true same rest = ap (λ (b : Bool). if not b then marked mark p ∷ left else left) same ∙ rest
+    choose false other rest =
+        ap (λ (b : Bool). if not b then p ∷ left else left) other ∙ ap (λ (qs : List KeptPage). p ∷ qs) rest
+
+pub drops : (page : PageId) (mark : Mark) (old mid new : Kept)
+    → mid ≡ with_origins mid.origins (with_mark page mark old) → WithoutPage page mid new → Drops page old new
+drops page mark old mid new is w =
+    record {
+      day = w.day ∙ ap (λ (k : Kept). k.day) is;
+      ids = w.ids ∙ ap (λ (k : Kept). k.ids) is;
+      pages =
+          w.pages ∙ ap (λ (k : Kept). map unnamed (other_pages page k.pages)) is
+          ∙ ap (map unnamed) (others_unmarked page mark old.pages);
+      visits = w.visits ∙ ap (λ (k : Kept). k.visits) is;
+      items = w.items ∙ ap (λ (k : Kept). k.items) is;
+    }
+
+-- the page has still neither a visit nor an item
+pub idle_still : (page : PageId) (mark : Mark) (old mid : Kept)
+    → mid ≡ with_origins mid.origins (with_mark page mark old) → is_standing (store_of old) page ≡ false
+    → (is_visited (store_of mid) page ≡ false) × (is_referenced (store_of mid) page ≡ false)
+idle_still page mark old mid is idle =
+    let none : (is_visited (store_of old) page ≡ false) × (is_referenced (store_of old) page ≡ false) =
+    or_parts (is_visited (store_of old) page) (is_referenced (store_of old) page) idle in (
+      ap (λ (k : Kept). is_visited (store_of k) page) is ∙ none.0,
+      ap (λ (k : Kept). is_referenced (store_of k) page) is ∙ none.1,
+    )
+
+given_at : (page : PageId) (mark : Mark) (ps : List KeptPage)
+    → list_any (λ (p : KeptPage). p.page.id.0 == page.0) ps ≡ true
+    → Some mark ≡ option_map mark_of (find (λ (p : KeptPage). p.page.id.0 == page.0)
+    (map (λ (p : KeptPage). if p.page.id.0 == page.0 then marked mark p else p) ps))
+given_at page mark [] there = absurd (false≢true there)
+given_at page mark (p ∷ ps) there = choose (p.page.id.0 == page.0) refl there (given_at page mark ps)
+  where
+    found : Option KeptPage
+    found =
+        find (λ (q : KeptPage). q.page.id.0 == page.0)
+        (map (λ (q : KeptPage). if q.page.id.0 == page.0 then marked mark q else q) ps)
+
+    choose : (b : Bool) → (p.page.id.0 == page.0) ≡ b
+        → (b || list_any (λ (q : KeptPage). q.page.id.0 == page.0) ps) ≡ true
+        → (list_any (λ (q : KeptPage). q.page.id.0 == page.0) ps ≡ true → Some mark ≡ option_map mark_of found)
+        → Some mark ≡ option_map mark_of (if (if b then marked mark p else p).page.id.0 == page.0
+        then Some (if b then marked mark p else p) else found)
+    choose true same there rest =
+        ap (λ (b : Bool). option_map mark_of (if b then Some (marked mark p) else found)) (sym same)
+    choose false other there rest =
+        rest there ∙ ap (λ (b : Bool). option_map mark_of (if b then Some p else found)) (sym other)
+
+-- the mark that the page was given is told of it
+pub mark_given : (page : PageId) (mark : Mark) (old mid : Kept) → has_page old page ≡ true
+    → mid ≡ with_origins mid.origins (with_mark page mark old) → Some mark ≡ option_map mark_of (page_at mid page)
+mark_given page mark old mid there is =
+    given_at page mark old.pages there ∙ ap (λ (k : Kept). option_map mark_of (page_at k page)) (sym is)
+
 -- ---- the rows
 
 -- the rows with these pages and origins
 abbrev with_pages : List KeptPage → List KeptOrigin → Kept → Kept
 with_pages pages origins kept = record kept { pages = pages; origins = origins }
 
-rebuilt : (page : PageId) (old new : Kept) → WithoutPage page old new → new ≡ with_pages new.pages new.origins old
+rebuilt : (page : PageId) (old new : Kept) → Drops page old new → new ≡ with_pages new.pages new.origins old
 rebuilt page old new w =
     ap (λ (d : Day). record new { day = d }) w.day
     ∙ ap (λ (i : Ids). record new { day = old.day; ids = i }) w.ids
@@ -132,9 +209,9 @@ module _ (page : PageId) (old : Kept) (pages : List KeptPage) (origins : List Ke
       (or_parts (is_visited (store_of old) page) (is_referenced (store_of old) page) idle).1)))
       good
 
-  settled_left : (rest : List PageId) → AreSettledBut (page ∷ rest) old
+  settled_left : (rest : List PageId) → HaveSums (with_pages pages origins old) → AreSettledBut (page ∷ rest) old
       → AreSettledBut rest (with_pages pages origins old)
-  settled_left rest s =
+  settled_left rest sums s =
       let store : Store = store_of old in
       let among : PageId → Bool = λ (id : PageId). list_any (λ (i : PageId). id.0 == i.0) rest in
       record {
@@ -159,6 +236,7 @@ module _ (page : PageId) (old : Kept) (pages : List KeptPage) (origins : List Ke
             let id : PageId = (get_or old.pages k d).page.id in
             s.by_row k d within (or_from (id.0 == page.0) (among id) other apart));
         typed = along (IsTypedRight old) page old.pages pages same (λ k d within _. s.typed k d within);
+        sums = sums;
       }
 
 standing_left : (stands : PageId → Bool) (page : PageId) (ps : List KeptPage) → stands page ≡ false
@@ -181,7 +259,7 @@ standing_left stands page (p ∷ ps) idle = choose (p.page.id.0 == page.0) refl 
     choose false other rest =
         ap (λ (qs : List Page). if stands p.page.id then p.page ∷ qs else qs) rest
 
-pub dropped_store : (page : PageId) (old new : Kept) → WithoutPage page old new
+pub dropped_store : (page : PageId) (old new : Kept) → Drops page old new
     → is_standing (store_of old) page ≡ false
     → without_idle_pages (store_of new) ≡ without_idle_pages (store_of old)
 dropped_store page old new w idle =
@@ -194,11 +272,12 @@ dropped_store page old new w idle =
     ∙ ap (λ (ps : List Page). record (store_of old) { pages = ps })
     (standing_left (is_standing (store_of old)) page old.pages idle)
 
-pub dropped_settled : (page : PageId) (old new : Kept) (rest : List PageId) → WithoutPage page old new
+pub dropped_settled : (page : PageId) (old new : Kept) (rest : List PageId) → Drops page old new → HaveSums new
     → is_standing (store_of old) page ≡ false → AreSettledBut (page ∷ rest) old → AreSettledBut rest new
-dropped_settled page old new rest w idle s =
-    subst (AreSettledBut rest) (sym (rebuilt page old new w))
-    (settled_left page old new.pages new.origins w.pages idle rest s)
+dropped_settled page old new rest w sums idle s =
+    let is : new ≡ with_pages new.pages new.origins old = rebuilt page old new w in
+    subst (AreSettledBut rest) (sym is)
+    (settled_left page old new.pages new.origins w.pages idle rest (subst HaveSums is sums) s)
 
 -- ---- how many pages are left
 
@@ -229,7 +308,7 @@ one_fewer page (p ∷ ps) apart there = choose (p.page.id.0 == page.0) refl ther
     choose false other there rest = omega (arith, rest there)
 
 pub dropped_fewer : (page : PageId) (old new : Kept) → IsWellKept old → has_page old page ≡ true
-    → WithoutPage page old new → length old.pages ≡ length new.pages + 1
+    → Drops page old new → length old.pages ≡ length new.pages + 1
 dropped_fewer page old new h there w =
     omega (
       arith,

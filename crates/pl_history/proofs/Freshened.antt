@@ -21,17 +21,18 @@ use Rattle.pl_base.specs.Days.{on_day, pages_moved}
 use Rattle.pl_base.specs.Frecency.{frecency_of}
 use Rattle.pl_base.specs.Good.{HasGoodItems}
 use Rattle.pl_base.specs.Marks.{is_hidden, visit_count}
-use Rattle.pl_base.specs.Rows.{IsRight, IsWellKept, Kept, KeptPage, has_page, mark_of, marked, page_at, page_behind}
-use Rattle.pl_base.specs.Rows.{store_of, url_of, with_day}
+use Rattle.pl_base.specs.Rows.{HaveSums, IsRight, IsSound, IsWellKept, Kept, KeptOrigin, KeptPage, has_page, mark_of}
+use Rattle.pl_base.specs.Rows.{marked, page_at, page_behind, store_of, url_of, with_day, with_origins}
 use Rattle.pl_base.specs.Store.{Page, Store}
 use Rattle.pl_base.proofs.IdsLaws.{few_ids, same_page}
 use Rattle.pl_base.proofs.ListLaws.{find-map, map-map, sum_by-agree, sum_by-map}
 use Rattle.pl_base.proofs.LookUps.{both, found_holds}
+use Rattle.pl_base.proofs.OriginSums.{totals_of_sums}
 use Rattle.pl_marks.specs.Refreshed.{HaveCounts, Refreshes}
 use Rattle.pl_marks.proofs.PageWalk.{Ascend, above, ascend, first_behind, first_page, found_at, left}
 use Rattle.pl_marks.proofs.PageWalk.{next_behind, there, walk_nears}
 use Rattle.pl_history.specs.Fresh.{fresh, is_moved, with_fresh}
-use Rattle.pl_history.specs.Sound.{AreStanding, IsSound}
+use Rattle.pl_history.specs.Sound.{AreStanding}
 use Rattle.pl_history.proofs.GoodRows.{good_of, items_of, items_still, standing_of}
 use Rattle.pl_history.proofs.KeptMark.{IsMarkAt, count_at, mark_at, one_at}
 use Rattle.pl_history.proofs.SourcePage.{place_at}
@@ -81,12 +82,12 @@ module _ (old new : Kept) (page : PageId) (mark : Mark) (is_place : Bool) (frece
       (r.shown p.page id (placed same))
   fresh_if counts p false other one placed = refl
 
-  pub rows_fresh : HaveCounts old → new ≡ with_fresh page old
+  pub rows_fresh : HaveCounts old → new ≡ with_origins new.origins (with_fresh page old)
   rows_fresh counts =
       let m : IsMarkAt old page mark = mark_at old page mark marks in
       let told : Mark = record mark { frecency = frecency; hidden = r.hidden } in
       r.rows
-      ∙ ap (λ (pages : List KeptPage). record old { pages = pages })
+      ∙ ap (λ (pages : List KeptPage). record old { pages = pages; origins = new.origins })
       (map-agree (λ (p : KeptPage). if p.page.id.0 == page.0 then marked told p else p)
       (λ (p : KeptPage). if p.page.id.0 == page.0 then fresh (store_of old) p else p) old.pages
       (both (λ (p : KeptPage). (p.page.id.0 == page.0) ≡ true → p ≡ m.page)
@@ -133,13 +134,14 @@ abbrev partly : Day → Kept → List KeptPage → List KeptPage → Kept
 partly day old front rest =
     record old { day = day; pages = map (fresh (on_day day (store_of old))) front ++ rest }
 
--- the pages in front of the next one are computed afresh, and those that moved are counted
+-- the pages in front of the next one are computed afresh, and those that moved are counted;
+-- the totals of origins may be others
 pub record WalkedTo (day : Day) (old now : Kept) (next : Option PageId) (count : ℕ) : Type 0 where
   pub front : List KeptPage
   pub rest : List KeptPage
   pub whole : old.pages ≡ front ++ rest
   pub here : next ≡ first_page rest
-  pub rows : now ≡ partly day old front rest
+  pub rows : now ≡ with_origins now.origins (partly day old front rest)
   pub counted : count ≡ count_by (is_moved (on_day day (store_of old))) front
 
 -- the page that it stands at
@@ -149,7 +151,7 @@ pub record AtPage (day : Day) (old now : Kept) (id : PageId) (count : ℕ) : Typ
   pub rest : List KeptPage
   pub whole : old.pages ≡ front ++ page ∷ rest
   pub is : page.page.id ≡ id
-  pub rows : now ≡ partly day old front (page ∷ rest)
+  pub rows : now ≡ with_origins now.origins (partly day old front (page ∷ rest))
   pub counted : count ≡ count_by (is_moved (on_day day (store_of old))) front
 
 pub at_page : (day : Day) (old now : Kept) (next : Option PageId) (id : PageId) (count : ℕ)
@@ -157,7 +159,7 @@ pub at_page : (day : Day) (old now : Kept) (next : Option PageId) (id : PageId) 
 at_page day old now next id count w is = choose w.rest w.whole w.here w.rows
   where
     choose : (rest : List KeptPage) → old.pages ≡ w.front ++ rest → next ≡ first_page rest
-        → now ≡ partly day old w.front rest → AtPage day old now id count
+        → now ≡ with_origins now.origins (partly day old w.front rest) → AtPage day old now id count
     choose [] whole none rows = absurd (cc)
     choose (p ∷ ps) whole some rows =
         record { front = w.front; page = p; rest = ps; whole = whole; is = cc; rows = rows; counted = w.counted }
@@ -215,7 +217,10 @@ starts day old mid next h rows is =
       rest = old.pages;
       whole = refl;
       here = is ∙ ap (λ (k : Kept). page_behind k None) rows ∙ first_behind old h;
-      rows = rows;
+      rows =
+          rows
+          ∙ ap (λ (ks : List KeptOrigin). record old { day = day; origins = ks })
+          (sym (ap (λ (k : Kept). k.origins) rows));
       counted = refl;
     }
 
@@ -290,19 +295,21 @@ module _ (day : Day) (old now : Kept) (id : PageId) (count : ℕ) (h : IsWellKep
         (All-from_recursion (λ (p : KeptPage). p.count ≡ visit_count (store_of old) p.page.id)
         (map (fresh (on_day day (store_of old))) s.front ++ s.page ∷ s.rest) (counts_part right))
 
-    rows_next : (new : Kept) → new ≡ with_fresh id now → new ≡ partly day old (s.front ++ s.page ∷ []) s.rest
+    rows_next : (new : Kept) → new ≡ with_origins new.origins (with_fresh id now)
+        → new ≡ with_origins new.origins (partly day old (s.front ++ s.page ∷ []) s.rest)
     rows_next new is =
         let store : Store = on_day day (store_of old) in
         let made : Store → Kept → Kept =
         λ (t : Store) (k : Kept). record k {
           pages = map (λ (q : KeptPage). if q.page.id.0 == id.0 then fresh t q else q) k.pages;
+          origins = new.origins;
         } in
         let number : s.page.page.id.0 ≡ id.0 = ap (λ (i : PageId). i.0) s.is in
         is
         ∙ ap (λ (t : Store). made t now)
         (ap store_of s.rows ∙ store_partly day old s.front (s.page ∷ s.rest) s.whole)
         ∙ ap (made store) s.rows
-        ∙ ap (λ (pages : List KeptPage). record old { day = day; pages = pages })
+        ∙ ap (λ (pages : List KeptPage). record old { day = day; pages = pages; origins = new.origins })
         (fresh_next store id s.front s.page s.rest number
         (subst (λ (n : ℕ). AllByRecursion (λ (q : KeptPage). n < q.page.id.0) s.rest) number
         (above s.front s.page s.rest (subst Ascend s.whole (ascend old h)))))
@@ -320,14 +327,15 @@ module _ (day : Day) (old now : Kept) (id : PageId) (count : ℕ) (h : IsWellKep
         ∙ ap (option_map (is_moved store)) found in
         cc
 
-    pub goes_on : (new : Kept) (next : Option PageId) (moved : Bool) → IsWellKept now → new ≡ with_fresh id now
+    pub goes_on : (new : Kept) (next : Option PageId) (moved : Bool) → IsWellKept now
+        → new ≡ with_origins new.origins (with_fresh id now)
         → Some moved ≡ option_map (is_moved (store_of now)) (page_at now id) → next ≡ page_behind new (Some id)
         → WalkedTo day old new next (count + (if moved then 1 else 0))
     goes_on new next moved kept is told behind =
         let store : Store = on_day day (store_of old) in
         let front : List KeptPage = s.front ++ s.page ∷ [] in
         let whole : old.pages ≡ front ++ s.rest = s.whole ∙ sym (append_assoc s.front (s.page ∷ []) s.rest) in
-        let rows : new ≡ partly day old front s.rest = rows_next new is in
+        let rows : new ≡ with_origins new.origins (partly day old front s.rest) = rows_next new is in
         record {
           front = front;
           rest = s.rest;
@@ -357,7 +365,9 @@ nearer day old now new id at next count more h w v is behind =
 -- ---- its end
 
 record IsWalked (day : Day) (old now : Kept) (count : ℕ) : Type 0 where
-  pub rows : now ≡ record old { day = day; pages = map (fresh (on_day day (store_of old))) old.pages }
+  pub rows :
+      now
+      ≡ with_origins now.origins (record old { day = day; pages = map (fresh (on_day day (store_of old))) old.pages })
   pub counted : count ≡ count_by (is_moved (on_day day (store_of old))) old.pages
 
 walked : (day : Day) (old now : Kept) (next : Option PageId) (count : ℕ) → WalkedTo day old now next count
@@ -365,14 +375,14 @@ walked : (day : Day) (old now : Kept) (next : Option PageId) (count : ℕ) → W
 walked day old now next count w none = choose w.rest w.whole w.here w.rows
   where
     choose : (rest : List KeptPage) → old.pages ≡ w.front ++ rest → next ≡ first_page rest
-        → now ≡ partly day old w.front rest → IsWalked day old now count
+        → now ≡ with_origins now.origins (partly day old w.front rest) → IsWalked day old now count
     choose [] whole end rows =
         let store : Store = on_day day (store_of old) in
         let front : old.pages ≡ w.front = whole ∙ append-nil w.front in
         record {
           rows =
               rows
-              ∙ ap (λ (pages : List KeptPage). record old { day = day; pages = pages })
+              ∙ ap (λ (pages : List KeptPage). record old { day = day; pages = pages; origins = now.origins })
               (append-nil (map (fresh store) w.front) ∙ ap (map (fresh store)) (sym front));
           counted = w.counted ∙ ap (count_by (is_moved store)) (sym front);
         }
@@ -409,10 +419,11 @@ right_walked day old now count same w =
     }
 
 pub sound_walked : (day : Day) (old now : Kept) (next : Option PageId) (count : ℕ) → IsSound old → IsWellKept now
-    → WalkedTo day old now next count → ((id : PageId) → next ≢ Some id) → IsSound now
-sound_walked day old now next count sound h w none =
+    → HaveSums now → WalkedTo day old now next count → ((id : PageId) → next ≢ Some id) → IsSound now
+sound_walked day old now next count sound h sums w none =
     let same : store_of now ≡ on_day day (store_of old) = store_walked day old now next count w in
     let standing : AreStanding old = standing_of old sound.good in
+    let right : IsRight now = right_walked day old now count same (walked day old now next count w none) in
     record {
       good =
           good_of now h
@@ -420,5 +431,6 @@ sound_walked day old now next count sound h w none =
           (items_still (store_of old) (on_day day (store_of old)) refl (λ id there. there)
           (items_of (store_of old) sound.good)))
           (standing_alike (with_day day old) now same (record { by_row = standing.by_row; typed = standing.typed }));
-      right = right_walked day old now count same (walked day old now next count w none);
+      right = right;
+      totals = totals_of_sums now right sums;
     }

@@ -10,17 +10,18 @@ use Rattle.pl_base.specs.declared.id.PageId.{PageId}
 use Rattle.pl_base.specs.declared.row.Mark.{Mark}
 use Rattle.pl_base.specs.Good.{HasGoodItems, is_visited}
 use Rattle.pl_base.specs.Marks.{visit_count}
-use Rattle.pl_base.specs.Rows.{IsWellKept, Kept, mark_of, page_at, store_of}
+use Rattle.pl_base.specs.Rows.{HaveSums, IsRight, IsSound, IsWellKept, Kept, mark_of, page_at, store_of}
 use Rattle.pl_base.specs.Store.{Item, item_id}
 use Rattle.pl_base.specs.Tree.{is_page}
 use Rattle.pl_base.proofs.IdsLaws.{same_page}
 use Rattle.pl_base.proofs.ListLaws.{list_any_last}
+use Rattle.pl_base.proofs.OriginSums.{sums_still, totals_of_sums}
 use Rattle.pl_tree.specs.declared.new_item.NewItem.{NewItem}
 use Rattle.pl_tree.specs.declared.place.Place.{Place}
 use Rattle.pl_tree.specs.declared.place.Place.TheVariants.{End}
 use Rattle.pl_tree.specs.Changes.{item_of, with_child, with_new}
 use Rattle.pl_tree.specs.Tagged.{new_entry, new_items, tag_id, tagged_items, with_tag}
-use Rattle.pl_history.specs.Sound.{AreStanding, IsSound}
+use Rattle.pl_history.specs.Sound.{AreStanding}
 use Rattle.pl_base.specs.Removal.{is_standing}
 use Rattle.pl_history.specs.Ready.{IsReady}
 use Rattle.pl_marks.specs.Refreshed.{AreRightBut, HaveCounts, Refreshes}
@@ -91,24 +92,33 @@ pub mark_counted : (old made : Kept) (ids : Ids) (items : List Item) (page : Pag
 mark_counted old made ids items page is_place mark r is some =
     count_at made page mark (subst HaveCounts (sym is) r.counts) (mark_at made page mark some)
 
+-- items leave the sums
+pub sums_grown : (old made : Kept) (ids : Ids) (items : List Item) → made ≡ with_tree ids items old → HaveSums old
+    → HaveSums made
+sums_grown old made ids items is sums =
+    sums_still old made (ap (λ (k : Kept). k.pages) is) (ap (λ (k : Kept). k.origins) is) sums
+
 pub sound_grown : (old made now : Kept) (ids : Ids) (items : List Item) (page : PageId) (is_place : Bool) (mark : Mark)
     (frecency : ℤ) → Adds page old.items items → IsReady page is_place old → made ≡ with_tree ids items old
     → IsWellKept made → HasGoodItems (store_of made) → Some mark ≡ option_map mark_of (page_at made page)
-    → Refreshes page mark is_place made now frecency → IsWellKept now → IsSound now
-sound_grown old made now ids items page is_place mark frecency adds r is h good some f well =
+    → Refreshes page mark is_place made now frecency → IsWellKept now → HaveSums now → IsSound now
+sound_grown old made now ids items page is_place mark frecency adds r is h good some f well sums =
     let same : store_of now ≡ store_of made = source_store made now page mark is_place frecency h some f in
     let right : AreRightBut [] now =
     right_refreshed [] page mark is_place made now frecency
     (subst (AreRightBut (page ∷ [])) (sym is) (right_grown old ids items page is_place adds r)) f
     (mark_counted old made ids items page is_place mark r is some) (rw is r.place) in
+    let all : IsRight now =
+    record {
+      frecencies = λ k d within. (right k d within refl).0;
+      counts = λ k d within. (right k d within refl).1;
+      hidden = λ k d within. (right k d within refl).2;
+    } in
     record {
       good =
           good_of now well (subst HasGoodItems (sym same) good)
           (standing_alike made now same
           (subst AreStanding (sym is) (standing_grown old ids items page is_place adds r)));
-      right = record {
-        frecencies = λ k d within. (right k d within refl).0;
-        counts = λ k d within. (right k d within refl).1;
-        hidden = λ k d within. (right k d within refl).2;
-      };
+      right = all;
+      totals = totals_of_sums now all sums;
     }

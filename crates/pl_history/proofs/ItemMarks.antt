@@ -12,19 +12,20 @@ use Rattle.pl_base.specs.Frecency.{frecency_from, frecency_of, points, visit_bon
 use Rattle.pl_base.specs.Good.{HasGoodItems}
 use Rattle.pl_base.specs.Marks.{is_referenced, visit_count}
 use Rattle.pl_base.specs.Redirects.{is_redirect_source, source_transition}
-use Rattle.pl_base.specs.Rows.{IsWellKept, Kept, KeptPage, store_of}
+use Rattle.pl_base.specs.Rows.{IsRight, IsSound, IsWellKept, Kept, KeptPage, store_of}
 use Rattle.pl_base.specs.Store.{Item, Page, Store, Visit}
 use Rattle.pl_base.specs.Tables.{bonus_of}
 use Rattle.pl_base.specs.Tree.{is_page, leaving, with_changed}
 use Rattle.pl_base.specs.Visits.{latest_first, sample_of, visits_of}
 use Rattle.pl_tree.specs.declared.place.Place.{Place}
 use Rattle.pl_tree.specs.Changes.{put, taken_out, with_child, with_moved}
-use Rattle.pl_history.specs.Sound.{AreStanding, IsSound}
+use Rattle.pl_history.specs.Sound.{AreStanding}
 use Rattle.pl_marks.specs.Refreshed.{AreRightBut}
 use Rattle.pl_base.proofs.IdsLaws.{same_page}
 use Rattle.pl_base.proofs.ListLaws.{list_any-alike, list_any-map, sum_by-agree}
 use Rattle.pl_base.proofs.VisitsLaws.{all-latest_first}
 use Rattle.pl_base.proofs.LookUps.{where_passes}
+use Rattle.pl_base.proofs.OriginSums.{sums_of_sound, sums_still, totals_of_sums}
 use Rattle.pl_history.proofs.GoodRows.{good_of, standing_of}
 
 -- an item among these has the page
@@ -94,14 +95,20 @@ right_alike kept ids items but same right k d within other =
     )
 
 -- where each page has an item or not as before, the rows stay sound
-pub sound_alike : (kept new : Kept) (ids : Ids) (items : List Item) → new ≡ with_tree ids items kept → IsWellKept new
-    → HasGoodItems (store_of new) → ((page : PageId) → has_reference items page ≡ has_reference kept.items page)
-    → IsSound kept → IsSound new
-sound_alike kept new ids items is h good same s =
+pub sound_alike : (kept new : Kept) (ids : Ids) (items : List Item) → new ≡ with_tree ids items kept → IsWellKept kept
+    → IsWellKept new → HasGoodItems (store_of new)
+    → ((page : PageId) → has_reference items page ≡ has_reference kept.items page) → IsSound kept → IsSound new
+sound_alike kept new ids items is well h good same s =
     let standing : AreStanding kept = standing_of kept s.good in
     let right : AreRightBut [] (with_tree ids items kept) =
     right_alike kept ids items [] (λ k d within _. same (get_or kept.pages k d).page.id)
     (λ k d within _. (s.right.frecencies k d within, s.right.counts k d within, s.right.hidden k d within)) in
+    let all : IsRight (with_tree ids items kept) =
+    record {
+      frecencies = λ k d within. (right k d within refl).0;
+      counts = s.right.counts;
+      hidden = s.right.hidden;
+    } in
     subst IsSound (sym is)
     (record {
       good =
@@ -111,11 +118,10 @@ sound_alike kept new ids items is h good same s =
             by_row = λ k d within. rw (same (get_or kept.pages k d).page.id) (standing.by_row k d within);
             typed = standing.typed;
           });
-      right = record {
-        frecencies = λ k d within. (right k d within refl).0;
-        counts = s.right.counts;
-        hidden = s.right.hidden;
-      };
+      right = all;
+      totals =
+          totals_of_sums (with_tree ids items kept) all
+          (sums_still kept (with_tree ids items kept) refl refl (sums_of_sound kept well s));
     })
 
 -- ---- items that change

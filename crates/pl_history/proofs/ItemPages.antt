@@ -5,7 +5,7 @@ use Rattle.pl_base.specs.declared.date.Micros.{Micros}
 use Rattle.pl_base.specs.declared.id.ItemId.{ItemId}
 use Rattle.pl_base.specs.declared.id.PageId.{PageId}
 use Rattle.pl_base.specs.Good.{HasGoodItems}
-use Rattle.pl_base.specs.Rows.{IsWellKept, Kept, store_of}
+use Rattle.pl_base.specs.Rows.{IsSound, IsWellKept, Kept, store_of}
 use Rattle.pl_base.specs.Store.{Item, item_id}
 use Rattle.pl_base.specs.Tags.{tags_root}
 use Rattle.pl_base.specs.Tree.{is_page}
@@ -14,7 +14,6 @@ use Rattle.pl_tree.specs.declared.place.Place.{Place}
 use Rattle.pl_tree.specs.declared.place.Place.TheVariants.{End}
 use Rattle.pl_tree.specs.Changes.{item_of, put, with_child, with_inserted, with_new}
 use Rattle.pl_tree.specs.Tagged.{new_tag, tag_named, with_tag}
-use Rattle.pl_history.specs.Sound.{IsSound}
 use Rattle.pl_history.proofs.ItemMarks.{has_reference, reference_changed, sound_alike}
 use Rattle.pl_history.proofs.RightAfter.{any_last}
 
@@ -27,11 +26,11 @@ reference_inserted id parent place new items page other =
     ∙ reference_changed parent (λ (i : Item). record i { children = put place id i.children }) items page (λ i. refl)
 
 pub sound_inserted : (kept now : Kept) (parent : ItemId) (place : Place) (new : NewItem) → new.page ≡ None
-    → now ≡ with_inserted parent place new kept → IsWellKept now → HasGoodItems (store_of now) → IsSound kept
-    → IsSound now
-sound_inserted kept now parent place new none is h good s =
+    → now ≡ with_inserted parent place new kept → IsWellKept kept → IsWellKept now → HasGoodItems (store_of now)
+    → IsSound kept → IsSound now
+sound_inserted kept now parent place new none is well h good s =
     sound_alike kept now (record kept.ids { item = kept.ids.item + 1 })
-    (with_new (item_id kept.ids.item) parent place new kept.items) is h good
+    (with_new (item_id kept.ids.item) parent place new kept.items) is well h good
     (λ page. reference_inserted (item_id kept.ids.item) parent place new kept.items page (ap (is_page page) none))
     s
 

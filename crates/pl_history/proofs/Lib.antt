@@ -7,7 +7,6 @@ pub mod ItemPages
 pub mod KeptMark
 pub mod KnownPage
 pub mod LiveAfter
-pub mod NewTotals
 pub mod OriginParts
 pub mod PageCounts
 pub mod PageOrder

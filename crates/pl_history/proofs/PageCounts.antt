@@ -1,24 +1,16 @@
 -- How many visits the pages have together.
-use Rattle.std.proofs.Common.{◌≡◌, ◌≢◌, ◌∙◌, ◌+◌, ◌<◌, ◌≤◌, ◌==◌, ◌||◌, ◌++◌, ℕ, Bool, true, false}
+use Rattle.std.proofs.Common.{◌≡◌, ◌≢◌, ◌∙◌, ◌+◌, ◌≤◌, ◌==◌, ◌||◌, ℕ, Bool, true, false}
 use Rattle.std.proofs.Common.{List, [], ◌∷◌}
 use Rattle.std.proofs.Common.{ap, arith, count_by, get_or, if◌then◌else◌, length, map, refl, sym}
 use Rattle.std.specs.List.{AllByRecursion, list_any, sum_by}
 use Rattle.std.proofs.lemmas.Bool.{eqb-false, eqb-true, false≢true, ne_eqb}
 use Rattle.std.proofs.lemmas.List.Kept.{AllPairs-from_increasing}
-use Rattle.std.proofs.lemmas.List.{length-append, length-map}
-use Rattle.std.proofs.lemmas.List.Sums.{count_by-le-length, length-filter, sum_by-append, sum_by-cons, sum_by_push}
-use Rattle.pl_base.specs.declared.id.PageId.{PageId}
-use Rattle.pl_base.specs.declared.id.VisitId.{VisitId}
+use Rattle.std.proofs.lemmas.List.Sums.{sum_by-cons}
 use Rattle.pl_base.specs.Marks.{is_counted, visit_count}
-use Rattle.pl_base.specs.Rows.{IsWellKept, Kept, KeptPage, page_visits, store_of}
+use Rattle.pl_base.specs.Rows.{IsWellKept, Kept, KeptPage, store_of}
 use Rattle.pl_base.specs.Store.{Visit}
-use Rattle.pl_base.specs.Visits.{visits_of}
 use Rattle.pl_base.proofs.ListLaws.{count_by-and-le, sum_by-agree, weaker}
-use Rattle.pl_base.proofs.IdsLaws.{few_ids}
-use Rattle.pl_base.proofs.VisitsLaws.{length-latest_first}
 use Rattle.pl_base.proofs.LookUps.{Apart, apart_ascending}
-use Rattle.pl_marks.proofs.VisitWalk.{IsVisitHere}
-use Rattle.pl_marks.proofs.PageTurns.{IsPageHere}
 
 -- ---- sums
 
@@ -113,14 +105,6 @@ counted_once kept h =
     (h.visits k d within).1)
     ∙ sum_ones kept.visits
 
-pub visits_of_pages : (kept : Kept) → IsWellKept kept
-    → sum_by (λ (p : KeptPage). length (visits_of (store_of kept) p.page.id)) kept.pages ≡ length kept.visits
-visits_of_pages kept h =
-    sum_by-agree (λ (p : KeptPage). length (visits_of (store_of kept) p.page.id))
-    (λ (p : KeptPage). count_by (λ (v : Visit). v.page.0 == p.page.id.0) kept.visits) kept.pages
-    (λ k d within. length-filter (λ (v : Visit). v.page.0 == (get_or kept.pages k d).page.id.0) kept.visits)
-    ∙ counted_once kept h
-
 pub counts_of_pages : (kept : Kept) → IsWellKept kept
     → sum_by (λ (p : KeptPage). visit_count (store_of kept) p.page.id) kept.pages ≤ length kept.visits
 counts_of_pages kept h =
@@ -131,69 +115,4 @@ counts_of_pages kept h =
           (λ p. count_by-and-le (λ (v : Visit). v.page.0 == p.page.id.0) (λ (v : Visit). is_counted v.transition)
           kept.visits),
       counted_once kept h,
-    )
-
--- ---- the walks
-
-few_visits : (kept : Kept) → IsWellKept kept → length kept.visits < 4_294_967_295
-few_visits kept h =
-    few_ids (map (λ (v : Visit). v.id.0) kept.visits) kept.ids.visit (length kept.visits) h.visit_ids
-    (length-map kept.visits (λ (v : Visit). v.id.0))
-
--- so many visits stand in front
-abbrev pub AreSoMany : ℕ → List Visit → Type 0
-AreSoMany count front = length front ≡ count
-
-pub one_more : (kept : Kept) (page : PageId) (count : ℕ) (id : VisitId)
-    → (w : IsVisitHere kept page (AreSoMany count) id) → AreSoMany (count + 1) (w.front ++ w.visit ∷ [])
-one_more kept page count id w = omega (arith, w.so_far, length-append w.front (w.visit ∷ []))
-
-pub length_of_visits : (kept : Kept) (page : PageId)
-    → length (page_visits kept page) ≡ length (visits_of (store_of kept) page)
-length_of_visits kept page = length-latest_first (visits_of (store_of kept) page)
-
-pub one_fits : (kept : Kept) (page : PageId) (count : ℕ) (id : VisitId) → IsWellKept kept
-    → IsVisitHere kept page (AreSoMany count) id → count + 1 < 4_294_967_296
-one_fits kept page count id h w =
-    omega (
-      arith,
-      w.so_far,
-      ap length w.whole,
-      length-append w.front (w.visit ∷ w.rest),
-      length_of_visits kept page,
-      length-filter (λ (v : Visit). v.page.0 == page.0) kept.visits,
-      count_by-le-length (λ (v : Visit). v.page.0 == page.0) kept.visits,
-      few_visits kept h,
-    )
-
--- the pages in front have so many visits
-abbrev pub HaveVisits : Kept → ℕ → List KeptPage → Type 0
-HaveVisits kept count front = sum_by (λ (p : KeptPage). length (visits_of (store_of kept) p.page.id)) front ≡ count
-
-pub more_visits : (kept : Kept) (count n : ℕ) (id : PageId) → (w : IsPageHere kept (HaveVisits kept count) id)
-    → n ≡ length (visits_of (store_of kept) id) → HaveVisits kept (count + n) (w.front ++ w.page ∷ [])
-more_visits kept count n id w is =
-    omega (
-      arith,
-      w.so_far,
-      is,
-      ap (λ (i : PageId). length (visits_of (store_of kept) i)) w.is,
-      sum_by_push (λ (p : KeptPage). length (visits_of (store_of kept) p.page.id)) w.front w.page,
-    )
-
-pub visits_fit : (kept : Kept) (count n : ℕ) (id : PageId) → IsWellKept kept
-    → IsPageHere kept (HaveVisits kept count) id → n ≡ length (visits_of (store_of kept) id)
-    → count + n < 4_294_967_296
-visits_fit kept count n id h w is =
-    let many : KeptPage → ℕ = λ (p : KeptPage). length (visits_of (store_of kept) p.page.id) in
-    omega (
-      arith,
-      w.so_far,
-      is,
-      ap (λ (i : PageId). length (visits_of (store_of kept) i)) w.is,
-      ap (sum_by many) w.whole,
-      sum_by-append many w.front (w.page ∷ w.rest),
-      sum_by-cons many w.page w.rest,
-      visits_of_pages kept h,
-      few_visits kept h,
     )

@@ -1,22 +1,22 @@
 -- What holds of the rows with the page of a visit, before the visit is added.
-use Rattle.std.proofs.Common.{◌≡◌, ◌∙◌, ◌<◌, ◌==◌, ◌&&◌, ◌||◌, ℕ, All, Bool, true, false, IsTrue, List, [], ◌∷◌, Option}
-use Rattle.std.proofs.Common.{Some, None, ap, arith, count_by, eq-eqb, if◌then◌else◌, refl, subst, sym}
+use Rattle.std.proofs.Common.{◌≡◌, ◌∙◌, ◌<◌, ◌==◌, ◌&&◌, ◌||◌, ◌++◌, ℕ, All, Bool, true, false, IsTrue, List, [], ◌∷◌}
+use Rattle.std.proofs.Common.{Option, Some, None, ap, arith, count_by, eq-eqb, if◌then◌else◌, refl, subst, sym}
 use Rattle.std.specs.List.{AllByRecursion, list_any}
 use Rattle.std.proofs.lemmas.Bool.{eqb-true, false≢true, or_parts}
 use Rattle.std.proofs.lemmas.List.Elements.{All-push, All-weaker, recursion_from_All}
 use Rattle.std.proofs.lemmas.List.Sums.{sum_by-cons}
 use Rattle.pl_base.specs.declared.id.PageId.{PageId}
 use Rattle.pl_base.specs.declared.id.Slot.{Slot}
-use Rattle.pl_base.specs.Address.{is_place_url}
+use Rattle.pl_base.specs.Address.{is_place_url, is_store_url}
 use Rattle.pl_base.specs.Date.{IsDate}
 use Rattle.pl_base.specs.Good.{HasGoodItems, IsGood}
 use Rattle.pl_base.specs.Marks.{is_counted, visit_count}
-use Rattle.pl_base.specs.Rows.{IsWellKept, Kept, KeptPage, WithPageIn, has_page}
-use Rattle.pl_base.specs.Rows.{store_of, with_origin, with_new_page, next_page}
+use Rattle.pl_base.specs.Rows.{HaveSums, IsSound, IsWellKept, Kept, KeptOrigin, KeptPage, WithPageIn}
+use Rattle.pl_base.specs.Rows.{has_page, next_page, store_of, with_new_page, with_origin, with_origins}
 use Rattle.pl_base.specs.Store.{Page, Store, Visit}
 use Rattle.pl_history.specs.declared.find.Target.{Target}
 use Rattle.pl_history.specs.declared.find.Target.TheVariants.{Known, New}
-use Rattle.pl_history.specs.Sound.{AreStanding, IsSound, IsTypedRight}
+use Rattle.pl_history.specs.Sound.{AreStanding, IsTypedRight}
 use Rattle.pl_base.specs.Removal.{is_standing}
 use Rattle.pl_marks.specs.Refreshed.{IsRightPage}
 use Rattle.pl_history.specs.Ready.{IsReady}
@@ -24,7 +24,8 @@ use Rattle.pl_history.specs.Target.{IsTargetOf, WithTarget}
 use Rattle.pl_history.proofs.GoodRows.{items_of, items_still, standing_of}
 use Rattle.pl_history.proofs.KnownPage.{IsKnown, has_known, known, only_known}
 use Rattle.pl_base.proofs.ListLaws.{All-from_map, list_any-map, list_any_last, list_any_push}
-use Rattle.pl_marks.proofs.PageWalk.{not_equal}
+use Rattle.pl_base.proofs.OriginSums.{sums_of_sound, sums_with_page}
+use Rattle.pl_marks.proofs.PageWalk.{not_equal, part}
 
 -- ---- a page that is known
 
@@ -43,6 +44,7 @@ ready_known kept url page is_place h sound target place =
           kept.pages (only_known kept url page h k);
       items = items_of (store_of kept) sound.good;
       counts = sound.right.counts;
+      sums = sums_of_sound kept h sound;
       right =
           λ i d within _. (
             sound.right.frecencies i d within,
@@ -116,10 +118,12 @@ items_grown kept url origin good =
     (sym (list_any-map test page_of kept.pages) ∙ some))
     (items_of (store_of kept) good)
 
-ready_fresh : (kept : Kept) (url : List ℕ) (origin : Slot) (page : PageId) (is_place : Bool) → IsWellKept kept
-    → IsSound kept → page.0 ≡ kept.ids.page → is_place ≡ is_place_url url
-    → IsReady page is_place (with_new_page url origin kept)
-ready_fresh kept url origin page is_place h sound is place =
+-- the origins matter to the sums alone
+ready_fresh : (kept : Kept) (url : List ℕ) (origin : Slot) (origins : List KeptOrigin) (page : PageId)
+    (is_place : Bool) → IsWellKept kept → IsSound kept → page.0 ≡ kept.ids.page → is_place ≡ is_place_url url
+    → HaveSums (with_origins origins (with_new_page url origin kept))
+    → IsReady page is_place (with_origins origins (with_new_page url origin kept))
+ready_fresh kept url origin origins page is_place h sound is place sums =
     let new : KeptPage = next_page url origin kept in
     let store : Store = store_of kept in
     let standing : AreStanding kept = standing_of kept sound.good in
@@ -137,6 +141,7 @@ ready_fresh kept url origin page is_place h sound is place =
       counts =
           All-push (λ (p : KeptPage). p.count ≡ visit_count store p.page.id) kept.pages new sound.right.counts
           (sym (no_count kept new.page.id h refl));
+      sums = sums;
       right =
           All-push (λ (p : KeptPage). list_any (λ (id : PageId). p.page.id.0 == id.0) (page ∷ []) ≡ false
           → IsRightPage store p) kept.pages new
@@ -156,36 +161,39 @@ ready_fresh kept url origin page is_place h sound is place =
           (λ k d within of _. absurd (omega (arith, ap (λ (i : PageId). i.0) of, visits_below kept h k d within)));
     }
 
--- the origins do not matter
-other_origins : (kept : Kept) (url : List ℕ) (origin : Slot) (page : PageId) (is_place : Bool)
-    → IsReady page is_place (with_new_page url origin kept)
-    → IsReady page is_place (with_new_page url origin (with_origin origin kept))
-other_origins kept url origin page is_place r =
-    record {
-      there = r.there;
-      place = r.place;
-      items = record { items = r.items.items; roots = r.items.roots; tree = r.items.tree; tags = r.items.tags };
-      counts = r.counts;
-      right = r.right;
-      by_row = r.by_row;
-      typed = r.typed;
-    }
+-- the new page has a URL of the store
+store_url : (kept : Kept) (url : List ℕ) (origin : Slot) (origins : List KeptOrigin)
+    → IsWellKept (with_origins origins (with_new_page url origin kept)) → is_store_url url ≡ true
+store_url kept url origin origins h =
+    let own : KeptPage → Type 0 = λ (p : KeptPage). IsTrue (is_store_url p.page.url) in
+    let new : KeptPage = next_page url origin kept in
+    part own kept.pages new [] (recursion_from_All own (kept.pages ++ new ∷ []) h.urls)
+
+pub own_url : (kept mid : Kept) (url : List ℕ) (origin : Option Slot) → IsWellKept mid → WithPageIn url origin kept mid
+    → is_store_url url ≡ true
+own_url kept mid url (Some origin) h made = store_url kept url origin kept.origins (subst IsWellKept made h)
+own_url kept mid url None h made =
+    store_url kept url made.0 (with_origin made.0 kept).origins (subst IsWellKept made.1 h)
 
 ready_new : (kept mid : Kept) (url : List ℕ) (origin : Option Slot) (page : PageId) (is_place : Bool) → IsWellKept kept
     → IsSound kept → page.0 ≡ kept.ids.page → WithPageIn url origin kept mid → is_place ≡ is_place_url url
-    → IsReady page is_place mid
-ready_new kept mid url (Some origin) page is_place h sound is made place =
-    subst (IsReady page is_place) (sym made) (ready_fresh kept url origin page is_place h sound is place)
-ready_new kept mid url None page is_place h sound is made place =
+    → HaveSums mid → IsReady page is_place mid
+ready_new kept mid url (Some origin) page is_place h sound is made place sums =
+    subst (IsReady page is_place) (sym made)
+    (ready_fresh kept url origin kept.origins page is_place h sound is place (subst HaveSums made sums))
+ready_new kept mid url None page is_place h sound is made place sums =
     subst (IsReady page is_place) (sym made.1)
-    (other_origins kept url made.0 page is_place (ready_fresh kept url made.0 page is_place h sound is place))
+    (ready_fresh kept url made.0 (with_origin made.0 kept).origins page is_place h sound is place
+    (subst HaveSums made.1 sums))
 
 -- ---- either
 
 pub ready : (kept mid : Kept) (url : List ℕ) (target : Target) (page : PageId) (is_place : Bool) → IsWellKept kept
-    → IsSound kept → IsTargetOf kept url target → WithTarget url target kept mid page → is_place ≡ is_place_url url
-    → IsReady page is_place mid
-ready kept mid url (Known id) page is_place h sound target with place =
+    → IsWellKept mid → IsSound kept → IsTargetOf kept url target → WithTarget url target kept mid page
+    → is_place ≡ is_place_url url → IsReady page is_place mid
+ready kept mid url (Known id) page is_place h _ sound target with place =
     rw (with.0, with.1) (ready_known kept url id is_place h sound target place)
-ready kept mid url (New origin) page is_place h sound target with place =
+ready kept mid url (New origin) page is_place h well sound target with place =
     ready_new kept mid url origin page is_place h sound with.0 with.1 place
+    (sums_with_page kept mid url origin h well (sums_of_sound kept h sound)
+    (own_url kept mid url origin well with.1) target.1 with.1)

@@ -20,10 +20,10 @@ use Rattle.pl_base.specs.Good.{HasGoodItems}
 use Rattle.pl_base.specs.Marks.{is_counted, is_referenced, visit_count}
 use Rattle.pl_base.specs.Redirects.{is_redirect, is_source, redirects_from}
 use Rattle.pl_base.specs.Removal.{is_standing, visits_left}
-use Rattle.pl_base.specs.Rows.{IsWellKept, Kept, KeptPage, has_page, mark_of, marked, page_at, row_of, store_of}
-use Rattle.pl_base.specs.Rows.{visit_at}
-use Rattle.pl_base.specs.Rows.{with_mark, without_visit}
+use Rattle.pl_base.specs.Rows.{HaveSums, IsWellKept, Kept, KeptOrigin, KeptPage, has_page, mark_of, marked, page_at}
+use Rattle.pl_base.specs.Rows.{row_of, store_of, visit_at, with_mark, with_origins, without_visit}
 use Rattle.pl_base.specs.Store.{Page, Visit}
+use Rattle.pl_base.specs.Totals.{most_share, share}
 use Rattle.pl_base.proofs.IdsLaws.{same_page}
 use Rattle.pl_base.proofs.ListLaws.{list_any-alike, list_any-map, weaker}
 use Rattle.pl_base.proofs.VisitsLaws.{Differ, Differ-ascending}
@@ -33,7 +33,7 @@ use Rattle.pl_history.specs.Borne.{WithRedirectPages}
 use Rattle.pl_history.specs.Settled.{AreOthersSettled}
 use Rattle.pl_history.specs.Sound.{IsTypedRight}
 use Rattle.pl_history.proofs.GoodRows.{items_still}
-use Rattle.pl_history.proofs.KeptMark.{count_at, mark_at, typed_at}
+use Rattle.pl_history.proofs.KeptMark.{IsMarkAt, count_at, mark_at, typed_at}
 use Rattle.pl_history.proofs.PageOrder.{is_one}
 use Rattle.pl_history.proofs.RightAfter.{each_marked, other_way}
 use Rattle.pl_history.proofs.RightRemoved.{IsApart, computed_left, count_apart, visited_left}
@@ -76,7 +76,7 @@ gone_at old id row told = choose (visit_at old id) refl told
     choose (Some v) at some = record { visit = v; at = at; same = cc }
 
 -- a page is there whatever its mark
-has_marked : (kept : Kept) (page : PageId) (mark : Mark) (id : PageId)
+pub has_marked : (kept : Kept) (page : PageId) (mark : Mark) (id : PageId)
     → has_page (with_mark page mark kept) id ≡ has_page kept id
 has_marked kept page mark id =
     list_any-map (λ (p : KeptPage). p.page.id.0 == id.0)
@@ -200,13 +200,15 @@ module _ (old : Kept) (id : VisitId) (gone : Visit) (mark : Mark) (h : IsWellKep
         (All-filter (λ (v : Visit). is_redirect v.transition && is_source id v.source)
         (λ (v : Visit). There v.page) old.visits (λ k d within. (h.visits k d within).1)))))
 
-    settled : AreOthersSettled before old
-        → AreOthersSettled after
-        (with_mark gone.page (unvisited_mark gone.transition mark) (without_visit id old))
-    settled s =
+    settled : (origins : List KeptOrigin) → HaveSums (with_origins origins
+        (with_mark gone.page (unvisited_mark gone.transition mark) (without_visit id old)))
+        → AreOthersSettled before old
+        → AreOthersSettled after (with_origins origins
+        (with_mark gone.page (unvisited_mark gone.transition mark) (without_visit id old)))
+    settled origins sums s =
         let left : Kept = without_visit id old in
         let told : Mark = unvisited_mark gone.transition mark in
-        let now : Kept = with_mark gone.page told left in
+        let now : Kept = with_origins origins (with_mark gone.page told left) in
         record {
           there =
               All-weaker (λ (i : PageId). IsTrue (has_page old i)) (λ (i : PageId). IsTrue (has_page now i))
@@ -245,6 +247,7 @@ module _ (old : Kept) (id : VisitId) (gone : Visit) (mark : Mark) (h : IsWellKep
               typed_at old gone.page mark h (mark_at old gone.page mark marks) k d within same
               ∙ typed_left (get_or old.pages k d) (s.typed k d within) j e inside of by)
               (λ k d within _. typed_left (get_or old.pages k d) (s.typed k d within));
+          sums = sums;
         }
       where
         typed_left : (p : KeptPage) → IsTypedRight old p → IsTypedRight (without_visit id old) p
@@ -269,6 +272,16 @@ count_suffices old id row mark h counts told marks =
     (enough old id g.visit mark h g.at
     (subst (λ (r : VisitRow). Some mark ≡ option_map mark_of (page_at old r.page)) g.same marks) counts)
 
+-- the share of the page is small
+pub small_share : (old : Kept) (page : PageId) (mark : Mark) → HaveSums old
+    → Some mark ≡ option_map mark_of (page_at old page) → share mark.frecency ≤ most_share
+small_share old page mark sums marks =
+    let Small : KeptPage → Type 0 = λ (p : KeptPage). share p.frecency ≤ most_share in
+    let m : IsMarkAt old page mark = mark_at old page mark marks in
+    subst (λ (n : Mark). share n.frecency ≤ most_share) (sym m.is)
+    (found_holds Small (λ (p : KeptPage). p.page.id.0 == page.0) old.pages m.page
+    (recursion_from_All Small old.pages sums.small) m.at)
+
 pub unvisited_store : (old : Kept) (id : VisitId) (row : VisitRow) (mark : Mark) → IsWellKept old → HaveCounts old
     → Some row ≡ option_map row_of (visit_at old id) → Some mark ≡ option_map mark_of (page_at old row.page)
     → store_of (unvisited id row mark old) ≡ store_of (without_visit id old)
@@ -278,14 +291,18 @@ unvisited_store old id row mark h counts told marks =
     ∙ same_store old id g.visit mark h g.at
     (subst (λ (r : VisitRow). Some mark ≡ option_map mark_of (page_at old r.page)) g.same marks) counts
 
-pub unvisited_settled : (old : Kept) (id : VisitId) (row : VisitRow) (mark : Mark) (before mid after : List PageId)
+pub unvisited_settled : (old new : Kept) (id : VisitId) (row : VisitRow) (mark : Mark) (before mid after : List PageId)
     → IsWellKept old → Some row ≡ option_map row_of (visit_at old id)
     → Some mark ≡ option_map mark_of (page_at old row.page)
     → mid ≡ before ++ row.page ∷ option_to_list (source_page old row) → WithRedirectPages old id mid after
-    → AreOthersSettled before old → AreOthersSettled after (unvisited id row mark old)
-unvisited_settled old id row mark before mid after h told marks own w s =
+    → new ≡ with_origins new.origins (unvisited id row mark old) → HaveSums new → AreOthersSettled before old
+    → AreOthersSettled after new
+unvisited_settled old new id row mark before mid after h told marks own w is sums s =
     let g : IsGone old id row = gone_at old id row told in
-    subst (λ (r : VisitRow). AreOthersSettled after (unvisited id r mark old)) (sym g.same)
+    let all : new ≡ with_origins new.origins (unvisited id (row_of g.visit) mark old) =
+    is ∙ ap (λ (r : VisitRow). with_origins new.origins (unvisited id r mark old)) g.same in
+    subst (AreOthersSettled after) (sym all)
     (settled old id g.visit mark h g.at
     (subst (λ (r : VisitRow). Some mark ≡ option_map mark_of (page_at old r.page)) g.same marks) s.counts before mid
-    after (subst (λ (r : VisitRow). mid ≡ before ++ r.page ∷ option_to_list (source_page old r)) g.same own) w s)
+    after (subst (λ (r : VisitRow). mid ≡ before ++ r.page ∷ option_to_list (source_page old r)) g.same own) w
+    new.origins (subst HaveSums all sums) s)

@@ -12,13 +12,13 @@ use Rattle.pl_base.specs.declared.id.PageId.{PageId}
 use Rattle.pl_base.specs.declared.id.VisitId.{VisitId}
 use Rattle.pl_base.specs.Good.{IsGoodPage}
 use Rattle.pl_base.specs.Removal.{is_among, visits_left, without_idle_pages, without_visits}
-use Rattle.pl_base.specs.Rows.{IsWellKept, Kept, KeptPage, has_page, has_visit, store_of}
+use Rattle.pl_base.specs.Rows.{IsSound, IsWellKept, Kept, KeptPage, has_page, has_visit, store_of}
 use Rattle.pl_base.specs.Store.{Store, Visit}
 use Rattle.pl_base.proofs.IdsLaws.{same_page}
 use Rattle.pl_base.proofs.ListLaws.{All-from_map, AllPairs-from_map}
+use Rattle.pl_base.proofs.OriginSums.{sums_of_sound}
 use Rattle.pl_base.proofs.PageOrder.{numbers}
 use Rattle.pl_history.specs.Settled.{AreOthersSettled, AreSettledBut}
-use Rattle.pl_history.specs.Sound.{IsSound}
 use Rattle.pl_history.proofs.GoodRows.{items_of}
 use Rattle.pl_history.proofs.PageOrder.{is_one}
 use Rattle.pl_history.proofs.RemovedRows.{differ_visits}
@@ -26,8 +26,8 @@ use Rattle.pl_history.proofs.VisitsLeft.{Keeps, any_left, left_none, left_twice,
 
 -- ---- before the first
 
-pub sound_settled : (kept : Kept) → IsSound kept → AreOthersSettled [] kept
-sound_settled kept s =
+pub sound_settled : (kept : Kept) → IsWellKept kept → IsSound kept → AreOthersSettled [] kept
+sound_settled kept h s =
     let pages : All (λ (p : KeptPage). IsGoodPage (store_of kept) p.page) kept.pages =
     All-from_map (IsGoodPage (store_of kept)) (λ (p : KeptPage). p.page) kept.pages s.good.pages in
     record {
@@ -37,6 +37,7 @@ sound_settled kept s =
       right = λ k d within _. (s.right.frecencies k d within, s.right.counts k d within, s.right.hidden k d within);
       by_row = λ k d within _. (pages k d within).kept;
       typed = λ k d within. (pages k d within).typed;
+      sums = sums_of_sound kept h s;
     }
 
 pub none_gone : (kept : Kept) → store_of kept ≡ record (store_of kept) { visits = visits_left [] kept.visits }
@@ -146,6 +147,7 @@ ordered_settled ids pages kept ascending same s =
       right = λ k d within other. s.right k d within (sym (same (get_or kept.pages k d).page.id) ∙ other);
       by_row = λ k d within other. s.by_row k d within (sym (same (get_or kept.pages k d).page.id) ∙ other);
       typed = s.typed;
+      sums = s.sums;
     }
 
 -- ---- behind the last

@@ -10,12 +10,13 @@ use Rattle.pl_base.specs.declared.row.Mark.{Mark}
 use Rattle.pl_base.specs.declared.transition.Transition.TheVariants.{Typed}
 use Rattle.pl_base.specs.Address.{is_place_url}
 use Rattle.pl_base.specs.Good.{HasGoodItems, has_page_at}
-use Rattle.pl_base.specs.Rows.{IsWellKept, Kept, KeptPage, has_page, mark_of, page_at, store_of, url_of}
+use Rattle.pl_base.specs.Rows.{HaveSums, IsRight, IsSound, IsWellKept, Kept, KeptPage, has_page, mark_of, page_at}
+use Rattle.pl_base.specs.Rows.{store_of, url_of}
 use Rattle.pl_base.specs.Store.{Page, Store, Visit}
 use Rattle.pl_base.proofs.IdsLaws.{same_page}
 use Rattle.pl_base.proofs.ListLaws.{list_any-map}
+use Rattle.pl_base.proofs.OriginSums.{totals_of_sums}
 use Rattle.pl_marks.specs.Refreshed.{Refreshes}
-use Rattle.pl_history.specs.Sound.{IsSound}
 use Rattle.pl_base.specs.Removal.{is_standing}
 use Rattle.pl_history.specs.Settled.{AreSettledBut}
 use Rattle.pl_base.specs.Removal.{without_idle_pages}
@@ -42,8 +43,9 @@ standing_too store page id rest stands others apart = choose (id.0 == page.0) re
 pub refreshed_settled : (old new : Kept) (page : PageId) (rest : List PageId) (mark : Mark) (is_place : Bool)
     (frecency : ℤ) → IsWellKept old → Some mark ≡ option_map mark_of (page_at old page)
     → Some is_place ≡ option_map is_place_url (url_of old page) → is_standing (store_of old) page ≡ true
-    → Refreshes page mark is_place old new frecency → AreSettledBut (page ∷ rest) old → AreSettledBut rest new
-refreshed_settled old new page rest mark is_place frecency h marks place stands r s =
+    → Refreshes page mark is_place old new frecency → HaveSums new → AreSettledBut (page ∷ rest) old
+    → AreSettledBut rest new
+refreshed_settled old new page rest mark is_place frecency h marks place stands r sums s =
     let m : IsMarkAt old page mark = mark_at old page mark marks in
     let same : store_of new ≡ store_of old = source_store old new page mark is_place frecency h marks r in
     let there : (kept : Kept) (id : PageId) → has_page_at (store_of kept) id ≡ has_page kept id =
@@ -69,6 +71,7 @@ refreshed_settled old new page rest mark is_place frecency h marks place stands 
       typed =
           pages_alike (λ (t : Store) (p : Page).
           All (λ (v : Visit). v.page ≡ p.id → v.transition ≡ Typed → IsTrue p.typed) t.visits) old new same s.typed;
+      sums = sums;
     }
 
 -- ---- one after another
@@ -90,13 +93,16 @@ none_next kept pages k past s = subst (λ (ids : List PageId). AreSettledBut ids
 
 pub settled_sound : (kept : Kept) → IsWellKept kept → AreSettledBut [] kept → IsSound kept
 settled_sound kept h s =
+    let right : IsRight kept =
+    record {
+      frecencies = λ k d within. (s.right k d within refl).0;
+      counts = λ k d within. (s.right k d within refl).1;
+      hidden = λ k d within. (s.right k d within refl).2;
+    } in
     record {
       good = good_of kept h s.items (record { by_row = λ k d within. s.by_row k d within refl; typed = s.typed });
-      right = record {
-        frecencies = λ k d within. (s.right k d within refl).0;
-        counts = λ k d within. (s.right k d within refl).1;
-        hidden = λ k d within. (s.right k d within refl).2;
-      };
+      right = right;
+      totals = totals_of_sums kept right s.sums;
     }
 
 all_stay : {X : Type 0} (test : X → Bool) (xs : List X) → AllByRecursion (λ x. test x ≡ true) xs → filter test xs ≡ xs

@@ -1,19 +1,19 @@
--- The pages that a trim takes: each is there, none stands twice, and their visits are those of the definition.
-use Rattle.std.proofs.Common.{◌≡◌, ◌≢◌, ◌∙◌, ◌<◌, ◌==◌, ◌&&◌, ◌-◌, ℕ, All, Bool, true, false, List, [], ◌∷◌, Some, ap}
-use Rattle.std.proofs.Common.{arith, filter, length, map, not, refl, subst, suc, sym, take, zero}
-use Rattle.std.specs.List.{AllByRecursion, AllPairs, list_any}
+-- The pages that a trim takes: none stands twice, and their visits are those of the definition.
+use Rattle.std.proofs.Common.{◌≡◌, ◌≢◌, ◌∙◌, ◌<◌, ◌==◌, ◌&&◌, ◌-◌, ℕ, Bool, true, false, List, [], ◌∷◌, ap}
+use Rattle.std.proofs.Common.{arith, filter, length, map, not, refl, subst, suc, sym, take}
+use Rattle.std.specs.List.{AllPairs, list_any}
 use Rattle.std.proofs.lemmas.List.{get_or-take, length-map, length-take, take-map}
-use Rattle.std.proofs.lemmas.List.Elements.{All-from_recursion, recursion_from_All}
-use Rattle.std.proofs.lemmas.List.Kept.{AllPairs-filter, AllPairs-from_increasing}
+use Rattle.std.proofs.lemmas.List.Elements.{recursion_from_All}
+use Rattle.std.proofs.lemmas.List.Kept.{AllPairs-filter}
 use Rattle.pl_base.specs.declared.id.PageId.{PageId}
 use Rattle.pl_base.specs.declared.id.VisitId.{VisitId}
 use Rattle.pl_base.specs.Expiration.{is_staler, stale_pages, trimmed_pages, visits_to}
 use Rattle.pl_base.specs.Marks.{is_referenced}
-use Rattle.pl_base.specs.Rows.{IsWellKept, Kept, KeptPage, has_page, page_at, store_of}
+use Rattle.pl_base.specs.Rows.{IsWellKept, Kept, KeptPage, store_of}
 use Rattle.pl_base.specs.Store.{Page, Store, Visit}
-use Rattle.pl_base.proofs.ListLaws.{AllPairs-map, all-filter, list_any-alike, list_any-map, to_map, weaker}
-use Rattle.pl_base.proofs.SortLaws.{all_sorted, apart_sorted}
-use Rattle.pl_base.proofs.LookUps.{Apart, apart_ascending, found_self, found_some}
+use Rattle.pl_base.proofs.ListLaws.{AllPairs-map, list_any-alike, list_any-map, to_map, weaker}
+use Rattle.pl_base.proofs.SortLaws.{apart_sorted}
+use Rattle.pl_base.proofs.LookUps.{Apart}
 use Rattle.pl_history.specs.declared.trimming.StalePage.{StalePage}
 use Rattle.pl_history.specs.Stale.{stale_page, visits_of_pages}
 use Rattle.pl_history.specs.Taken.{AreThese, ids_of}
@@ -23,12 +23,6 @@ use Rattle.pl_history.proofs.StaleSort.{AreApart, pages_apart}
 use Rattle.pl_history.proofs.TakenVisits.{are_these, eqb-sym, everyone, taken, to_pages}
 
 -- ---- parts of a list
-
-all_take : {X : Type 0} (P : X → Type 0) (n : ℕ) (xs : List X) → AllByRecursion P xs → AllByRecursion P (take n xs)
-all_take P zero [] all = tt
-all_take P zero (x ∷ xs) all = tt
-all_take P (suc n) [] all = tt
-all_take P (suc n) (x ∷ xs) all = (all.0, all_take P n xs all.1)
 
 pairs_take : {X : Type 0} (R : X → X → Type 0) (n : ℕ) (xs : List X) → AllPairs R xs → AllPairs R (take n xs)
 pairs_take R n xs pairs i j d before within =
@@ -84,30 +78,6 @@ trimmed_are kept most count excess found cut all is counted beyond =
     beyond ∙ ap (λ (n : ℕ). n - most) (counted ∙ sym many) in
     is ∙ ap (take excess) all ∙ take-map (stale_page (store_of kept)) excess (stale_pages (store_of kept))
     ∙ ap (λ (n : ℕ). map (stale_page (store_of kept)) (take n (stale_pages (store_of kept)))) so_many
-
-kept_there : (kept : Kept) → IsWellKept kept
-    → AllByRecursion (λ (p : Page). has_page kept p.id ≡ true) (store_of kept).pages
-kept_there kept h =
-    to_map (λ (p : Page). has_page kept p.id ≡ true) (λ (p : KeptPage). p.page) kept.pages
-    (weaker (λ (p : KeptPage). page_at kept p.page.id ≡ Some p) (λ (p : KeptPage). has_page kept p.page.id ≡ true)
-    kept.pages (λ p at. found_some (λ (q : KeptPage). q.page.id.0 == p.page.id.0) kept.pages p at)
-    (found_self (λ (p : KeptPage). p.page.id.0) kept.pages
-    (apart_ascending (λ (p : KeptPage). p.page.id.0) kept.pages
-    (AllPairs-from_increasing (map (λ (p : KeptPage). p.page.id.0) kept.pages) h.page_ids.ascending))))
-
-pub trimmed_there : (kept : Kept) (most : ℕ) (pages : List StalePage) → IsWellKept kept
-    → AreTrimmed most (store_of kept) pages → All (λ (p : StalePage). has_page kept p.page ≡ true) pages
-trimmed_there kept most pages h are =
-    All-from_recursion (λ (p : StalePage). has_page kept p.page ≡ true) pages
-    (subst (AllByRecursion (λ (p : StalePage). has_page kept p.page ≡ true)) (sym are)
-    (to_map (λ (p : StalePage). has_page kept p.page ≡ true) (stale_page (store_of kept))
-    (trimmed_pages most (store_of kept))
-    (all_take (λ (p : Page). has_page kept p.id ≡ true) (length (store_of kept).pages - most)
-    (stale_pages (store_of kept))
-    (all_sorted (is_staler (store_of kept)) (λ (p : Page). has_page kept p.id ≡ true)
-    (filter (λ (p : Page). not (is_referenced (store_of kept) p.id)) (store_of kept).pages)
-    (all-filter (λ (p : Page). has_page kept p.id ≡ true)
-    (λ (p : Page). not (is_referenced (store_of kept) p.id)) (store_of kept).pages (kept_there kept h))))))
 
 pub trimmed_apart : (kept : Kept) (most : ℕ) (pages : List StalePage) → IsWellKept kept
     → AreTrimmed most (store_of kept) pages → AllPairs (λ (p q : StalePage). p.page.0 ≢ q.page.0) pages

@@ -10,13 +10,13 @@ use Rattle.pl_base.specs.declared.row.Mark.{Mark}
 use Rattle.pl_base.specs.declared.row.VisitRow.{VisitRow}
 use Rattle.pl_base.specs.Frecency.{frecency_of}
 use Rattle.pl_base.specs.Marks.{is_typed}
-use Rattle.pl_base.specs.Rows.{IsWellKept, Kept, KeptPage}
-use Rattle.pl_base.specs.Rows.{mark_of, page_at, store_of, with_mark, with_visit}
+use Rattle.pl_base.specs.Rows.{HaveSums, IsRight, IsSound, IsWellKept, Kept, KeptPage}
+use Rattle.pl_base.specs.Rows.{mark_of, page_at, store_of, with_mark, with_origins, with_visit}
 use Rattle.pl_base.specs.Store.{Page, Store}
 use Rattle.pl_history.specs.declared.find.Target.{Target}
 use Rattle.pl_history.specs.declared.find.Target.TheVariants.{Known, New}
 use Rattle.pl_base.specs.Good.{HasGoodItems}
-use Rattle.pl_history.specs.Sound.{AreStanding, IsSound}
+use Rattle.pl_history.specs.Sound.{AreStanding}
 use Rattle.pl_marks.specs.Refreshed.{AreRightBut, Refreshes, source_page, visited_mark}
 use Rattle.pl_base.specs.Visiting.{new_page, page_for}
 use Rattle.pl_base.specs.Visiting.{visit_page, visited_page, visited_store, with_page_for}
@@ -30,6 +30,7 @@ use Rattle.pl_history.proofs.VisitRows.{grown_store, store_visited, store_with_p
 use Rattle.pl_history.proofs.KeptMark.{IsMarkAt, count_told, mark_made, typed_at}
 use Rattle.pl_history.proofs.VisitedPages.{standing_after, standing_alike, typed_by, typed_still}
 use Rattle.pl_base.proofs.ListLaws.{list_any-alike, list_any-map}
+use Rattle.pl_base.proofs.OriginSums.{sums_still, totals_of_sums}
 
 -- ---- the rows with the visit, and its page afresh
 
@@ -78,13 +79,15 @@ afresh_after : (old now : Kept) (row : VisitRow) (is_place : Bool) (mark told : 
     → told ≡ visited_mark row.transition mark
     → Refreshes row.page told is_place (with_visit row old) now frecency → IsAfresh row old now frecency
 afresh_after old now row is_place mark told frecency r h m is f =
-    let made : now ≡ with_mark row.page (afresh row mark frecency f.hidden) (with_visit row old) =
-    f.rows ∙ ap (λ (n : Mark). with_mark row.page (record n { frecency = frecency; hidden = f.hidden })
-    (with_visit row old)) is in
+    let own : Kept = with_mark row.page (afresh row mark frecency f.hidden) (with_visit row old) in
+    let made : now ≡ with_origins now.origins own =
+    f.rows ∙ ap (λ (n : Mark). with_origins now.origins
+    (with_mark row.page (record n { frecency = frecency; hidden = f.hidden }) (with_visit row old))) is in
+    let store : store_of now ≡ store_of own = ap store_of made in
     record {
-      store = ap store_of made ∙ store_afresh old row mark frecency f.hidden h m;
+      store = store ∙ store_afresh old row mark frecency f.hidden h m;
       standing =
-          subst AreStanding (sym made) (standing_afresh old row is_place mark frecency f.hidden r h m);
+          standing_alike own now store (standing_afresh old row is_place mark frecency f.hidden r h m);
       scored =
           All-map (IsScored row now frecency) (λ (p : KeptPage). p.page) old.pages
           (λ k d within same.
@@ -142,18 +145,22 @@ items_visited row store good =
     same_id false id p = refl
 
 pub sound_after : (old now new : Kept) (row : VisitRow) (is_place : Bool) (frecency : ℤ) → IsReady row.page is_place old
-    → IsAfresh row old now frecency → IsWellKept new → store_of new ≡ store_of now → AreRightBut [] new → IsSound new
-sound_after old now new row is_place frecency r a h same right =
+    → IsAfresh row old now frecency → IsWellKept new → store_of new ≡ store_of now → AreRightBut [] new → HaveSums new
+    → IsSound new
+sound_after old now new row is_place frecency r a h same right sums =
+    let all : IsRight new =
+    record {
+      frecencies = λ k d within. (right k d within refl).0;
+      counts = λ k d within. (right k d within refl).1;
+      hidden = λ k d within. (right k d within refl).2;
+    } in
     record {
       good =
           good_of new h
           (subst HasGoodItems (sym (same ∙ a.store)) (items_visited row (store_of old) r.items))
           (standing_alike now new same a.standing);
-      right = record {
-        frecencies = λ k d within. (right k d within refl).0;
-        counts = λ k d within. (right k d within refl).1;
-        hidden = λ k d within. (right k d within refl).2;
-      };
+      right = all;
+      totals = totals_of_sums new all sums;
     }
 
 pub added_after : (old now new : Kept) (row : VisitRow) (visit : VisitId) (frecency : ℤ)
@@ -170,6 +177,11 @@ added_after old now new row visit frecency a same given =
           ∙ ap (λ (s : Store). frecency_of s (visited_page row.transition (get_or (store_of old).pages k d)))
           (sym same);
     }
+
+-- the sums with the visit
+pub sums_made : (old made : Kept) (row : VisitRow) → made ≡ with_visit row old → HaveSums old → HaveSums made
+sums_made old made row is sums =
+    sums_still old made (ap (λ (k : Kept). k.pages) is) (ap (λ (k : Kept). k.origins) is) sums
 
 -- ---- the page
 

@@ -5,7 +5,7 @@ use Rattle.pl_base.specs.declared.id.PageId.{PageId}
 use Rattle.pl_base.specs.Address.{is_place_url}
 use Rattle.pl_base.specs.Good.{HasGoodItems}
 use Rattle.pl_base.specs.Removal.{is_standing}
-use Rattle.pl_base.specs.Rows.{Kept, KeptPage, has_page, store_of}
+use Rattle.pl_base.specs.Rows.{HaveSums, Kept, KeptPage, has_page, store_of}
 use Rattle.pl_marks.specs.Refreshed.{AreRightBut, HaveCounts}
 use Rattle.pl_history.specs.Sound.{IsTypedRight}
 
@@ -16,6 +16,7 @@ pub record IsReady (page : PageId) (is_place : Bool) (kept : Kept) : Type 0 wher
       → is_place ≡ is_place_url p.page.url) kept.pages
   pub items : HasGoodItems (store_of kept)
   pub counts : HaveCounts kept
+  pub sums : HaveSums kept
   pub right : AreRightBut (page ∷ []) kept
   pub by_row : All (λ (p : KeptPage). (p.page.id.0 == page.0) ≡ false
       → IsTrue (is_standing (store_of kept) p.page.id)) kept.pages

@@ -1,9 +1,9 @@
 -- What is known of the rows while the pages that lost a visit or an item are settled.
-use Rattle.std.specs.Prelude.{◌≡◌, ◌≢◌, ◌==◌, false, IsTrue, List}
+use Rattle.std.specs.Prelude.{◌≡◌, ◌≢◌, ◌==◌, false, IsTrue, List, map}
 use Rattle.std.specs.List.{All, AllPairs, list_any}
 use Rattle.pl_base.specs.declared.id.PageId.{PageId}
 use Rattle.pl_base.specs.Good.{HasGoodItems}
-use Rattle.pl_base.specs.Rows.{Kept, KeptPage, has_page, store_of}
+use Rattle.pl_base.specs.Rows.{HaveSums, Kept, KeptPage, has_page, other_pages, store_of, unnamed}
 use Rattle.pl_marks.specs.Refreshed.{AreRightBut, HaveCounts}
 use Rattle.pl_history.specs.Sound.{IsTypedRight}
 use Rattle.pl_base.specs.Removal.{is_standing}
@@ -19,6 +19,7 @@ pub record AreSettledBut (ids : List PageId) (kept : Kept) : Type 0 where
   pub by_row : All (λ (p : KeptPage). list_any (λ (id : PageId). p.page.id.0 == id.0) ids ≡ false
       → IsTrue (is_standing (store_of kept) p.page.id)) kept.pages
   pub typed : All (IsTypedRight kept) kept.pages
+  pub sums : HaveSums kept
 
 -- the same before the ids are put in order, each once
 pub record AreOthersSettled (ids : List PageId) (kept : Kept) : Type 0 where
@@ -29,3 +30,12 @@ pub record AreOthersSettled (ids : List PageId) (kept : Kept) : Type 0 where
   pub by_row : All (λ (p : KeptPage). list_any (λ (id : PageId). p.page.id.0 == id.0) ids ≡ false
       → IsTrue (is_standing (store_of kept) p.page.id)) kept.pages
   pub typed : All (IsTypedRight kept) kept.pages
+  pub sums : HaveSums kept
+
+-- the rows without the page, whatever is kept of origins
+pub record Drops (page : PageId) (old new : Kept) : Type 0 where
+  pub day : new.day ≡ old.day
+  pub ids : new.ids ≡ old.ids
+  pub pages : map unnamed new.pages ≡ map unnamed (other_pages page old.pages)
+  pub visits : new.visits ≡ old.visits
+  pub items : new.items ≡ old.items

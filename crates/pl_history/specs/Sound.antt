@@ -1,10 +1,9 @@
--- What holds of the rows of a good store whose pages are right.
+-- What keeps the pages of a store there, and makes them typed.
 use Rattle.std.specs.Prelude.{◌≡◌, IsTrue}
 use Rattle.std.specs.List.{All}
 use Rattle.pl_base.specs.declared.transition.Transition.TheVariants.{Typed}
-use Rattle.pl_base.specs.Good.{IsGood}
 use Rattle.pl_base.specs.Removal.{is_standing}
-use Rattle.pl_base.specs.Rows.{IsRight, Kept, KeptPage, store_of}
+use Rattle.pl_base.specs.Rows.{Kept, KeptPage, store_of}
 use Rattle.pl_base.specs.Store.{Visit}
 
 -- the page is typed where a visit to it was
@@ -16,8 +15,3 @@ IsTypedRight kept p =
 pub record AreStanding (kept : Kept) : Type 0 where
   pub by_row : All (λ (p : KeptPage). IsTrue (is_standing (store_of kept) p.page.id)) kept.pages
   pub typed : All (IsTypedRight kept) kept.pages
-
--- the store is good, and what was computed of its pages is right
-pub record IsSound (kept : Kept) : Type 0 where
-  pub good : IsGood (store_of kept)
-  pub right : IsRight kept

@@ -1,11 +1,13 @@
 -- Where a visit goes: to a page that is there, or to a new one.
-use Rattle.std.specs.Prelude.{◌≡◌, ◌≤◌, ◌<◌, ℕ, Bool, true, false, List, Some, None}
+use Rattle.std.specs.Prelude.{◌≡◌, ◌+◌, ◌≤◌, ◌<◌, ℕ, Bool, true, false, List, Some, None}
+use Rattle.std.specs.Prelude.{if◌then◌else◌}
 use Rattle.std.specs.Option.{option_map}
 use Rattle.pl_base.specs.declared.id.PageId.{PageId}
 use Rattle.pl_base.specs.Good.{end_of_ids}
-use Rattle.pl_base.specs.Live.{slot_limit}
+use Rattle.pl_base.specs.Live.{chunks, slot_limit}
 use Rattle.pl_base.specs.Rows.{IsOriginOf, Kept, WithPageIn, live_with_page, store_of}
 use Rattle.pl_base.specs.Store.{Page}
+use Rattle.pl_base.specs.Touched.{row_pages}
 use Rattle.pl_base.specs.Visiting.{find_page}
 use Rattle.pl_history.specs.declared.find.Target.{Target}
 use Rattle.pl_history.specs.declared.find.Target.TheVariants.{Known, New}
@@ -21,6 +23,10 @@ IsTargetOf kept url (New origin) =
 abbrev pub is_new : Target → Bool
 is_new (Known page) = false
 is_new (New origin) = true
+
+-- the most pages of the file that the page touches: none where it is known
+abbrev pub target_pages : List ℕ → Target → ℕ
+target_pages url target = if is_new target then row_pages + chunks url else 0
 
 -- a new page may still have an id and its slots
 abbrev pub HasRoom : List ℕ → Target → Kept → Type 0

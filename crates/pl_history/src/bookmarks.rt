@@ -4,12 +4,11 @@ ghost use Rattle.pl_base.specs.Date.{IsDate};
 ghost use Rattle.pl_base.specs.Good.{longest_title};
 ghost use Rattle.pl_base.specs.Live as live;
 ghost use Rattle.pl_base.specs.Live.{live_slots, slot_limit};
-ghost use Rattle.pl_base.specs.Rows.{store_of};
+ghost use Rattle.pl_base.specs.Rows.{IsSound, store_of};
 ghost use Rattle.pl_tree.specs.Changes.{with_inserted};
 ghost use Rattle.pl_tree.specs.Refused.{insert_refusal};
 ghost use Rattle.pl_history.specs.Marked.{page_item};
 ghost use Rattle.pl_history.specs.Ready.{IsReady};
-ghost use Rattle.pl_history.specs.Sound.{IsSound};
 
 use pl_base::{ItemId, ItemKind, Micros, NoMemory, PageId, Rows, Steps, Txt};
 use pl_marks::refresh;

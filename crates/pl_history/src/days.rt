@@ -3,9 +3,8 @@ ghost use Rattle.std.specs.Prelude.{◌≡◌, ℕ, List, Some, true, IfOk, OnOk
 ghost use Rattle.std.specs.Option.{option_map};
 ghost use Rattle.pl_base.specs.Date.{IsDay};
 ghost use Rattle.pl_base.specs.Days.{on_day, pages_moved};
-ghost use Rattle.pl_base.specs.Rows.{has_page, page_at, store_of};
+ghost use Rattle.pl_base.specs.Rows.{HaveSums, IsSound, has_page, page_at, store_of, with_origins};
 ghost use Rattle.pl_history.specs.Fresh.{is_moved, with_fresh};
-ghost use Rattle.pl_history.specs.Sound.{IsSound};
 ghost use Rattle.pl_marks.specs.Refreshed.{HaveCounts};
 
 use crate::find::is_place;
@@ -24,7 +23,10 @@ fn refresh_page<R: Rows, L: Ledger>(
 ) -> Result<bool, NoMemory>
     requires page { has_page (R.kept rows.old) page ≡ true }
     requires counts { HaveCounts (R.kept rows.old) }
-    ensures rows { OnOk result (R.kept rows.new ≡ with_fresh page (R.kept rows.old)) }
+    requires sums { HaveSums (R.kept rows.old) }
+    ensures rows { OnOk result (R.kept rows.new
+        ≡ with_origins (R.kept rows.new).origins (with_fresh page (R.kept rows.old))) }
+    ensures sums { OnOk result (HaveSums (R.kept rows.new)) }
     ensures moved { IfOk result (λ moved. Some moved
         ≡ option_map (is_moved (store_of (R.kept rows.old))) (page_at (R.kept rows.old) page)) }
     ensures base { OnOk result ((bytes : List ℕ) → R.base rows.old bytes → R.base rows.new bytes) }

@@ -3,9 +3,8 @@ ghost use Rattle.std.specs.Prelude.{◌≡◌, ◌++◌, ◌∷◌, [], ℕ, Lis
 ghost use Rattle.std.specs.List.{filter};
 ghost use Rattle.pl_base.specs.Expiration as spec;
 ghost use Rattle.pl_base.specs.Removal.{forgotten};
-ghost use Rattle.pl_base.specs.Rows.{has_page, has_visit, page_visits, store_of, visit_at};
+ghost use Rattle.pl_base.specs.Rows.{IsSound, has_visit, page_visits, store_of, visit_at};
 ghost use Rattle.pl_base.specs.Store.{Visit};
-ghost use Rattle.pl_history.specs.Sound.{IsSound};
 ghost use Rattle.pl_history.specs.Taken.{AreThese, ids_of, is_before};
 ghost use Rattle.pl_history.specs.Went.{went};
 
@@ -21,7 +20,6 @@ pub(crate) fn add_visits<R: Rows, L: Ledger>(
     visits: &mut Vec<VisitId>,
     steps: &mut Steps<L>,
 ) -> Result<(), NoMemory>
-    requires { has_page (R.kept rows.now) page ≡ true }
     ensures { OnOk result (visits.new.items
         ≡ visits.old.items ++ ids_of (page_visits (R.kept rows.now) page)) }
 {
@@ -40,7 +38,6 @@ pub fn forget<R: Rows, L: Ledger>(
     page: PageId,
     steps: &mut Steps<L>,
 ) -> Result<Removed, NoMemory>
-    requires page { has_page (R.kept rows.old) page ≡ true }
     requires sound { IsSound (R.kept rows.old) }
     ensures store { OnOk result (store_of (R.kept rows.new)
         ≡ forgotten page (store_of (R.kept rows.old))) }
@@ -82,7 +79,6 @@ fn add_visits_before<R: Rows, L: Ledger>(
     visits: &mut Vec<VisitId>,
     steps: &mut Steps<L>,
 ) -> Result<(), NoMemory>
-    requires { has_page (R.kept rows.now) page ≡ true }
     ensures { OnOk result (visits.new.items ≡ visits.old.items
         ++ ids_of (filter (is_before day) (page_visits (R.kept rows.now) page))) }
 {

@@ -5,7 +5,6 @@
 #![tactic(auto)]
 
 mod bookmarks;
-mod counts;
 mod days;
 mod expiration;
 mod find;
@@ -13,12 +12,10 @@ mod removal;
 mod settle;
 mod slots;
 mod tags;
-mod totals;
 mod trimming;
 mod visiting;
 
 pub use bookmarks::add_bookmark;
-pub use counts::visit_count;
 pub use days::set_day;
 pub use expiration::{expire, forget};
 pub use find::{Target, find_page, find_target, is_place};
@@ -26,6 +23,5 @@ pub use removal::{Removed, remove_visits};
 pub use settle::settle_all;
 pub use slots::slots_after;
 pub use tags::{add_tag, is_tagged};
-pub use totals::total_up;
 pub use trimming::trim;
 pub use visiting::{AddedVisit, add_visit, page_for};

@@ -7,16 +7,15 @@ ghost use Rattle.std.specs.Option.{option_to_list};
 ghost use Rattle.pl_base.specs.declared.id.PageId.{PageId};
 ghost use Rattle.pl_base.specs.declared.id.VisitId.{VisitId};
 ghost use Rattle.pl_base.specs.Removal.{visits_left, without_visits};
-ghost use Rattle.pl_base.specs.Rows.{has_visit, store_of};
+ghost use Rattle.pl_base.specs.Rows.{IsSound, has_visit, store_of};
 ghost use Rattle.pl_marks.specs.Refreshed as marks;
 ghost use Rattle.pl_history.specs.Borne.{WithRedirectPages};
 ghost use Rattle.pl_history.specs.Settled.{AreOthersSettled};
-ghost use Rattle.pl_history.specs.Sound.{IsSound};
 ghost use Rattle.pl_history.specs.Went.{went};
 
 use crate::settle::settle_all;
 use pl_base::{NoMemory, PageId, Rows, Steps, VisitId, VisitRow};
-use pl_marks::unvisited_mark;
+use pl_marks::{keep_mark, unvisited_mark};
 use std::alloc::Global;
 use std::sync::ledger::Ledger;
 
@@ -99,7 +98,7 @@ fn remove_visit<R: Rows, L: Ledger>(
     push_redirect_pages(rows, visit, pages, steps)?;
     rows.remove_visit(visit, steps);
     let mark = rows.page_at(row.page, steps).unwrap();
-    rows.set_mark(row.page, unvisited_mark(mark, row.transition), steps);
+    keep_mark(rows, row.page, unvisited_mark(mark, row.transition), steps);
     Ok(())
 }
 

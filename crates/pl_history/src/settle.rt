@@ -1,25 +1,42 @@
 // Pages that lost a visit or an item: one that nothing keeps goes, any other is computed afresh.
-ghost use Rattle.std.specs.Prelude.{◌≡◌, ◌+◌, ◌∷◌, true, ℕ, List, length, IfOk, OnOk};
+ghost use Rattle.std.specs.Prelude.{◌≡◌, ◌+◌, ◌∷◌, true, false, ℕ, List, length, IfOk, OnOk};
 ghost use Rattle.std.specs.Prelude.{if◌then◌else◌};
 ghost use Rattle.pl_base.specs.declared.id.PageId.{PageId};
 ghost use Rattle.pl_base.specs.Removal as spec;
-ghost use Rattle.pl_base.specs.Rows.{has_page, store_of};
+ghost use Rattle.pl_base.specs.Rows.{HaveSums, IsSound, has_page, store_of};
 ghost use Rattle.pl_marks.specs.Refreshed.{HaveCounts};
-ghost use Rattle.pl_history.specs.Settled.{AreSettledBut};
-ghost use Rattle.pl_history.specs.Sound.{IsSound};
+ghost use Rattle.pl_history.specs.Settled.{AreSettledBut, Drops};
 
 use crate::find::is_place;
-use pl_base::{NoMemory, PageId, Rows, Steps};
-use pl_marks::refresh;
+use pl_base::{Mark, NoMemory, PageId, Rows, Steps};
+use pl_marks::{keep_mark, refresh};
 use std::alloc::Global;
 use std::sync::ledger::Ledger;
 
 // Whether the page has a visit or an item.
 fn is_standing<R: Rows, L: Ledger>(rows: &R, page: PageId, steps: &mut Steps<L>) -> bool
-    requires { has_page (R.kept rows.now) page ≡ true }
     ensures { result ≡ spec.is_standing (store_of (R.kept rows.now)) page }
 {
     rows.latest(page, steps).is_some() || rows.first_reference(page, steps).is_some()
+}
+
+// A page that has neither a visit nor an item goes, once its origin's total has no share of it.
+fn drop_page<R: Rows, L: Ledger>(rows: &mut R, page: PageId, steps: &mut Steps<L>)
+    requires page { has_page (R.kept rows.old) page ≡ true }
+    requires idle { spec.is_standing (store_of (R.kept rows.old)) page ≡ false }
+    requires sums { HaveSums (R.kept rows.old) }
+    ensures dropped { Drops page (R.kept rows.old) (R.kept rows.new) }
+    ensures sums { HaveSums (R.kept rows.new) }
+    ensures base { (bytes : List ℕ) → R.base rows.old bytes → R.base rows.new bytes }
+{
+    let none = Mark {
+        frecency: 0,
+        count: 0,
+        typed: false,
+        hidden: false,
+    };
+    keep_mark(rows, page, none, steps);
+    rows.remove_page(page, steps);
 }
 
 // A page that has neither a visit nor an item goes, and the answer is whether it does. What is
@@ -32,6 +49,7 @@ fn settle<R: Rows, L: Ledger>(
 ) -> Result<bool, NoMemory>
     requires page { has_page (R.kept rows.old) page ≡ true }
     requires counts { HaveCounts (R.kept rows.old) }
+    requires sums { HaveSums (R.kept rows.old) }
     ensures store { OnOk result (spec.without_idle_pages (store_of (R.kept rows.new))
         ≡ spec.without_idle_pages (store_of (R.kept rows.old))) }
     ensures went { IfOk result (λ went. length (R.kept rows.old).pages
@@ -41,7 +59,7 @@ fn settle<R: Rows, L: Ledger>(
     ensures base { OnOk result ((bytes : List ℕ) → R.base rows.old bytes → R.base rows.new bytes) }
 {
     if !is_standing(rows, page, steps) {
-        rows.remove_page(page, steps);
+        drop_page(rows, page, steps);
         return Ok(true);
     }
     let mark = rows.page_at(page, steps).unwrap();

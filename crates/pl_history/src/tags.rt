@@ -3,12 +3,11 @@ ghost use Rattle.std.specs.Prelude.{◌≡◌, ◌≤◌, ℕ, List, None, IfOk,
 ghost use Rattle.pl_base.specs.Date.{IsDate};
 ghost use Rattle.pl_base.specs.Good.{HasGoodItems};
 ghost use Rattle.pl_base.specs.Live.{live_slots, slot_limit};
-ghost use Rattle.pl_base.specs.Rows.{store_of};
+ghost use Rattle.pl_base.specs.Rows.{IsSound, store_of};
 ghost use Rattle.pl_tree.specs.Refused as refused;
 ghost use Rattle.pl_tree.specs.Tagged as tagged;
 ghost use Rattle.pl_history.specs.Marked.{has_tag};
 ghost use Rattle.pl_history.specs.Ready.{IsReady};
-ghost use Rattle.pl_history.specs.Sound.{IsSound};
 
 use crate::Target;
 use pl_base::{Micros, NoMemory, PageId, Rows, Steps};

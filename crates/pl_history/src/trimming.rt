@@ -1,11 +1,10 @@
 // Pages that go where there are too many.
-ghost use Rattle.std.specs.Prelude.{◌≡◌, ◌≢◌, ◌++◌, ◌∷◌, [], ℕ, List, length, map, true};
+ghost use Rattle.std.specs.Prelude.{◌≡◌, ◌≢◌, ◌++◌, ◌∷◌, [], ℕ, List, length, map};
 ghost use Rattle.std.specs.Prelude.{IfOk, OnOk};
-ghost use Rattle.std.specs.List.{All, AllPairs};
+ghost use Rattle.std.specs.List.{AllPairs};
 ghost use Rattle.pl_base.specs.Expiration as spec;
-ghost use Rattle.pl_base.specs.Rows.{KeptPage, has_page, store_of};
+ghost use Rattle.pl_base.specs.Rows.{IsSound, KeptPage, store_of};
 ghost use Rattle.pl_history.specs.declared.trimming.StalePage.{StalePage};
-ghost use Rattle.pl_history.specs.Sound.{IsSound};
 ghost use Rattle.pl_history.specs.Stale.{stale, stale_page, visits_of_pages};
 ghost use Rattle.pl_history.specs.Taken.{AreThese};
 ghost use Rattle.pl_history.specs.Went.{went};
@@ -44,7 +43,6 @@ fn add_if_stale<R: Rows, L: Ledger>(
     pages: &mut Vec<StalePage>,
     steps: &mut Steps<L>,
 ) -> Result<(), NoMemory>
-    requires { has_page (R.kept rows.now) page ≡ true }
     ensures { OnOk result ((p : KeptPage) → p.page.id ≡ page → pages.new.items
         ≡ pages.old.items ++ stale (store_of (R.kept rows.now)) (p.page ∷ [])) }
 {
@@ -82,8 +80,7 @@ fn visits_to<R: Rows, L: Ledger>(
     pages: &[StalePage],
     steps: &mut Steps<L>,
 ) -> Result<Vec<VisitId>, NoMemory>
-    requires there { All (λ (p : StalePage). has_page (R.kept rows.now) p.page ≡ true) pages.now }
-    requires apart { AllPairs (λ (p q : StalePage). p.page.0 ≢ q.page.0) pages.now }
+    requires { AllPairs (λ (p q : StalePage). p.page.0 ≢ q.page.0) pages.now }
     ensures { IfOk result (λ visits. AreThese
         (visits_of_pages pages.now (store_of (R.kept rows.now))) (R.kept rows.now) visits.items) }
 {

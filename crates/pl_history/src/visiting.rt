@@ -4,12 +4,12 @@ ghost use Rattle.std.specs.Option.{option_to_list};
 ghost use Rattle.pl_base.specs.Date.{IsDate};
 ghost use Rattle.pl_base.specs.Good.{end_of_ids};
 ghost use Rattle.pl_base.specs.Live.{live_slots, slot_limit};
-ghost use Rattle.pl_base.specs.Rows.{has_visit, store_of};
-ghost use Rattle.pl_marks.specs.Refreshed.{AreRightBut, HaveCounts, source_page};
-ghost use Rattle.pl_history.specs.Added.{AddsVisit};
+ghost use Rattle.pl_base.specs.Rows.{HaveSums, IsSound, has_visit, store_of};
+ghost use Rattle.pl_base.specs.Touched.{IsAtMostMore};
+ghost use Rattle.pl_marks.specs.Refreshed.{AreRightBut, HaveCounts, mark_pages, source_page};
+ghost use Rattle.pl_history.specs.Added.{AddsVisit, visit_pages};
 ghost use Rattle.pl_history.specs.Ready.{IsReady};
-ghost use Rattle.pl_history.specs.Sound.{IsSound};
-ghost use Rattle.pl_history.specs.Target.{HasRoom, IsTargetOf, WithTarget};
+ghost use Rattle.pl_history.specs.Target.{HasRoom, IsTargetOf, WithTarget, target_pages};
 
 use crate::{Target, is_place};
 use pl_base::{NoMemory, PageId, Rows, Steps, VisitId, VisitRow};
@@ -36,6 +36,8 @@ pub fn page_for<R: Rows, L: Ledger>(
     requires target { IsTargetOf (R.kept rows.old) url.now target }
     requires room { HasRoom url.now target (R.kept rows.old) }
     ensures page { IfOk result (WithTarget url.now target (R.kept rows.old) (R.kept rows.new)) }
+    ensures pages { OnOk result (IsAtMostMore (target_pages url.now target)
+        (R.pending rows.old) (R.pending rows.new)) }
     ensures base { OnOk result ((bytes : List ℕ) → R.base rows.old bytes → R.base rows.new bytes) }
 {
     match target {
@@ -53,10 +55,14 @@ fn refresh_source<R: Rows, L: Ledger>(
 ) -> Result<(), NoMemory>
     requires source { IfSome row.now.source (λ id. has_visit (R.kept rows.old) id ≡ true) }
     requires counts { HaveCounts (R.kept rows.old) }
+    requires sums { HaveSums (R.kept rows.old) }
     requires right { AreRightBut (option_to_list (source_page (R.kept rows.old) row.now))
         (R.kept rows.old) }
     ensures right { OnOk result (AreRightBut [] (R.kept rows.new)) }
     ensures store { OnOk result (store_of (R.kept rows.new) ≡ store_of (R.kept rows.old)) }
+    ensures sums { OnOk result (HaveSums (R.kept rows.new)) }
+    ensures pages { OnOk result (IsAtMostMore mark_pages
+        (R.pending rows.old) (R.pending rows.new)) }
     ensures base { OnOk result ((bytes : List ℕ) → R.base rows.old bytes → R.base rows.new bytes) }
 {
     if !row.transition.is_redirect() {
@@ -89,6 +95,8 @@ pub fn add_visit<R: Rows, L: Ledger>(
     ensures added { IfOk result (AddsVisit row.now
         (store_of (R.kept rows.old)) (store_of (R.kept rows.new))) }
     ensures sound { OnOk result (IsSound (R.kept rows.new)) }
+    ensures pages { OnOk result (IsAtMostMore visit_pages
+        (R.pending rows.old) (R.pending rows.new)) }
     ensures base { OnOk result ((bytes : List ℕ) → R.base rows.old bytes → R.base rows.new bytes) }
 {
     let visit = rows.insert_visit(row, steps)?;

@@ -3,7 +3,7 @@ use Rattle.std.proofs.Common.{◌≡◌, ◌≢◌, ◌<◌, ◌==◌, ◌∙◌
 use Rattle.std.proofs.Common.{Option, Some, None, All, IfSome, ap, arith, eq-eqb, filter, inl, inr, length, map, refl}
 use Rattle.std.proofs.Common.{reverse, sym}
 use Rattle.std.specs.List.{AllByRecursion, insert}
-use Rattle.std.specs.Option.{IsSomeAnd, option_and_then}
+use Rattle.std.specs.Option.{IsSomeAnd, option_and_then, option_or}
 use Rattle.std.proofs.lemmas.Bool.{ne_eqb}
 use Rattle.std.proofs.lemmas.Bool.Decides.{nat_tests}
 use Rattle.std.proofs.lemmas.List.{append-nil, map-append, reverse-append, reverse-reverse}
@@ -11,7 +11,8 @@ use Rattle.std.proofs.lemmas.List.Elements.{filter-append}
 use Rattle.pl_base.specs.declared.id.ItemId.{ItemId}
 use Rattle.pl_base.specs.declared.item.ItemRow.{ItemRow}
 use Rattle.pl_base.specs.Store.{Item}
-use Rattle.pl_base.specs.Tree.{adopted, adopting, first_item, has_item, inserted, new_item, parent_of, put_behind}
+use Rattle.pl_base.specs.Tree.{adopted, adopting, first_item, has_item, inserted, last_item, new_item, parent_of}
+use Rattle.pl_base.specs.Tree.{put_behind}
 use Rattle.pl_base.proofs.ListLaws.{map-alike, map-map, weaker}
 use Rattle.pl_items.specs.declared.node.Node.{Node}
 use Rattle.pl_items.specs.Nodes.{AreNodes, by_id, child_nodes, is_parent, item_of, items_of, place_behind, put_node}
@@ -73,6 +74,21 @@ children-reverse parent (n ∷ ns) =
     choose true = sym (reverse-append (n.id ∷ []) (child_nodes ns parent))
     choose false = append-nil (reverse (child_nodes ns parent))
 
+-- the first from behind is the last
+first-reverse : (ids : List ItemId) → first_item (reverse ids) ≡ last_item ids
+first-reverse [] = refl
+first-reverse (id ∷ ids) =
+    ap first_item (reverse-append (id ∷ []) ids) ∙ in_front (reverse ids)
+    ∙ ap (λ last. option_or last (Some id)) (first-reverse ids)
+  where
+    in_front : (front : List ItemId) → first_item (front ++ id ∷ []) ≡ option_or (first_item front) (Some id)
+    in_front [] = refl
+    in_front (c ∷ front) = refl
+
+pub last_child_is : (parent : ItemId) (ns : List Node)
+    → first_item (child_nodes (reverse ns) parent) ≡ last_item (child_nodes ns parent)
+last_child_is parent ns = ap first_item (children-reverse parent ns) ∙ first-reverse (child_nodes ns parent)
+
 -- ---- an id behind the last
 
 at_end : (P : ItemId → Type 0) (front : List ItemId) (last : ItemId) → AllByRecursion P (front ++ last ∷ []) → P last
@@ -97,10 +113,11 @@ behind_first id ids (last ∷ back) is once others =
     rw ended (behind_last last id (reverse back) (rw ended at once) (rw ended at others))
 
 children-ended : (parent id : ItemId) (ns : List Node) → Distinct ns → Lacks id ns
-    → put_behind (first_item (child_nodes (reverse ns) parent)) id (child_nodes ns parent)
+    → put_behind (last_item (child_nodes ns parent)) id (child_nodes ns parent)
     ≡ put_behind (Some id) id (child_nodes ns parent)
 children-ended parent id ns distinct lacks =
-    behind_first id (child_nodes ns parent) (child_nodes (reverse ns) parent)
+    ap (λ last. put_behind last id (child_nodes ns parent)) (sym (last_child_is parent ns))
+    ∙ behind_first id (child_nodes ns parent) (child_nodes (reverse ns) parent)
     (sym (reverse-reverse (child_nodes ns parent)) ∙ ap reverse (sym (children-reverse parent ns)))
     (once_children parent ns distinct) (lacks_children id parent ns lacks)
 
@@ -108,7 +125,7 @@ children-ended parent id ns distinct lacks =
 
 -- the last child of the parent
 abbrev pub last_among : List Node → Option ItemId → Option ItemId
-last_among ns parent = option_and_then (λ p. first_item (child_nodes (reverse ns) p)) parent
+last_among ns parent = option_and_then (λ p. last_item (child_nodes ns p)) parent
 
 adopting-ended : (parent id : ItemId) (ns : List Node) → Distinct ns → Lacks id ns → (m : Node)
     → adopting parent (Some id) id (item_of ns m) ≡ adopting parent (last_among ns (Some parent)) id (item_of ns m)

@@ -1,5 +1,5 @@
 // Changes of one item. None of them goes through the tree by recursion.
-ghost use Rattle.std.specs.Prelude.{◌≡◌, ◌≢◌, ◌<◌, ◌≤◌, [], length, reverse, true};
+ghost use Rattle.std.specs.Prelude.{◌≡◌, ◌≢◌, ◌<◌, ◌≤◌, [], length, true};
 ghost use Rattle.std.specs.Prelude.{IfSome, IsSomeAnd, OnErr, OnOk, Some};
 ghost use Rattle.std.specs.List.{All, insert, remove, slice_index_or};
 ghost use Rattle.std.specs.Option.{option_and_then};
@@ -7,6 +7,7 @@ ghost use Rattle.pl_base.specs.Tree as tree;
 ghost use Rattle.pl_items.specs.Nodes.{child_nodes, place_behind, place_then};
 
 use crate::Items;
+use crate::look::last_child;
 use crate::node::{Node, place_of};
 use pl_base::{ItemId, ItemRow, Micros, NoMemory, Txt};
 
@@ -92,11 +93,9 @@ impl Items {
 // The place of a new child of the parent, behind the node with this id or the first. The end of all
 // nodes is the place of a new last child, so that no node moves.
 fn place_for(nodes: &[Node], parent: Option<ItemId>, after: Option<ItemId>) -> usize
-    ensures end { option_and_then
-        (λ p. tree.first_item (child_nodes (reverse nodes.now) p)) parent ≡ after
+    ensures end { option_and_then (λ p. tree.last_item (child_nodes nodes.now p)) parent ≡ after
         → result ≡ length nodes.now }
-    ensures behind { option_and_then
-        (λ p. tree.first_item (child_nodes (reverse nodes.now) p)) parent ≢ after
+    ensures behind { option_and_then (λ p. tree.last_item (child_nodes nodes.now p)) parent ≢ after
         → result ≡ place_behind after nodes.now }
 {
     if last_child(nodes, parent) == after {
@@ -104,16 +103,6 @@ fn place_for(nodes: &[Node], parent: Option<ItemId>, after: Option<ItemId>) -> u
     } else {
         place_behind(nodes, after)
     }
-}
-
-// The child of the parent that stands last.
-fn last_child(nodes: &[Node], parent: Option<ItemId>) -> Option<ItemId>
-    ensures { result
-        ≡ option_and_then (λ p. tree.first_item (child_nodes (reverse nodes.now) p)) parent }
-{
-    let parent = parent?;
-    let node = nodes.iter().rev().find(|node| node.is_child_of(parent))?;
-    Some(node.id)
 }
 
 // The place behind the node with this id, or the first place.

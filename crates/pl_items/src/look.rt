@@ -1,6 +1,6 @@
 // Looking up items.
 ghost use Rattle.std.specs.Prelude.{◌≡◌};
-ghost use Rattle.std.specs.Option.{option_map};
+ghost use Rattle.std.specs.Option.{option_and_then, option_map};
 ghost use Rattle.pl_base.specs.Tree as tree;
 ghost use Rattle.pl_items.specs.Nodes.{child_nodes};
 
@@ -33,6 +33,12 @@ impl Items {
         ensures { result ≡ tree.first_item (tree.children_of self.now id) }
     {
         first_child(&self.nodes, id)
+    }
+
+    pub fn last_child(&self, id: ItemId) -> Option<ItemId>
+        ensures { result ≡ tree.last_item (tree.children_of self.now id) }
+    {
+        last_child(&self.nodes, Some(id))
     }
 
     /// The child of the same item that comes next.
@@ -73,5 +79,14 @@ fn first_child(nodes: &[Node], id: ItemId) -> Option<ItemId>
     ensures { result ≡ tree.first_item (child_nodes nodes.now id) }
 {
     let node = nodes.iter().find(|node| node.is_child_of(id))?;
+    Some(node.id)
+}
+
+// The last of some nodes that is a child of the parent.
+pub fn last_child(nodes: &[Node], parent: Option<ItemId>) -> Option<ItemId>
+    ensures { result ≡ option_and_then (λ p. tree.last_item (child_nodes nodes.now p)) parent }
+{
+    let parent = parent?;
+    let node = nodes.iter().rev().find(|node| node.is_child_of(parent))?;
     Some(node.id)
 }

@@ -2,6 +2,7 @@
 #![tactic(auto)]
 
 mod canon;
+mod check_error;
 mod parts;
 
 pub use canon::{Canon, CanonError};

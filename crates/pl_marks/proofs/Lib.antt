@@ -2,6 +2,7 @@ pub mod FreshestItem
 pub mod ItemWalk
 pub mod KeptUrls
 pub mod LatestVisit
+mod MovedTotals
 pub mod PageRows
 pub mod PageScore
 pub mod PageTags

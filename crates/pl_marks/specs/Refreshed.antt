@@ -1,5 +1,5 @@
 -- What is computed of pages, and which pages a visit bears on.
-use Rattle.std.specs.Prelude.{◌≡◌, ◌+◌, ◌-◌, ◌||◌, ◌==◌, ℤ, Bool, false, List, Option, None}
+use Rattle.std.specs.Prelude.{◌≡◌, ◌+◌, ◌-◌, ◌||◌, ◌==◌, ℕ, ℤ, Bool, false, List, Option, None}
 use Rattle.std.specs.Prelude.{if◌then◌else◌}
 use Rattle.std.specs.List.{All, list_any}
 use Rattle.std.specs.Option.{option_and_then, option_map}
@@ -11,7 +11,7 @@ use Rattle.pl_base.specs.Address.{is_place_url}
 use Rattle.pl_base.specs.Frecency.{frecency_of}
 use Rattle.pl_base.specs.Marks.{is_counted, is_framed, is_hidden, is_typed, visit_count}
 use Rattle.pl_base.specs.Redirects.{is_redirect, is_redirect_source}
-use Rattle.pl_base.specs.Rows.{Kept, KeptPage, store_of, visit_at, with_mark}
+use Rattle.pl_base.specs.Rows.{Kept, KeptPage, store_of, visit_at, with_mark, with_origins}
 use Rattle.pl_base.specs.Store.{Page, Store, Visit}
 
 -- a mark with one visit more, but for what is computed afresh
@@ -31,11 +31,18 @@ unvisited_mark transition mark =
 abbrev pub is_passing : Store → Visit → Bool
 is_passing store v = is_framed v.transition || is_redirect_source store v
 
+-- the most pages that a mark and the total of its page's origin touch
+abbrev pub mark_pages : ℕ
+mark_pages = 2
+
 -- the page with the count and typed mark that are told, and its frecency and hidden mark afresh
 pub record Refreshes (page : PageId) (told : Mark) (is_place : Bool) (old new : Kept) (frecency : ℤ)
     : Type 0 where
   pub hidden : Bool
-  pub rows : new ≡ with_mark page (record told { frecency = frecency; hidden = hidden }) old
+  pub rows :
+      new
+      ≡ with_origins new.origins
+      (with_mark page (record told { frecency = frecency; hidden = hidden }) old)
   pub scored : (p : Page) → p.id ≡ page → told.typed ≡ p.typed → is_place ≡ is_place_url p.url
       → frecency ≡ frecency_of (store_of old) p
   pub shown : (p : Page) → p.id ≡ page → is_place ≡ is_place_url p.url

@@ -7,6 +7,7 @@ mod dates;
 mod mark;
 mod page_views;
 mod tags;
+mod totals;
 mod url_parts;
 
 pub use bookmarks::mark_title;
@@ -14,4 +15,5 @@ pub use dates::last_date;
 pub use mark::{refresh, unvisited_mark, visited_mark};
 pub use page_views::views;
 pub use tags::{is_bookmarked, is_tagged, page_tags, tag_folder, tag_text};
+pub use totals::keep_mark;
 pub use url_parts::{canon_of, parts_of};

@@ -6,13 +6,16 @@ ghost use Rattle.pl_base.specs.Frecency.{frecency_of};
 ghost use Rattle.pl_base.specs.Good.{end_of_ids};
 ghost use Rattle.pl_base.specs.Marks as marks;
 ghost use Rattle.pl_base.specs.Redirects as redirects;
-ghost use Rattle.pl_base.specs.Rows.{has_page, has_visit, page_visits, row_of, store_of};
+ghost use Rattle.pl_base.specs.Rows.{HaveSums, has_page, has_visit, page_visits, row_of, store_of};
 ghost use Rattle.pl_base.specs.Rows.{visit_at};
 ghost use Rattle.pl_base.specs.Store.{Page, Visit};
+ghost use Rattle.pl_base.specs.Totals.{most_share, share};
+ghost use Rattle.pl_base.specs.Touched.{IsAtMostMore};
 ghost use Rattle.pl_base.specs.Visits.{sample_size};
 ghost use Rattle.pl_score.specs.Sample.{sampled_of};
 ghost use Rattle.pl_marks.specs.Refreshed as spec;
 
+use crate::totals::keep_mark;
 use pl_base::{Mark, NoMemory, PageId, Rows, Steps, Transition, VisitId, VisitRow};
 use pl_score::{SAMPLE_SIZE, Sampled, bonus, score};
 use std::alloc::Global;
@@ -108,8 +111,7 @@ fn sample<R: Rows, L: Ledger>(
     referenced: bool,
     steps: &mut Steps<L>,
 ) -> Result<Vec<Sampled>, NoMemory>
-    requires page { has_page (R.kept rows.now) page ≡ true }
-    requires referenced { referenced ≡ marks.is_referenced (store_of (R.kept rows.now)) page }
+    requires { referenced ≡ marks.is_referenced (store_of (R.kept rows.now)) page }
     ensures { IfOk result (λ sample. sample.items
         ≡ map (sampled_of (store_of (R.kept rows.now)))
         (take sample_size (page_visits (R.kept rows.now) page))) }
@@ -135,11 +137,11 @@ fn frecency<R: Rows, L: Ledger>(
     is_place: bool,
     steps: &mut Steps<L>,
 ) -> Result<i64, NoMemory>
-    requires page { has_page (R.kept rows.now) page ≡ true }
-    requires count { mark.count ≡ marks.visit_count (store_of (R.kept rows.now)) page }
-    ensures { IfOk result (λ frecency. (p : Page) → p.id ≡ page
+    requires { mark.count ≡ marks.visit_count (store_of (R.kept rows.now)) page }
+    ensures exact { IfOk result (λ frecency. (p : Page) → p.id ≡ page
         → mark.typed ≡ p.typed → is_place ≡ is_place_url p.url
         → frecency ≡ frecency_of (store_of (R.kept rows.now)) p) }
+    ensures small { IfOk result (λ frecency. share frecency ≤ most_share) }
 {
     let referenced = is_referenced(rows, page, steps);
     let sample = sample(alloc, rows, page, referenced, steps)?;
@@ -159,7 +161,6 @@ fn is_passing<R: Rows, L: Ledger>(rows: &R, visit: VisitId, steps: &mut Steps<L>
 
 // Whether the page has visits, and each is within a frame or led to a redirect.
 fn is_hidden_by_visits<R: Rows, L: Ledger>(rows: &R, page: PageId, steps: &mut Steps<L>) -> bool
-    requires { has_page (R.kept rows.now) page ≡ true }
     ensures { (p : Page) → p.id ≡ page
         → marks.is_hidden (store_of (R.kept rows.now)) p ≡ (is_place_url p.url || result) }
 {
@@ -186,8 +187,12 @@ pub fn refresh<R: Rows, L: Ledger>(
 ) -> Result<i64, NoMemory>
     requires page { has_page (R.kept rows.old) page ≡ true }
     requires count { told.count ≡ marks.visit_count (store_of (R.kept rows.old)) page }
+    requires sums { HaveSums (R.kept rows.old) }
     ensures refreshed { IfOk result (spec.Refreshes page told is_place
         (R.kept rows.old) (R.kept rows.new)) }
+    ensures sums { OnOk result (HaveSums (R.kept rows.new)) }
+    ensures pages { OnOk result (IsAtMostMore spec.mark_pages
+        (R.pending rows.old) (R.pending rows.new)) }
     ensures base { OnOk result ((bytes : List ℕ) → R.base rows.old bytes → R.base rows.new bytes) }
 {
     let frecency = frecency(alloc, rows, page, told, is_place, steps)?;
@@ -197,6 +202,6 @@ pub fn refresh<R: Rows, L: Ledger>(
         hidden,
         ..told
     };
-    rows.set_mark(page, mark, steps);
+    keep_mark(rows, page, mark, steps);
     Ok(frecency)
 }

@@ -5,8 +5,10 @@ mod DraftLemmas
 mod Escapes
 mod FineSaid
 mod FirstsLemmas
+mod KeptForm
 mod KeyNames
 mod ListsBack
+mod LowerCase
 mod OneQuery
 mod PlaceRows
 mod ReadBack
@@ -14,4 +16,7 @@ mod ReadOnce
 mod ReadPieces
 mod SaidPairs
 mod ToldBack
+mod UrlHosts
+mod UrlPaths
+mod UrlTexts
 mod ValueLemmas

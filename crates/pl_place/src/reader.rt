@@ -3,10 +3,12 @@ ghost use Rattle.std.specs.Prelude.{◌≡◌, ◌++◌, ℕ, List, Some, Ok, Er
 ghost use Rattle.std.specs.Cow.{cow_slice_items};
 ghost use Rattle.std.specs.Option.{option_map, option_to_list};
 ghost use Rattle.percent_encoding.specs.Percent.{percent_decode};
+ghost use Rattle.pl_place.specs.Canonical.{ReadsAlone, canonical};
 ghost use Rattle.pl_place.specs.Draft.{Gathers, StandsBehind};
 ghost use Rattle.pl_place.specs.PlaceText as spec;
 ghost use Rattle.pl_place.specs.PlaceText.{Piece, Reads, place_prefix};
 ghost use Rattle.pl_place.specs.ReadQuery.{read_as};
+ghost use Rattle.pl_place.specs.declared.query.Query.{Query};
 ghost use Rattle.pl_place.specs.declared.reader.QueryError.TheVariants as variants;
 
 use crate::draft::Draft;
@@ -45,6 +47,11 @@ pub fn read(alloc: Global, text: &str) -> Result<Query, QueryError>
     ensures reads { IfOk result (Reads text.now) }
     ensures bad { (piece : ℕ) → result ≡ Err (variants.BadQuery piece)
         → read_as text.now ≡ Err piece }
+
+    // The canonical text of each query that the text reads as reads as that query alone: a law of
+    // the definitions, whatever the result.
+    ensures canonical { (query : Query) → Reads text.now query
+        → ReadsAlone query (canonical query) }
 {
     let Some(body) = body(text) else {
         return Err(QueryError::BadQuery(0));

@@ -1,14 +1,10 @@
 -- What one write after another leaves.
-use Rattle.std.proofs.Common.{◌≡◌, ◌+◌, ◌<◌, ◌≤◌, ◌++◌, ◌∙◌, ℕ, List, [], ◌∷◌, ap, arith}
-use Rattle.std.proofs.Common.{append_assoc, get_or, length, length-append, map, refl, suc, take, zero}
-use Rattle.std.specs.List.{All}
+use Rattle.std.proofs.Common.{◌≡◌, ◌+◌, ◌<◌, ◌++◌, ◌∙◌, ℕ, List, ap}
+use Rattle.std.proofs.Common.{append_assoc, get_or, length, map, refl, take}
 use Rattle.std.specs.List.{flat_map}
 use Rattle.std.proofs.lemmas.List.{flat_map_more, length-map, map_push, take_more}
-use Rattle.std.proofs.lemmas.List.Elements.{All-cons, All-head, All-nil, All-tail}
 use Rattle.std.proofs.lemmas.List.Folds.{flat_map-map}
 use Rattle.pl_base.specs.declared.id.ItemId.{ItemId}
-use Rattle.pl_base.specs.Good.{child_ids}
-use Rattle.pl_base.specs.Store.{Item}
 use Rattle.pl_form.specs.Form.{four, listed}
 use Rattle.pl_items.specs.declared.by_id.Child.{Child}
 
@@ -46,30 +42,6 @@ pub written_more : {A : Type 0} (form : A → List ℕ) (xs : List A) (i : ℕ) 
 written_more form xs i x before out new within read so_far wrote =
     rw (take_more xs i x within, ← read)
     (wrote ∙ ap (λ zs. zs ++ form x) so_far ∙ flat_map_more form before (take i xs) x)
-
--- an item has no more children than all have
-pub children_within : (items : List Item) (k : ℕ) (d : Item) → k < length items
-    → length (get_or items k d).children ≤ length (child_ids items)
-children_within [] k d within = absurd (omega arith)
-children_within (i ∷ items) zero d within = omega (arith, length-append i.children (child_ids items))
-children_within (i ∷ items) (suc k) d within =
-    omega (arith, length-append i.children (child_ids items), children_within items k d (omega arith))
-
--- what holds of all of two lists holds of each
-All-parts : {A : Type 0} (P : A → Type 0) (xs ys : List A) → All P (xs ++ ys) → All P xs × All P ys
-All-parts P [] ys all = (All-nil P, all)
-All-parts P (x ∷ xs) ys all =
-    let rest = All-parts P xs ys (All-tail P x (xs ++ ys) all) in
-    (All-cons P x xs (All-head P x (xs ++ ys) all) rest.0, rest.1)
-
--- what holds of the children of all holds of those of one
-pub children_known : (P : ItemId → Type 0) (items : List Item) (k : ℕ) (d : Item) → k < length items
-    → All P (child_ids items) → All P (get_or items k d).children
-children_known P [] k d within known = absurd (omega arith)
-children_known P (i ∷ items) zero d within known =
-    (All-parts P i.children (child_ids items) known).0
-children_known P (i ∷ items) (suc k) d within known =
-    children_known P items k d (omega arith) (All-parts P i.children (child_ids items) known).1
 
 -- the ids of children
 pub listed-children : (children : List Child)

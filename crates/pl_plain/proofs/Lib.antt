@@ -2,14 +2,12 @@ pub mod Appends
 pub mod CheckEnds
 pub mod CheckFlat
 pub mod CheckHeld
-pub mod CheckOrigins
-pub mod CheckPages
-pub mod CheckTotals
 pub mod FlatChanges
 pub mod ItemChanges
 pub mod Lengths
 pub mod Lists
 pub mod Lookups
+pub mod NeededPages
 pub mod OlderVisits
 pub mod OneStore
 pub mod OpeningGood
@@ -20,6 +18,5 @@ pub mod Pages
 pub mod PagesButOne
 pub mod RowChanges
 pub mod Searches
-pub mod StoredTexts
 pub mod TargetVisits
 pub mod VisitDropped

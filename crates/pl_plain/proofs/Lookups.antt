@@ -2,17 +2,19 @@
 use Rattle.std.proofs.Common.{Bor, ◌≡◌, ◌∙◌, ◌||◌, ◌==◌, ℕ, Bool, true, false, List, [], ◌∷◌, Option}
 use Rattle.std.proofs.Common.{Some, None, ap, if◌then◌else◌, find, map, nat_lt, refl, subst, sym}
 use Rattle.std.specs.List.{list_any}
-use Rattle.std.specs.Option.{IsSome, option_copied, option_map}
+use Rattle.std.specs.Option.{IsSome, IsSomeAnd, option_copied, option_map}
 use Rattle.pl_base.specs.declared.id.ItemId.{ItemId}
 use Rattle.pl_base.specs.declared.id.PageId.{PageId}
 use Rattle.pl_base.specs.declared.id.VisitId.{VisitId}
+use Rattle.pl_base.specs.declared.item.ItemKind.TheVariants.{Folder}
 use Rattle.pl_base.specs.Rows.{Kept, KeptPage, first_id, older_visit, page_behind, visit_at}
 use Rattle.pl_base.specs.Store.{Item, Visit}
-use Rattle.pl_base.specs.Tree.{has_item, item_at, item_title}
+use Rattle.pl_base.specs.Tree.{IsFolder, has_item, item_at, item_title}
 use Rattle.pl_plain.specs.declared.flat.row.FlatPage.{FlatPage}
 use Rattle.pl_plain.specs.FlatRows.{page_of}
 use Rattle.pl_check.specs.Latest.{first_of}
 use Rattle.pl_base.proofs.ListLaws.{find-map, found_in, list_any-map}
+use Rattle.pl_base.proofs.LookUps.{found_some}
 use Rattle.pl_plain.proofs.OlderVisits.{id_of-first}
 
 -- none was found
@@ -95,6 +97,20 @@ there-found p f (x ∷ xs) y found = choose (p x) found (there-found p f xs y)
     choose false here rest = rest here
 
 -- ---- items
+
+-- a folder is there
+pub folder_there : (items : List Item) (id : ItemId) → IsFolder items id → has_item items id ≡ true
+folder_there items id folder = at (item_at items id) refl folder
+  where
+    at : (o : Option Item) → item_at items id ≡ o → IsSomeAnd o (λ (i : Item). i.kind ≡ Folder)
+        → has_item items id ≡ true
+    at None is folder = absurd folder
+    at (Some i) is folder = found_some (λ (j : Item). j.id.0 == id.0) items i is
+
+pub parent_there : (items : List Item) (parent : Option ItemId) → IsSomeAnd parent (IsFolder items)
+    → IsSomeAnd parent (λ id. has_item items id ≡ true)
+parent_there items None folder = absurd folder
+parent_there items (Some id) folder = folder_there items id folder
 
 -- the title of an item that is there is told
 pub title_told : (id : ItemId) (items : List Item) (told : Option (Bor (List ℕ)))

@@ -2,8 +2,10 @@
 use Rattle.std.proofs.Common.{◌≡◌, ◌∙◌, ℕ, List, ap, sym}
 use Rattle.pl_base.specs.Store.{Store}
 use Rattle.pl_form.specs.Form.{StandsFor}
-use Rattle.pl_form.specs.Stored.{AreStored, HoldsRows, Stored, stored_store}
-use Rattle.pl_plain.proofs.CheckHeld.{holds-back, rows_of, store-back, stored-back}
+use Rattle.pl_form.specs.Stored.{HoldsRows}
+use Rattle.pl_stored.specs.Stored.{AreStored, Stored, stored_store}
+use Rattle.pl_check.proofs.HeldRows.{rows_of, store-back, stored-back}
+use Rattle.pl_plain.proofs.CheckHeld.{holds-back}
 
 -- where they hold the rows of one at most
 pub one_store : (bytes : List ℕ)

@@ -1,11 +1,11 @@
--- The opening store is good, whatever ids come next.
+-- The opening store is good and sound, whatever ids come next.
 use Rattle.std.proofs.Common.{◌<◌, ◌≤◌, ℕ, All, [], ◌∷◌, arith}
 use Rattle.std.proofs.lemmas.Str.{IsUtf8-nil}
 use Rattle.pl_base.specs.Store.{Item, roots}
 use Rattle.std.proofs.lemmas.List.Elements.{All-from_recursion, All-nil}
 use Rattle.pl_base.specs.declared.id.Ids.{Ids}
 use Rattle.pl_base.specs.Good.{AreIds, IsGood, IsTitle, end_of_ids}
-use Rattle.pl_base.specs.Rows.{opening_with, store_of}
+use Rattle.pl_base.specs.Rows.{IsSound, opening_with, store_of}
 use Rattle.pl_base.proofs.RootsLaws.{has_roots, no_tags, roots_are_good, roots_are_tree, roots_ascend}
 
 -- the roots have the ids 1 to 6
@@ -43,7 +43,7 @@ pub no_ids : (next : ℕ) → 1 ≤ next → next ≤ end_of_ids → AreIds 1 ne
 no_ids next first last =
     record { ascending = λ k h. absurd (omega arith); given = All-nil _; next_first = first; next_last = last }
 
-pub opening_is_good : (ids : Ids) → 1 ≤ ids.page → 1 ≤ ids.visit → 7 ≤ ids.item → ids.page ≤ end_of_ids
+opening_is_good : (ids : Ids) → 1 ≤ ids.page → 1 ≤ ids.visit → 7 ≤ ids.item → ids.page ≤ end_of_ids
     → ids.visit ≤ end_of_ids → ids.item ≤ end_of_ids → IsGood (store_of (opening_with ids))
 opening_is_good ids page visit item page_last visit_last item_last =
     record {
@@ -58,4 +58,14 @@ opening_is_good ids page visit item page_last visit_last item_last =
       roots = has_roots (store_of (opening_with ids));
       tree = roots_are_tree;
       tags = no_tags (store_of (opening_with ids));
+    }
+
+-- no page has a mark or an origin
+pub opening_is_sound : (ids : Ids) → 1 ≤ ids.page → 1 ≤ ids.visit → 7 ≤ ids.item → ids.page ≤ end_of_ids
+    → ids.visit ≤ end_of_ids → ids.item ≤ end_of_ids → IsSound (opening_with ids)
+opening_is_sound ids page visit item page_last visit_last item_last =
+    record {
+      good = opening_is_good ids page visit item page_last visit_last item_last;
+      right = record { frecencies = All-nil _; counts = All-nil _; hidden = All-nil _ };
+      totals = All-nil _;
     }

@@ -26,7 +26,7 @@ map-same : (ns : List ℕ) → map (λ n. n) ns ≡ ns
 map-same [] = refl
 map-same (n ∷ ns) = ap (λ ms. n ∷ ms) (map-same ns)
 
-numbers_of : (n : ℕ) (bytes : List ℕ) → page_numbers (images_of n bytes) ≡ range_with_len 1 n
+pub numbers_of : (n : ℕ) (bytes : List ℕ) → page_numbers (images_of n bytes) ≡ range_with_len 1 n
 numbers_of n bytes =
     map-map (λ (p : PageImage). p.page) (image_at bytes) (range_with_len 1 n) ∙ map-same (range_with_len 1 n)
 

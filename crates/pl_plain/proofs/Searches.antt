@@ -5,8 +5,8 @@ use Rattle.pl_base.specs.Rows.{KeptPage}
 use Rattle.pl_base.specs.Store.{Visit}
 use Rattle.pl_base.proofs.ListLaws.{map-map}
 use Rattle.pl_check.specs.Rows.{stored_visit_ids}
-use Rattle.pl_form.specs.Stored.{visit_of}
-use Rattle.pl_form.specs.declared.stored.StoredVisit.{StoredVisit}
+use Rattle.pl_stored.specs.Stored.{visit_of}
+use Rattle.pl_stored.specs.declared.stored.StoredVisit.{StoredVisit}
 use Rattle.pl_plain.specs.declared.flat.row.FlatPage.{FlatPage}
 use Rattle.pl_plain.specs.FlatRows.{flat_page_ids, page_of}
 

@@ -16,8 +16,8 @@ use Rattle.pl_base.specs.Redirects.{is_redirect, is_source}
 use Rattle.pl_base.specs.Rows.{first_id, id_behind}
 use Rattle.pl_base.specs.Store.{Visit}
 use Rattle.pl_base.proofs.ListLaws.{all-filter}
-use Rattle.pl_form.specs.declared.stored.StoredVisit.{StoredVisit}
-use Rattle.pl_form.specs.Stored.{visit_of}
+use Rattle.pl_stored.specs.declared.stored.StoredVisit.{StoredVisit}
+use Rattle.pl_stored.specs.Stored.{visit_of}
 use Rattle.pl_check.specs.Rows.{stored_visit_ids}
 use Rattle.pl_check.specs.Targets.{is_other_from, is_redirect_from, target_among, targets_of}
 use Rattle.pl_base.proofs.ListLaws.{find-map}

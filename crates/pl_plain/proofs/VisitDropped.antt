@@ -20,8 +20,8 @@ use Rattle.pl_base.specs.Store.{Visit}
 use Rattle.pl_base.proofs.ItemLaws.{map-filter}
 use Rattle.pl_base.proofs.ListLaws.{list_any-map, map-map}
 use Rattle.pl_base.proofs.Searches.{rises}
-use Rattle.pl_form.specs.Stored.{visit_of}
-use Rattle.pl_form.specs.declared.stored.StoredVisit.{StoredVisit}
+use Rattle.pl_stored.specs.Stored.{visit_of}
+use Rattle.pl_stored.specs.declared.stored.StoredVisit.{StoredVisit}
 use Rattle.pl_plain.specs.FlatRows.{IsFlat, left_by}
 use Rattle.pl_plain.proofs.FlatChanges.{slots_of}
 use Rattle.pl_plain.proofs.OriginsLeft.{true_both}

@@ -1,5 +1,5 @@
 -- What holds of a flat store: its rows are well kept, and its bytes stand for a
--- good store with right marks.
+-- good store with right marks and totals.
 use Rattle.std.specs.Prelude.{◌≡◌, ◌+◌, ◌≤◌, ◌<◌, ◌-◌, ◌==◌, ℕ, ℤ, Contains}
 use Rattle.std.specs.Prelude.{List, [], ◌∷◌, length, map, take, true}
 use Rattle.std.specs.List.{All, enumerate_from, list_any}
@@ -16,13 +16,12 @@ use Rattle.pl_base.specs.declared.date.Day.{Day}
 use Rattle.pl_base.specs.declared.id.Ids.{Ids}
 use Rattle.pl_base.specs.Frecency.{frecency_of}
 use Rattle.pl_base.specs.declared.id.VisitId.{VisitId}
-use Rattle.pl_base.specs.Good.{IsGood}
 use Rattle.pl_base.specs.Redirects.{others_from, redirects_from}
-use Rattle.pl_base.specs.Rows.{AreTargets, IsRight, IsWellKept, Kept, KeptOrigin}
+use Rattle.pl_base.specs.Rows.{AreTargets, IsRight, IsSound, IsWellKept, Kept, KeptOrigin}
 use Rattle.pl_base.specs.Rows.{KeptPage, NamesOrigins, page_origins, store_of}
 use Rattle.pl_base.specs.Store.{Item, Page, Store}
 use Rattle.pl_plain.specs.declared.flat.row.FlatPage.{FlatPage}
-use Rattle.pl_form.specs.declared.stored.StoredVisit.{StoredVisit}
+use Rattle.pl_stored.specs.declared.stored.StoredVisit.{StoredVisit}
 use Rattle.pl_plain.specs.FlatRows.{IsFlat, kept_from, origin_with, origins_from}
 use Rattle.pl_check.specs.Targets.{targets_of}
 use Rattle.pl_form.specs.Form.{FormRows, StandsFor, form_bytes, kept_rows, store_rows}
@@ -158,19 +157,18 @@ rows_are_right kept right =
 whole : (bytes : List ℕ) → take (length bytes) bytes ≡ bytes
 whole bytes = take_all (length bytes) bytes (omega arith)
 
--- the bytes of right rows of a good store stand for it
-pub stands : (kept : Kept) (origins live : ℕ) → IsFlat kept origins live → IsGood (store_of kept)
-    → IsRight kept
+-- the bytes of sound rows stand for their store
+pub stands : (kept : Kept) (origins live : ℕ) → IsFlat kept origins live → IsSound kept
     → StandsFor (form_bytes (kept_rows kept)) (store_of kept)
-stands kept origins live h good right =
+stands kept origins live h sound =
     record {
-      good = good;
+      good = sound.good;
       texts =
           All-map (λ (p : Page). IsUtf8 p.url) (λ (p : KeptPage). p.page) kept.pages
           (λ k d within. IsUtf8-from_is_utf8 (get_or kept.pages k d).page.url (h.texts k d within));
       live = omega (arith, h.filled, h.few);
       begins =
           ap (λ (rows : FormRows). take (length (form_bytes (store_rows (store_of kept))))
-          (form_bytes rows)) (rows_are_right kept right)
+          (form_bytes rows)) (rows_are_right kept sound.right)
           ∙ whole (form_bytes (store_rows (store_of kept)));
     }

@@ -18,9 +18,9 @@ use Rattle.pl_base.specs.Rows.{AreAlike, HasSource, Kept, KeptOrigin, KeptPage}
 use Rattle.pl_base.specs.Rows.{has_page, store_of}
 use Rattle.pl_base.specs.Store.{Item, Page, Visit}
 use Rattle.pl_plain.specs.declared.flat.row.FlatPage.{FlatPage}
-use Rattle.pl_form.specs.declared.stored.StoredVisit.{StoredVisit}
+use Rattle.pl_stored.specs.declared.stored.StoredVisit.{StoredVisit}
 use Rattle.pl_form.specs.Form.{form_bytes, kept_rows}
-use Rattle.pl_form.specs.Stored.{visit_of}
+use Rattle.pl_stored.specs.Stored.{visit_of}
 
 -- a page seen as what is kept of it
 abbrev pub page_of : FlatPage → KeptPage

@@ -1,12 +1,11 @@
 -- The pages that bytes from page 1 on fill.
-use Rattle.std.specs.Prelude.{◌+◌, ◌/◌, ℕ, List, drop, length, map, take}
+use Rattle.std.specs.Prelude.{◌+◌, ◌/◌, ℕ, List, length, map}
 use Rattle.std.specs.List.{range_with_len}
-use Rattle.pl_base.specs.Touched.{Change, PageImage, bytes_before, page_size}
+use Rattle.pl_base.specs.Touched.{Change, PageImage, page_of, page_size}
 
 -- a page of the bytes
 abbrev pub image_at : List ℕ → ℕ → PageImage
-image_at bytes page =
-    record { page = page; image = take page_size (drop (bytes_before page) bytes) }
+image_at bytes page = record { page = page; image = page_of page bytes }
 
 -- the first pages of the bytes, from page 1 on
 abbrev pub images_of : ℕ → List ℕ → List PageImage

@@ -1,4 +1,3 @@
-pub mod CheckOrigins
 pub mod CheckPages
 pub mod Flat
 pub mod FlatBase

@@ -1,22 +1,18 @@
 // What a file's bytes stand for.
-mod live;
-mod origins;
 mod pages;
-mod totals;
 
 ghost use Rattle.std.specs.Prelude.{◌≡◌, ◌↔◌, ℕ, List, length, take, IfOk, IsErrOf};
-ghost use Rattle.pl_base.specs.Rows.{HaveTotals, IsRight, store_of};
+ghost use Rattle.pl_base.specs.Rows.{IsSound, store_of};
 ghost use Rattle.pl_base.specs.Store.{Store};
 ghost use Rattle.pl_base.specs.Touched.{behind_gate};
 ghost use Rattle.pl_plain.specs.Flat.{IsBase, bytes_of, kept_of};
 ghost use Rattle.pl_form.specs.Form.{StandsFor};
 
-use crate::check::live::live;
-use crate::check::pages::{into_flat, name_origins};
+use crate::check::pages::into_flat;
 use crate::flat::Flat;
-use pl_base::SLOT_LIMIT;
-use pl_check::{References, are_good};
-use pl_form::{CheckError, FileRows, read_rows};
+use pl_base::CheckError;
+use pl_check::{References, are_good, assess};
+use pl_form::{FileRows, read_rows};
 use std::alloc::Global;
 
 impl Flat {
@@ -25,8 +21,7 @@ impl Flat {
     pub fn check(alloc: Global, bytes: &[u8]) -> Result<Flat, CheckError>
         ensures stands { IfOk result (λ flat.
             StandsFor (behind_gate bytes.now) (store_of (kept_of flat))) }
-        ensures right { IfOk result (λ flat. IsRight (kept_of flat)) }
-        ensures totals { IfOk result (λ flat. HaveTotals (kept_of flat)) }
+        ensures sound { IfOk result (λ flat. IsSound (kept_of flat)) }
         // What is read is what a file of these rows holds.
         ensures begins { IfOk result (λ flat.
             take (length (bytes_of flat)) (behind_gate bytes.now) ≡ bytes_of flat) }
@@ -43,11 +38,7 @@ impl Flat {
         if !are_good(alloc, &rows, &references)? {
             return Err(CheckError::NotAStore);
         }
-        let named = name_origins(alloc, &rows, &references)?;
-        let live = live(&rows, named.origins);
-        if live > u64::from(SLOT_LIMIT) {
-            return Err(CheckError::NotAStore);
-        }
-        into_flat(alloc, rows, named, live, pages)
+        let found = assess(alloc, &rows, &references)?;
+        into_flat(alloc, rows, found, pages)
     }
 }

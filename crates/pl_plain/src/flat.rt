@@ -19,8 +19,8 @@ ghost use Rattle.pl_plain.specs.FlatRows.{IsFlat, kept_from, bytes_from};
 
 use crate::flat::row::FlatPage;
 use pl_base::{Day, Ids, NoMemory};
-use pl_form::StoredVisit;
 use pl_items::Items;
+use pl_stored::StoredVisit;
 use std::alloc::Global;
 
 /// A store over vectors of its rows.
@@ -56,15 +56,13 @@ pub struct Flat {
 
 impl Flat {
     ghost use Rattle.std.specs.Prelude.{◌↔◌, ℕ, List, [], IfOk};
-    ghost use Rattle.pl_base.specs.Good.{IsGood};
-    ghost use Rattle.pl_base.specs.Rows.{HaveTotals, opening_with, store_of};
+    ghost use Rattle.pl_base.specs.Rows.{IsSound, opening_with};
     ghost use Rattle.pl_plain.specs.Flat.{IsBase, bytes_of, kept_of};
 
     /// The store before its first command, made over nothing.
     pub fn opening(alloc: Global) -> Result<Flat, NoMemory>
         ensures kept { IfOk result (λ flat. kept_of flat ≡ opening_with Ids.OPENING) }
-        ensures good { IfOk result (λ flat. IsGood (store_of (kept_of flat))) }
-        ensures totals { IfOk result (λ flat. HaveTotals (kept_of flat)) }
+        ensures sound { IfOk result (λ flat. IsSound (kept_of flat)) }
         ensures base { IfOk result (λ flat. (bytes : List ℕ) → IsBase flat bytes ↔ (bytes ≡ [])) }
     {
         Flat::with_ids(alloc, Ids::OPENING)
@@ -76,8 +74,7 @@ impl Flat {
         requires visit { 1 ≤ ids.visit }
         requires item { 7 ≤ ids.item }
         ensures kept { IfOk result (λ flat. kept_of flat ≡ opening_with ids) }
-        ensures good { IfOk result (λ flat. IsGood (store_of (kept_of flat))) }
-        ensures totals { IfOk result (λ flat. HaveTotals (kept_of flat)) }
+        ensures sound { IfOk result (λ flat. IsSound (kept_of flat)) }
         ensures base { IfOk result (λ flat. (bytes : List ℕ) → IsBase flat bytes ↔ (bytes ≡ [])) }
     {
         Ok(Flat {

@@ -5,4 +5,3 @@ mod check;
 mod flat;
 
 pub use flat::Flat;
-pub use pl_form::CheckError;

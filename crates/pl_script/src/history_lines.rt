@@ -53,7 +53,7 @@ pub fn trim_line(mut fields: Fields<'_>) -> Result<Command, LineError>
     ensures command { ReadsInPlace (λ command. command) result (spec.trim_line fields.entry) }
     ensures dates { IfOk result HasDates }
 {
-    let most = fields.number()?;
+    let n = fields.number()?;
     fields.end()?;
-    Ok(Command::Trim { most })
+    Ok(Command::Trim { n })
 }

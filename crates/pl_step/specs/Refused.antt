@@ -1,11 +1,9 @@
--- Whether a command was refused, and whether it may have changed something.
-use Rattle.std.specs.Prelude.{◌&&◌, not, Bool, true, false}
-use Rattle.pl_step.specs.declared.command.Command.{Command}
+-- Whether a command was refused.
+use Rattle.std.specs.Prelude.{Bool, true, false}
 use Rattle.pl_step.specs.declared.reply.Reply.{Reply}
 use Rattle.pl_step.specs.declared.reply.Reply.TheVariants.{Day, Visit, Done, Page, Origin, Stats}
 use Rattle.pl_step.specs.declared.reply.Reply.TheVariants.{Removed, Item, List, Rows, Place, Bar}
 use Rattle.pl_step.specs.declared.reply.Reply.TheVariants.{Fill, NoFill, Imported, Refused}
-use Rattle.pl_step.specs.Commands.{is_change}
 
 -- the reply is a refusal
 abbrev pub is_refused : Reply → Bool
@@ -25,7 +23,3 @@ is_refused (Fill group total) = false
 is_refused NoFill = false
 is_refused (Imported items tags skipped) = false
 is_refused (Refused refusal) = true
-
--- the command is of a kind that may change the store, and was not refused
-abbrev pub has_changed : Command → Reply → Bool
-has_changed command reply = is_change command && not (is_refused reply)

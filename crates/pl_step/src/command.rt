@@ -50,9 +50,9 @@ pub enum Command {
     Expire {
         day: Day,
     },
-    /// The pages that no item has go, the stalest first, until there are so many pages.
+    /// The pages that no item has go, the stalest first, until there are n pages.
     Trim {
-        most: u32,
+        n: u32,
     },
     /// A new folder of the bookmark tree.
     Folder {

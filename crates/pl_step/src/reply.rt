@@ -7,7 +7,7 @@ use pl_query::ResultRow;
 /// The answer to a command.
 #[derive(Debug, PartialEq, Eq, Drop)]
 pub enum Reply {
-    /// The store's day, and how many pages have another frecency than on the day before it.
+    /// The store's day, and how many pages have another frecency than before.
     Day {
         day: Day,
         changed: u32,
@@ -48,7 +48,7 @@ pub enum Reply {
         total: u64,
         /// How many pages it has.
         pages: u32,
-        /// Whether the address bar fills in its host.
+        /// Whether the group of its host passes: no other is filled in by the address bar.
         passes: bool,
     },
     /// How much the store holds.

@@ -1,8 +1,10 @@
 -- What a settled file stands for.
 use Rattle.std.proofs.Common.{◌≡◌, ◌↔◌, ◌≤◌, ◌+◌, arith, ℕ, true, false, List, Option, Some, None, IfSome, IsSome}
-use Rattle.std.proofs.Common.{Result, Ok, Err, length, take, drop, refl, sym, ◌∙◌, subst}
+use Rattle.std.proofs.Common.{Result, Ok, Err, length, take, drop, ap, refl, sym, ◌∙◌, subst}
+use Rattle.std.specs.Prelude.{⊤, IsErrAnd}
 use Rattle.std.proofs.lemmas.Bool.{both_ways}
 use Rattle.std.proofs.lemmas.Option.{MatchOption-at_some, same_Some}
+use Rattle.std.proofs.lemmas.Result.{err_from_is_err_and}
 use Rattle.pl_base.specs.Store.{Store}
 use Rattle.pl_base.specs.Touched.{page_size}
 use Rattle.pl_desk.specs.AnyMoment.{rests_less, still_rests}
@@ -10,6 +12,8 @@ use Rattle.pl_desk.specs.Calls.{KeepsLine, OnlyReads}
 use Rattle.pl_desk.specs.Shown.{Rests}
 use Rattle.pl_desk.specs.declared.desk.Desk.{Ghosts}
 use Rattle.pl_form.specs.Form.{StandsFor}
+use Rattle.pl_gate.specs.declared.error.GateError.{GateError}
+use Rattle.pl_gate.specs.declared.error.GateError.TheVariants as gate
 use Rattle.pl_gate.specs.Gate.{has_gate, is_set, laid}
 use Rattle.pl_gate.specs.Recovery.{IsSettledAs, StandsAs, recovery_bytes}
 use Rattle.pl_gate.specs.States.{IsClosed}
@@ -17,6 +21,7 @@ use Rattle.pl_store.specs.declared.ended.Ended.{Ended}
 use Rattle.pl_store.specs.declared.ended.Ended.TheVariants as ended
 use Rattle.pl_store.specs.declared.session.Session.{Session}
 use Rattle.pl_store.specs.Ending.{Opens, OpensStore, RefusesFile}
+use Rattle.pl_store.specs.Errors.{ended_by_gate}
 use Rattle.pl_store.specs.Reading.{HoldNone, IsReadFrom, EndsReading}
 use Rattle.pl_store.specs.Session.{Stands, StandsAlike, session_bytes, session_store}
 
@@ -74,6 +79,14 @@ pub writes_none : (file : List ℕ) (old new : ℕ) → is_set file ≡ false �
 writes_none file old new unset no_less no_more = let most = rw unset at no_more in omega (arith, no_less, most)
 
 -- ---- how an opening ends, from the settling of the file and the reading behind it
+
+-- a fault of the device within the settling ends it as such a fault
+pub fault_ends : (error : GateError) (result : Result Session Ended)
+    → IsErrAnd result (λ e. e ≡ ended_by_gate error)
+    → ◌≡◌ {A = Result ⊤ GateError} (Err error) (Err gate.DeviceFault) → result ≡ Err ended.DeviceFault
+fault_ends error result is fault =
+    let same : error ≡ gate.DeviceFault = cc in let p = err_from_is_err_and result is in
+    p.1 ∙ ap Err (p.2 ∙ ap ended_by_gate same)
 
 some_is : {X : Type 0} (o : Option X) → IsSome o → (x : X) × (o ≡ Some x)
 some_is None some = absurd (both_ways false refl some)

@@ -1,6 +1,6 @@
 -- How the errors of the gate and of the check end an opening.
-use Rattle.pl_form.specs.declared.check_error.CheckError.{CheckError}
-use Rattle.pl_form.specs.declared.check_error.CheckError.TheVariants.{NoMemory, NotAStore}
+use Rattle.pl_base.specs.declared.check_error.CheckError.{CheckError}
+use Rattle.pl_base.specs.declared.check_error.CheckError.TheVariants.{NoMemory, NotAStore}
 use Rattle.pl_gate.specs.declared.error.GateError.{GateError}
 use Rattle.pl_gate.specs.declared.error.GateError.TheVariants.{BadGate, DeviceFault}
 use Rattle.pl_store.specs.declared.ended.Ended.{Ended}

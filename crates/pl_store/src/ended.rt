@@ -2,10 +2,9 @@ ghost use Rattle.std.specs.Prelude.{◌≡◌};
 ghost use Rattle.pl_store.specs.declared.ended.Ended.TheVariants as variants;
 ghost use Rattle.pl_store.specs.Errors.{ended_by_check, ended_by_gate};
 
-use pl_base::{DeviceFault, NoMemory};
+use pl_base::{CheckError, DeviceFault, NoMemory};
 use pl_desk::Failed;
 use pl_gate::GateError;
-use pl_plain::CheckError;
 use std::alloc::AllocError;
 use thiserror::Error;
 

@@ -41,10 +41,11 @@ pub fn reopen<D: Desk>(alloc: Global, desk: &mut D, limit: u32) -> Result<Sessio
     requires { limit ≤ slot_limit }
     ensures ends { Opens D.Desk limit result desk.old desk.new }
     ensures finished { KeepsFinished D.Desk desk.old desk.new }
-    // Until the file is settled a stop shows one that it might have left at first; from then on
-    // each file that it shows stands for what the one stood for that a read gave.
+    // Until the first sync ends, before which no byte is written, a stop shows a file that it might
+    // have left at first; from then on each one that it shows stands for what the one stood for
+    // that a read gave. Where the device had no fault, that sync has ended.
     ensures any_moment { (file : List ℕ) → D.held desk.old ≡ Some file
-        → Settles D.Desk desk.old desk.new (StandsAlike file) }
+        → Settles D.Desk (result ≡ Err Ended.DeviceFault) desk.old desk.new (StandsAlike file) }
     ensures no_less { D.written desk.old ≤ D.written desk.new }
     ensures line { KeepsLine D.Desk desk.old desk.new }
     ensures counted { CountsAt (result ≡ Err Ended.DeviceFault)

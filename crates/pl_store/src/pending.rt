@@ -14,7 +14,7 @@ pub struct Pending {
 }
 
 impl Pending {
-    ghost use Rattle.std.specs.Prelude.{◌≡◌, ℕ, List};
+    ghost use Rattle.std.specs.Prelude.{◌≡◌, ℕ, List, None};
     ghost use Rattle.pl_base.specs.Touched.{bytes_before, changed};
     ghost use Rattle.pl_store.specs.Session.{LeadsTo};
 
@@ -24,6 +24,7 @@ impl Pending {
         requires some { 1 ≤ touched.before }
         ensures leads { (before : List ℕ) → length before ≡ bytes_before touched.before
             → LeadsTo before result (changed touched before) }
+        ensures none { length touched.pages ≡ 0 → result ≡ None }
     {
         if touched.count() == 0 {
             return None;

@@ -14,12 +14,12 @@ ghost use Rattle.pl_store.specs.Session.{session_limit};
 
 use crate::ended::Ended;
 use crate::session::Session;
-use pl_base::PAGE_SIZE;
+use pl_base::{CheckError, PAGE_SIZE};
 use pl_desk::{Desk, Failed};
 use pl_engine::Engine;
 use pl_form::named_pages;
 use pl_gate::{Gate, GateError};
-use pl_plain::{CheckError, Flat};
+use pl_plain::Flat;
 use std::alloc::Global;
 
 /// Settles the gate of a file that a stop may have left.
@@ -33,7 +33,7 @@ pub(crate) fn settle<D: Desk>(desk: &mut D) -> Result<(), GateError>
     ensures unset { (file : List ℕ) → D.held desk.old ≡ Some file → is_set file ≡ false
         → D.held desk.new ≡ D.held desk.old }
     ensures any_moment { (file : List ℕ) → D.held desk.old ≡ Some file
-        → Settles D.Desk desk.old desk.new (StandsAs file) }
+        → Settles D.Desk (result ≡ Err GateError.DeviceFault) desk.old desk.new (StandsAs file) }
     ensures no_more { (file : List ℕ) → D.held desk.old ≡ Some file
         → D.written desk.new ≤ D.written desk.old + recovery_bytes file }
     ensures no_less { D.written desk.old ≤ D.written desk.new }

@@ -1,6 +1,6 @@
 ghost use Rattle.std.specs.Prelude.{◌↔◌, IsTrue};
 ghost use Rattle.std.proofs.Props.{props};
-ghost use Rattle.pl_plain.specs.Flat.{IsBase, bytes_of};
+ghost use Rattle.pl_store.specs.OwnBase.{HasOwnBase};
 ghost use Rattle.pl_store.specs.Unchanged.{ChangesNothing};
 
 use crate::pending::Pending;
@@ -15,8 +15,8 @@ use pl_step::{Command, Reply};
 #[derive(Drop)]
 pub struct Session {
     pub(crate) engine: Engine<Flat>,
-    // The next change is told against the bytes that the rows stand for now.
-    ghost base: { IsBase engine.rows (bytes_of engine.rows) } by { Prim.hlevel props },
+    // The next change is told against the bytes that the rows stand for now, and no others.
+    ghost base: { HasOwnBase engine.rows } by { Prim.hlevel props },
 }
 
 /// A command that was performed in memory, and is not in the file yet.
@@ -25,11 +25,12 @@ pub struct Prepared {
     pub(crate) engine: Engine<Flat>,
     // None where there is nothing to be written.
     pub(crate) change: Option<Pending>,
-    ghost base: { IsBase engine.rows (bytes_of engine.rows) } by { Prim.hlevel props },
+    ghost base: { HasOwnBase engine.rows } by { Prim.hlevel props },
 }
 
 impl Session {
     ghost use Rattle.std.specs.Prelude.{◌≡◌, ℕ, false, IfOk};
+    ghost use Rattle.pl_engine.specs.Idle.{IsIdle};
     ghost use Rattle.pl_engine.specs.Returns.{Returns};
     ghost use Rattle.pl_nbwrite.specs.Plain.{IsPlain};
     ghost use Rattle.pl_outline.specs.Outline.{bookmarks};
@@ -48,8 +49,8 @@ impl Session {
     }
 
     /// Performs a command in memory: no call of the file is made. A refusal is a reply, and leaves
-    /// nothing to commit, as does a command of a kind that changes nothing. After `NoMemory` the
-    /// session is gone, and the file is as it was.
+    /// nothing to commit, as do a command of a kind that changes nothing and a title that stands
+    /// already. After `NoMemory` the session is gone, and the file is as it was.
     pub fn prepare(self, command: &Command) -> Result<(Prepared, Reply), NoMemory>
         requires dates { HasDates command.now }
         ensures step { IfOk result (λ done. (done.1, next_store done.0)
@@ -60,6 +61,9 @@ impl Session {
             (λ done. (refusal : Refusal) → done.1 ≡ Reply.Refused refusal → writes_nothing done.0) }
         ensures unchanged { IfOk result
             (λ done. is_change command.now ≡ false → writes_nothing done.0) }
+        // A title that stands already leaves no page that may differ from the file's.
+        ensures idle { IfOk result
+            (λ done. IsIdle command.now (session_store self) → writes_nothing done.0) }
     {
         let (mut engine, reply) = uncounted::apply(self.engine, command)?;
         if changes_nothing(command, &reply) {

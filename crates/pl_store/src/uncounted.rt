@@ -1,7 +1,10 @@
 // The engine's calls where nothing is counted.
 ghost use Rattle.std.specs.Prelude.{◌≡◌, ◌≤◌, ◌<◌, ℕ, List, false, length, IfOk, OnOk};
+ghost use Rattle.std.specs.List.{All};
 ghost use Rattle.pl_base.specs.Rows.{store_of};
-ghost use Rattle.pl_base.specs.Touched.{IsWithin, changed, bytes_before};
+ghost use Rattle.pl_base.specs.Touched.{IsWithin, MayDiffer, bytes_before, changed};
+ghost use Rattle.pl_base.specs.Touched.{page_numbers};
+ghost use Rattle.pl_engine.specs.Idle.{IsIdle};
 ghost use Rattle.pl_engine.specs.Returns.{Returns};
 ghost use Rattle.pl_form.specs.Form.{StandsFor};
 ghost use Rattle.pl_nbwrite.specs.Plain.{IsPlain};
@@ -9,6 +12,7 @@ ghost use Rattle.pl_outline.specs.Outline.{bookmarks};
 ghost use Rattle.pl_plain.specs.Flat.{IsBase, bytes_of, kept_of};
 ghost use Rattle.pl_step.specs.Commands.{HasDates, is_change};
 ghost use Rattle.pl_step.specs.Step.{perform};
+ghost use Rattle.pl_store.specs.OwnBase.{HasOwnBase};
 
 use pl_base::{NoMemory, Refusal, Steps, Touched};
 use pl_engine::Engine;
@@ -31,6 +35,8 @@ pub(crate) fn apply(
         (λ done. (refusal : Refusal) → done.1 ≡ Reply.Refused refusal → done.0.rows ≡ engine.rows) }
     ensures unchanged { IfOk result
         (λ done. is_change command.now ≡ false → done.0.rows ≡ engine.rows) }
+    ensures idle { IfOk result
+        (λ done. IsIdle command.now (store_of (kept_of engine.rows)) → done.0.rows ≡ engine.rows) }
     ensures base { IfOk result
         (λ done. (bytes : List ℕ) → IsBase engine.rows bytes → IsBase done.0.rows bytes) }
     ensures stands { IfOk result
@@ -56,6 +62,8 @@ fn apply_with<L: Ledger>(
         (λ done. (refusal : Refusal) → done.1 ≡ Reply.Refused refusal → done.0.rows ≡ engine.rows) }
     ensures unchanged { IfOk result
         (λ done. is_change command.now ≡ false → done.0.rows ≡ engine.rows) }
+    ensures idle { IfOk result
+        (λ done. IsIdle command.now (store_of (kept_of engine.rows)) → done.0.rows ≡ engine.rows) }
     ensures base { IfOk result
         (λ done. (bytes : List ℕ) → IsBase engine.rows bytes → IsBase done.0.rows bytes) }
     ensures stands { IfOk result
@@ -78,7 +86,10 @@ pub(crate) fn touched(engine: &mut Engine<Flat>) -> Result<Touched, NoMemory>
     ensures after { IfOk result
         (λ change. length (bytes_of engine.new.rows) ≡ bytes_before change.after) }
     ensures within { IfOk result IsWithin }
-    ensures base { OnOk result (IsBase engine.new.rows (bytes_of engine.new.rows)) }
+    ensures needed { IfOk result
+        (λ change. All (MayDiffer (IsBase engine.old.rows) (bytes_of engine.new.rows))
+        (page_numbers change.pages)) }
+    ensures base { OnOk result (HasOwnBase engine.new.rows) }
     ensures kept { kept_of engine.new.rows ≡ kept_of engine.old.rows }
     ensures bytes { bytes_of engine.new.rows ≡ bytes_of engine.old.rows }
     ensures limit { engine.new.limit ≡ engine.old.limit }
@@ -100,7 +111,10 @@ fn touched_with<L: Ledger>(blank: Blank, engine: &mut Engine<Flat>) -> Result<To
     ensures after { IfOk result
         (λ change. length (bytes_of engine.new.rows) ≡ bytes_before change.after) }
     ensures within { IfOk result IsWithin }
-    ensures base { OnOk result (IsBase engine.new.rows (bytes_of engine.new.rows)) }
+    ensures needed { IfOk result
+        (λ change. All (MayDiffer (IsBase engine.old.rows) (bytes_of engine.new.rows))
+        (page_numbers change.pages)) }
+    ensures base { OnOk result (HasOwnBase engine.new.rows) }
     ensures kept { kept_of engine.new.rows ≡ kept_of engine.old.rows }
     ensures bytes { bytes_of engine.new.rows ≡ bytes_of engine.old.rows }
     ensures limit { engine.new.limit ≡ engine.old.limit }

@@ -1,9 +1,8 @@
 // The address bar.
 ghost use Rattle.std.specs.Prelude.{◌≡◌, Some, true, IfOk};
 ghost use Rattle.pl_bar.specs.Filled.{filled};
-ghost use Rattle.pl_base.specs.Rows.{KeptPage, has_page, page_at, store_of};
+ghost use Rattle.pl_base.specs.Rows.{IsSound, KeptPage, has_page, page_at, store_of};
 ghost use Rattle.pl_base.specs.Totals.{scored_pages};
-ghost use Rattle.pl_history.specs.Sound.{IsSound};
 ghost use Rattle.pl_step.specs.Step as spec;
 
 use pl_base::{NoMemory, PageId, Rows, Seq, Steps, Txt};

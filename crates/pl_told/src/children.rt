@@ -2,10 +2,9 @@
 ghost use Rattle.std.specs.Prelude.{◌≡◌, ℕ, Some, true, IfOk, IfSome};
 ghost use Rattle.std.specs.Option.{option_and_then, option_map};
 ghost use Rattle.pl_base.specs.Good.{IsGood};
-ghost use Rattle.pl_base.specs.Rows.{has_page, store_of};
+ghost use Rattle.pl_base.specs.Rows.{IsSound, has_page, store_of};
 ghost use Rattle.pl_base.specs.Store.{page_url};
 ghost use Rattle.pl_base.specs.Tree.{has_item, item_at};
-ghost use Rattle.pl_history.specs.Sound.{IsSound};
 ghost use Rattle.pl_step.specs.Step as spec;
 
 use pl_base::{ItemId, NoMemory, PageId, Rows, Seq, Steps, Txt};

@@ -1,20 +1,17 @@
 // What is known of the origin of an address, and of the whole store.
 ghost use Rattle.std.specs.Prelude.{◌≡◌, ◌&&◌, ℕ, List, bytes_eq, IfOk};
 ghost use Rattle.pl_base.specs.Address.{record_of};
-ghost use Rattle.pl_base.specs.Rows.{store_of};
+ghost use Rattle.pl_base.specs.Rows.{IsSound, store_of};
 ghost use Rattle.pl_base.specs.Totals.{Scored, scored_pages};
 ghost use Rattle.pl_base.specs.View.{scored_views};
-ghost use Rattle.pl_history.specs.Sound.{IsSound};
 ghost use Rattle.pl_totals.specs.Standing.{StandsFor};
 ghost use Rattle.pl_step.specs.Step as spec;
 
 use pl_base::{NoMemory, Refusal, Rows, Steps, View};
-use pl_history::visit_count;
 use pl_link::{Canon, Parts, split};
 use pl_marks::views;
 use pl_step::Reply;
 use pl_totals::{Totals, without_www};
-use pl_tree::item_count;
 use std::alloc::Global;
 use std::sync::ledger::Ledger;
 
@@ -84,8 +81,8 @@ pub fn stats<R: Rows, L: Ledger>(
     let (origins, sum) = totals.sums();
     Ok(Reply::Stats {
         pages: views.len() as u32,
-        visits: visit_count(rows, steps),
-        items: item_count(alloc, rows, steps)?,
+        visits: rows.visits(steps),
+        items: rows.items(steps),
         origins,
         sum,
         slots: rows.live(steps),

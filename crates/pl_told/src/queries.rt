@@ -1,7 +1,6 @@
 // The answer to a query, and its canonical text.
 ghost use Rattle.std.specs.Prelude.{◌≡◌, IfOk};
-ghost use Rattle.pl_base.specs.Rows.{store_of};
-ghost use Rattle.pl_history.specs.Sound.{IsSound};
+ghost use Rattle.pl_base.specs.Rows.{IsSound, store_of};
 ghost use Rattle.pl_place.specs.Canonical.{canonical};
 ghost use Rattle.pl_step.specs.Step as spec;
 

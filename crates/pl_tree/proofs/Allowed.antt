@@ -13,17 +13,16 @@ use Rattle.pl_base.specs.Good.{IsTree, end_of_ids}
 use Rattle.pl_base.specs.Live.{chunks, live_slots, slot_limit}
 use Rattle.pl_base.specs.Rows.{Kept, live_with_item, store_of}
 use Rattle.pl_base.specs.Store.{Item, item_id}
-use Rattle.pl_base.specs.Tree.{adopting, children_of, has_item, leaving, moved, parent_of, put_behind}
-use Rattle.pl_base.specs.Tree.{without_id}
+use Rattle.pl_base.specs.Tree.{IsFolder, adopting, children_of, has_item, leaving, lies_in, moved, parent_of}
+use Rattle.pl_base.specs.Tree.{put_behind, without_id}
 use Rattle.pl_base.proofs.ItemLaws.{count_inserted, slots_inserted}
-use Rattle.pl_base.proofs.LookUps.{found_some}
 use Rattle.pl_tree.specs.declared.place.Place.{Place}
 use Rattle.pl_tree.specs.declared.tree_change.TreeChange.TheVariants.{Insert, Move}
 use Rattle.pl_tree.specs.Places.{before}
 use Rattle.pl_tree.specs.Refused.{insert_refusal, inside_refusal, item_refusal, parent_refusal, place_refusal, refusal}
-use Rattle.pl_tree.proofs.Causes.{may_change, or_none, takes}
+use Rattle.pl_tree.proofs.Causes.{may_change, not_inside, or_none, takes}
 use Rattle.pl_tree.proofs.ChildLists.{from_without}
-use Rattle.pl_tree.proofs.LookedUp.{parent_of_child}
+use Rattle.pl_tree.proofs.LookedUp.{folder_at, parent_of_child}
 use Rattle.pl_tree.proofs.MappedItems.{has_map}
 use Rattle.pl_tree.proofs.PutPlaces.{before_in}
 use Rattle.pl_tree.proofs.RefusalSteps.{next_cause}
@@ -46,16 +45,15 @@ insert_allowed kept parent place none some =
     (sym (ap (λ (b : Bool). let o : Option Refusal = if b then Some (NoIds ItemIds) else None in o)
     (ne_eqb kept.ids.item end_of_ids some))))
 
-taking_there : (items : List Item) (parent : ItemId) → parent_refusal items parent ≡ None
-    → has_item items parent ≡ true
-taking_there items parent none =
+taking_folder : (items : List Item) (parent : ItemId) → parent_refusal items parent ≡ None → IsFolder items parent
+taking_folder items parent none =
     let t = takes items parent none in
-    found_some (λ (i : Item). i.id.0 == parent.0) items t.folder t.there
+    folder_at items parent t.folder t.there t.kind
 
 pub parent_there : (items : List Item) (parent : ItemId) (place : Place)
-    → None ≡ refusal items (Insert parent place) → has_item items parent ≡ true
+    → None ≡ refusal items (Insert parent place) → IsFolder items parent
 parent_there items parent place none =
-    taking_there items parent
+    taking_folder items parent
     (or_none (parent_refusal items parent) (place_refusal place (length (children_of items parent))) (sym none)).0
 
 pub after_there : (items : List Item) (parent : ItemId) (place : Place) (after : Option ItemId) → IsTree items
@@ -77,14 +75,17 @@ live_inserted kept row title after live =
 -- ---- a move
 
 pub move_parent_there : (items : List Item) (item parent : ItemId) (place : Place)
-    → None ≡ refusal items (Move item parent place) → has_item items parent ≡ true
+    → None ≡ refusal items (Move item parent place)
+    → IsFolder items parent × (lies_in items item parent ≡ false)
 move_parent_there items item parent place none =
     let at_place = place_refusal place (length (without_id item (children_of items parent))) in
     let all = or_none (item_refusal items item)
     (option_or (parent_refusal items parent) (option_or (inside_refusal items item parent) at_place)) (sym none)
     in
-    taking_there items parent
-    (or_none (parent_refusal items parent) (option_or (inside_refusal items item parent) at_place) all.1).0
+    let parts = or_none (parent_refusal items parent) (option_or (inside_refusal items item parent) at_place) all.1 in (
+      taking_folder items parent parts.0,
+      not_inside items item parent (or_none (inside_refusal items item parent) at_place parts.1).0,
+    )
 
 pub move_item_there : (items : List Item) (item parent : ItemId) (place : Place)
     → None ≡ refusal items (Move item parent place) → has_item items item ≡ true

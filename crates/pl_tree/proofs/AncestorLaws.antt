@@ -13,11 +13,10 @@ use Rattle.std.proofs.lemmas.List.Sums.{count_by-le-length, sum_by-cons}
 use Rattle.pl_base.specs.declared.id.ItemId.{ItemId}
 use Rattle.pl_base.specs.Good.{IsTree, child_ids}
 use Rattle.pl_base.specs.Store.{Item}
-use Rattle.pl_base.specs.Tree.{has_child, has_item, parent_of}
+use Rattle.pl_base.specs.Tree.{ancestors, has_child, has_item, lies_in, parent_of}
 use Rattle.pl_base.proofs.ListLaws.{weaker}
 use Rattle.pl_base.proofs.LookUps.{both, found_some}
 use Rattle.pl_base.proofs.OneParent.{IsParent, any_child, is_among, parents, root_alone, same_item}
-use Rattle.pl_tree.specs.Ancestors.{ancestors, lies_in}
 
 -- ---- counts of two tests, the first of which passes no more than the second
 

@@ -11,10 +11,9 @@ use Rattle.pl_base.specs.declared.refusal.Refusal.{Refusal}
 use Rattle.pl_base.specs.declared.refusal.Refusal.TheVariants.{Fixed, Inside, NoItem, NotAFolder}
 use Rattle.pl_base.specs.Store.{Item}
 use Rattle.pl_base.specs.Tags.{tags_root}
-use Rattle.pl_base.specs.Tree.{has_item, item_at}
+use Rattle.pl_base.specs.Tree.{has_item, item_at, lies_in}
 use Rattle.pl_tree.specs.Refused.{folder_refusal, inside_refusal, is_closed, is_entry, is_fixed, is_folder_kind}
 use Rattle.pl_tree.specs.Refused.{is_root, is_tag, item_refusal, parent_refusal}
-use Rattle.pl_tree.specs.Ancestors.{lies_in}
 
 pub or_none : {A : Type 0} (a b : Option A) → option_or a b ≡ None → (a ≡ None) × (b ≡ None)
 or_none None b none = (refl, none)

@@ -4,7 +4,7 @@ use Rattle.std.proofs.Common.{Option, Some, None, ap, append_assoc, arith, eq-eq
 use Rattle.std.proofs.Common.{if◌then◌else◌, inl, inr, length, map, min}
 use Rattle.std.proofs.Common.{not, refl, subst, suc, sym, take, zero}
 use Rattle.std.specs.List.{AllByRecursion, list_any, slice_get}
-use Rattle.std.specs.Option.{option_and_then, option_eq, option_map, option_or}
+use Rattle.std.specs.Option.{is_some, option_and_then, option_eq, option_map, option_or}
 use Rattle.std.proofs.lemmas.Bool.{eqb-true, false≢true, ne_eqb, or_cases, or_left, or_right}
 use Rattle.std.proofs.lemmas.List.{append-nil, length-append, length-map, take-append-le}
 use Rattle.std.proofs.lemmas.List.Elements.{filter-append, recursion_from_All}
@@ -14,13 +14,12 @@ use Rattle.pl_base.specs.Good.{IsTree, child_ids, end_of_ids}
 use Rattle.pl_base.specs.Rows.{IsWellKept, Kept}
 use Rattle.pl_base.specs.Store.{Item, item_id}
 use Rattle.pl_base.specs.Tree.{children_of, first_item, has_child, has_item, item_at, item_behind}
-use Rattle.pl_base.specs.Tree.{parent_of, sibling_behind}
+use Rattle.pl_base.specs.Tree.{last_item, parent_of, sibling_behind}
 use Rattle.pl_base.proofs.IdsLaws.{few_ids}
 use Rattle.pl_base.proofs.LookUps.{both, found_holds, found_passes}
 use Rattle.pl_base.proofs.OneParent.{IsParent, Once, is_among, once, once_behind, parents, same_item}
-use Rattle.pl_tree.specs.declared.place.Place.{Place}
-use Rattle.pl_tree.specs.declared.place.Place.TheVariants.{End, Number}
-use Rattle.pl_tree.specs.Places.{before, is_item, last_item, others}
+use Rattle.pl_tree.specs.declared.place.Place.TheVariants.{End}
+use Rattle.pl_tree.specs.Places.{before, is_item, others}
 
 -- ---- ids that stand once
 
@@ -417,21 +416,21 @@ few_children kept parent left_out h tree =
       few_items kept h,
     )
 
+-- ---- the end of a list
+
+-- it lies behind the last id
+pub last_before_end : (ids : List ItemId) → last_item ids ≡ before End ids
+last_before_end ids = ap last_item (sym (take_all (length ids) ids (omega arith)))
+
 pub before_end : (ids : List ItemId) (limit : ℕ) → length ids ≤ limit → last_item (take limit ids) ≡ before End ids
-before_end ids limit le =
-    ap last_item (take_all limit ids le ∙ sym (take_all (length ids) ids (omega arith)))
+before_end ids limit le = ap last_item (take_all limit ids le) ∙ last_before_end ids
 
 pub others_none : (ids : List ItemId) → others None ids ≡ ids
 others_none [] = refl
 others_none (c ∷ ids) = ap (λ (cs : List ItemId). c ∷ cs) (others_none ids)
 
-pub end_or_number : (place : Place) (n : ℕ) → place ≡ End → place ≡ Number n → ⊥
-end_or_number place n end number = absurd (cc)
-
--- the child behind which the end of the list lies
-pub last_told : (kept : Kept) (parent : ItemId) (limit : ℕ) → end_of_ids ≤ limit → IsWellKept kept → IsTree kept.items
-    → last_item (take limit (others None (children_of kept.items parent))) ≡ before End (children_of kept.items parent)
-last_told kept parent limit le h tree =
-    let ids : List ItemId = others None (children_of kept.items parent) in
-    let few : length ids ≤ limit = omega (arith, few_children kept parent None h tree) in
-    before_end ids limit few ∙ ap (before End) (others_none (children_of kept.items parent))
+-- where none is left out
+pub last_of_all : (left_out last : Option ItemId) (ids : List ItemId) → is_some left_out ≡ false → last ≡ last_item ids
+    → last ≡ before End (others left_out ids)
+last_of_all None last ids none is = is ∙ last_before_end ids ∙ ap (before End) (sym (others_none ids))
+last_of_all (Some id) last ids none is = absurd (cc)

@@ -12,7 +12,7 @@ use Rattle.pl_base.specs.Date.{IsDate}
 use Rattle.pl_base.specs.Good.{HasGoodItems, IsTitle, IsTree, has_page_at}
 use Rattle.pl_base.specs.Rows.{IsWellKept, Kept, KeptPage, has_page, store_of, with_items}
 use Rattle.pl_base.specs.Store.{Item, Page, item_id}
-use Rattle.pl_base.specs.Tree.{children_of, retitled, without_id}
+use Rattle.pl_base.specs.Tree.{children_of, lies_in, retitled, without_id}
 use Rattle.pl_base.proofs.ListLaws.{All-from_map, list_any-map}
 use Rattle.pl_base.proofs.Among.{In, at_in}
 use Rattle.pl_tree.specs.declared.new_item.NewItem.{NewItem}
@@ -20,7 +20,6 @@ use Rattle.pl_tree.specs.declared.place.Place.{Place}
 use Rattle.pl_tree.specs.declared.tree_change.TreeChange.TheVariants.{Move, Remove, Retitle}
 use Rattle.pl_tree.specs.Changes.{with_inserted, with_moved, with_removed}
 use Rattle.pl_tree.specs.Refused.{insert_refusal, inside_refusal, item_refusal, parent_refusal, place_refusal, refusal}
-use Rattle.pl_tree.specs.Ancestors.{lies_in}
 use Rattle.pl_tree.proofs.Allowed.{takes_item}
 use Rattle.pl_tree.proofs.AncestorLaws.{lies_in_child, lies_in_parent, lies_in_self}
 use Rattle.pl_tree.proofs.Causes.{may_change, not_inside, or_none, takes}

@@ -8,12 +8,11 @@ use Rattle.pl_base.specs.declared.id.ItemId.{ItemId}
 use Rattle.pl_base.specs.Date.{IsDate}
 use Rattle.pl_base.specs.Good.{HasGoodItems, HasRoots, HasTags, IsGoodItem, IsTree, child_ids}
 use Rattle.pl_base.specs.Store.{Item, Store, item_id}
-use Rattle.pl_base.specs.Tree.{has_item, leaving, without_id}
+use Rattle.pl_base.specs.Tree.{has_item, leaving, lies_in, without_id}
 use Rattle.pl_base.proofs.ItemLaws.{bare}
 use Rattle.pl_base.proofs.ListLaws.{map-map}
 use Rattle.pl_base.proofs.Among.{In, from_map, in_map}
 use Rattle.pl_tree.specs.declared.place.Place.{Place}
-use Rattle.pl_tree.specs.Ancestors.{lies_in}
 use Rattle.pl_tree.specs.Changes.{put, with_moved}
 use Rattle.pl_tree.proofs.KeyCounts.{Ascends, Once, count}
 use Rattle.pl_tree.proofs.Causes.{MayChange, Takes}

@@ -6,7 +6,7 @@ use Rattle.pl_base.specs.declared.id.ItemId.{ItemId}
 use Rattle.pl_base.specs.Good.{HasGoodItems, HasTags}
 use Rattle.pl_base.specs.Store.{Item, Store}
 use Rattle.pl_base.specs.Tags.{tags_root}
-use Rattle.pl_tree.specs.Ancestors.{lies_in}
+use Rattle.pl_base.specs.Tree.{lies_in}
 use Rattle.pl_tree.specs.Changes.{with_removed}
 use Rattle.pl_tree.specs.Refused.{is_entry, is_tag}
 use Rattle.pl_tree.proofs.KeyCounts.{Ascends}

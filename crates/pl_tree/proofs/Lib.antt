@@ -17,7 +17,6 @@ pub mod GoodTagged
 mod InsertedChildren
 mod InsertedRows
 mod Insides
-mod ItemWalk
 mod KeptItems
 mod KeptRoots
 mod KeptTags

@@ -7,9 +7,10 @@ use Rattle.std.specs.Option.{option_map}
 use Rattle.std.proofs.lemmas.Bool.{both_ways, eqb-true, false_from_ne_true, ne_eqb, or_left, or_right}
 use Rattle.std.proofs.lemmas.Option.{same_Some}
 use Rattle.pl_base.specs.declared.id.ItemId.{ItemId}
+use Rattle.pl_base.specs.declared.item.ItemKind.TheVariants.{Folder}
 use Rattle.pl_base.specs.Good.{child_ids}
 use Rattle.pl_base.specs.Store.{Item}
-use Rattle.pl_base.specs.Tree.{children_of, has_child, has_item, item_at, parent_of}
+use Rattle.pl_base.specs.Tree.{IsFolder, children_of, has_child, has_item, item_at, parent_of}
 use Rattle.pl_base.proofs.Among.{In, at_in, from_flat_map, in_flat_map}
 use Rattle.pl_tree.proofs.KeyCounts.{Ascends, Once, count-append, counted}
 
@@ -67,6 +68,10 @@ pub found_at : (items : List Item) (id : ItemId) (i : Item) → item_at items id
 found_at items id i is =
     let r = found_in (λ (j : Item). j.id.0 == id.0) items i is in
     (r.0, same_id i.id id (eqb-true i.id.0 id.0 r.1))
+
+pub folder_at : (items : List Item) (id : ItemId) (i : Item) → item_at items id ≡ Some i → i.kind ≡ Folder
+    → IsFolder items id
+folder_at items id i is kind = rw is kind
 
 pub has_in : (items : List Item) (i : Item) → In i items → has_item items i.id ≡ true
 has_in [] i h = absurd h

@@ -5,8 +5,7 @@ use Rattle.pl_base.specs.declared.id.ItemId.{ItemId}
 use Rattle.pl_base.specs.declared.refusal.Refusal.{Refusal}
 use Rattle.pl_base.specs.declared.refusal.Refusal.TheVariants.{NoItem, Fixed, Inside}
 use Rattle.pl_base.specs.Store.{Item}
-use Rattle.pl_base.specs.Tree.{has_item}
-use Rattle.pl_tree.specs.Ancestors.{lies_in}
+use Rattle.pl_base.specs.Tree.{has_item, lies_in}
 use Rattle.pl_tree.specs.Refused.{inside_refusal, is_fixed, item_refusal}
 
 -- as `item_refusal` has it

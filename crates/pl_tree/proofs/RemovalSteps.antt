@@ -14,13 +14,12 @@ use Rattle.pl_base.specs.declared.id.PageId.{PageId}
 use Rattle.pl_base.specs.Good.{IsTree}
 use Rattle.pl_base.specs.Rows.{Kept, with_items}
 use Rattle.pl_base.specs.Store.{Item}
-use Rattle.pl_base.specs.Tree.{children_of, first_item, has_child, has_item, is_page, item_at, leaving, parent_of}
-use Rattle.pl_base.specs.Tree.{removed}
+use Rattle.pl_base.specs.Tree.{ancestors, children_of, first_item, has_child, has_item, is_page}
+use Rattle.pl_base.specs.Tree.{item_at, leaving, lies_in, parent_of, removed}
 use Rattle.pl_base.proofs.ListLaws.{found_in as found_where, list_any-alike}
 use Rattle.pl_base.proofs.LookUps.{found_some}
 use Rattle.pl_base.proofs.OneParent.{same_item}
 use Rattle.pl_base.proofs.Among.{In, all_from_in, from_filter, in_filter}
-use Rattle.pl_tree.specs.Ancestors.{ancestors, lies_in}
 use Rattle.pl_tree.specs.Changes.{loses_item, with_removed}
 use Rattle.pl_tree.specs.LostPages.{has_lost, has_page_of, page_in}
 use Rattle.pl_tree.proofs.KeyCounts.{Ascends}

@@ -1,20 +1,22 @@
 -- What is told of a tag where its folder was looked up.
-use Rattle.std.proofs.Common.{◌≡◌, ◌∙◌, ◌+◌, ◌-◌, ◌<◌, ◌≤◌, ◌==◌, ℕ, true, List}
+use Rattle.std.proofs.Common.{◌≡◌, ◌∙◌, ◌+◌, ◌-◌, ◌<◌, ◌≤◌, ◌==◌, ℕ, List}
 use Rattle.std.proofs.Common.{Option, Some, None, ap, arith, find, if◌then◌else◌, refl}
 use Rattle.std.specs.Prelude.{bytes_eq, unwrap_or}
 use Rattle.std.specs.Option.{is_none, option_and_then, option_map}
 use Rattle.std.proofs.lemmas.List.{length-map, length_push}
+use Rattle.std.proofs.lemmas.List.Elements.{recursion_from_All}
 use Rattle.std.proofs.lemmas.List.Sums.{sum_by_push}
 use Rattle.pl_base.specs.declared.date.Micros.{Micros}
 use Rattle.pl_base.specs.declared.id.ItemId.{ItemId}
 use Rattle.pl_base.specs.declared.id.PageId.{PageId}
 use Rattle.pl_base.specs.Fold.{folded}
-use Rattle.pl_base.specs.Good.{end_of_ids}
+use Rattle.pl_base.specs.Good.{HasTags, IsTagFolder, end_of_ids}
 use Rattle.pl_base.specs.Live.{chunks, live_slots, slot_limit}
 use Rattle.pl_base.specs.Rows.{Kept, store_of}
 use Rattle.pl_base.specs.Store.{Item, item_id}
 use Rattle.pl_base.specs.Tags.{tags_root}
-use Rattle.pl_base.specs.Tree.{child_items, children_of, has_item, is_page, item_at}
+use Rattle.pl_base.specs.Tree.{IsFolder, child_items, children_of, is_page, item_at}
+use Rattle.pl_base.proofs.Among.{at_in}
 use Rattle.pl_tree.specs.declared.new_item.NewItem.{NewItem}
 use Rattle.pl_tree.specs.declared.place.Place.{Place}
 use Rattle.pl_tree.specs.declared.place.Place.TheVariants.{End}
@@ -22,7 +24,7 @@ use Rattle.pl_tree.specs.Changes.{item_of, put, with_child, with_inserted, with_
 use Rattle.pl_tree.specs.Refused.{tag_refusal}
 use Rattle.pl_tree.specs.Tagged.{entry_in, new_entry, new_tag, tag_entry, tag_named, with_tagged}
 use Rattle.pl_tree.proofs.ChildSlots.{slots_child}
-use Rattle.pl_tree.proofs.LookedUp.{found_at, found_in, from_filter_map, has_in}
+use Rattle.pl_tree.proofs.LookedUp.{folder_at, found_at, found_in, from_filter_map}
 
 -- the id of an item
 abbrev pub its_id : Option Item → Option ItemId
@@ -51,12 +53,15 @@ entry_missing items page name is = choose (tag_named name items) is
     choose None is = refl
     choose (Some t) is = absurd (cc)
 
--- the folder is an item
-pub folder_there : (items : List Item) (name : List ℕ) (folder : ItemId) → Some folder ≡ its_id (tag_named name items)
-    → has_item items folder ≡ true
-folder_there items name folder is = choose (tag_named name items) refl is
+-- the folder is an item, and a folder
+pub folder_there : (kept : Kept) (name : List ℕ) (folder : ItemId) → HasTags (store_of kept)
+    → Some folder ≡ its_id (tag_named name kept.items) → IsFolder kept.items folder
+folder_there kept name folder tags is = choose (tag_named name kept.items) refl is
   where
-    choose : (o : Option Item) → tag_named name items ≡ o → Some folder ≡ its_id o → has_item items folder ≡ true
+    items : List Item
+    items = kept.items
+
+    choose : (o : Option Item) → tag_named name items ≡ o → Some folder ≡ its_id o → IsFolder items folder
     choose None named is = absurd (cc)
     choose (Some t) named is =
         let same : folder ≡ t.id = cc in
@@ -64,7 +69,10 @@ folder_there items name folder is = choose (tag_named name items) refl is
         named in
         let made = from_filter_map (item_at items) (children_of items tags_root) t found.0 in
         let at = found_at items made.0 t made.2 in
-        ap (has_item items) same ∙ has_in items t at.0
+        let good : IsTagFolder (store_of kept) t =
+        at_in (IsTagFolder (store_of kept)) (child_items items tags_root) t
+        (recursion_from_All (IsTagFolder (store_of kept)) (child_items items tags_root) tags.folders) found.0 in
+        folder_at items folder t (ap (item_at items) (same ∙ at.1) ∙ made.2) good.kind
 
 -- ---- the ids that it wants
 

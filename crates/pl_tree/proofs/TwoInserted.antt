@@ -1,40 +1,39 @@
 -- A tag folder that is inserted, and behind it the entry in it.
-use Rattle.std.proofs.Common.{◌≡◌, ◌∙◌, ◌+◌, ◌≤◌, ◌++◌, ◌==◌, ℕ, true, List, [], ◌∷◌, Option, Some, None, ap, arith}
-use Rattle.std.proofs.Common.{eq-eqb, inl, refl, subst, sym}
+use Rattle.std.proofs.Common.{◌≡◌, ◌∙◌, ◌+◌, ◌≤◌, ◌++◌, ℕ, List, [], ◌∷◌, Option, Some, None, ap, arith}
+use Rattle.std.proofs.Common.{inl, refl, subst, sym}
 use Rattle.std.specs.Option.{IsSomeAnd}
 use Rattle.std.proofs.lemmas.List.Elements.{recursion_from_All}
 use Rattle.pl_base.specs.declared.id.ItemId.{ItemId}
+use Rattle.pl_base.specs.declared.item.ItemKind.TheVariants.{Folder}
 use Rattle.pl_base.specs.declared.item.ItemRow.{ItemRow}
 use Rattle.pl_base.specs.Good.{HasGoodItems, IsTopFolder, IsTree}
 use Rattle.pl_base.specs.Live.{chunks, live_slots, slot_limit}
 use Rattle.pl_base.specs.Rows.{IsWellKept, Kept, live_with_item, store_of, with_item}
 use Rattle.pl_base.specs.Store.{Item, item_id, root_folder}
 use Rattle.pl_base.specs.Tags.{tags_root}
-use Rattle.pl_base.specs.Tree.{adopted, children_of, has_item, item_at, new_item}
+use Rattle.pl_base.specs.Tree.{IsFolder, adopted, children_of, item_at, new_item}
 use Rattle.pl_base.proofs.ItemLaws.{count_inserted, slots_inserted}
-use Rattle.pl_base.proofs.ListLaws.{list_any_last}
-use Rattle.pl_base.proofs.LookUps.{found_some}
-use Rattle.pl_base.proofs.Among.{in_back}
+use Rattle.pl_base.proofs.Among.{In, in_back}
 use Rattle.pl_tree.specs.declared.new_item.NewItem.{NewItem}
 use Rattle.pl_tree.specs.declared.place.Place.{Place}
 use Rattle.pl_tree.specs.declared.place.Place.TheVariants.{End}
 use Rattle.pl_tree.specs.Changes.{item_of, with_child, with_inserted}
 use Rattle.pl_tree.specs.Places.{before}
 use Rattle.pl_tree.proofs.KeptRoots.{tops}
-use Rattle.pl_tree.proofs.LookedUp.{at_its_id, children_in, same_id}
+use Rattle.pl_tree.proofs.LookedUp.{at_id, at_its_id, children_in, folder_at, same_id}
 use Rattle.pl_tree.proofs.PutPlaces.{child_put, item_inserted, its_children, row_of_new}
 use Rattle.pl_tree.proofs.TreeLaws.{ids_ascend}
 
--- the tags root is an item
-pub tags_root_there : (kept : Kept) → HasGoodItems (store_of kept) → has_item kept.items tags_root ≡ true
+-- the tags root is a folder
+pub tags_root_there : (kept : Kept) → HasGoodItems (store_of kept) → IsFolder kept.items tags_root
 tags_root_there kept good =
     choose (item_at kept.items tags_root) refl
     (recursion_from_All (IsTopFolder (store_of kept)) tops good.roots.top).1.1.0
   where
     choose : (o : Option Item) → item_at kept.items tags_root ≡ o
-        → IsSomeAnd o (λ (i : Item). i ≡ root_folder 4 i.children) → has_item kept.items tags_root ≡ true
+        → IsSomeAnd o (λ (i : Item). i ≡ root_folder 4 i.children) → IsFolder kept.items tags_root
     choose None at top = absurd top
-    choose (Some i) at top = found_some (λ (j : Item). j.id.0 == tags_root.0) kept.items i at
+    choose (Some i) at top = folder_at kept.items tags_root i at (ap (λ (j : Item). j.kind) top)
 
 module _ (kept : Kept) (row : ItemRow) (title : List ℕ) (after : Option ItemId) where
   pub live_of_item : live_with_item row title after kept ≡ live_slots (store_of kept) + 1 + chunks title
@@ -49,10 +48,17 @@ module _ (kept : Kept) (row : ItemRow) (title : List ℕ) (after : Option ItemId
       → live_with_item row title after kept ≤ slot_limit
   live_of_first live = omega (arith, live_of_item)
 
-  pub new_there : (id : ItemId) → id.0 ≡ kept.ids.item → has_item (with_item row title after kept).items id ≡ true
-  new_there id is =
-      list_any_last (λ (i : Item). i.id.0 == id.0) (adopted row.parent after (item_id kept.ids.item) kept.items)
-      (new_item (item_id kept.ids.item) row title) (eq-eqb kept.ids.item id.0 (sym is))
+  pub folder_made : (now : Kept) (id : ItemId) → now ≡ with_item row title after kept → IsWellKept now
+      → id.0 ≡ kept.ids.item → row.kind ≡ Folder → IsFolder now.items id
+  folder_made now id made h is kind =
+      let new : Item = new_item (item_id kept.ids.item) row title in
+      let within : In new now.items =
+      subst (λ (k : Kept). In new k.items) (sym made)
+      (in_back (adopted row.parent after (item_id kept.ids.item) kept.items) (new ∷ []) new (inl refl)) in
+      folder_at now.items id new
+      (at_id now.items new id (ids_ascend now.items h.item_ids.ascending) within
+      (same_id (item_id kept.ids.item) id (sym is)))
+      kind
 
 pub live_of_second : (kept : Kept) (row other : ItemRow) (title : List ℕ) (after : Option ItemId)
     → live_slots (store_of kept) + 2 + chunks title ≤ slot_limit

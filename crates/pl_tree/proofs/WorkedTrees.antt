@@ -5,10 +5,9 @@ use Rattle.pl_base.specs.declared.id.ItemId.{ItemId}
 use Rattle.pl_base.specs.declared.refusal.Refusal.TheVariants.{BadPlace, Fixed, Inside, NoItem, NotAFolder}
 use Rattle.pl_base.specs.declared.item.ItemKind.TheVariants.{Bookmark}
 use Rattle.pl_base.specs.Store.{Item, item_id, root_folder, roots}
-use Rattle.pl_base.specs.Tree.{children_of}
+use Rattle.pl_base.specs.Tree.{children_of, lies_in}
 use Rattle.pl_tree.specs.declared.place.Place.TheVariants.{End, Number}
 use Rattle.pl_tree.specs.declared.tree_change.TreeChange.TheVariants.{Insert, Move, Remove, Retitle}
-use Rattle.pl_tree.specs.Ancestors.{lies_in}
 use Rattle.pl_tree.specs.Changes.{loses_item, put, with_moved, with_removed}
 use Rattle.pl_tree.specs.Refused.{refusal}
 

@@ -8,11 +8,10 @@ use Rattle.pl_base.specs.declared.id.PageId.{PageId}
 use Rattle.pl_base.specs.declared.item.ItemRow.{ItemRow}
 use Rattle.pl_base.specs.Rows.{Kept}
 use Rattle.pl_base.specs.Store.{Item, item_id}
-use Rattle.pl_base.specs.Tree.{is_page, leaving, new_item, redated, with_changed}
+use Rattle.pl_base.specs.Tree.{is_page, leaving, lies_in, new_item, redated, with_changed}
 use Rattle.pl_tree.specs.declared.place.Place.{Place}
 use Rattle.pl_tree.specs.declared.place.Place.TheVariants.{End, Number}
 use Rattle.pl_tree.specs.declared.new_item.NewItem.{NewItem}
-use Rattle.pl_tree.specs.Ancestors.{lies_in}
 
 -- ---- places
 

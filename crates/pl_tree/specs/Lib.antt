@@ -1,4 +1,3 @@
-pub mod Ancestors
 pub mod Changes
 pub mod LostPages
 pub mod Places

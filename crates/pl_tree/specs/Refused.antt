@@ -15,13 +15,12 @@ use Rattle.pl_base.specs.Good.{end_of_ids}
 use Rattle.pl_base.specs.Rows.{Kept}
 use Rattle.pl_base.specs.Store.{Item, item_id}
 use Rattle.pl_base.specs.Tags.{is_tags_root, tags_root}
-use Rattle.pl_base.specs.Tree.{children_of, has_item, item_at, parent_of, without_id}
+use Rattle.pl_base.specs.Tree.{children_of, has_item, item_at, lies_in, parent_of, without_id}
 use Rattle.pl_tree.specs.declared.place.Place.{Place}
 use Rattle.pl_tree.specs.declared.place.Place.TheVariants.{End, Number}
 use Rattle.pl_tree.specs.declared.tree_change.TreeChange.{TreeChange}
 use Rattle.pl_tree.specs.declared.tree_change.TreeChange.TheVariants.{Insert, Move, Retitle}
 use Rattle.pl_tree.specs.declared.tree_change.TreeChange.TheVariants.{Remove}
-use Rattle.pl_tree.specs.Ancestors.{lies_in}
 use Rattle.pl_tree.specs.Tagged.{new_items, tag_entry}
 
 -- ---- what stays as it is

@@ -3,7 +3,7 @@ ghost use Rattle.std.specs.Prelude.{◌≡◌};
 ghost use Rattle.pl_base.specs.Good.{HasGoodItems};
 ghost use Rattle.pl_base.specs.Rows.{store_of};
 ghost use Rattle.pl_base.specs.Tree.{parent_of};
-ghost use Rattle.pl_tree.specs.Ancestors as spec;
+ghost use Rattle.pl_base.specs.Tree as spec;
 
 use pl_base::{ItemId, Rows, Steps};
 use std::sync::ledger::Ledger;

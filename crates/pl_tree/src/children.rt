@@ -4,8 +4,8 @@ ghost use Rattle.std.specs.List.{slice_get};
 ghost use Rattle.std.specs.Result.{result_err};
 ghost use Rattle.pl_base.specs.Good.{HasGoodItems};
 ghost use Rattle.pl_base.specs.Rows.{store_of};
-ghost use Rattle.pl_base.specs.Tree.{children_of};
-ghost use Rattle.pl_tree.specs.Places.{before, last_item, others};
+ghost use Rattle.pl_base.specs.Tree.{children_of, last_item};
+ghost use Rattle.pl_tree.specs.Places.{before, others};
 ghost use Rattle.pl_tree.specs.Refused as spec;
 
 use crate::Place;
@@ -66,18 +66,6 @@ fn first_children<R: Rows, L: Ledger>(
     Reached { count, last }
 }
 
-/// The last child of a folder.
-pub fn last_child<R: Rows, L: Ledger>(
-    rows: &R,
-    parent: ItemId,
-    steps: &mut Steps<L>,
-) -> Option<ItemId>
-    requires good { HasGoodItems (store_of (R.kept rows.now)) }
-    ensures { result ≡ before Place.End (children_of (R.kept rows.now).items parent) }
-{
-    first_children(rows, parent, None, u32::MAX, steps).last
-}
-
 /// Behind which child of a folder a place lies, where one child is left out.
 pub(crate) fn child_before<R: Rows, L: Ledger>(
     rows: &R,
@@ -92,13 +80,15 @@ pub(crate) fn child_before<R: Rows, L: Ledger>(
     ensures before { IfOk result (λ after. after
         ≡ before place (others left_out (children_of (R.kept rows.now).items parent))) }
 {
-    let limit = match place {
-        Place::End => u32::MAX,
-        Place::Number(n) => n,
-    };
-    let reached = first_children(rows, parent, left_out, limit, steps);
     match place {
-        Place::Number(n) if reached.count < n => Err(Refusal::BadPlace(n, reached.count)),
-        _ => Ok(reached.last),
+        Place::End if left_out.is_none() => Ok(rows.last_child(parent, steps)),
+        Place::End => Ok(first_children(rows, parent, left_out, u32::MAX, steps).last),
+        Place::Number(n) => {
+            let reached = first_children(rows, parent, left_out, n, steps);
+            if reached.count < n {
+                return Err(Refusal::BadPlace(n, reached.count));
+            }
+            Ok(reached.last)
+        }
     }
 }

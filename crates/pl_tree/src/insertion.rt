@@ -31,8 +31,8 @@ pub fn insert<R: Rows, L: Ledger>(
     requires bookmark { IsSome item.now.page ↔ (item.now.kind ≡ ItemKind.Bookmark) }
     requires title { length item.now.title ≤ longest_title }
     requires date { IsDate item.now.date }
-    requires live { live_slots (store_of (R.kept rows.old)) + 1 + chunks item.now.title
-        ≤ slot_limit }
+    requires live { insert_refusal parent place (R.kept rows.old) ≡ None
+        → live_slots (store_of (R.kept rows.old)) + 1 + chunks item.now.title ≤ slot_limit }
     ensures item { IfOk result (λ id. id.0 ≡ (R.kept rows.old).ids.item) }
     ensures allowed { IfOk result (λ id. insert_refusal parent place (R.kept rows.old) ≡ None) }
     ensures kept { OnOk result (R.kept rows.new

@@ -4,7 +4,6 @@
 
 mod ancestors;
 mod children;
-mod count;
 mod error;
 mod insertion;
 mod moves;
@@ -16,8 +15,7 @@ mod tags;
 mod titles;
 mod tree_change;
 
-pub use children::{child_at, last_child};
-pub use count::item_count;
+pub use children::child_at;
 pub use error::TreeError;
 pub use insertion::{append, insert, insert_allowed};
 pub use moves::move_to;

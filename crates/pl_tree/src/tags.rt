@@ -11,13 +11,12 @@ ghost use Rattle.pl_base.specs.Rows.{has_page, store_of, with_items};
 ghost use Rattle.pl_base.specs.Store.{Item, item_id};
 ghost use Rattle.pl_base.specs.Tags.{tags_root};
 ghost use Rattle.pl_base.specs.Tree as tree;
-ghost use Rattle.pl_base.specs.Tree.{children_of, has_item, item_at};
+ghost use Rattle.pl_base.specs.Tree.{IsFolder, children_of, has_item, item_at};
 ghost use Rattle.pl_tree.specs.Changes.{with_inserted};
 ghost use Rattle.pl_tree.specs.Places.{before};
 ghost use Rattle.pl_tree.specs.Refused as refused;
 ghost use Rattle.pl_tree.specs.Tagged as spec;
 
-use crate::children::last_child;
 use crate::{Place, TreeError};
 use pl_base::{
     IdKind, Ids, ItemId, ItemKind, ItemRow, Micros, NoMemory, PageId, Refusal, Rows, Steps, Txt,
@@ -182,7 +181,7 @@ fn add_entry<R: Rows, L: Ledger>(
     steps: &mut Steps<L>,
 ) -> Result<(), NoMemory>
     requires good { HasGoodItems (store_of (R.kept rows.old)) }
-    requires folder { has_item (R.kept rows.old).items folder ≡ true }
+    requires folder { IsFolder (R.kept rows.old).items folder }
     requires after { after ≡ before Place.End (children_of (R.kept rows.old).items folder) }
     requires page { has_page (R.kept rows.old) page ≡ true }
     requires date { IsDate date }
@@ -273,7 +272,8 @@ pub fn tag<R: Rows, L: Ledger>(
     requires good { HasGoodItems (store_of (R.kept rows.old)) }
     requires page { has_page (R.kept rows.old) page ≡ true }
     requires date { IsDate date }
-    requires live { live_slots (store_of (spec.with_tagged page name.now date (R.kept rows.old)))
+    requires live { refused.tag_refusal page name.now (R.kept rows.old) ≡ None
+        → live_slots (store_of (spec.with_tagged page name.now date (R.kept rows.old)))
         ≤ slot_limit }
     ensures allowed { OnOk result
         (refused.tag_refusal page name.now (R.kept rows.old) ≡ None) }
@@ -286,7 +286,7 @@ pub fn tag<R: Rows, L: Ledger>(
     ensures base { OnOk result ((bytes : List ℕ) → R.base rows.old bytes → R.base rows.new bytes) }
 {
     let folder = may_tag(alloc, rows, page, name, steps)?;
-    let last = last_child(rows, folder.unwrap_or(ItemId::TAGS), steps);
+    let last = rows.last_child(folder.unwrap_or(ItemId::TAGS), steps);
     enter(rows, page, name, folder, last, date, steps)?;
     Ok(())
 }

@@ -25,7 +25,8 @@ pub fn retitle<R: Rows, L: Ledger>(
     requires good { HasGoodItems (store_of (R.kept rows.old)) }
     requires title { length title.now ≤ longest_title }
     requires date { IsDate date }
-    requires live { live_with_item_title item title.now date (R.kept rows.old) ≤ slot_limit }
+    requires live { refused.refusal (R.kept rows.old).items (TreeChange.Retitle item) ≡ None
+        → live_with_item_title item title.now date (R.kept rows.old) ≤ slot_limit }
     ensures allowed { OnOk result (refused.refusal (R.kept rows.old).items
         (TreeChange.Retitle item) ≡ None) }
     ensures kept { OnOk result (R.kept rows.new

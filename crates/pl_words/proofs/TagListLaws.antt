@@ -1,13 +1,16 @@
 -- Laws of lists in which each member stands once.
-use Rattle.std.proofs.Common.{◌≡◌, ◌∙◌, ◌||◌, ◌&&◌, ℕ, Bool, true, false, not, List, [], ◌∷◌, ◌++◌, ap}
-use Rattle.std.proofs.Common.{map, refl, sym}
-use Rattle.std.proofs.Common.{if◌then◌else◌}
+use Rattle.std.proofs.Common.{◌≡◌, ◌∙◌, ◌||◌, ℕ, Bool, true, false, not, List, [], ◌∷◌, ◌++◌, ap}
+use Rattle.std.proofs.Common.{refl, sym}
+use Rattle.std.proofs.Common.{if◌then◌else◌, cond}
+use Rattle.std.specs.Cmp.Lexicographic.{slice_cmp}
 use Rattle.std.specs.List.{filter, list_any}
+use Rattle.std.specs.Ordering.{is_eq, nat_cmp}
 use Rattle.std.proofs.lemmas.Bool.{and_from, and_parts, cond-false, cond-true, not-true, true≢false}
-use Rattle.pl_base.proofs.ListLaws.{list_any-map}
 use Rattle.std.proofs.lemmas.Slice.Eq.{bytes_eq-Decides}
-use Rattle.std.proofs.lemmas.List.{append-nil, map-append}
+use Rattle.std.proofs.lemmas.List.{append-nil}
 use Rattle.std.proofs.lemmas.List.Elements.{filter-append}
+use Rattle.std.proofs.lemmas.List.Folds.{list_any-append}
+use Rattle.std.proofs.lemmas.Map.Text.{is_eq-slice_cmp}
 use Rattle.std.specs.Prelude.{bytes_eq}
 use Rattle.pl_base.specs.Fold.{folded}
 use Rattle.pl_words.specs.TagLists.{each_once, firsts, is_same_tag}
@@ -122,26 +125,38 @@ same_tags a b c ab bc =
     (bytes_eq-Decides (folded a) (folded c)).1
     ((bytes_eq-Decides (folded a) (folded b)).0 ab ∙ (bytes_eq-Decides (folded b) (folded c)).0 bc)
 
--- a fold is among those of some tags where the tag is the same as one of them
-pub fold_known : (tags folds : List (List ℕ)) (tag fold : List ℕ) → folds ≡ map folded tags → fold ≡ folded tag
-    → list_any (λ y. bytes_eq y fold) folds ≡ list_any (λ t. is_same_tag t tag) tags
-fold_known tags folds tag fold all this =
-    ap (list_any (λ y. bytes_eq y fold)) all ∙ list_any-map (λ y. bytes_eq y fold) folded tags
-    ∙ ap (λ f. list_any (λ t. bytes_eq (folded t) f) tags) this
+-- one of the tags has this fold
+abbrev pub has_fold : List (List ℕ) → List ℕ → Bool
+has_fold tags fold = list_any (λ t. bytes_eq (folded t) fold) tags
 
-module _ (told tags folds : List (List ℕ)) (tag fold : List ℕ) (is : tags ≡ firsts is_same_tag told)
-    (all : folds ≡ map folded tags) (this : fold ≡ folded tag) where
-  pub tags_known : true ≡ list_any (λ y. bytes_eq y fold) folds → tags ≡ firsts is_same_tag (told ++ tag ∷ [])
-  tags_known known =
-      is ∙ sym (firsts-known is_same_tag same_tags told tag
-      (ap (list_any (λ y. is_same_tag y tag)) (sym is) ∙ sym (fold_known tags folds tag fold all this) ∙ sym known))
+one_or_some : (one some : Bool) → cond one true some ≡ (some || (one || false))
+one_or_some true true = refl
+one_or_some true false = refl
+one_or_some false true = refl
+one_or_some false false = refl
 
-  pub tags_new : false ≡ list_any (λ y. bytes_eq y fold) folds
-      → tags ++ tag ∷ [] ≡ firsts is_same_tag (told ++ tag ∷ [])
+-- `seen` is a set of folds, told by the test of what it has
+module _ (told tags : List (List ℕ)) (seen : List ℕ → Bool) (tag fold : List ℕ) (is : tags ≡ firsts is_same_tag told)
+    (all : (f : List ℕ) → seen f ≡ has_fold tags f) (this : fold ≡ folded tag) where
+  -- a fold was seen where the tag is the same as one of those so far
+  fold_seen : list_any (λ t. is_same_tag t tag) (firsts is_same_tag told) ≡ seen fold
+  fold_seen =
+      ap (list_any (λ t. is_same_tag t tag)) (sym is) ∙ ap (has_fold tags) (sym this) ∙ sym (all fold)
+
+  pub tags_known : seen fold ≡ true → tags ≡ firsts is_same_tag (told ++ tag ∷ [])
+  tags_known known = is ∙ sym (firsts-known is_same_tag same_tags told tag (fold_seen ∙ known))
+
+  pub tags_new : seen fold ≡ false → tags ++ tag ∷ [] ≡ firsts is_same_tag (told ++ tag ∷ [])
   tags_new new =
-      ap (λ l. l ++ tag ∷ []) is ∙ sym (firsts-new is_same_tag same_tags told tag
-      (ap (list_any (λ y. is_same_tag y tag)) (sym is) ∙ sym (fold_known tags folds tag fold all this) ∙ sym new))
+      ap (λ l. l ++ tag ∷ []) is ∙ sym (firsts-new is_same_tag same_tags told tag (fold_seen ∙ new))
 
-  pub folds_new : folds ++ fold ∷ [] ≡ map folded (tags ++ tag ∷ [])
-  folds_new = sym (map-append folded tags (tag ∷ []) ∙ ap (λ l. l ++ folded tag ∷ []) (sym all)
-      ∙ ap (λ f. folds ++ f ∷ []) (sym this))
+  -- the set has the new fold too
+  pub seen_new : (now : List ℕ → Bool)
+      → ((f : List ℕ) → now f ≡ cond (is_eq (slice_cmp nat_cmp fold f)) true (seen f))
+      → (f : List ℕ) → now f ≡ has_fold (tags ++ tag ∷ []) f
+  seen_new now updated f =
+      updated f
+      ∙ ap (λ b. cond b true (seen f)) (is_eq-slice_cmp fold f ∙ ap (λ g. bytes_eq g f) this)
+      ∙ ap (cond (bytes_eq (folded tag) f) true) (all f)
+      ∙ one_or_some (bytes_eq (folded tag) f) (has_fold tags f)
+      ∙ sym (list_any-append (λ t. bytes_eq (folded t) f) tags (tag ∷ []))

@@ -4,6 +4,7 @@ ghost use Rattle.pl_words.specs.TagLists.{each_once, firsts, is_same_tag};
 use crate::{TagName, fold};
 use pl_base::{NoMemory, Seq};
 use std::alloc::Global;
+use std::collections::BTreeSet;
 
 /// The tags in their order, each once: where it stands first. Tags are the same where their folds
 /// are.
@@ -12,14 +13,11 @@ pub fn first_tags(alloc: Global, told: Vec<TagName>) -> Result<Seq<TagName>, NoM
     ensures form { IfOk result (λ tags. each_once is_same_tag tags ≡ true) }
 {
     let mut tags = Vec::new(alloc);
-    let mut folds = Vec::new(alloc);
+    let mut seen = BTreeSet::new(alloc);
     for tag in told {
-        let fold = fold(alloc, tag.text())?;
-        if folds.contains(&fold) {
-            continue;
+        if seen.insert(fold(alloc, tag.text())?)? {
+            tags.push(tag)?;
         }
-        tags.push(tag)?;
-        folds.push(fold)?;
     }
     Ok(Seq::from(tags))
 }

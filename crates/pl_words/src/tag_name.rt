@@ -1,4 +1,4 @@
-ghost use Rattle.std.specs.Prelude.{◌≡◌, ◌↔◌, IfOk, IsErrOf, IsTrue, None, Some};
+ghost use Rattle.std.specs.Prelude.{◌≡◌, ◌↔◌, bytes_eq, IfOk, IsErrOf, IsTrue, None, Some};
 ghost use Rattle.pl_base.specs.Good.{IsTagName};
 ghost use Rattle.pl_words.specs.declared.tag_name.TagError.TheVariants as variants;
 ghost use Rattle.pl_words.specs.TagName.{tag_named, trimmed};
@@ -80,26 +80,14 @@ impl TagName {
     {
         self.name.as_str()
     }
-}
 
-impl PartialEq for TagName {
-    ghost use Rattle.std.specs.Prelude.{bytes_eq};
-    ghost use Rattle.std.specs.Cmp.{partial_equiv_from_equiv};
-    ghost use Rattle.std.specs.Cmp.Lexicographic.{nat_list_eq_equiv};
-
-    ghost eq = { λ a b. bytes_eq a b };
-
-    ghost laws = { partial_equiv_from_equiv nat_list_eq_equiv };
-
-    fn eq(&self, other: &TagName) -> bool {
+    /// Whether both names are spelled alike, byte for byte. Names of one tag need not be: tags are
+    /// the same where the folds of their names are.
+    pub fn has_same_spelling(&self, other: &TagName) -> bool
+        ensures { result ≡ bytes_eq self.now other.now }
+    {
         self.name == other.name
     }
-}
-
-impl Eq for TagName {
-    ghost use Rattle.std.specs.Cmp.Lexicographic.{nat_list_eq_equiv};
-
-    ghost laws = { nat_list_eq_equiv };
 }
 
 /// Whether the text is the name of a tag: 1 to 100 bytes with no comma and no blank at either end.

@@ -336,12 +336,14 @@ module _ {D : Type 0} (desk : Ghosts D) where
   -- ---- the opening
 
   -- until the file is settled no line is run, and from then on none yet
-  pub shows_opened : (file : List ℕ) (start : Store) (count seed : ℕ) (before : List ℕ) (old new : D)
-      → Stands file start → desk.said old ≡ Some before → Settles desk old new (StandsAlike file)
-      → ShowsThen desk old new (ShowsUnopened desk old before) (ShowsDrill desk count seed start before)
-  shows_opened file start count seed before old new stands is settles =
+  pub shows_opened : {Fault Fault' : Type 0} (file : List ℕ) (start : Store) (count seed : ℕ) (before : List ℕ)
+      (old new : D)
+      → Stands file start → desk.said old ≡ Some before → Settles desk Fault old new (StandsAlike file)
+      → (Fault → Fault')
+      → ShowsThen desk Fault' old new (ShowsUnopened desk old before) (ShowsDrill desk count seed start before)
+  shows_opened file start count seed before old new stands is settles fault =
       shows_then_less desk old new (Unsaid desk old (desk.may_leave old)) (Unsaid desk old (StandsAlike file))
-      (ShowsUnopened desk old before) (ShowsDrill desk count seed start before) settles
+      (ShowsUnopened desk old before) (ShowsDrill desk count seed start before) settles fault
       (λ later line shows. (shows.0, sym (same_Some before line (sym is ∙ shows.1))))
       (λ later line shows. inl (
         0,
@@ -351,11 +353,11 @@ module _ {D : Type 0} (desk : Ghosts D) where
       ))
 
   -- what an opening leaves that ends with no store
-  pub ends_unopened : (e : Ended) (s : Status) (file : List ℕ) (start : Store) (count seed : ℕ) (before : List ℕ)
-      (old new : D)
+  pub ends_unopened : {Fault : Type 0} (e : Ended) (s : Status) (file : List ℕ) (start : Store) (count seed : ℕ)
+      (before : List ℕ) (old new : D)
       → CountsNow desk → s ≡ without_session e → desk.held old ≡ Some file → Opens desk slot_limit (Err e) old new
       → Stands file start → desk.said new ≡ desk.said old → desk.said old ≡ Some before
-      → Settles desk old new (StandsAlike file) → EndsDrill desk s count seed old start before new
+      → Settles desk Fault old new (StandsAlike file) → EndsDrill desk s count seed old start before new
   ends_unopened ended.DeviceFault s file start count seed before old new counts_now is held opens stands kept begun
       settles =
       subst (λ (t : Status). EndsDrill desk t count seed old start before new) (sym is) (

@@ -69,12 +69,13 @@ module _ {D : Type 0} (desk : Ghosts D) where
   -- ---- the opening
 
   -- until the file is settled nothing is said, and from then on nothing yet
-  pub opened_shows : (file : List ℕ) (start : Store) (before : List ℕ) (old new : D) → Stands file start
-      → desk.said old ≡ Some before → Settles desk old new (StandsAlike file)
-      → ShowsThen desk old new (ShowsUnopened desk old before) (ShowsExport desk start before)
-  opened_shows file start before old new stands is settles =
+  pub opened_shows : {Fault Fault' : Type 0} (file : List ℕ) (start : Store) (before : List ℕ) (old new : D)
+      → Stands file start → desk.said old ≡ Some before → Settles desk Fault old new (StandsAlike file)
+      → (Fault → Fault')
+      → ShowsThen desk Fault' old new (ShowsUnopened desk old before) (ShowsExport desk start before)
+  opened_shows file start before old new stands is settles fault =
       shows_then_less desk old new (Unsaid desk old (desk.may_leave old)) (Unsaid desk old (StandsAlike file))
-      (ShowsUnopened desk old before) (ShowsExport desk start before) settles
+      (ShowsUnopened desk old before) (ShowsExport desk start before) settles fault
       (λ later line shows. (shows.0, sym (same_Some before line (sym is ∙ shows.1))))
       (λ later line shows. (
         (shows.0 start).0 stands,
@@ -82,10 +83,11 @@ module _ {D : Type 0} (desk : Ghosts D) where
       ))
 
   -- what an opening leaves that ends with no store
-  pub export_unopened : (e : Ended) (s : Status) (file : List ℕ) (start : Store) (before : List ℕ) (old new : D)
+  pub export_unopened : {Fault : Type 0} (e : Ended) (s : Status) (file : List ℕ) (start : Store) (before : List ℕ)
+      (old new : D)
       → CountsNow desk → s ≡ without_session e → desk.held old ≡ Some file → Opens desk slot_limit (Err e) old new
       → Stands file start → desk.said new ≡ desk.said old → desk.said old ≡ Some before
-      → Settles desk old new (StandsAlike file) → EndsExport desk s old start before new
+      → Settles desk Fault old new (StandsAlike file) → EndsExport desk s old start before new
   export_unopened ended.DeviceFault s file start before old new counts_now is held opens stands kept begun settles =
       subst (λ (t : Status). EndsExport desk t old start before new) (sym is) (
         kept ∙ begun,

@@ -272,21 +272,22 @@ module _ {D : Type 0} (desk : Ghosts D) where
 
 module _ {D : Type 0} (desk : Ghosts D) where
   -- until the file is settled nothing is imported, and from then on nothing yet
-  pub shows_opened : (file : List ℕ) (start : Store) (bytes before : List ℕ) (old new : D) → Stands file start
-      → desk.said old ≡ Some before → Settles desk old new (StandsAlike file)
-      → ShowsThen desk old new (ShowsUnopened desk old before) (ShowsImport desk start bytes before)
-  shows_opened file start bytes before old new stands is settles =
+  pub shows_opened : {Fault Fault' : Type 0} (file : List ℕ) (start : Store) (bytes before : List ℕ) (old new : D)
+      → Stands file start → desk.said old ≡ Some before → Settles desk Fault old new (StandsAlike file)
+      → (Fault → Fault')
+      → ShowsThen desk Fault' old new (ShowsUnopened desk old before) (ShowsImport desk start bytes before)
+  shows_opened file start bytes before old new stands is settles fault =
       shows_then_less desk old new (Unsaid desk old (desk.may_leave old)) (Unsaid desk old (StandsAlike file))
-      (ShowsUnopened desk old before) (ShowsImport desk start bytes before) settles
+      (ShowsUnopened desk old before) (ShowsImport desk start bytes before) settles fault
       (λ later line shows. (shows.0, sym (same_Some before line (sym is ∙ shows.1))))
       (λ later line shows. inl (sym (same_Some before line (sym is ∙ shows.1)), (shows.0 start).0 stands))
 
   -- what an opening leaves that ends with no store
-  pub ends_unopened : (e : Ended) (s : Status) (file : List ℕ) (start : Store) (bytes before : List ℕ)
+  pub ends_unopened : {Fault : Type 0} (e : Ended) (s : Status) (file : List ℕ) (start : Store) (bytes before : List ℕ)
       (left : Option (List ℕ)) (old new : D)
       → CountsNow desk → s ≡ without_session e → desk.held old ≡ Some file → Opens desk slot_limit (Err e) old new
       → Stands file start → left ≡ Some bytes → desk.said new ≡ desk.said old → desk.said old ≡ Some before
-      → Settles desk old new (StandsAlike file) → EndsImport desk s old start bytes before left new
+      → Settles desk Fault old new (StandsAlike file) → EndsImport desk s old start bytes before left new
   ends_unopened ended.DeviceFault s file start bytes before left old new counts_now is held opens stands told kept begun
       settles =
       subst (λ (t : Status). EndsImport desk t old start bytes before left new) (sym is)

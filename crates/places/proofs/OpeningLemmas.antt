@@ -17,6 +17,7 @@ use Rattle.pl_step.specs.Run.{replies, after}
 use Rattle.pl_step.specs.Step.{step}
 use Rattle.pl_store.specs.declared.ended.Ended.{Ended}
 use Rattle.pl_store.specs.declared.ended.Ended.TheVariants as ended
+use Rattle.pl_store.specs.declared.session.Session.{Session}
 use Rattle.pl_store.specs.Session.{Stands, StandsAlike}
 use Rattle.pl_store.specs.Keeper.{Keeps}
 use Rattle.pl_store.specs.Ending.{Opens}
@@ -164,6 +165,14 @@ script_may_end task end s reads is = at end is
     at (Err stop.NoMemory) is = subst (EndsTask task) (sym is) tt
     at (Err stop.TooLong) is = subst (EndsTask task) (sym is) reads
 
+-- a store that was opened is no fault of the device, and such a fault is told by the status
+pub no_fault : (session : Session) → ◌≡◌ {A = Result Session Ended} (Ok session) (Err ended.DeviceFault) → ⊥
+no_fault session is = absurd (cc)
+
+pub fault_told : (e : Ended) (s : Status) → s ≡ without_session e
+    → ◌≡◌ {A = Result Session Ended} (Err e) (Err ended.DeviceFault) → s ≡ status.DeviceFault
+fault_told e s is fault = let same : e ≡ ended.DeviceFault = cc in is ∙ ap without_session same
+
 pub no_refusal : (end : Result ⊤ Stop) (s : Status) → EndsAs end s → s ≡ status.NotAStore → ⊥
 no_refusal (Ok done) s is at = absurd (cc)
 no_refusal (Err stop.ReadFault) s is at = absurd (cc)
@@ -215,32 +224,37 @@ ends_unread desk kind first start bytes before left now told unsaid keeps = reco
 -- ---- what a stop shows of an opening, and what is left of it
 
 module _ {D : Type 0} (desk : Ghosts D) where
-  -- before any call
-  pub shows_unopened : OnlyNow desk → (now : D) (before : List ℕ) → desk.said now ≡ Some before
-      → ShowsOnly desk now now (ShowsUnopened desk now before)
-  shows_unopened only_now now before is =
-      started desk now (ShowsUnopened desk now before) (λ file line shown. only_now now before file line is shown)
+  -- in memory, before any call
+  pub shows_unrun : OnlyNow desk → (now : D) (start : Store) (entries : List (Parsed Command)) (before : List ℕ)
+      → desk.said now ≡ Some before
+      → ShowsOnly desk now now (ShowsAnswered desk false now slot_limit start entries before)
+  shows_unrun only_now now start entries before is =
+      started desk now (ShowsAnswered desk false now slot_limit start entries before) (λ file line shown.
+      let here = only_now now before file line is shown in
+      subst (λ (l : List ℕ). ShowsAnswered desk false now slot_limit start entries before file l) (sym here.1)
+      (shows_nothing desk false now start entries before file here.0))
 
   -- until the file is settled nothing is answered, and from then on nothing yet
-  pub shows_opening : (first : D) (file : List ℕ) (start : Store) (entries : List (Parsed Command)) (before : List ℕ)
-      (old new : D)
-      → Stands file start → desk.said old ≡ Some before → Settles desk old new (StandsAlike file)
-      → ShowsThen desk old new (ShowsUnopened desk old before)
+  pub shows_opening : {Fault Fault' : Type 0} (first : D) (file : List ℕ) (start : Store)
+      (entries : List (Parsed Command)) (before : List ℕ) (old new : D)
+      → Stands file start → desk.said old ≡ Some before → Settles desk Fault old new (StandsAlike file)
+      → (Fault → Fault')
+      → ShowsThen desk Fault' old new (ShowsUnopened desk old before)
       (ShowsAnswered desk true first slot_limit start entries before)
-  shows_opening first file start entries before old new stands is settles =
+  shows_opening first file start entries before old new stands is settles fault =
       shows_then_less desk old new (Unsaid desk old (desk.may_leave old)) (Unsaid desk old (StandsAlike file))
-      (ShowsUnopened desk old before) (ShowsAnswered desk true first slot_limit start entries before) settles
+      (ShowsUnopened desk old before) (ShowsAnswered desk true first slot_limit start entries before) settles fault
       (λ later line shows. (shows.0, sym (same_Some before line (sym is ∙ shows.1))))
       (λ later line shows. subst (λ (l : List ℕ). ShowsAnswered desk true first slot_limit start entries before later l)
       (same_Some before line (sym is ∙ shows.1))
       (shows_nothing desk true first start entries before later ((shows.0 start).0 stands)))
 
   -- what an opening leaves that ends with no store
-  pub ends_without : (e : Ended) (s : Status) (file : List ℕ) (start : Store) (bytes before : List ℕ)
+  pub ends_without : {Fault : Type 0} (e : Ended) (s : Status) (file : List ℕ) (start : Store) (bytes before : List ℕ)
       (left : Option (List ℕ)) (old new : D)
       → CountsNow desk → s ≡ without_session e → desk.held old ≡ Some file → Opens desk slot_limit (Err e) old new
       → Stands file start → left ≡ Some bytes → desk.said new ≡ desk.said old → desk.said old ≡ Some before
-      → Settles desk old new (StandsAlike file) → LeavesAtEnd desk s true old start bytes before left new
+      → Settles desk Fault old new (StandsAlike file) → LeavesAtEnd desk s true old start bytes before left new
   ends_without ended.DeviceFault s file start bytes before left old new counts_now is held opens stands told kept begun
       settles =
       subst (λ (t : Status). LeavesAtEnd desk t true old start bytes before left new) (sym is)

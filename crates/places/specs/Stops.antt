@@ -1,7 +1,9 @@
 -- What a stop of the machine shows during a run, and what a run leaves that stopped at an entry:
 -- the file, and what was said.
-use Rattle.std.specs.Prelude.{◌≡◌, ◌⊎◌, ◌≤◌, ℕ, Bool, List, ◌++◌, length, take, Some}
+use Rattle.std.specs.Prelude.{◌≡◌, ◌⊎◌, ◌≤◌, ℕ, Bool, true, false, List, ◌++◌, length, take, Some}
 use Rattle.pl_base.specs.Store.{Store}
+use Rattle.pl_desk.specs.Settling.{ShowsThen}
+use Rattle.pl_desk.specs.Shown.{ShowsOnly}
 use Rattle.pl_desk.specs.declared.desk.Desk.{Ghosts}
 use Rattle.pl_step.specs.declared.command.Command.{Command}
 use Rattle.pl_step.specs.Parsed.{Parsed}
@@ -21,10 +23,17 @@ module _ {D : Type 0} (desk : Ghosts D) where
   ShowsFront first before text file line =
       desk.may_leave first file × ((n : ℕ) × (line ≡ before ++ take n text))
 
-  -- Before the store's file is settled: nothing was said, and the file is one that a stop might
-  -- have left at first.
+  -- Before the first sync of the store's file has ended: nothing was said, and the file is one that
+  -- a stop might have left at first.
   abbrev pub ShowsUnopened : D → List ℕ → List ℕ → List ℕ → Type 0
   ShowsUnopened first before file line = desk.may_leave first file × (line ≡ before)
+
+  -- During a run of a script: until the first sync of its file ends a stop shows what has P, and
+  -- what has Q from then on; without a file it shows what has Q from the start.
+  abbrev pub ShowsRun : Bool → Type 0 → D → D → (List ℕ → List ℕ → Type 0)
+      → (List ℕ → List ℕ → Type 0) → Type 0
+  ShowsRun true Fault old new P Q = ShowsThen desk Fault old new P Q
+  ShowsRun false Fault old new P Q = ShowsOnly desk old new Q
 
   -- While the file takes a step from one store to the next, and this text is said of it: a front of
   -- the text was said behind what was said before; a part past its end is all of it. The file is

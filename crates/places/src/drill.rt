@@ -181,7 +181,8 @@ pub fn drill_stored<D: Desk>(alloc: Global, count: u32, seed: u64, desk: &mut D)
         → EndsDrill D.Desk result count seed desk.old start before desk.new }
     ensures stops { (file : List ℕ) (start : Store) (before : List ℕ) → D.held desk.old ≡ Some file
         → Stands file start → D.said desk.old ≡ Some before
-        → ShowsThen D.Desk desk.old desk.new (ShowsUnopened D.Desk desk.old before)
+        → ShowsThen D.Desk (result ≡ Status.DeviceFault) desk.old desk.new
+        (ShowsUnopened D.Desk desk.old before)
         (ShowsDrill D.Desk count seed start before) }
     ensures refused { result ≡ Status.NotAStore
         → RefusesFile D.Desk desk.old desk.new × KeepsFinished D.Desk desk.old desk.new }

@@ -28,7 +28,8 @@ pub fn export_stored<D: Desk>(alloc: Global, desk: &mut D) -> Status
         → EndsExport D.Desk result desk.old start before desk.new }
     ensures stops { (file : List ℕ) (start : Store) (before : List ℕ) → D.held desk.old ≡ Some file
         → Stands file start → D.said desk.old ≡ Some before
-        → ShowsThen D.Desk desk.old desk.new (ShowsUnopened D.Desk desk.old before)
+        → ShowsThen D.Desk (result ≡ Status.DeviceFault) desk.old desk.new
+        (ShowsUnopened D.Desk desk.old before)
         (ShowsExport D.Desk start before) }
     ensures returns { result ≡ Status.Done → (file : List ℕ) (start : Store)
         → D.held desk.old ≡ Some file → Stands file start → ComesBack start }

@@ -38,7 +38,8 @@ pub fn import_stored<S: Source, D: Desk>(alloc: Global, input: &mut S, desk: &mu
     ensures stops { (file : List ℕ) (start : Store) → D.held desk.old ≡ Some file
         → Stands file start
         → IfTold (S.left input.old) (D.said desk.old) (λ bytes before.
-        ShowsThen D.Desk desk.old desk.new (ShowsUnopened D.Desk desk.old before)
+        ShowsThen D.Desk (result ≡ Status.DeviceFault) desk.old desk.new
+        (ShowsUnopened D.Desk desk.old before)
         (ShowsImport D.Desk start bytes before)) }
     ensures refused { result ≡ Status.NotAStore
         → RefusesFile D.Desk desk.old desk.new × KeepsFinished D.Desk desk.old desk.new }

@@ -31,7 +31,7 @@ ghost use Rattle.places.specs.Ending.{EndsNew, EndsScript, EndsUnopened, LeavesA
 ghost use Rattle.places.specs.Ending.{OfScript};
 ghost use Rattle.places.specs.Exporting.{ComesBack, EndsExport, OfExport, ShowsExport};
 ghost use Rattle.places.specs.Importing.{EndsImport, OfImport, ShowsImport};
-ghost use Rattle.places.specs.Stops.{ShowsAnswered, ShowsUnopened};
+ghost use Rattle.places.specs.Stops.{ShowsAnswered, ShowsRun, ShowsUnopened};
 ghost use Rattle.pl_task.specs.Task.{asked_of, input_limit, opens_store};
 
 use crate::drill::drill_stored;
@@ -72,14 +72,16 @@ pub fn run<S: Source, D: Desk>(alloc: Global, words: &[&str], input: &mut S, des
     ensures ends { OfScript S.Source D.Desk (asked_of words.now) input.old desk.old
         (λ is_file start bytes before.
         LeavesAtEnd D.Desk result is_file desk.old start bytes before (S.left input.new) desk.new) }
-    // A stop before the file is settled shows nothing said, and a file that a stop might have left
-    // at the start. From then on a stop at any moment, within each call of the desk and within a
-    // recovery of the file too, shows the texts of the first replies and a front of the next. The
-    // file stands then for the store after as many commands, or after one more, and after that one
-    // where a byte of its reply was said.
+    // Of `run` a stop before the end of the first sync shows nothing said, and a file that a stop
+    // might have left at the start. Before it no byte is written, and it has ended where the file
+    // had no fault. From then on, and of `try` from the start, a stop at any moment, within each
+    // call of the desk and within a recovery of the file too, shows the texts of the first replies
+    // and a front of the next. The file stands then for the store after as many commands, or after
+    // one more, and after that one where a byte of its reply was said.
     ensures stops { OfScript S.Source D.Desk (asked_of words.now) input.old desk.old
         (λ is_file start bytes before.
-        ShowsThen D.Desk desk.old desk.new (ShowsUnopened D.Desk desk.old before)
+        ShowsRun D.Desk is_file (result ≡ Status.DeviceFault) desk.old desk.new
+        (ShowsUnopened D.Desk desk.old before)
         (ShowsAnswered D.Desk is_file desk.old slot_limit start (script bytes) before)) }
 
     // `new` says its word once the file holds the new store.
@@ -94,7 +96,8 @@ pub fn run<S: Source, D: Desk>(alloc: Global, words: &[&str], input: &mut S, des
         EndsImport D.Desk result desk.old start bytes before (S.left input.new) desk.new) }
     ensures import_stops { OfImport S.Source D.Desk (asked_of words.now) input.old desk.old
         (λ start bytes before.
-        ShowsThen D.Desk desk.old desk.new (ShowsUnopened D.Desk desk.old before)
+        ShowsThen D.Desk (result ≡ Status.DeviceFault) desk.old desk.new
+        (ShowsUnopened D.Desk desk.old before)
         (ShowsImport D.Desk start bytes before)) }
 
     // `export` says the bookmark file of the store, which the file stands for throughout; into a
@@ -103,7 +106,8 @@ pub fn run<S: Source, D: Desk>(alloc: Global, words: &[&str], input: &mut S, des
     ensures exports { OfExport D.Desk (asked_of words.now) desk.old (λ start before.
         EndsExport D.Desk result desk.old start before desk.new) }
     ensures export_stops { OfExport D.Desk (asked_of words.now) desk.old (λ start before.
-        ShowsThen D.Desk desk.old desk.new (ShowsUnopened D.Desk desk.old before)
+        ShowsThen D.Desk (result ≡ Status.DeviceFault) desk.old desk.new
+        (ShowsUnopened D.Desk desk.old before)
         (ShowsExport D.Desk start before)) }
     ensures export_rests { asked_of words.now ≡ Some Task.Export
         → KeepsFinished D.Desk desk.old desk.new }
@@ -116,7 +120,8 @@ pub fn run<S: Source, D: Desk>(alloc: Global, words: &[&str], input: &mut S, des
     ensures drills { OfDrill D.Desk (asked_of words.now) desk.old (λ count seed start before.
         EndsDrill D.Desk result count seed desk.old start before desk.new) }
     ensures drill_stops { OfDrill D.Desk (asked_of words.now) desk.old (λ count seed start before.
-        ShowsThen D.Desk desk.old desk.new (ShowsUnopened D.Desk desk.old before)
+        ShowsThen D.Desk (result ≡ Status.DeviceFault) desk.old desk.new
+        (ShowsUnopened D.Desk desk.old before)
         (ShowsDrill D.Desk count seed start before)) }
 
     // A file that stands for no store is refused by each task that opens one, which then reads no

@@ -5,6 +5,7 @@ ghost use Rattle.pl_base.specs.Live.{slot_limit};
 ghost use Rattle.pl_desk.specs.Calls.{LeavesFile};
 ghost use Rattle.pl_desk.specs.Counts.{CountsAt};
 ghost use Rattle.pl_desk.specs.Settling.{ShowsThen};
+ghost use Rattle.pl_desk.specs.Shown.{ShowsOnly};
 ghost use Rattle.pl_store.specs.Ending.{KeepsFinished, RefusesFile, StandsForNone};
 ghost use Rattle.pl_store.specs.Session.{Stands};
 ghost use Rattle.pl_script.specs.Script.{script};
@@ -26,7 +27,7 @@ pub fn try_script<S: Source, D: Desk>(alloc: Global, input: &mut S, desk: &mut D
     ensures ends { IfTold (S.left input.old) (D.said desk.old) (λ bytes before.
         LeavesAtEnd D.Desk result false desk.old opening bytes before (S.left input.new) desk.new) }
     ensures stops { IfTold (S.left input.old) (D.said desk.old) (λ bytes before.
-        ShowsThen D.Desk desk.old desk.new (ShowsUnopened D.Desk desk.old before)
+        ShowsOnly D.Desk desk.old desk.new
         (ShowsAnswered D.Desk false desk.old slot_limit opening (script bytes) before)) }
     ensures alone { LeavesFile D.Desk desk.old desk.new }
     ensures reads_counted { CountsAt (result ≡ Status.ReadFault) (S.faults input.old)
@@ -51,7 +52,8 @@ pub fn run_stored<S: Source, D: Desk>(alloc: Global, input: &mut S, desk: &mut D
     ensures stops { (file : List ℕ) (start : Store) → D.held desk.old ≡ Some file
         → Stands file start
         → IfTold (S.left input.old) (D.said desk.old) (λ bytes before.
-        ShowsThen D.Desk desk.old desk.new (ShowsUnopened D.Desk desk.old before)
+        ShowsThen D.Desk (result ≡ Status.DeviceFault) desk.old desk.new
+        (ShowsUnopened D.Desk desk.old before)
         (ShowsAnswered D.Desk true desk.old slot_limit start (script bytes) before)) }
     ensures refused { result ≡ Status.NotAStore
         → RefusesFile D.Desk desk.old desk.new × KeepsFinished D.Desk desk.old desk.new }

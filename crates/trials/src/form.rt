@@ -1,8 +1,11 @@
 // The rows of a file and its header page, by hand.
 
 use crate::roots::ROOTS;
-use pl_base::{Day, ItemId, ItemKind, Micros, PAGE_SIZE, PageId, Transition, TreeItem, VisitId};
-use pl_form::{CheckError, FileRows, StoredPage, StoredVisit, named_pages, read_rows};
+use pl_base::{
+    CheckError, Day, ItemId, ItemKind, Micros, PAGE_SIZE, PageId, Transition, TreeItem, VisitId,
+};
+use pl_form::{FileRows, named_pages, read_rows};
+use pl_stored::{StoredPage, StoredVisit};
 use std::alloc::Global;
 use std::process::Abort;
 use std::test::Fail;

@@ -1,7 +1,7 @@
 use crate::redirected;
 use crate::roots::ROOTS;
-use pl_base::{LONGEST_TITLE, NoMemory, PAGE_SIZE};
-use pl_plain::{CheckError, Flat};
+use pl_base::{CheckError, LONGEST_TITLE, NoMemory, PAGE_SIZE};
+use pl_plain::Flat;
 use std::alloc::Global;
 use std::process::Abort;
 use std::test::Fail;

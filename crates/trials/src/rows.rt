@@ -26,6 +26,9 @@ const DATES: &[u8] = &[0, 7, 3, 7, 1, 2, 9, 4, 8, 6, 5, 3];
 
 const LATEST_FIRST: &[u32] = &[11, 13, 8, 6, 14, 15, 12, 16, 7, 4, 10, 9, 5];
 
+// What no page and no visit has as its id.
+const ABSENT: &[u32] = &[0, 19, 4_294_967_295];
+
 // Visits 6 and 7 came from 5, and 5 and 8 from 4. What is left of all where 5 and 1 go, of which 2
 // and 3 came: each visit with its page, its date, its transition and its source.
 const LEFT: &[(u32, u32, u8, Transition, Option<VisitId>)] = &[
@@ -104,31 +107,27 @@ fn check_origin<L: Ledger>(
     Ok(())
 }
 
-fn older<L: Ledger>(
-    flat: &Flat,
-    visit: VisitId,
-    steps: &mut Steps<L>,
-) -> Result<Option<VisitId>, Fail> {
-    flat.visit_at(visit, steps).ok_or("no visit")?;
-    Ok(flat.older(visit, steps))
-}
-
 fn check_order<L: Ledger>(
     rt: &impl Abort,
     flat: &Flat,
     page: PageId,
     order: &[u32],
     steps: &mut Steps<L>,
-) -> Result<(), Fail> {
-    flat.page_at(page, steps).ok_or("no page")?;
+) {
     let mut next = flat.latest(page, steps);
     for id in order {
         let visit = VisitId(*id);
         assert_eq!(rt; next, Some(visit));
-        next = older(flat, visit, steps)?;
+        next = flat.older(visit, steps);
     }
     assert_eq!(rt; next, None);
-    Ok(())
+}
+
+fn check_absent<L: Ledger>(rt: &impl Abort, flat: &Flat, steps: &mut Steps<L>) {
+    for id in ABSENT {
+        assert_eq!(rt; flat.latest(PageId(*id), steps), None);
+        assert_eq!(rt; flat.older(VisitId(*id), steps), None);
+    }
 }
 
 fn check_targets<L: Ledger>(
@@ -202,15 +201,18 @@ fn mark_first<L: Ledger>(flat: &mut Flat, steps: &mut Steps<L>) -> Result<(), Fa
 
 // 6 items, 3 origins, 4 pages with a slot for each URL and one for a title, and the visits.
 fn add_rows<L: Ledger>(rt: &impl Abort, flat: &mut Flat, steps: &mut Steps<L>) -> Result<(), Fail> {
-    assert_eq!(rt; flat.live(steps), 22);
+    assert_eq!(rt; (flat.live(steps), flat.visits(steps)), (22, 4));
     for date in DATES {
         add_link(rt, flat, PageId(4), *date, steps)?;
     }
-    check_order(rt, flat, PageId(4), LATEST_FIRST, steps)?;
+    assert_eq!(rt; flat.visits(steps), 16);
+    check_order(rt, flat, PageId(4), LATEST_FIRST, steps);
     add_target(rt, flat, VisitId(4), Transition::Link, steps)?;
     check_targets(rt, flat, 4, &[17], steps);
     add_target(rt, flat, VisitId(4), Transition::RedirectTemporary, steps)?;
     check_targets(rt, flat, 4, &[18, 17], steps);
+    assert_eq!(rt; flat.visits(steps), 18);
+    check_absent(rt, flat, steps);
     set_title(rt, flat, "B", steps)?;
     check_texts(rt, flat, PageId(2), ("https://b.example/", "B"), steps)?;
     assert_eq!(rt; flat.live(steps), 37);
@@ -231,8 +233,8 @@ fn add_chain<L: Ledger>(
     add_target(rt, flat, VisitId(4), Transition::Link, steps)?;
     check_targets(rt, flat, 4, &[5, 8], steps);
     check_targets(rt, flat, 5, &[6, 7], steps);
-    check_order(rt, flat, PageId(4), &[8, 7, 6, 5, 4], steps)?;
-    assert_eq!(rt; flat.live(steps), 26);
+    check_order(rt, flat, PageId(4), &[8, 7, 6, 5, 4], steps);
+    assert_eq!(rt; (flat.live(steps), flat.visits(steps)), (26, 8));
     Ok(())
 }
 
@@ -270,14 +272,15 @@ fn remove_visits<L: Ledger>(
     check_targets(rt, flat, 4, &[8], steps);
     check_targets(rt, flat, 5, &[], steps);
     check_targets(rt, flat, 1, &[2, 3], steps);
-    check_order(rt, flat, PageId(4), &[8, 7, 6, 4], steps)?;
-    assert_eq!(rt; flat.live(steps), 25);
+    check_order(rt, flat, PageId(4), &[8, 7, 6, 4], steps);
+    assert_eq!(rt; flat.older(VisitId(5), steps), None);
+    assert_eq!(rt; (flat.live(steps), flat.visits(steps)), (25, 7));
     check_touched(rt, flat, (3, 3, 2), steps)?;
     remove_visit(rt, flat, VisitId(1), steps)?;
     check_targets(rt, flat, 1, &[], steps);
-    check_order(rt, flat, PageId(1), &[], steps)?;
-    check_order(rt, flat, PageId(2), &[2], steps)?;
-    assert_eq!(rt; flat.live(steps), 24);
+    check_order(rt, flat, PageId(1), &[], steps);
+    check_order(rt, flat, PageId(2), &[2], steps);
+    assert_eq!(rt; (flat.live(steps), flat.visits(steps)), (24, 6));
     assert_eq!(rt; flat.ids(steps).visit, 9);
     check_left(rt, flat, steps);
     Ok(())
@@ -332,6 +335,7 @@ fn first_page<L: Ledger>(rt: &impl Abort, alloc: Global, blank: Blank) -> Result
     assert_eq!(rt; page, PageId(1));
     check_texts(rt, &flat, page, ("https://a.example/", ""), steps)?;
     assert_eq!(rt; flat.live(steps), 9);
+    assert_eq!(rt; (flat.visits(steps), flat.items(steps)), (0, 6));
     // A header page, and one for 285 bytes.
     check_touched(rt, &mut flat, (1, 3, 2), steps)?;
     Ok(())

@@ -132,3 +132,25 @@ fn a_title_of_millions_of_bytes_is_read(rt: HostRuntime) -> Result<(), Fail> {
     assert_eq!(rt; node.title.as_str().len(), 6_000_000);
     Ok(())
 }
+
+// Tags of one bookmark, all different, and each of them once more in another spelling.
+#[test]
+fn hundreds_of_thousands_of_tags_are_read(rt: HostRuntime) -> Result<(), Fail> {
+    let alloc = rt.alloc();
+    let mut file = String::from_str(alloc, DOCTYPE)?;
+    file.push_str("<A HREF='http://a/' TAGS='")?;
+    for number in 0..300_000 {
+        let names = format!(in alloc; "t{number},T{number},")?;
+        file.push_str(names.as_str())?;
+    }
+    file.push_str("'>T</A>")?;
+    let tree = read_file(alloc, file.as_bytes())?;
+    let node = tree.menu.as_slice().first().ok_or("no nodes")?;
+    let tags = node.tags.as_slice();
+    assert_eq!(rt; tags.len(), 300_000);
+    for (number, tag) in tags.iter().enumerate() {
+        let name = format!(in alloc; "t{number}")?;
+        assert_eq!(rt; tag.text(), name.as_str());
+    }
+    Ok(())
+}

@@ -19,7 +19,7 @@ fn run_on(alloc: Global, words: &[&str], desk: &mut QuickDesk) -> Status {
 }
 
 // What a drill of these words says behind `new`.
-fn said_of(alloc: Global, words: &[&str]) -> Result<String, Fail> {
+pub fn said_of(alloc: Global, words: &[&str]) -> Result<String, Fail> {
     let mut desk = QuickDesk::new(alloc);
     let made = run_on(alloc, &["new", "s"], &mut desk);
     let done = run_on(alloc, words, &mut desk);

@@ -1,11 +1,13 @@
 -- What the calls of items tell of an item that was asked for, and that a new title has its slots.
 use Rattle.std.proofs.Common.{◌≡◌, ◌∙◌, ◌<◌, ◌≤◌, ◌==◌, ℕ, List, [], ◌∷◌, Option, Some, None, ap, arith, length}
-use Rattle.std.proofs.Common.{refl, true}
+use Rattle.std.proofs.Common.{Bool, false, refl, suc, sym, true, zero}
 use Rattle.std.proofs.lemmas.Bool.{eqb-true}
-use Rattle.std.specs.Option.{is_some, option_map}
+use Rattle.std.specs.List.{list_any}
+use Rattle.std.specs.Option.{IsSomeAnd, is_some, option_map}
 use Rattle.pl_base.specs.declared.date.Micros.{Micros}
 use Rattle.pl_base.specs.declared.id.ItemId.{ItemId}
 use Rattle.pl_base.specs.declared.id.PageId.{PageId}
+use Rattle.pl_base.specs.declared.item.ItemKind.TheVariants.{Folder}
 use Rattle.pl_base.specs.declared.item.ItemRow.{ItemRow}
 use Rattle.pl_base.specs.declared.row.Mark.{Mark}
 use Rattle.pl_base.specs.Good.{longest_title}
@@ -13,7 +15,7 @@ use Rattle.pl_base.specs.Live.{live_slots, slot_limit}
 use Rattle.pl_base.specs.Rows.{Kept, KeptPage, has_page, live_with_item, live_with_item_title, mark_of, page_at}
 use Rattle.pl_base.specs.Rows.{store_of}
 use Rattle.pl_base.specs.Store.{Item}
-use Rattle.pl_base.specs.Tree.{children_of, first_item, has_item, item_at, item_row, parent_of}
+use Rattle.pl_base.specs.Tree.{IsFolder, ancestors, children_of, first_item, has_item, item_at, item_row, parent_of}
 use Rattle.pl_plain.specs.FlatRows.{IsFlat}
 use Rattle.pl_check.proofs.RootTests.{found_passes}
 use Rattle.pl_plain.proofs.ItemChanges.{slots_retitled, slots_with_item}
@@ -29,10 +31,17 @@ pub item_there : (items : List Item) (id : ItemId) (row : ItemRow)
     → Some row ≡ option_map (item_row items) (item_at items id) → has_item items id ≡ true
 item_there items id row told = there-found (λ (i : Item). i.id.0 == id.0) (item_row items) items row told
 
-pub item_known : (items : List Item) (id : ItemId) (told : Option ItemRow)
-    → told ≡ option_map (item_row items) (item_at items id) → is_some told ≡ true → has_item items id ≡ true
-item_known items id None is some = absurd (cc)
-item_known items id (Some row) is some = item_there items id row is
+-- what the rows tell of a folder
+pub folder_told : (items : List Item) (id : ItemId) (row : ItemRow)
+    → Some row ≡ option_map (item_row items) (item_at items id) → row.kind ≡ Folder → IsFolder items id
+folder_told items id row told kind = choose (item_at items id) told
+  where
+    choose : (found : Option Item) → Some row ≡ option_map (item_row items) found
+        → IsSomeAnd found (λ (i : Item). i.kind ≡ Folder)
+    choose None none = absurd (cc)
+    choose (Some i) some =
+        let is : row ≡ item_row items i = cc in
+        sym (ap (λ (r : ItemRow). r.kind) is) ∙ kind
 
 -- what the rows tell of an item's parent
 pub parent_told : (items : List Item) (id : ItemId) (row : ItemRow)
@@ -50,6 +59,22 @@ parent_told items id row told = choose (item_at items id) refl told
     choose (Some i) at some =
         let is : row ≡ item_row items i = cc in
         ap (λ (r : ItemRow). r.parent) is ∙ ap (parent_of items) (same i at)
+
+-- ---- the way up from an item
+
+-- this item is among so many that another lies in
+abbrev pub is_above : List Item → ItemId → ℕ → Option ItemId → Bool
+is_above items top n at = list_any (λ (a : ItemId). a.0 == top.0) (ancestors n items at)
+
+pub none_above : (items : List Item) (top : ItemId) (n : ℕ) → is_above items top n None ≡ false
+none_above items top zero = refl
+none_above items top (suc n) = refl
+
+pub other_above : (items : List Item) (top id : ItemId) (n m : ℕ) (row : ItemRow) → n ≡ suc m
+    → Some row ≡ option_map (item_row items) (item_at items id) → (id.0 == top.0) ≡ false
+    → is_above items top n (Some id) ≡ is_above items top m row.parent
+other_above items top id n m row next told other =
+    rw (next, other) (ap (is_above items top m) (sym (parent_told items id row told)))
 
 pub childless : (items : List Item) (id : ItemId) → None ≡ first_item (children_of items id)
     → children_of items id ≡ []

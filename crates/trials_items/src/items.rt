@@ -1,11 +1,12 @@
 //! Calls on the items of a store over vectors. Each asks first for what the call takes for granted.
-ghost use Rattle.std.specs.Prelude.{◌≡◌, true, IfSome, IsSomeAnd};
+ghost use Rattle.std.specs.Prelude.{◌≡◌, ◌↔◌, false, true, IfSome, IsSome, IsSomeAnd};
 ghost use Rattle.pl_base.specs.Rows.{has_page};
-ghost use Rattle.pl_base.specs.Tree.{has_item, parent_of};
+ghost use Rattle.pl_base.specs.Tree.{IsFolder, lies_in, parent_of};
 ghost use Rattle.pl_plain.specs.Flat.{kept_of};
 
 use pl_base::{
-    Ids, ItemId, ItemRow, LONGEST_TITLE, Micros, NoMemory, PAGE_SIZE, PageId, Rows, Steps, Touched,
+    Ids, ItemId, ItemKind, ItemRow, LONGEST_TITLE, Micros, NoMemory, PAGE_SIZE, PageId, Rows,
+    Steps, Touched,
 };
 use pl_plain::Flat;
 use std::alloc::Global;
@@ -52,15 +53,54 @@ fn is_there<L: Ledger>(flat: &Flat, page: Option<PageId>, steps: &mut Steps<L>) 
     }
 }
 
-// Whether the parent is there.
-fn is_parent<L: Ledger>(flat: &Flat, parent: Option<ItemId>, steps: &mut Steps<L>) -> bool
-    ensures { result ≡ true
-        → IsSomeAnd parent (λ id. has_item (kept_of flat.now).items id ≡ true) }
+// Whether the item is there, and a folder.
+fn is_folder<L: Ledger>(flat: &Flat, item: ItemId, steps: &mut Steps<L>) -> bool
+    ensures { result ≡ true → IsFolder (kept_of flat.now).items item }
 {
-    match parent {
-        Some(parent) => flat.item_at(parent, steps).is_some(),
+    match flat.item_at(item, steps) {
+        Some(row) => row.kind == ItemKind::Folder,
         None => false,
     }
+}
+
+// Whether the parent is a folder.
+fn is_parent<L: Ledger>(flat: &Flat, parent: Option<ItemId>, steps: &mut Steps<L>) -> bool
+    ensures { result ≡ true → IsSomeAnd parent (IsFolder (kept_of flat.now).items) }
+{
+    match parent {
+        Some(parent) => is_folder(flat, parent, steps),
+        None => false,
+    }
+}
+
+// Whether the row has a page if it is a bookmark's, and no other.
+fn has_its_page(row: &ItemRow) -> bool
+    ensures { result ≡ true → IsSome row.now.page ↔ (row.now.kind ≡ ItemKind.Bookmark) }
+{
+    match row.kind {
+        ItemKind::Bookmark => row.page.is_some(),
+        ItemKind::Folder | ItemKind::Separator => row.page.is_none(),
+    }
+}
+
+// Whether the parent is neither the item nor lies in it.
+fn is_outside<L: Ledger>(flat: &Flat, item: ItemId, parent: ItemId, steps: &mut Steps<L>) -> bool
+    ensures { result ≡ true → lies_in (kept_of flat.now).items item parent ≡ false }
+{
+    let mut next = Some(parent);
+    for _step in 0..flat.items(steps) {
+        let Some(id) = next else {
+            return true;
+        };
+        let Some(row) = flat.item_at(id, steps) else {
+            return false;
+        };
+        if id == item {
+            return false;
+        }
+        next = row.parent;
+    }
+    true
 }
 
 pub fn insert<L: Ledger>(
@@ -73,6 +113,7 @@ pub fn insert<L: Ledger>(
 ) -> Result<ItemId, NoMemory> {
     assert!(rt; is_parent(flat, row.parent, steps));
     assert!(rt; is_child(flat, after, row.parent, steps));
+    assert!(rt; has_its_page(row));
     assert!(rt; is_there(flat, row.page, steps));
     assert!(rt; row.added.0 <= Micros::LAST.0);
     assert!(rt; row.modified.0 <= Micros::LAST.0);
@@ -91,7 +132,8 @@ pub fn move_item<L: Ledger>(
     steps: &mut Steps<L>,
 ) -> Result<(), Fail> {
     flat.item_at(item, steps).ok_or("no item")?;
-    flat.item_at(parent, steps).ok_or("no parent")?;
+    assert!(rt; is_folder(flat, parent, steps));
+    assert!(rt; is_outside(flat, item, parent, steps));
     assert!(rt; is_child(flat, after, Some(parent), steps));
     assert!(rt; after != Some(item));
     flat.move_item(item, parent, after, steps);
@@ -148,13 +190,16 @@ pub fn check_children<L: Ledger>(
     steps: &mut Steps<L>,
 ) {
     let mut next = flat.first_child(ItemId(parent), steps);
+    let mut last = None;
     for id in children {
         let child = ItemId(*id);
         assert_eq!(rt; next, Some(child));
         assert!(rt; has_parent(flat, child, Some(ItemId(parent)), steps));
+        last = next;
         next = flat.next_sibling(child, steps);
     }
     assert_eq!(rt; next, None);
+    assert_eq!(rt; flat.last_child(ItemId(parent), steps), last);
 }
 
 /// These items have the page.

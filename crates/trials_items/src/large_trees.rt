@@ -111,6 +111,8 @@ fn check_width<L: Ledger>(rt: &impl Abort, flat: &Flat, steps: &mut Steps<L>) {
     check_row(rt, flat, 8, 208, steps);
     check_row(rt, flat, LAST_ITEM - 200, LAST_ITEM, steps);
     assert_eq!(rt; flat.next_sibling(ItemId(LAST_ITEM), steps), None);
+    assert_eq!(rt; flat.last_child(ItemId(7), steps), Some(ItemId(LAST_ITEM)));
+    assert_eq!(rt; flat.items(steps), LAST_ITEM);
 }
 
 // The first and the last items with the page.
@@ -130,6 +132,7 @@ fn move_there_and_back<L: Ledger>(
     let (first, folder, last) = (ItemId(8), ItemId(7), ItemId(LAST_ITEM));
     move_item(rt, flat, first, folder, Some(last), steps)?;
     assert_eq!(rt; flat.next_sibling(last, steps), Some(first));
+    assert_eq!(rt; flat.last_child(folder, steps), Some(first));
     assert_eq!(rt; flat.first_child(folder, steps), Some(ItemId(9)));
     move_item(rt, flat, first, folder, None, steps)
 }

@@ -54,35 +54,52 @@ const TWO_SLOTS: &str = "aaaaaaaaaaaaaaaaaaaaaaaaaaaaaaaaaaaaaaaaaaaaaaaaaaaaaaa
 // Some folders with their children.
 type Children<'a> = &'a [(u32, &'a [u32])];
 
-// Each change with the children of some folders after it, the items that have the page, and the
-// slots. Before them there are 9: those of six roots, and of a page with its URL and its origin.
-const CHANGES: &[(Change, Children, &[u32], u64)] = &[
-    (Insert(2, 0, Folder, "F"), &[(2, &[7]), (7, &[])], &[], 11),
-    (Insert(7, 0, Bookmark, "A"), &[(7, &[8])], &[8], 13),
-    (Insert(2, 0, Separator, ""), &[(2, &[9, 7])], &[8], 14),
-    (Insert(2, 7, Separator, ""), &[(2, &[9, 7, 10])], &[8], 15),
+// Each change with the children of some folders after it, the items that have the page, how many
+// items there are, and the slots. Before them there are 9: those of six roots, and of a page with its
+// URL and its origin.
+const CHANGES: &[(Change, Children, &[u32], u32, u64)] = &[
+    (
+        Insert(2, 0, Folder, "F"),
+        &[(2, &[7]), (7, &[])],
+        &[],
+        7,
+        11,
+    ),
+    (Insert(7, 0, Bookmark, "A"), &[(7, &[8])], &[8], 8, 13),
+    (Insert(2, 0, Separator, ""), &[(2, &[9, 7])], &[8], 9, 14),
+    (
+        Insert(2, 7, Separator, ""),
+        &[(2, &[9, 7, 10])],
+        &[8],
+        10,
+        15,
+    ),
     (
         Insert(2, 9, Bookmark, TWO_SLOTS),
         &[(2, &[9, 11, 7, 10])],
         &[8, 11],
+        11,
         18,
     ),
     (
         Insert(7, 8, Folder, ONE_SLOT),
         &[(7, &[8, 12])],
         &[8, 11],
+        12,
         20,
     ),
     (
         Insert(12, 0, Bookmark, ""),
         &[(12, &[13])],
         &[8, 11, 13],
+        13,
         21,
     ),
     (
         Insert(5, 0, Bookmark, ""),
         &[(5, &[14]), (2, &[9, 11, 7, 10])],
         &[8, 11, 13, 14],
+        14,
         22,
     ),
     // Within one folder.
@@ -90,37 +107,49 @@ const CHANGES: &[(Change, Children, &[u32], u64)] = &[
         Move(10, 2, 0),
         &[(2, &[10, 9, 11, 7])],
         &[8, 11, 13, 14],
+        14,
         22,
     ),
     (
         Move(10, 2, 7),
         &[(2, &[9, 11, 7, 10])],
         &[8, 11, 13, 14],
+        14,
         22,
     ),
     (
         Move(11, 2, 7),
         &[(2, &[9, 7, 11, 10])],
         &[8, 11, 13, 14],
+        14,
         22,
     ),
     (
         Move(11, 2, 9),
         &[(2, &[9, 11, 7, 10])],
         &[8, 11, 13, 14],
+        14,
         22,
     ),
-    (Move(9, 2, 0), &[(2, &[9, 11, 7, 10])], &[8, 11, 13, 14], 22),
+    (
+        Move(9, 2, 0),
+        &[(2, &[9, 11, 7, 10])],
+        &[8, 11, 13, 14],
+        14,
+        22,
+    ),
     (
         Move(7, 2, 11),
         &[(2, &[9, 11, 7, 10])],
         &[8, 11, 13, 14],
+        14,
         22,
     ),
     (
         Move(9, 2, 11),
         &[(2, &[11, 9, 7, 10])],
         &[8, 11, 13, 14],
+        14,
         22,
     ),
     // To another one.
@@ -128,36 +157,42 @@ const CHANGES: &[(Change, Children, &[u32], u64)] = &[
         Move(11, 7, 8),
         &[(2, &[9, 7, 10]), (7, &[8, 11, 12])],
         &[8, 11, 13, 14],
+        14,
         22,
     ),
     (
         Move(12, 6, 0),
         &[(6, &[12]), (12, &[13]), (7, &[8, 11])],
         &[8, 11, 13, 14],
+        14,
         22,
     ),
     (
         Move(8, 12, 13),
         &[(12, &[13, 8]), (7, &[11])],
         &[8, 11, 13, 14],
+        14,
         22,
     ),
     (
         Move(14, 7, 0),
         &[(7, &[14, 11]), (5, &[])],
         &[8, 11, 13, 14],
+        14,
         22,
     ),
     (
         Move(14, 1, 4),
         &[(1, &[2, 3, 4, 14, 5, 6]), (7, &[11])],
         &[8, 11, 13, 14],
+        14,
         22,
     ),
     (
         Move(14, 3, 0),
         &[(1, &[2, 3, 4, 5, 6]), (3, &[14])],
         &[8, 11, 13, 14],
+        14,
         22,
     ),
     // Titles and dates.
@@ -165,31 +200,41 @@ const CHANGES: &[(Change, Children, &[u32], u64)] = &[
         Set(7, "", 7),
         &[(2, &[9, 7, 10]), (7, &[11])],
         &[8, 11, 13, 14],
+        14,
         21,
     ),
     (
         Set(9, TWO_SLOTS, 8),
         &[(2, &[9, 7, 10]), (9, &[])],
         &[8, 11, 13, 14],
+        14,
         23,
     ),
-    (Set(11, "B", 0), &[(7, &[11])], &[8, 11, 13, 14], 22),
-    (SetModified(12, 9), &[(12, &[13, 8])], &[8, 11, 13, 14], 22),
+    (Set(11, "B", 0), &[(7, &[11])], &[8, 11, 13, 14], 14, 22),
+    (
+        SetModified(12, 9),
+        &[(12, &[13, 8])],
+        &[8, 11, 13, 14],
+        14,
+        22,
+    ),
     // A folder goes once it is empty, and its id is not given again.
-    (Remove(13), &[(12, &[8])], &[8, 11, 14], 21),
+    (Remove(13), &[(12, &[8])], &[8, 11, 14], 13, 21),
     (
         Insert(7, 11, Folder, "x"),
         &[(7, &[11, 15])],
         &[8, 11, 14],
+        14,
         23,
     ),
-    (Remove(15), &[(7, &[11])], &[8, 11, 14], 21),
-    (Remove(11), &[(7, &[])], &[8, 14], 19),
-    (Remove(7), &[(2, &[9, 10])], &[8, 14], 18),
+    (Remove(15), &[(7, &[11])], &[8, 11, 14], 13, 21),
+    (Remove(11), &[(7, &[])], &[8, 14], 12, 19),
+    (Remove(7), &[(2, &[9, 10])], &[8, 14], 11, 18),
     (
         Insert(2, 9, Bookmark, ""),
         &[(2, &[9, 16, 10])],
         &[8, 14, 16],
+        12,
         19,
     ),
 ];
@@ -263,6 +308,7 @@ fn check_page<L: Ledger>(rt: &impl Abort, flat: &Flat, steps: &mut Steps<L>) {
     assert_eq!(rt; flat.page_after(None, steps), Some(page));
     assert_eq!(rt; flat.page_after(Some(page), steps), None);
     assert!(rt; flat.visit_at(VisitId(1), steps).is_none());
+    assert_eq!(rt; flat.visits(steps), 0);
     assert_eq!(rt; (flat.ids(steps).page, flat.ids(steps).visit), (2, 1));
 }
 
@@ -303,7 +349,7 @@ fn check_left<L: Ledger>(rt: &impl Abort, flat: &Flat, steps: &mut Steps<L>) -> 
     check_references(rt, flat, 1, &[8, 14, 16], steps);
     check_page(rt, flat, steps);
     assert_eq!(rt; flat.ids(steps).item, 17);
-    assert_eq!(rt; flat.live(steps), 19);
+    assert_eq!(rt; (flat.items(steps), flat.live(steps)), (12, 19));
     Ok(())
 }
 
@@ -331,12 +377,12 @@ fn opening<L: Ledger>(alloc: Global, steps: &mut Steps<L>) -> Result<Flat, Fail>
 
 // The changes, one after another, and what each leaves.
 fn grow<L: Ledger>(rt: &impl Abort, flat: &mut Flat, steps: &mut Steps<L>) -> Result<(), Fail> {
-    for (change, folders, references, live) in CHANGES {
+    for (change, folders, references, items, live) in CHANGES {
         perform(rt, flat, change, steps)?;
         check_lists(rt, flat, folders, steps);
         check_references(rt, flat, 1, references, steps);
         check_page(rt, flat, steps);
-        assert_eq!(rt; flat.live(steps), *live);
+        assert_eq!(rt; (flat.items(steps), flat.live(steps)), (*items, *live));
     }
     Ok(())
 }
@@ -395,6 +441,7 @@ fn check_rows<L: Ledger>(rt: &impl Abort, flat: &Flat, steps: &mut Steps<L>) -> 
     }
     let root = flat.item_at(ItemId(1), steps).ok_or("no root")?;
     assert!(rt; root.parent.is_none());
+    assert_eq!(rt; (flat.visits(steps), flat.items(steps)), (1, 18));
     assert_eq!(rt; flat.live(steps), 40);
     Ok(())
 }

@@ -1,8 +1,8 @@
 // Files with bookmarks and tags, and those that stand for no store.
 
 use crate::tree_file::{BOOKMARK, FOLDER, ITEMS, Item, LAST, NEXT, ROWS, SEPARATOR, file};
-use pl_base::NoMemory;
-use pl_plain::{CheckError, Flat};
+use pl_base::{CheckError, NoMemory};
+use pl_plain::Flat;
 use std::alloc::Global;
 use std::process::Abort;
 use std::test::Fail;

@@ -47,12 +47,13 @@ fn offered_ids(alloc: Global, rows: &[BarRow]) -> Result<Vec<u32>, Fail> {
     Ok(ids)
 }
 
-// The ids of what a query or the address bar lists; of another reply none.
+// The ids of what a query or the address bar lists. A refusal, or another reply, lists nothing: it
+// fails the test also where no rows are expected.
 fn ids_in(alloc: Global, reply: &Reply) -> Result<Vec<u32>, Fail> {
     match reply {
         Reply::Rows(rows) => found_ids(alloc, rows.as_slice()),
         Reply::Bar(rows) => offered_ids(alloc, rows.as_slice()),
-        _ => Ok(Vec::new(alloc)),
+        _ => Err("a reply without rows".into()),
     }
 }
 
@@ -61,6 +62,19 @@ fn expect_ids(rt: &impl Abort, alloc: Global, reply: Reply, wanted: &[u32]) -> R
     drop(reply);
     assert_eq!(rt; listed?.as_slice(), wanted);
     Ok(())
+}
+
+// The same of what may be no reply, as a comment has none.
+fn expect_reply(
+    rt: &impl Abort,
+    alloc: Global,
+    reply: Option<Reply>,
+    wanted: &[u32],
+) -> Result<(), Fail> {
+    match reply {
+        Some(reply) => expect_ids(rt, alloc, reply, wanted),
+        None => Err("no reply".into()),
+    }
 }
 
 // A store after these lines.
@@ -85,9 +99,7 @@ pub fn listed(
     for (line, wanted) in lines {
         let (after, reply) = replied(alloc, memory, line)?;
         memory = after;
-        if let Some(reply) = reply {
-            expect_ids(rt, alloc, reply, wanted)?;
-        }
+        expect_reply(rt, alloc, reply, wanted)?;
     }
     Ok(memory)
 }

@@ -142,6 +142,27 @@ fn reads_tag_names(rt: HostRuntime) -> Result<(), Fail> {
     Ok(())
 }
 
+// Two names, and whether they are spelled alike.
+const SPELLINGS: &[(&str, &str, bool)] = &[
+    ("news", "news", true),
+    (" news\t", "news", true),
+    ("news", "News", false),
+    ("Straße", "STRASSE", false),
+    ("new", "news", false),
+    ("news", "new", false),
+    ("é", "e\u{301}", false),
+];
+
+#[test]
+fn compares_spellings(rt: HostRuntime) -> Result<(), Fail> {
+    let alloc = rt.alloc();
+    for (one, other, want) in SPELLINGS {
+        let (name, again) = (TagName::read(alloc, one)?, TagName::read(alloc, other)?);
+        assert_eq!(rt; name.has_same_spelling(&again), *want, "{one:?} {other:?}");
+    }
+    Ok(())
+}
+
 // Each text with its words.
 const PIECES: &[(&str, &[&str])] = &[
     ("", &[]),

@@ -75,7 +75,6 @@ fn has_visit_by<R: Rows, L: Ledger>(
     page: PageId,
     steps: &mut Steps<L>,
 ) -> bool
-    requires { has_page (R.kept rows.now) page ≡ true }
     ensures { result ≡ parts.has_visit_by (store_of (R.kept rows.now)) page transition }
 {
     let mut next = rows.latest(page, steps);
@@ -95,7 +94,6 @@ pub fn has_transitions<R: Rows, L: Ledger>(
     page: PageId,
     steps: &mut Steps<L>,
 ) -> bool
-    requires { has_page (R.kept rows.now) page ≡ true }
     ensures { result ≡ spec.has_transitions (store_of (R.kept rows.now)) transitions.now page }
 {
     for transition in transitions {

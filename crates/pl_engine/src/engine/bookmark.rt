@@ -3,7 +3,7 @@ ghost use Rattle.std.specs.Prelude.{◌≡◌, ◌≤◌, ℕ, List, IfOk, OnOk}
 ghost use Rattle.pl_base.specs.Date.{IsDate};
 ghost use Rattle.pl_base.specs.Live.{slot_limit};
 ghost use Rattle.pl_base.specs.Rows.{store_of};
-ghost use Rattle.pl_history.specs.Sound.{IsSound};
+ghost use Rattle.pl_base.specs.Rows.{IsSound};
 ghost use Rattle.pl_step.specs.Step as spec;
 
 use crate::engine::insert::room_refusal;

@@ -5,7 +5,7 @@ ghost use Rattle.pl_base.specs.Good.{longest_title};
 ghost use Rattle.pl_base.specs.Live.{slot_limit};
 ghost use Rattle.pl_base.specs.Rows.{live_with_item_title, store_of};
 ghost use Rattle.pl_base.specs.Tree.{has_item};
-ghost use Rattle.pl_history.specs.Sound.{IsSound};
+ghost use Rattle.pl_base.specs.Rows.{IsSound};
 ghost use Rattle.pl_step.specs.Step as spec;
 ghost use Rattle.pl_tree.specs.Refused as tree;
 

@@ -4,14 +4,14 @@ ghost use Rattle.std.specs.List.{All};
 ghost use Rattle.std.specs.List.Sorted.{IsNonDecreasingBy};
 ghost use Rattle.pl_base.specs.declared.id.PageId.{PageId};
 ghost use Rattle.pl_base.specs.Removal.{without_idle_pages};
-ghost use Rattle.pl_base.specs.Rows.{store_of};
+ghost use Rattle.pl_base.specs.Rows.{HaveSums, IsSound, store_of};
 ghost use Rattle.pl_history.specs.Settled.{AreSettledBut};
-ghost use Rattle.pl_history.specs.Sound.{IsSound};
 ghost use Rattle.pl_engine.specs.NewPage as spec;
 ghost use Rattle.pl_engine.specs.NewPage.{IsNew};
 
 use pl_base::{Day, Mark, NoMemory, PageId, Rows, Steps};
 use pl_history::{is_place, settle_all};
+use pl_marks::keep_mark;
 use pl_score::score;
 use std::alloc::Global;
 use std::sync::ledger::Ledger;
@@ -36,7 +36,8 @@ fn mark_new<R: Rows, L: Ledger>(
     pages: &[PageId],
     steps: &mut Steps<L>,
 ) -> Result<(), NoMemory>
-    requires { All (IsNew (store_of (R.kept rows.old))) pages.now }
+    requires made { All (IsNew (store_of (R.kept rows.old))) pages.now }
+    requires sums { HaveSums (R.kept rows.old) }
     ensures store { OnOk result (store_of (R.kept rows.new) ≡ store_of (R.kept rows.old)) }
     ensures settled { OnOk result ((rest : List PageId) → AreSettledBut (pages.now ++ rest)
         (R.kept rows.old) → AreSettledBut rest (R.kept rows.new)) }
@@ -44,7 +45,7 @@ fn mark_new<R: Rows, L: Ledger>(
 {
     for page in pages {
         let is_place = is_place(alloc, rows, *page, steps)?;
-        rows.set_mark(*page, new_mark(is_place), steps);
+        keep_mark(rows, *page, new_mark(is_place), steps);
     }
     Ok(())
 }

@@ -2,7 +2,7 @@
 ghost use Rattle.std.specs.Prelude.{◌≡◌, ℕ, List, IfOk, OnOk};
 ghost use Rattle.pl_base.specs.Date.{IsDay};
 ghost use Rattle.pl_base.specs.Rows.{store_of};
-ghost use Rattle.pl_history.specs.Sound.{IsSound};
+ghost use Rattle.pl_base.specs.Rows.{IsSound};
 ghost use Rattle.pl_step.specs.Step as spec;
 
 use pl_base::{Day, NoMemory, Refusal, Rows, Steps, VisitId};

@@ -4,7 +4,7 @@ ghost use Rattle.pl_base.specs.Date.{IsDate};
 ghost use Rattle.pl_base.specs.Good.{longest_title};
 ghost use Rattle.pl_base.specs.Live.{slot_limit};
 ghost use Rattle.pl_base.specs.Rows.{store_of};
-ghost use Rattle.pl_history.specs.Sound.{IsSound};
+ghost use Rattle.pl_base.specs.Rows.{IsSound};
 ghost use Rattle.pl_step.specs.Step as spec;
 ghost use Rattle.pl_engine.specs.Room.{item_room, plain_item};
 

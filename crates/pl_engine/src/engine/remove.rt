@@ -1,7 +1,7 @@
 // An item that goes with all below it, and the pages that lose their last item by that.
 ghost use Rattle.std.specs.Prelude.{◌≡◌, ℕ, List, IfOk, OnOk};
 ghost use Rattle.pl_base.specs.Rows.{store_of};
-ghost use Rattle.pl_history.specs.Sound.{IsSound};
+ghost use Rattle.pl_base.specs.Rows.{IsSound};
 ghost use Rattle.pl_step.specs.Step as spec;
 
 use pl_base::{ItemId, NoMemory, Refusal, Rows, Steps};

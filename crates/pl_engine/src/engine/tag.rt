@@ -6,7 +6,7 @@ ghost use Rattle.pl_base.specs.Good.{HasGoodItems};
 ghost use Rattle.pl_base.specs.Live as live;
 ghost use Rattle.pl_base.specs.Live.{live_slots, slot_limit};
 ghost use Rattle.pl_base.specs.Rows.{store_of};
-ghost use Rattle.pl_history.specs.Sound.{IsSound};
+ghost use Rattle.pl_base.specs.Rows.{IsSound};
 ghost use Rattle.pl_step.specs.Step as spec;
 ghost use Rattle.pl_engine.specs.Room.{tag_room};
 ghost use Rattle.pl_history.specs.Target.{IsTargetOf};

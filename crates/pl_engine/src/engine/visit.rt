@@ -1,14 +1,15 @@
 // A visit, performed on rows.
-ghost use Rattle.std.specs.Prelude.{◌≡◌, ◌≤◌, ℕ, List, Option, false, IfOk, IsErr, OnOk};
+ghost use Rattle.std.specs.Prelude.{◌≡◌, ◌≤◌, ◌+◌, ℕ, List, Option, false, IfOk, IsErr, OnOk};
 ghost use Rattle.pl_base.specs.declared.id.VisitId.{VisitId};
 ghost use Rattle.pl_base.specs.Address.{is_unrecorded_url};
 ghost use Rattle.pl_base.specs.Date.{IsDate};
 ghost use Rattle.pl_base.specs.Live.{live_slots, slot_limit};
-ghost use Rattle.pl_base.specs.Rows.{store_of};
-ghost use Rattle.pl_history.specs.Sound.{IsSound};
+ghost use Rattle.pl_base.specs.Rows.{IsSound, store_of};
+ghost use Rattle.pl_base.specs.Touched.{IsAtMostMore};
 ghost use Rattle.pl_base.specs.Visiting as visiting;
 ghost use Rattle.pl_step.specs.Step as spec;
 ghost use Rattle.pl_history.specs.Target.{IsTargetOf};
+ghost use Rattle.pl_engine.specs.VisitPages.{most_visit_pages, text_pages};
 
 use pl_base::{IdKind, Ids, Micros, NoMemory, Refusal, Rows, Steps, Transition, VisitId, VisitRow};
 use pl_history::{Target, add_visit, find_target, page_for, slots_after};
@@ -96,6 +97,9 @@ pub fn visit<R: Rows, L: Ledger>(
         → reply ≡ Reply.Refused refusal → rows.new ≡ rows.old) }
     ensures base { OnOk result ((bytes : List ℕ) → R.base rows.old bytes → R.base rows.new bytes) }
     ensures sound { OnOk result (IsSound (R.kept rows.new)) }
+    ensures pages { OnOk result (IsAtMostMore
+        (most_visit_pages + text_pages url.now (store_of (R.kept rows.old)))
+        (R.pending rows.old) (R.pending rows.new)) }
     ensures no_memory { IsErr result → is_unrecorded_url url.now ≡ false }
 {
     if !url.recorded() {

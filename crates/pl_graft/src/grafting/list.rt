@@ -12,7 +12,6 @@ ghost use Rattle.pl_graft.specs.Standing.{GoesOn, HasRoom, IsStanding};
 use super::{Grafting, Open};
 use pl_base::{ItemId, ItemKind, NoMemory, Rows, Steps};
 use pl_nbread::Node;
-use pl_tree::last_child;
 use std::sync::ledger::Ledger;
 
 // One folder more is open, if the item is one.
@@ -88,7 +87,7 @@ impl Grafting {
         let mut folders = Vec::new(self.alloc);
         folders.push(Open {
             folder: root,
-            last: last_child(rows, root, steps),
+            last: rows.last_child(root, steps),
         })?;
         for node in nodes {
             self.next_node(rows, node, &mut folders, steps)?;

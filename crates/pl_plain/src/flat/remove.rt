@@ -2,12 +2,12 @@
 ghost use Rattle.std.specs.Prelude.{◌≡◌, ◌==◌, map, not, true};
 ghost use Rattle.std.specs.List.{filter};
 ghost use Rattle.pl_base.specs.Rows.{has_visit, without_visit};
-ghost use Rattle.pl_form.specs.declared.stored.StoredVisit.{StoredVisit};
+ghost use Rattle.pl_stored.specs.declared.stored.StoredVisit.{StoredVisit};
 ghost use Rattle.pl_plain.specs.FlatRows.{left_by};
 
 use crate::Flat;
 use pl_base::VisitId;
-use pl_form::StoredVisit;
+use pl_stored::StoredVisit;
 
 // The visit with this id goes.
 fn drop_visit_row(visits: &mut Vec<StoredVisit>, id: VisitId)

@@ -8,12 +8,12 @@ use pl_base::{
     Touched, Txt, VisitId, VisitRow,
 };
 use pl_check::visit_row;
-use pl_form::StoredVisit;
+use pl_stored::StoredVisit;
 use std::sync::ledger::Ledger;
 
 // No steps are counted, since each call reads any number of rows.
 impl Rows for Flat {
-    ghost use Rattle.std.specs.Prelude.{length};
+    ghost use Rattle.std.specs.Prelude.{None, length};
     ghost use Rattle.pl_plain.specs.Flat.{kept_of, bytes_of, IsBase};
     ghost use Rattle.pl_plain.specs.FlatBase.{based};
     ghost use Rattle.pl_plain.specs.FlatLaws as laws;
@@ -29,6 +29,8 @@ impl Rows for Flat {
     ghost targets = { λ flat. targets_of (kept_of flat).visits };
 
     ghost form = { StandsFor };
+
+    ghost pending = { λ flat. None };
 
     fn day<L: Ledger>(&self, steps: &mut Steps<L>) -> Day {
         self.day
@@ -120,6 +122,10 @@ impl Rows for Flat {
         Some(visit_row(visit))
     }
 
+    fn visits<L: Ledger>(&self, steps: &mut Steps<L>) -> u32 {
+        self.visits.len() as u32
+    }
+
     fn latest<L: Ledger>(&self, page: PageId, steps: &mut Steps<L>) -> Option<VisitId> {
         let latest = latest_visit(&self.visits, page, None)?;
         Some(latest.id)
@@ -162,6 +168,10 @@ impl Rows for Flat {
         self.drop_visit(visit);
     }
 
+    fn items<L: Ledger>(&self, steps: &mut Steps<L>) -> u32 {
+        self.items.len() as u32
+    }
+
     fn item_at<L: Ledger>(&self, item: ItemId, steps: &mut Steps<L>) -> Option<ItemRow> {
         self.items.item_at(item)
     }
@@ -172,6 +182,10 @@ impl Rows for Flat {
 
     fn first_child<L: Ledger>(&self, item: ItemId, steps: &mut Steps<L>) -> Option<ItemId> {
         self.items.first_child(item)
+    }
+
+    fn last_child<L: Ledger>(&self, item: ItemId, steps: &mut Steps<L>) -> Option<ItemId> {
+        self.items.last_child(item)
     }
 
     fn next_sibling<L: Ledger>(&self, item: ItemId, steps: &mut Steps<L>) -> Option<ItemId> {

@@ -3,7 +3,7 @@ ghost use Rattle.std.specs.List.{position};
 ghost use Rattle.std.specs.List.Sorted.{IsStrictlyIncreasing};
 ghost use Rattle.std.specs.Option.{option_copied, option_map};
 ghost use Rattle.pl_base.specs.Visits.{latest_first};
-ghost use Rattle.pl_form.specs.Stored.{visit_of};
+ghost use Rattle.pl_stored.specs.Stored.{visit_of};
 ghost use Rattle.pl_plain.specs.declared.flat.row.FlatPage.{FlatPage};
 ghost use Rattle.pl_check.specs.Rows.{stored_visit_ids};
 ghost use Rattle.pl_plain.specs.FlatRows.{flat_page_ids};
@@ -12,7 +12,7 @@ ghost use Rattle.pl_check.specs.Latest.{first_of, is_within};
 use crate::flat::row::FlatPage;
 use pl_base::{PageId, VisitId};
 use pl_check::{is_within, later_of};
-use pl_form::StoredVisit;
+use pl_stored::StoredVisit;
 
 /// Where the page with this id stands.
 pub fn page_index(pages: &[FlatPage], id: PageId) -> Option<usize>

@@ -2,7 +2,7 @@
 ghost use Rattle.std.specs.Prelude.{◌≡◌, ◌++◌, filter, map};
 ghost use Rattle.std.specs.List.Sorted.{IsStrictlyIncreasing};
 ghost use Rattle.pl_base.specs.Rows.{first_id};
-ghost use Rattle.pl_form.specs.Stored.{visit_of};
+ghost use Rattle.pl_stored.specs.Stored.{visit_of};
 ghost use Rattle.pl_check.specs.Rows.{stored_visit_ids};
 ghost use Rattle.pl_check.specs.Targets.{is_other_from, is_redirect_from};
 ghost use Rattle.pl_check.specs.Targets.{target_among, targets_of};
@@ -10,7 +10,7 @@ ghost use Rattle.pl_check.specs.Targets.{target_among, targets_of};
 use crate::flat::search::visit_index;
 use pl_base::VisitId;
 use pl_check::{is_other_from, is_redirect_from};
-use pl_form::StoredVisit;
+use pl_stored::StoredVisit;
 
 /// The first of the visits that came from this one.
 pub fn first_target(visits: &[StoredVisit], source: VisitId) -> Option<VisitId>

@@ -2,7 +2,7 @@ ghost use Rattle.std.specs.Prelude.{◌≡◌, ◌+◌, ◌≤◌, ◌<◌, ◌^
 ghost use Rattle.std.specs.Prelude.{codes, length, map, replicate, All, OnOk};
 ghost use Rattle.pl_base.specs.Address.{longest_url};
 ghost use Rattle.pl_base.specs.Good.{child_ids, longest_title};
-ghost use Rattle.pl_form.specs.Stored.{visit_of};
+ghost use Rattle.pl_stored.specs.Stored.{visit_of};
 ghost use Rattle.pl_plain.specs.FlatRows.{form_row};
 ghost use Rattle.pl_form.specs.Form.{eight, filled_pages, four, header, item_bytes, listed};
 ghost use Rattle.pl_form.specs.Form.{page_bytes, page_or_zero, text_bytes, visit_bytes};
@@ -13,8 +13,8 @@ ghost use Rattle.pl_form.specs.Form as form;
 use crate::Flat;
 use crate::flat::row::FlatPage;
 use pl_base::{NoMemory, PageId, VisitId};
-use pl_form::StoredVisit;
 use pl_items::{Child, Items, Listed};
+use pl_stored::StoredVisit;
 
 pub fn put_four(out: &mut Vec<u8>, n: u32) -> Result<(), NoMemory>
     ensures { OnOk result (out.new.items ≡ out.old.items ++ four n) }

@@ -39,8 +39,7 @@ fn has_visit_in_times<R: Rows, L: Ledger>(
     page: PageId,
     steps: &mut Steps<L>,
 ) -> bool
-    requires page { has_page (R.kept rows.now) page ≡ true }
-    requires asked { IsAsked (store_of (R.kept rows.now)) asked.now.query.now asked.now }
+    requires { IsAsked (store_of (R.kept rows.now)) asked.now.query.now asked.now }
     ensures { result ≡ spec.has_visit_in_times (store_of (R.kept rows.now)) asked.now.query.now
         page }
 {

@@ -31,6 +31,16 @@ returns-in-Run-clause-replies g c = λ kind start begins bytes before told begun
     says_at_end desk c.run_stored.result true old start bytes before (g.S.Source.left c.run_stored.new.input)
     c.run_stored.new.desk (c.run_stored.ensures.ends is.1.0 start is.1.1 is.1.2 bytes before told begun)
 
+pub returns-in-Try-clause-stops : goal.returns-in-Try-clause-stops
+returns-in-Try-clause-stops g c = λ kind start begins bytes before told begun.
+    let desk = g.D.Desk in let old = c.args.desk.now in
+    let asked : asked_of c.args.words.now ≡ Some tasks.Try =
+    sym c.of.ensures ∙ c.in-Some.is ∙ ap (λ (t : Task). Some t) c.in-Try.is in
+    let is =
+    begins_in_memory (desk.held old) kind start
+    (subst (λ (t : Option Task). BeginsWith t (desk.held old) kind start) asked begins) in
+    rw (is.0, is.1) (c.try_script.ensures.stops bytes before told begun)
+
 pub returns-in-Run-clause-stops : goal.returns-in-Run-clause-stops
 returns-in-Run-clause-stops g c = λ kind start begins bytes before told begun.
     let desk = g.D.Desk in let old = c.args.desk.now in

@@ -2,7 +2,7 @@ use Rattle.std.proofs.Common.{◌≡◌, ◌∙◌, ap, subst, sym, true}
 use Rattle.std.specs.List.Sorted.{IsStrictlyIncreasing}
 use Rattle.std.proofs.lemmas.Bool.{true≢false}
 use Rattle.std.proofs.lemmas.Result.{IfOk-weaker}
-use Rattle.pl_form.specs.Stored.{Stored}
+use Rattle.pl_stored.specs.Stored.{Stored}
 use Rattle.pl_check.specs.Rows.{are_good}
 use Rattle.pl_check.specs.Items.{item_ids}
 use Rattle.pl_check.specs.Tags.{HaveGoodTags}

@@ -1,6 +1,6 @@
 use Rattle.std.proofs.Common.{◌+◌, ◌-◌, ◌∙◌, List, ℕ, ap, bytes_eq, drop, length, sym, take}
 use Rattle.std.specs.List.{list_any}
-use Rattle.pl_form.specs.declared.stored.StoredPage.{StoredPage}
+use Rattle.pl_stored.specs.declared.stored.StoredPage.{StoredPage}
 use Rattle.pl_check.specs.Rows as good
 use Rattle.pl_check.proofs.RowTests.{own_urls_more}
 use Rattle.pl_check.proofs.good.have_own_urls.Goals as goal

@@ -1,5 +1,5 @@
 use Rattle.std.proofs.Common.{◌∙◌, sym}
-use Rattle.pl_form.specs.Stored.{stored_store}
+use Rattle.pl_stored.specs.Stored.{stored_store}
 use Rattle.pl_check.proofs.CheckMarks.{hidden-by_visits, hidden-place, sample_filled, sampled-small-by}
 use Rattle.pl_check.proofs.marks.mark.Goals as goal
 use Rattle.pl_check.proofs.marks.mark.Goals.{then-is_place, else-is_place}

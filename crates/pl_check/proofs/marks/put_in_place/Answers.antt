@@ -2,8 +2,8 @@ use Rattle.std.proofs.Common.{◌≡◌, position, rules, tests}
 use Rattle.std.proofs.lemmas.Iterator.{YieldsList-from_slice}
 use Rattle.std.proofs.lemmas.Iterator.Search.{position_from_yields_List}
 use Rattle.pl_base.specs.Visits.{is_later}
-use Rattle.pl_form.specs.declared.stored.StoredVisit.{StoredVisit}
-use Rattle.pl_form.specs.Stored.{visit_of}
+use Rattle.pl_stored.specs.declared.stored.StoredVisit.{StoredVisit}
+use Rattle.pl_stored.specs.Stored.{visit_of}
 use Rattle.pl_check.proofs.CheckSamples.{put_in_place-rows}
 use Rattle.pl_check.proofs.marks.put_in_place.Goals as goal
 

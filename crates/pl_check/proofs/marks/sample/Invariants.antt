@@ -1,5 +1,5 @@
 use Rattle.std.proofs.Common.{◌≡◌, map}
-use Rattle.pl_form.specs.Stored.{visit_of}
+use Rattle.pl_stored.specs.Stored.{visit_of}
 use Rattle.pl_check.proofs.CheckSamples.{sample_among}
 use Rattle.pl_check.proofs.LatestVisits.{walked}
 use Rattle.pl_check.proofs.marks.sample.Given as goal

@@ -2,8 +2,8 @@ use Rattle.std.proofs.Common.{◌∙◌, rules, sym, tests}
 use Rattle.std.proofs.lemmas.Iterator.{YieldsList-from_slice}
 use Rattle.std.proofs.lemmas.Iterator.Search.{any_from_yields_List}
 use Rattle.pl_base.proofs.ListLaws.{list_any-map}
-use Rattle.pl_form.specs.declared.stored.StoredVisit.{StoredVisit}
-use Rattle.pl_form.specs.Stored.{visit_of}
+use Rattle.pl_stored.specs.declared.stored.StoredVisit.{StoredVisit}
+use Rattle.pl_stored.specs.Stored.{visit_of}
 use Rattle.pl_check.specs.Targets.{is_redirect_from}
 use Rattle.pl_check.proofs.redirects.is_redirect_source.Goals as goal
 

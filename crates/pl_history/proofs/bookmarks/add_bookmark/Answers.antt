@@ -4,7 +4,7 @@ use Rattle.pl_base.specs.Store.{item_id}
 use Rattle.pl_base.proofs.LookUps.{found_where}
 use Rattle.pl_tree.specs.Changes.{with_inserted, with_new}
 use Rattle.pl_history.specs.Marked.{page_item}
-use Rattle.pl_history.proofs.GrownItems.{adds_new, mark_counted, sound_grown}
+use Rattle.pl_history.proofs.GrownItems.{adds_new, mark_counted, sound_grown, sums_grown}
 use Rattle.pl_history.proofs.SourcePage.{source_store}
 use Rattle.pl_history.proofs.bookmarks.add_bookmark.Goals as goal
 
@@ -22,6 +22,14 @@ refresh-requires-clause-count g c =
     (page_item c.args.page c.in_ok-copied.field-0 c.args.date) kept.items)
     c.args.page c.args.is_place c.unwrap-mark.result c.requires.ready c.in_ok-id.ensures.kept
     (sym c.unwrap-mark.ensures ∙ c.page_at.ensures.mark)
+
+pub refresh-requires-clause-sums : goal.refresh-requires-clause-sums
+refresh-requires-clause-sums g c =
+    let kept : Kept = g.R.Rows.kept c.args.rows.now in
+    sums_grown kept (g.R.Rows.kept c.insert_allowed.new.rows) (record kept.ids { item = kept.ids.item + 1 })
+    (with_new (item_id kept.ids.item) c.args.parent c.args.place
+    (page_item c.args.page c.in_ok-copied.field-0 c.args.date) kept.items) c.in_ok-id.ensures.kept
+    c.requires.ready.sums
 
 pub returns-clause-store : goal.returns-clause-store
 returns-clause-store g c =
@@ -45,4 +53,4 @@ returns-clause-sound g c =
     (page_item c.args.page c.in_ok-copied.field-0 c.args.date) c.args.page kept.items kept.items refl (λ other. refl))
     c.requires.ready c.in_ok-id.ensures.kept (g.met.R.Rows.well_kept c.insert_allowed.new.rows) c.in_ok-id.ensures.good
     (sym c.unwrap-mark.ensures ∙ c.page_at.ensures.mark) c.in_ok-refresh.ensures.refreshed
-    (g.met.R.Rows.well_kept c.refresh.new.rows)
+    (g.met.R.Rows.well_kept c.refresh.new.rows) c.in_ok-refresh.ensures.sums

@@ -1,5 +1,7 @@
-use Rattle.std.proofs.Common.{◌≡◌, ◌∙◌, ◌+◌, ◌≤◌, ℕ, Bool, true, false, arith, if◌then◌else◌, refl, subst, sym}
+use Rattle.std.proofs.Common.{◌≡◌, ◌∙◌, ◌+◌, ◌≤◌, ℕ, Bool, true, false, ap, arith, if◌then◌else◌, refl, subst, sym}
 use Rattle.std.specs.Int.{from_bool}
+use Rattle.pl_base.specs.Rows.{Kept}
+use Rattle.pl_base.proofs.OriginSums.{sums_of_sound, sums_still}
 use Rattle.pl_history.proofs.Freshened.{all_moved, at_page, counts_there, few_moved, goes_on, nearer, page_there}
 use Rattle.pl_history.proofs.Freshened.{WalkedTo, sound_walked, starts, store_walked}
 use Rattle.pl_history.proofs.days.set_day.Given.{Over}
@@ -21,6 +23,10 @@ loop-next-init g c =
           starts c.args.day (g.R.Rows.kept c.args.rows.now) (g.R.Rows.kept c.set_day.new.self)
           c.page_after-next.result (g.met.R.Rows.well_kept c.args.rows.now) c.set_day.ensures.kept
           c.page_after-next.ensures.next;
+      sums =
+          sums_still (g.R.Rows.kept c.args.rows.now) (g.R.Rows.kept c.set_day.new.self)
+          (ap (λ (k : Kept). k.pages) c.set_day.ensures.kept) (ap (λ (k : Kept). k.origins) c.set_day.ensures.kept)
+          (sums_of_sound (g.R.Rows.kept c.args.rows.now) (g.met.R.Rows.well_kept c.args.rows.now) c.requires.sound);
       base = c.set_day.ensures.base;
     }
 
@@ -79,6 +85,7 @@ pub loop-next-preserved : goal.loop-next-preserved
 loop-next-preserved g c =
     record {
       walked = walked_on g c;
+      sums = c.in_ok-is_moved.ensures.sums;
       base = λ bytes was. c.in_ok-is_moved.ensures.base bytes (c.loop-next.invariant.base bytes was);
     }
 
@@ -95,5 +102,6 @@ returns-clause-moved g c =
 pub returns-clause-sound : goal.returns-clause-sound
 returns-clause-sound g c =
     sound_walked c.args.day (g.R.Rows.kept c.args.rows.now) (g.R.Rows.kept c.loop-next.rows) c.loop-next.next
-    c.loop-next.moved c.requires.sound (g.met.R.Rows.well_kept c.loop-next.rows) c.loop-next.invariant.walked
+    c.loop-next.moved c.requires.sound (g.met.R.Rows.well_kept c.loop-next.rows)
+    c.loop-next.invariant.sums c.loop-next.invariant.walked
     (λ id some. c.in_default.not-Some id some)

@@ -1,4 +1,5 @@
 use Rattle.std.proofs.Common.{ℕ, List}
+use Rattle.pl_base.specs.Rows.{HaveSums}
 use Rattle.pl_marks.proofs.PageWalk.{left}
 use Rattle.pl_history.proofs.Freshened.{WalkedTo}
 use Rattle.pl_history.proofs.days.set_day.Given as goal
@@ -7,6 +8,7 @@ abbrev pub invariant-loop-next : goal.invariant-loop-next
 invariant-loop-next g l =
     record {
       walked : WalkedTo l.fn.day (g.R.Rows.kept l.fn.rows) (g.R.Rows.kept l.rows) l.next l.moved;
+      sums : HaveSums (g.R.Rows.kept l.rows);
       base : (bytes : List ℕ) → g.R.Rows.base l.fn.rows bytes → g.R.Rows.base l.rows bytes;
     }
 

@@ -3,16 +3,9 @@ use Rattle.pl_base.specs.declared.id.VisitId.{VisitId}
 use Rattle.pl_base.specs.Rows.{Kept, page_visits}
 use Rattle.pl_base.specs.Store.{Visit}
 use Rattle.pl_history.specs.Taken.{ids_of}
-use Rattle.pl_marks.proofs.VisitWalk.{IsVisitHere, has_here, visit_here, walk_ends, walk_goes_on, walk_nears}
+use Rattle.pl_marks.proofs.VisitWalk.{IsVisitHere, visit_here, walk_ends, walk_goes_on, walk_nears}
 use Rattle.pl_history.proofs.TakenVisits.{AreAdded, added_more, filter_all}
 use Rattle.pl_history.proofs.expiration.add_visits.Goals as goal
-
-pub older-next-requires : goal.older-next-requires
-older-next-requires g c =
-    let kept : Kept = g.R.Rows.kept c.args.rows.now in
-    let added = AreAdded (λ _. true) c.args.visits.now.items c.loop-next.visits.items in
-    has_here kept c.args.page added c.in-Some.visit (g.met.R.Rows.well_kept c.args.rows.now)
-    (visit_here kept c.args.page added c.loop-next.next c.in-Some.visit c.loop-next.invariant c.in-Some.is)
 
 pub loop-next-smaller : goal.loop-next-smaller
 loop-next-smaller g c =

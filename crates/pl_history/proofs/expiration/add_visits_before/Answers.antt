@@ -11,13 +11,6 @@ add_if_before-requires g c =
     has_here kept c.args.page added c.in-Some.visit (g.met.R.Rows.well_kept c.args.rows.now)
     (visit_here kept c.args.page added c.loop-next.next c.in-Some.visit c.loop-next.invariant c.in-Some.is)
 
-pub older-next-requires : goal.older-next-requires
-older-next-requires g c =
-    let kept : Kept = g.R.Rows.kept c.args.rows.now in
-    let added = AreAdded (is_before c.args.day) c.args.visits.now.items c.loop-next.visits.items in
-    has_here kept c.args.page added c.in-Some.visit (g.met.R.Rows.well_kept c.args.rows.now)
-    (visit_here kept c.args.page added c.loop-next.next c.in-Some.visit c.loop-next.invariant c.in-Some.is)
-
 pub loop-next-smaller : goal.loop-next-smaller
 loop-next-smaller g c =
     let kept : Kept = g.R.Rows.kept c.args.rows.now in

@@ -1,6 +1,6 @@
 use Rattle.pl_base.specs.Rows.{Kept}
 use Rattle.pl_history.specs.Taken.{is_before}
-use Rattle.pl_marks.proofs.PageTurns.{IsPageHere, has_here, page_here, turns_end, turns_go_on, turns_near, turns_start}
+use Rattle.pl_marks.proofs.PageTurns.{IsPageHere, page_here, turns_end, turns_go_on, turns_near, turns_start}
 use Rattle.pl_history.proofs.TakenVisits.{HasTaken, all_these, has_more}
 use Rattle.pl_history.proofs.expiration.visits_before.Goals as goal
 
@@ -9,13 +9,6 @@ loop-next-init g c =
     let kept : Kept = g.R.Rows.kept c.args.rows.now in
     turns_start kept (HasTaken (is_before c.args.day) kept c.new-visits.result.items) c.page_after-next.result
     (g.met.R.Rows.well_kept c.args.rows.now) c.page_after-next.ensures.next c.new-visits.ensures.items
-
-pub add_visits_before-requires : goal.add_visits_before-requires
-add_visits_before-requires g c =
-    let kept : Kept = g.R.Rows.kept c.args.rows.now in
-    let taken = HasTaken (is_before c.args.day) kept c.loop-next.visits.items in
-    has_here kept taken c.in-Some.page
-    (page_here kept taken c.loop-next.next c.in-Some.page c.loop-next.invariant c.in-Some.is)
 
 pub loop-next-smaller : goal.loop-next-smaller
 loop-next-smaller g c =

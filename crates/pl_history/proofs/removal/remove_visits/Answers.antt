@@ -10,7 +10,8 @@ loop-visit-init g c =
     record {
       settled =
           subst (λ (ids : List PageId). AreOthersSettled ids (g.R.Rows.kept c.args.rows.now))
-          (sym c.new-pages.ensures.items) (sound_settled (g.R.Rows.kept c.args.rows.now) c.requires.sound);
+          (sym c.new-pages.ensures.items) (sound_settled (g.R.Rows.kept c.args.rows.now)
+          (g.met.R.Rows.well_kept c.args.rows.now) c.requires.sound);
       store = none_gone (g.R.Rows.kept c.args.rows.now);
       fewer = omega arith;
       base = λ bytes was. was;

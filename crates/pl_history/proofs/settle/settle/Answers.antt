@@ -10,13 +10,16 @@ use Rattle.pl_history.proofs.settle.settle.Goals as goal
 
 pub returns-then-not-is_standing-clause-store : goal.returns-then-not-is_standing-clause-store
 returns-then-not-is_standing-clause-store g c =
-    dropped_store c.args.page (g.R.Rows.kept c.args.rows.now) (g.R.Rows.kept c.remove_page.new.self)
-    c.remove_page.ensures.kept (sym c.is_standing.ensures ∙ c.if-not-is_standing.true)
+    dropped_store c.args.page (g.R.Rows.kept c.args.rows.now) (g.R.Rows.kept c.drop_page.new.rows)
+    c.drop_page.ensures.dropped (sym c.is_standing.ensures ∙ c.if-not-is_standing.true)
 
 pub returns-then-not-is_standing-clause-settled : goal.returns-then-not-is_standing-clause-settled
 returns-then-not-is_standing-clause-settled g c rest s =
-    dropped_settled c.args.page (g.R.Rows.kept c.args.rows.now) (g.R.Rows.kept c.remove_page.new.self) rest
-    c.remove_page.ensures.kept (sym c.is_standing.ensures ∙ c.if-not-is_standing.true) s
+    dropped_settled c.args.page (g.R.Rows.kept c.args.rows.now) (g.R.Rows.kept c.drop_page.new.rows) rest
+    c.drop_page.ensures.dropped c.drop_page.ensures.sums (sym c.is_standing.ensures ∙ c.if-not-is_standing.true) s
+
+pub drop_page-requires-clause-idle : goal.drop_page-requires-clause-idle
+drop_page-requires-clause-idle g c = sym c.is_standing.ensures ∙ c.if-not-is_standing.true
 
 pub unwrap-mark-requires : goal.unwrap-mark-requires
 unwrap-mark-requires g c =
@@ -41,9 +44,10 @@ returns-clause-settled g c rest s =
     refreshed_settled (g.R.Rows.kept c.args.rows.now) (g.R.Rows.kept c.refresh.new.rows) c.args.page rest
     c.unwrap-mark.result c.in_ok-is_place.is_place c.in_ok-refresh.field-0 (g.met.R.Rows.well_kept c.args.rows.now)
     (sym c.unwrap-mark.ensures ∙ c.page_at.ensures.mark) c.in_ok-is_place.ensures
-    (sym c.is_standing.ensures ∙ c.if-not-is_standing.false) c.in_ok-refresh.ensures.refreshed s
+    (sym c.is_standing.ensures ∙ c.if-not-is_standing.false) c.in_ok-refresh.ensures.refreshed
+    c.in_ok-refresh.ensures.sums s
 
 pub returns-then-not-is_standing-clause-went : goal.returns-then-not-is_standing-clause-went
 returns-then-not-is_standing-clause-went g c =
-    dropped_fewer c.args.page (g.R.Rows.kept c.args.rows.now) (g.R.Rows.kept c.remove_page.new.self)
-    (g.met.R.Rows.well_kept c.args.rows.now) c.requires.page c.remove_page.ensures.kept
+    dropped_fewer c.args.page (g.R.Rows.kept c.args.rows.now) (g.R.Rows.kept c.drop_page.new.rows)
+    (g.met.R.Rows.well_kept c.args.rows.now) c.requires.page c.drop_page.ensures.dropped

@@ -9,6 +9,9 @@ settle-requires-clause-page g c =
     (page_next (g.R.Rows.kept c.loop-page.rows) c.args.pages.now c.loop-page.page-index (record { 0 = 0 })
     (omega arith) c.loop-page.invariant.settled)
 
+pub settle-requires-clause-sums : goal.settle-requires-clause-sums
+settle-requires-clause-sums g c = c.loop-page.invariant.settled.sums
+
 pub loop-page-preserved : goal.loop-page-preserved
 loop-page-preserved g c =
     record {

@@ -2,7 +2,7 @@ use Rattle.std.proofs.Common.{◌+◌, ◌==◌, ◌∙◌, ap, sym}
 use Rattle.pl_base.specs.Rows.{Kept, KeptPage, has_page, mark_of, store_of}
 use Rattle.pl_base.proofs.LookUps.{found_where}
 use Rattle.pl_tree.specs.Tagged.{new_items, tagged_items}
-use Rattle.pl_history.proofs.GrownItems.{adds_tagged, mark_counted, sound_grown}
+use Rattle.pl_history.proofs.GrownItems.{adds_tagged, mark_counted, sound_grown, sums_grown}
 use Rattle.pl_history.proofs.SourcePage.{source_store}
 use Rattle.pl_history.proofs.tags.add_tag.Goals as goal
 
@@ -22,6 +22,14 @@ refresh-requires-clause-count g c =
     c.unwrap-mark.result c.requires.ready c.in_ok-tag_allowed.ensures.kept
     (sym c.unwrap-mark.ensures ∙ c.page_at.ensures.mark)
 
+pub refresh-requires-clause-sums : goal.refresh-requires-clause-sums
+refresh-requires-clause-sums g c =
+    let kept : Kept = g.R.Rows.kept c.args.rows.now in
+    sums_grown kept (g.R.Rows.kept c.tag_allowed.new.rows)
+    (record kept.ids { item = kept.ids.item + new_items c.args.name.now kept.items })
+    (tagged_items kept.ids.item c.args.page c.args.name.now c.args.date kept.items) c.in_ok-tag_allowed.ensures.kept
+    c.requires.ready.sums
+
 pub returns-clause-store : goal.returns-clause-store
 returns-clause-store g c =
     source_store (g.R.Rows.kept c.tag_allowed.new.rows) (g.R.Rows.kept c.refresh.new.rows) c.args.page
@@ -39,4 +47,4 @@ returns-clause-sound g c =
     (adds_tagged kept.ids.item c.args.page c.args.name.now c.args.date kept.items) c.requires.ready
     c.in_ok-tag_allowed.ensures.kept (g.met.R.Rows.well_kept c.tag_allowed.new.rows) c.in_ok-tag_allowed.ensures.good
     (sym c.unwrap-mark.ensures ∙ c.page_at.ensures.mark) c.in_ok-refresh.ensures.refreshed
-    (g.met.R.Rows.well_kept c.refresh.new.rows)
+    (g.met.R.Rows.well_kept c.refresh.new.rows) c.in_ok-refresh.ensures.sums

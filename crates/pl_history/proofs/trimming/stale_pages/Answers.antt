@@ -2,7 +2,7 @@ use Rattle.std.proofs.Common.{◌≢◌, filter, not}
 use Rattle.std.proofs.lemmas.List.Kept.{AllPairs-filter}
 use Rattle.pl_base.specs.Marks.{is_referenced}
 use Rattle.pl_base.specs.Rows.{Kept, store_of}
-use Rattle.pl_marks.proofs.PageTurns.{IsPageHere, has_here, page_here, turns_end, turns_go_on, turns_near}
+use Rattle.pl_marks.proofs.PageTurns.{IsPageHere, page_here, turns_end, turns_go_on, turns_near}
 use Rattle.pl_marks.proofs.PageTurns.{turns_start}
 use Rattle.pl_history.proofs.StalePages.{AreStale, stale_more}
 use Rattle.pl_base.specs.Store.{Page}
@@ -14,13 +14,6 @@ loop-next-init g c =
     let kept : Kept = g.R.Rows.kept c.args.rows.now in
     turns_start kept (AreStale (store_of kept) c.new-pages.result.items) c.page_after-next.result
     (g.met.R.Rows.well_kept c.args.rows.now) c.page_after-next.ensures.next c.new-pages.ensures.items
-
-pub add_if_stale-requires : goal.add_if_stale-requires
-add_if_stale-requires g c =
-    let kept : Kept = g.R.Rows.kept c.args.rows.now in
-    let found = AreStale (store_of kept) c.loop-next.pages.items in
-    has_here kept found c.in-Some.page
-    (page_here kept found c.loop-next.next c.in-Some.page c.loop-next.invariant c.in-Some.is)
 
 pub loop-next-smaller : goal.loop-next-smaller
 loop-next-smaller g c =

@@ -5,19 +5,11 @@ use Rattle.pl_base.specs.Expiration.{trimmed_pages, visits_to}
 use Rattle.pl_base.specs.Rows.{Kept, store_of}
 use Rattle.pl_history.specs.Taken.{AreThese}
 use Rattle.pl_history.proofs.TakenVisits.{these_gone}
-use Rattle.pl_history.proofs.TrimmedPages.{trimmed_apart, trimmed_are, trimmed_there, trimmed_visits}
+use Rattle.pl_history.proofs.TrimmedPages.{trimmed_apart, trimmed_are, trimmed_visits}
 use Rattle.pl_history.proofs.trimming.trim.Goals as goal
 
-pub visits_to-requires-clause-there : goal.visits_to-requires-clause-there
-visits_to-requires-clause-there g c =
-    let kept : Kept = g.R.Rows.kept c.args.rows.now in
-    trimmed_there kept c.args.most c.deref.result.now (g.met.R.Rows.well_kept c.args.rows.now)
-    (trimmed_are kept c.args.most c.page_count.result c.saturating_sub-excess.result c.in_ok-pages.pages.items
-    c.deref.result.now c.in_ok-pages.ensures (c.deref.ensures.value ∙ c.truncate.ensures.items) c.page_count.ensures
-    c.saturating_sub-excess.ensures)
-
-pub visits_to-requires-clause-apart : goal.visits_to-requires-clause-apart
-visits_to-requires-clause-apart g c =
+pub visits_to-requires : goal.visits_to-requires
+visits_to-requires g c =
     let kept : Kept = g.R.Rows.kept c.args.rows.now in
     trimmed_apart kept c.args.most c.deref.result.now (g.met.R.Rows.well_kept c.args.rows.now)
     (trimmed_are kept c.args.most c.page_count.result c.saturating_sub-excess.result c.in_ok-pages.pages.items

@@ -30,7 +30,7 @@ pub returns : goal.returns
 returns g c =
     let kept : Kept = g.R.Rows.kept c.args.rows.now in
     stale_these kept c.args.pages.now c.loop-stale.visits.items (g.met.R.Rows.well_kept c.args.rows.now)
-    c.requires.apart
+    c.requires
     (c.loop-stale.invariant
     ∙ ap (λ (pages : List StalePage). ids_of (taken (λ _. true) kept (stale_ids pages)))
     (take_all c.loop-stale.stale-index c.args.pages.now c.loop-stale-test.false))

@@ -1,14 +1,16 @@
-use Rattle.std.proofs.Common.{◌==◌, ◌∙◌, ℤ, ap, rules, subst, sym, w64}
+use Rattle.std.proofs.Common.{◌+◌, ◌==◌, ◌∙◌, ℤ, ap, rules, subst, sym, w64}
 use Rattle.std.proofs.lemmas.Int.{to_z-of_z}
 use Rattle.pl_base.specs.declared.row.VisitRow.{VisitRow}
 use Rattle.pl_base.specs.Marks.{visit_count}
 use Rattle.pl_base.specs.Rows.{Kept, KeptPage, has_page, mark_of, store_of, with_visit}
+use Rattle.pl_base.specs.Touched.{row_pages}
 use Rattle.pl_base.proofs.LookUps.{found_where}
-use Rattle.pl_marks.specs.Refreshed.{Refreshes}
+use Rattle.pl_base.proofs.PagesMore.{more_and_more}
+use Rattle.pl_marks.specs.Refreshed.{Refreshes, mark_pages}
 use Rattle.pl_history.specs.Added.{AddsVisit}
 use Rattle.pl_history.proofs.RightAfter.{counts_refreshed, counts_visited}
 use Rattle.pl_history.proofs.KeptMark.{count_told, few_counted, mark_made}
-use Rattle.pl_history.proofs.VisitMade.{added_after, afresh_made, right_still, sound_after}
+use Rattle.pl_history.proofs.VisitMade.{added_after, afresh_made, right_still, sound_after, sums_made}
 use Rattle.pl_history.proofs.visiting.add_visit.Goals as goal
 
 pub unwrap-mark-requires : goal.unwrap-mark-requires
@@ -33,6 +35,11 @@ refresh-requires-clause-count g c =
     c.unwrap-mark.result c.in_ok-visit.ensures.kept (sym c.unwrap-mark.ensures ∙ c.page_at.ensures.mark))
     c.visited_mark-told.ensures
     ∙ ap (λ (k : Kept). visit_count (store_of k) c.args.row.now.page) (sym c.in_ok-visit.ensures.kept)
+
+pub refresh-requires-clause-sums : goal.refresh-requires-clause-sums
+refresh-requires-clause-sums g c =
+    sums_made (g.R.Rows.kept c.args.rows.now) (g.R.Rows.kept c.insert_visit.new.self) c.args.row.now
+    c.in_ok-visit.ensures.kept c.requires.ready.sums
 
 pub refresh_source-requires-clause-counts : goal.refresh_source-requires-clause-counts
 refresh_source-requires-clause-counts g c =
@@ -61,7 +68,9 @@ returns-clause-added g c =
     let old : Kept = g.R.Rows.kept c.args.rows.now in
     let new : Kept = g.R.Rows.kept c.refresh_source.new.rows in
     let row : VisitRow = c.args.row.now in
-    subst (λ (z : ℤ). AddsVisit row (store_of old) (store_of new) (record { visit = c.in_ok-visit.visit; page = row.page; frecency = z }))
+    subst
+    (λ (z : ℤ). AddsVisit row (store_of old) (store_of new)
+    (record { visit = c.in_ok-visit.visit; page = row.page; frecency = z }))
     (sym (to_z-of_z w64 c.in_ok-frecency.frecency (search rules)))
     (added_after old (g.R.Rows.kept c.refresh.new.rows) new row c.in_ok-visit.visit c.in_ok-frecency.frecency
     (afresh_made old (g.R.Rows.kept c.insert_visit.new.self) (g.R.Rows.kept c.refresh.new.rows) row c.args.is_place
@@ -81,4 +90,13 @@ returns-clause-sound g c =
     c.in_ok-visit.ensures.kept (sym c.unwrap-mark.ensures ∙ c.page_at.ensures.mark) c.visited_mark-told.ensures
     c.in_ok-frecency.ensures.refreshed)
     (g.met.R.Rows.well_kept c.refresh_source.new.rows) c.in_ok-refresh_source.ensures.store
-    c.in_ok-refresh_source.ensures.right
+    c.in_ok-refresh_source.ensures.right c.in_ok-refresh_source.ensures.sums
+
+pub returns-clause-pages : goal.returns-clause-pages
+returns-clause-pages g c =
+    more_and_more row_pages (mark_pages + mark_pages) (g.R.Rows.pending c.args.rows.now)
+    (g.R.Rows.pending c.insert_visit.new.self) (g.R.Rows.pending c.refresh_source.new.rows)
+    c.in_ok-visit.ensures.pages
+    (more_and_more mark_pages mark_pages (g.R.Rows.pending c.insert_visit.new.self)
+    (g.R.Rows.pending c.refresh.new.rows) (g.R.Rows.pending c.refresh_source.new.rows)
+    c.in_ok-frecency.ensures.pages c.in_ok-refresh_source.ensures.pages)

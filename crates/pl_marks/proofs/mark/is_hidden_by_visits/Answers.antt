@@ -12,13 +12,6 @@ is_passing-requires g c =
     (visit_here kept c.args.page (AllPassing (store_of kept)) c.loop-next.next c.in-Some.visit c.loop-next.invariant
     c.in-Some.is)
 
-pub older-next-requires : goal.older-next-requires
-older-next-requires g c =
-    let kept : Kept = g.R.Rows.kept c.args.rows.now in
-    has_here kept c.args.page (AllPassing (store_of kept)) c.in-Some.visit (g.met.R.Rows.well_kept c.args.rows.now)
-    (visit_here kept c.args.page (AllPassing (store_of kept)) c.loop-next.next c.in-Some.visit c.loop-next.invariant
-    c.in-Some.is)
-
 pub returns-then-not-is_passing : goal.returns-then-not-is_passing
 returns-then-not-is_passing g c p same =
     let kept : Kept = g.R.Rows.kept c.args.rows.now in

@@ -19,14 +19,6 @@ sampled-requires g c =
     (visit_here kept c.args.page (AreSampled (store_of kept) c.loop.sample.items c.loop.counter) c.loop.next
     c.in-Some.visit c.loop.invariant c.in-Some.is)
 
-pub older-next-requires : goal.older-next-requires
-older-next-requires g c =
-    let kept : Kept = g.R.Rows.kept c.args.rows.now in
-    has_here kept c.args.page (AreSampled (store_of kept) c.loop.sample.items c.loop.counter) c.in-Some.visit
-    (g.met.R.Rows.well_kept c.args.rows.now)
-    (visit_here kept c.args.page (AreSampled (store_of kept) c.loop.sample.items c.loop.counter) c.loop.next
-    c.in-Some.visit c.loop.invariant c.in-Some.is)
-
 pub loop-preserved : goal.loop-preserved
 loop-preserved g c =
     let kept : Kept = g.R.Rows.kept c.args.rows.now in
@@ -42,7 +34,7 @@ loop-preserved g c =
     (c.sampled.ensures w.visit
     (at_here kept c.args.page (AreSampled (store_of kept) c.loop.sample.items c.loop.counter) c.in-Some.visit
     (g.met.R.Rows.well_kept c.args.rows.now) w)
-    (c.requires.referenced ∙ ap (is_referenced (store_of kept))
+    (c.requires ∙ ap (is_referenced (store_of kept))
     (sym (page_here kept c.args.page (AreSampled (store_of kept) c.loop.sample.items c.loop.counter) c.in-Some.visit
     (g.met.R.Rows.well_kept c.args.rows.now) w))))
     c.in_ok-push.ensures.items)

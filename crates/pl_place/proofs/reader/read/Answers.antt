@@ -5,6 +5,7 @@ use Rattle.pl_place.specs.Draft.{Gathers}
 use Rattle.pl_place.specs.FormLaws.{domain_formed}
 use Rattle.pl_place.specs.PlaceText.{last_text, pieces_in, values}
 use Rattle.pl_place.specs.QueryForm.{is_domain}
+use Rattle.pl_place.proofs.KeptForm.{reads_canonically}
 use Rattle.pl_place.proofs.ReadOnce.{read_once}
 use Rattle.pl_place.proofs.reader.read.Goals as goal
 
@@ -29,3 +30,15 @@ returns-clause-query c =
     c.in_ok-gathered.ensures.gathered in
     read_once c.args.text.now c.in_ok-query.field-0
     (c.in_ok-query.ensures c.args.text.now (cond-true _ _ _ begins.0 ∙ all.taken) all.held)
+
+pub returns-in_default-clause-canonical : goal.returns-in_default-clause-canonical
+returns-in_default-clause-canonical c = reads_canonically c.args.text.now
+
+pub returns-in_err-gathered-clause-canonical : goal.returns-in_err-gathered-clause-canonical
+returns-in_err-gathered-clause-canonical c = reads_canonically c.args.text.now
+
+pub returns-in_err-query-clause-canonical : goal.returns-in_err-query-clause-canonical
+returns-in_err-query-clause-canonical c = reads_canonically c.args.text.now
+
+pub returns-clause-canonical : goal.returns-clause-canonical
+returns-clause-canonical c = reads_canonically c.args.text.now

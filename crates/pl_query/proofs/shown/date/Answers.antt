@@ -1,22 +1,12 @@
 use Rattle.std.proofs.Common.{◌∙◌, ap, sym}
-use Rattle.pl_query.specs.declared.shown.Subject.TheVariants.{Page, Bookmark}
 use Rattle.pl_query.specs.Order.{Row}
-use Rattle.pl_query.proofs.RowsShown.{IsMarkRow, IsPageRow, mark_row, page_date, page_row, page_there, visit_there}
+use Rattle.pl_query.proofs.RowsShown.{IsMarkRow, IsPageRow, mark_row, page_date, page_row, visit_there}
 use Rattle.pl_query.proofs.shown.date.Goals as goal
-
-pub last_date-requires : goal.last_date-requires
-last_date-requires g c =
-    page_there (g.R.Rows.kept c.args.rows.now) (Page c.in-Page.page) (rw c.in-Page.is at c.requires)
 
 pub visit_date-requires : goal.visit_date-requires
 visit_date-requires g c =
     visit_there (g.R.Rows.kept c.args.rows.now) c.in-Visit.visit c.in-Visit.field-1
     (rw c.in-Visit.is at c.requires)
-
-pub last_date-requires-in-Bookmark : goal.last_date-requires-in-Bookmark
-last_date-requires-in-Bookmark g c =
-    page_there (g.R.Rows.kept c.args.rows.now) (Bookmark c.in-Bookmark.field-0 c.in-Bookmark.page)
-    (rw c.in-Bookmark.is at c.requires)
 
 pub returns-in-Page : goal.returns-in-Page
 returns-in-Page g c row at =

@@ -1,11 +1,11 @@
-use Rattle.std.proofs.Common.{ℕ, List, IsSome, sym, ◌∙◌, subst}
+use Rattle.std.proofs.Common.{ℕ, List, IsSome, inr, sym, ◌∙◌, subst}
 use Rattle.pl_desk.specs.AnyMoment.{some_said}
 use Rattle.pl_desk.specs.Moments.{shows_less}
 use Rattle.pl_desk.specs.Settling.{Settles, settles_less, settles_on}
 use Rattle.pl_desk.specs.Shown.{Unsaid}
 use Rattle.pl_gate.specs.Recovery.{StandsAs}
 use Rattle.pl_store.specs.Session.{StandsAlike}
-use Rattle.pl_store.proofs.OpenedFiles.{opens, stands_alike, writes_none}
+use Rattle.pl_store.proofs.OpenedFiles.{fault_ends, opens, stands_alike, writes_none}
 use Rattle.pl_store.proofs.open.reopen.Given.{Over}
 use Rattle.pl_store.proofs.open.reopen.Goals as goal
 
@@ -17,29 +17,32 @@ returns-clause-ends g c =
     c.read_session.ensures.ends
 
 -- what a stop within the settling shows
-settle_shown : (g : Over) (old mid : g.row.D.Denot) (file : List ℕ) → Settles g.D.Desk old mid (StandsAs file)
-    → Settles g.D.Desk old mid (StandsAlike file)
-settle_shown g old mid file settles =
-    settles_less g.D.Desk old mid (StandsAs file) (StandsAlike file) settles
+settle_shown : (g : Over) {Fault Fault' : Type 0} (old mid : g.row.D.Denot) (file : List ℕ)
+    → Settles g.D.Desk Fault old mid (StandsAs file) → (Fault → Fault')
+    → Settles g.D.Desk Fault' old mid (StandsAlike file)
+settle_shown g old mid file settles fault =
+    settles_less g.D.Desk old mid (StandsAs file) (StandsAlike file) settles fault
     (λ later as_file. stands_alike file later as_file)
 
 pub returns-in_err-settle-clause-any_moment : goal.returns-in_err-settle-clause-any_moment
 returns-in_err-settle-clause-any_moment g c file is =
-    settle_shown g c.args.desk.now c.settle.new.desk file (c.settle.ensures.any_moment file is)
+    settle_shown g c.args.desk.now c.settle.new.desk file (c.in_err-settle.ensures.any_moment file is)
+    (fault_ends c.in_err-settle.field-0.0 c.from_residual.result c.from_residual.ensures.1)
 
 pub returns-clause-any_moment : goal.returns-clause-any_moment
 returns-clause-any_moment g c file is =
     let desk = g.D.Desk in let old = c.args.desk.now in let mid = c.settle.new.desk in
     let new = c.read_session.new.desk in let line = c.settle.ensures.line in
+    let P = Unsaid desk old (desk.may_leave old) in let Q = Unsaid desk old (StandsAlike file) in
     let rests = c.in_ok-settle.ensures.settled file is in
     let some = some_said desk old file (g.met.D.Desk.told_together old) is in
     let alike : (later : List ℕ) → desk.may_leave mid later → StandsAlike file later = λ later may.
     subst (StandsAlike file) (sym (rests.only later may)) (stands_alike file rests.file rests.has.stands) in
-    settles_on desk old mid new (Unsaid desk old (desk.may_leave old)) (Unsaid desk old (StandsAlike file))
-    (settle_shown g old mid file (c.settle.ensures.any_moment file is))
-    (shows_less desk mid new (Unsaid desk mid (desk.may_leave mid)) (Unsaid desk old (StandsAlike file))
+    inr (settles_on desk old mid new P Q (λ fault. fault)
+    (settle_shown g old mid file (c.in_ok-settle.ensures.any_moment file is) (λ fault. absurd (cc)))
+    (shows_less desk mid new (Unsaid desk mid (desk.may_leave mid)) Q
     (c.read_session.ensures.reads.shows (subst IsSome (sym line.said) some))
-    (λ later shown shows. (alike later shows.0, sym line.said ∙ shows.1)))
+    (λ later shown shows. (alike later shows.0, sym line.said ∙ shows.1))))
 
 pub returns-in_err-settle-clause-finished : goal.returns-in_err-settle-clause-finished
 returns-in_err-settle-clause-finished g c file is unset = let settle = c.settle.ensures in (

@@ -1,17 +1,16 @@
-use Rattle.std.proofs.Common.{◌≡◌, length, take, drop, refl, sym, subst}
+use Rattle.std.proofs.Common.{◌≡◌, length, take, drop, sym, subst}
 use Rattle.pl_base.specs.Rows.{store_of}
 use Rattle.pl_base.specs.Store.{Store}
 use Rattle.pl_base.specs.Touched.{page_size}
 use Rattle.pl_form.specs.Form.{StandsFor}
 use Rattle.pl_plain.specs.declared.flat.Flat.{Flat}
-use Rattle.pl_plain.specs.Flat.{IsBase, bytes_of, kept_of}
+use Rattle.pl_plain.specs.Flat.{bytes_of, kept_of}
+use Rattle.pl_store.specs.OwnBase.{HasOwnBase}
 use Rattle.pl_store.proofs.read.session_of.Goals as goal
 
 pub invariant_of-result : goal.invariant_of-result
 invariant_of-result c = record {
-  base =
-      subst (λ (rows : Flat). IsBase rows (bytes_of rows)) (sym c.in_ok-engine.ensures.rows)
-      ((c.in_ok-flat.ensures.base (bytes_of c.in_ok-flat.flat)).1 refl);
+  base = subst HasOwnBase (sym c.in_ok-engine.ensures.rows) c.in_ok-flat.ensures.base;
 }
 
 pub returns-clause-read : goal.returns-clause-read

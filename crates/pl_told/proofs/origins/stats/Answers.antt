@@ -37,8 +37,8 @@ returns g c =
     omega (arith, c.len.ensures, as_many (store_of kept) c.in_ok-views.views.items c.in_ok-views.ensures) in
     rw (
       pages,
-      c.visit_count.ensures,
-      c.in_ok-item_count.ensures,
+      c.visits.ensures.visits,
+      c.items.ensures.items,
       c.sums-origins.ensures.count (scored_pages (store_of kept)) stands,
       c.sums-origins.ensures.sum (scored_pages (store_of kept)) stands,
       c.live.ensures.live,

@@ -15,11 +15,6 @@ unwrap-mark-requires g c =
     (has_target (g.R.Rows.kept c.args.rows.now) c.text.result.now c.in_ok-id.field-0 c.in-Some.id c.in_ok-id.ensures
     c.in-Some.is) c.page_at.ensures.mark
 
-pub last_date-last-requires : goal.last_date-last-requires
-last_date-last-requires g c =
-    has_target (g.R.Rows.kept c.args.rows.now) c.text.result.now c.in_ok-id.field-0 c.in-Some.id c.in_ok-id.ensures
-    c.in-Some.is
-
 pub url-requires : goal.url-requires
 url-requires g c =
     has_target (g.R.Rows.kept c.args.rows.now) c.text.result.now c.in_ok-id.field-0 c.in-Some.id c.in_ok-id.ensures

@@ -1,5 +1,5 @@
 use Rattle.std.proofs.Common.{◌≡◌}
-use Rattle.pl_tree.specs.Ancestors.{lies_in}
+use Rattle.pl_base.specs.Tree.{lies_in}
 use Rattle.pl_tree.proofs.AncestorLaws.{left_above, lies_at}
 use Rattle.pl_tree.proofs.ancestors.lies_in.Given as goal
 

@@ -25,7 +25,9 @@ insert_item-requires-clause-live g c =
     let kept : Kept = g.R.Rows.kept c.args.rows.now in
     rw c.as_str.ensures
     (live_inserted kept (row_of_new c.args.parent c.args.item.now) c.args.item.now.title c.in_ok-after.after
-    c.requires.live)
+    (c.requires.live
+    (insert_allowed kept c.args.parent c.args.place c.in_ok-after.ensures.refused
+    (λ same. c.if-ids.false (ap (λ (ids : Ids). ids.item) c.ids.ensures.ids ∙ same)))))
 
 left : (g : Over) (c : In_ok-insert_item g)
     → g.R.Rows.kept c.insert_item.new.self

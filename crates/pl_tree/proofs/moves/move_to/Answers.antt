@@ -14,8 +14,13 @@ use Rattle.pl_tree.proofs.moves.move_to.Goals.{After-set_modified}
 
 pub move_item-requires-clause-parent : goal.move_item-requires-clause-parent
 move_item-requires-clause-parent g c =
-    move_parent_there (g.R.Rows.kept c.args.rows.now).items c.args.item c.args.parent c.args.place
-    c.in_ok-after.ensures.refused
+    (move_parent_there (g.R.Rows.kept c.args.rows.now).items c.args.item c.args.parent c.args.place
+    c.in_ok-after.ensures.refused).0
+
+pub move_item-requires-clause-outside : goal.move_item-requires-clause-outside
+move_item-requires-clause-outside g c =
+    (move_parent_there (g.R.Rows.kept c.args.rows.now).items c.args.item c.args.parent c.args.place
+    c.in_ok-after.ensures.refused).1
 
 pub move_item-requires-clause-after : goal.move_item-requires-clause-after
 move_item-requires-clause-after g c =

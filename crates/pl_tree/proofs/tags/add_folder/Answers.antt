@@ -1,11 +1,12 @@
-use Rattle.std.proofs.Common.{◌≤◌, [], None, refl, subst, sym}
+use Rattle.std.proofs.Common.{◌≤◌, [], None, ap, refl, subst, sym}
+use Rattle.pl_base.specs.declared.item.ItemRow.{ItemRow}
 use Rattle.pl_base.specs.Live.{slot_limit}
 use Rattle.pl_base.specs.Rows.{Kept, live_with_item}
 use Rattle.pl_base.specs.Tags.{tags_root}
 use Rattle.pl_tree.specs.declared.place.Place.TheVariants.{End}
 use Rattle.pl_tree.specs.Tagged.{new_entry, new_tag}
 use Rattle.pl_tree.proofs.Allowed.{after_there}
-use Rattle.pl_tree.proofs.TwoInserted.{both_inserted, live_of_first, live_of_second, tags_root_there}
+use Rattle.pl_tree.proofs.TwoInserted.{both_inserted, folder_made, live_of_first, live_of_second, tags_root_there}
 use Rattle.pl_tree.proofs.tags.add_folder.Goals as goal
 
 pub insert_item-requires-clause-parent : goal.insert_item-requires-clause-parent
@@ -22,6 +23,14 @@ pub insert_item-requires-clause-live : goal.insert_item-requires-clause-live
 insert_item-requires-clause-live g c =
     live_of_first (g.R.Rows.kept c.args.rows.now) c.row_in-row.result c.args.title.now c.args.after
     c.requires.live
+
+pub insert_item-requires-2-clause-parent : goal.insert_item-requires-2-clause-parent
+insert_item-requires-2-clause-parent g c =
+    rw c.row_in-entry.ensures
+    (folder_made (g.R.Rows.kept c.args.rows.now) c.row_in-row.result c.args.title.now c.args.after
+    (g.R.Rows.kept c.insert_item.new.self) c.in_ok-folder.folder c.in_ok-folder.ensures.kept
+    (g.met.R.Rows.well_kept c.insert_item.new.self) c.in_ok-folder.ensures.item
+    (ap (λ (row : ItemRow). row.kind) c.row_in-row.ensures))
 
 pub insert_item-requires-2-clause-live : goal.insert_item-requires-2-clause-live
 insert_item-requires-2-clause-live g c =

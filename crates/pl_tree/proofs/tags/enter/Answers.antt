@@ -8,7 +8,7 @@ use Rattle.pl_tree.proofs.tags.enter.Goals as goal
 
 pub add_entry-requires-clause-folder : goal.add_entry-requires-clause-folder
 add_entry-requires-clause-folder g c =
-    folder_there (g.R.Rows.kept c.args.rows.now).items c.args.name.now c.in-Some.folder
+    folder_there (g.R.Rows.kept c.args.rows.now) c.args.name.now c.in-Some.folder c.requires.good.tags
     (sym c.in-Some.is ∙ c.requires.folder)
 
 pub add_entry-requires-clause-id : goal.add_entry-requires-clause-id

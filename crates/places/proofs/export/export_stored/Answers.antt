@@ -1,4 +1,4 @@
-use Rattle.std.proofs.Common.{◌≡◌, ◌∙◌, ap, sym}
+use Rattle.std.proofs.Common.{◌≡◌, ◌∙◌, ap, inr, sym}
 use Rattle.std.proofs.lemmas.Option.{MatchOption-at_some}
 use Rattle.pl_base.specs.Store.{Store}
 use Rattle.pl_desk.specs.Settling.{settles_on}
@@ -7,6 +7,7 @@ use Rattle.places.specs.Exporting.{ShowsExport, export_text}
 use Rattle.places.specs.Stops.{ShowsUnopened}
 use Rattle.places.proofs.ExportLemmas.{export_unopened, not_done, opened_shows, rests_still, said_part, said_shows}
 use Rattle.places.proofs.ExportLemmas.{said_whole, settled_rests}
+use Rattle.places.proofs.OpeningLemmas.{fault_told, no_fault}
 use Rattle.places.proofs.export.export_stored.Goals as goal
 
 -- ---- no store was opened
@@ -15,12 +16,12 @@ pub returns-in-Err-clause-ends : goal.returns-in-Err-clause-ends
 returns-in-Err-clause-ends g c = λ file start before held stands begun.
     export_unopened g.D.Desk c.in-Err.ended c.from.result file start before c.args.desk.now c.reopen.new.desk
     g.met.D.Desk.counts_now c.from.ensures held c.in-Err.ensures.ends stands c.reopen.ensures.line.said begun
-    (c.reopen.ensures.any_moment file held)
+    (c.in-Err.ensures.any_moment file held)
 
 pub returns-in-Err-clause-stops : goal.returns-in-Err-clause-stops
 returns-in-Err-clause-stops g c = λ file start before held stands begun.
     opened_shows g.D.Desk file start before c.args.desk.now c.reopen.new.desk stands begun
-    (c.reopen.ensures.any_moment file held)
+    (c.in-Err.ensures.any_moment file held) (fault_told c.in-Err.ended c.from.result c.from.ensures)
 
 pub returns-in-Err-clause-returns : goal.returns-in-Err-clause-returns
 returns-in-Err-clause-returns g c = λ done. absurd (not_done c.in-Err.ended c.from.result c.from.ensures done)
@@ -38,7 +39,7 @@ returns-in-Err-export_text-clause-ends g c = λ file start before held stands be
 pub returns-in-Err-export_text-clause-stops : goal.returns-in-Err-export_text-clause-stops
 returns-in-Err-export_text-clause-stops g c = λ file start before held stands begun.
     opened_shows g.D.Desk file start before c.args.desk.now c.reopen.new.desk stands begun
-    (c.reopen.ensures.any_moment file held)
+    (c.in-Ok.ensures.any_moment file held) (λ fault. absurd (cc))
 
 -- ---- the text was said
 
@@ -60,13 +61,15 @@ returns-in-Ok-say_all-clause-stops g c = λ file start before held stands begun.
     let desk = g.D.Desk in let old = c.args.desk.now in let mid = c.reopen.new.desk in
     let new = c.say_all.new.desk in let opens = c.in-Ok.ensures.ends.1 in
     let is : session_store c.in-Ok.session ≡ start = sym (MatchOption-at_some _ _ file held opens.only start stands) in
-    settles_on desk old mid new (ShowsUnopened desk old before) (ShowsExport desk start before)
-    (opened_shows desk file start before old mid stands begun (c.reopen.ensures.any_moment file held))
+    inr (settles_on desk old mid new (ShowsUnopened desk old before) (ShowsExport desk start before)
+    (λ fault. fault)
+    (opened_shows desk file start before old mid stands begun (c.in-Ok.ensures.any_moment file held)
+    (no_fault _))
     (said_shows desk start before c.as_bytes.result.now mid new
     (settled_rests desk c.in-Ok.session start mid is (opens.settled file held))
     (c.as_bytes.ensures.value ∙ c.as_str.ensures ∙ c.in-Ok-export_text.ensures.text
     ∙ ap (λ (s : Store). export_text s) is)
-    (c.say_all.ensures.shows before (c.reopen.ensures.line.said ∙ begun)))
+    (c.say_all.ensures.shows before (c.reopen.ensures.line.said ∙ begun))))
 
 pub returns-in-Ok-say_all-clause-finished : goal.returns-in-Ok-say_all-clause-finished
 returns-in-Ok-say_all-clause-finished g c = λ file held finished.
@@ -97,13 +100,15 @@ returns-clause-stops g c = λ file start before held stands begun.
     let desk = g.D.Desk in let old = c.args.desk.now in let mid = c.reopen.new.desk in
     let new = c.say_all.new.desk in let opens = c.in-Ok.ensures.ends.1 in
     let is : session_store c.in-Ok.session ≡ start = sym (MatchOption-at_some _ _ file held opens.only start stands) in
-    settles_on desk old mid new (ShowsUnopened desk old before) (ShowsExport desk start before)
-    (opened_shows desk file start before old mid stands begun (c.reopen.ensures.any_moment file held))
+    inr (settles_on desk old mid new (ShowsUnopened desk old before) (ShowsExport desk start before)
+    (λ fault. fault)
+    (opened_shows desk file start before old mid stands begun (c.in-Ok.ensures.any_moment file held)
+    (no_fault _))
     (said_shows desk start before c.as_bytes.result.now mid new
     (settled_rests desk c.in-Ok.session start mid is (opens.settled file held))
     (c.as_bytes.ensures.value ∙ c.as_str.ensures ∙ c.in-Ok-export_text.ensures.text
     ∙ ap (λ (s : Store). export_text s) is)
-    (c.say_all.ensures.shows before (c.reopen.ensures.line.said ∙ begun)))
+    (c.say_all.ensures.shows before (c.reopen.ensures.line.said ∙ begun))))
 
 pub returns-clause-finished : goal.returns-clause-finished
 returns-clause-finished g c = λ file held finished.

@@ -1,4 +1,4 @@
-use Rattle.std.proofs.Common.{◌∙◌, ◌≡◌, refl, subst, sym}
+use Rattle.std.proofs.Common.{◌∙◌, ◌≡◌, inr, refl, subst, sym}
 use Rattle.std.proofs.lemmas.Option.{MatchOption-at_some}
 use Rattle.pl_base.specs.Store.{Store}
 use Rattle.pl_base.specs.Live.{slot_limit}
@@ -10,7 +10,7 @@ use Rattle.places.specs.Importing.{EndsImport, ShowsImport}
 use Rattle.places.specs.Status.{done_or}
 use Rattle.places.specs.Stops.{ShowsUnopened}
 use Rattle.places.proofs.ImportLemmas.{ends_unopened, import_may_end, import_opened, shows_opened}
-use Rattle.places.proofs.OpeningLemmas.{opening_may_end}
+use Rattle.places.proofs.OpeningLemmas.{fault_told, no_fault, opening_may_end}
 use Rattle.places.proofs.import.import_stored.Goals as goal
 
 pub returns-in-Ok-clause-ends : goal.returns-in-Ok-clause-ends
@@ -30,11 +30,13 @@ returns-in-Ok-clause-stops g c = λ file start held stands bytes before told beg
     let new = c.import.new.desk in
     let is : session_store c.in-Ok.session ≡ start =
     sym (MatchOption-at_some _ _ file held c.in-Ok.ensures.ends.1.only start stands) in
-    settles_on desk old mid new (ShowsUnopened desk old before) (ShowsImport desk start bytes before)
-    (shows_opened desk file start bytes before old mid stands begun (c.reopen.ensures.any_moment file held))
+    inr (settles_on desk old mid new (ShowsUnopened desk old before) (ShowsImport desk start bytes before)
+    (λ fault. fault)
+    (shows_opened desk file start bytes before old mid stands begun (c.in-Ok.ensures.any_moment file held)
+    (no_fault _))
     (subst (λ (s : Store). ShowsOnly desk mid new (ShowsImport desk s bytes before)) is
     (c.import.ensures.shows bytes before told (c.reopen.ensures.line.said ∙ begun) old
-    (c.in-Ok.ensures.ends.1.settled file held)))
+    (c.in-Ok.ensures.ends.1.settled file held))))
 
 pub returns-in-Ok-clause-no_store : goal.returns-in-Ok-clause-no_store
 returns-in-Ok-clause-no_store g c = λ file held none.
@@ -55,14 +57,15 @@ returns-in-Ok-clause-not_run g c =
 pub returns-in-Err-clause-stops : goal.returns-in-Err-clause-stops
 returns-in-Err-clause-stops g c = λ file start held stands bytes before told begun.
     let desk = g.D.Desk in let old = c.args.desk.now in
-    shows_opened desk file start bytes before old c.reopen.new.desk stands begun (c.reopen.ensures.any_moment file held)
+    shows_opened desk file start bytes before old c.reopen.new.desk stands begun
+    (c.in-Err.ensures.any_moment file held) (fault_told c.in-Err.ended c.from.result c.from.ensures)
 
 pub returns-in-Err-clause-ends : goal.returns-in-Err-clause-ends
 returns-in-Err-clause-ends g c = λ file start held stands bytes before told begun.
     let desk = g.D.Desk in let old = c.args.desk.now in let new = c.reopen.new.desk in
     ends_unopened desk c.in-Err.ended c.from.result file start bytes before (g.S.Source.left c.args.input.now) old new
     g.met.D.Desk.counts_now c.from.ensures held c.in-Err.ensures.ends stands told c.reopen.ensures.line.said begun
-    (c.reopen.ensures.any_moment file held)
+    (c.in-Err.ensures.any_moment file held)
 
 pub returns-in-Err-clause-status : goal.returns-in-Err-clause-status
 returns-in-Err-clause-status g c =

@@ -1,4 +1,4 @@
-use Rattle.std.proofs.Common.{◌∙◌, ◌≡◌, refl, subst, sym, true}
+use Rattle.std.proofs.Common.{◌∙◌, ◌≡◌, inr, refl, subst, sym, true}
 use Rattle.std.proofs.lemmas.Option.{MatchOption-at_some}
 use Rattle.pl_base.specs.Store.{Store}
 use Rattle.pl_base.specs.Live.{slot_limit}
@@ -9,7 +9,8 @@ use Rattle.pl_script.specs.Script.{script}
 use Rattle.pl_task.specs.declared.task.Task.TheVariants as tasks
 use Rattle.places.specs.Ending.{LeavesAtEnd}
 use Rattle.places.specs.Stops.{ShowsAnswered, ShowsUnopened}
-use Rattle.places.proofs.OpeningLemmas.{ends_without, no_refusal, opening_may_end, script_may_end, shows_opening}
+use Rattle.places.proofs.OpeningLemmas.{ends_without, fault_told, no_fault, no_refusal, opening_may_end}
+use Rattle.places.proofs.OpeningLemmas.{script_may_end, shows_opening}
 use Rattle.places.proofs.script.run_stored.Goals as goal
 
 pub returns-in-Ok-clause-ends : goal.returns-in-Ok-clause-ends
@@ -28,13 +29,13 @@ returns-in-Ok-clause-stops g c = λ file start held stands bytes before told beg
     let new = c.run_script.new.desk in let first = old in
     let is : session_store c.in-Ok.session ≡ start =
     sym (MatchOption-at_some _ _ file held c.in-Ok.ensures.ends.1.only start stands) in
-    settles_on desk old mid new (ShowsUnopened desk first before)
-    (ShowsAnswered desk true first slot_limit start (script bytes) before)
+    inr (settles_on desk old mid new (ShowsUnopened desk first before)
+    (ShowsAnswered desk true first slot_limit start (script bytes) before) (λ fault. fault)
     (shows_opening desk first file start (script bytes) before old mid stands begun
-    (c.reopen.ensures.any_moment file held))
+    (c.in-Ok.ensures.any_moment file held) (no_fault _))
     (subst (λ (s : Store). ShowsOnly desk mid new (ShowsAnswered desk true first slot_limit s (script bytes) before)) is
     (c.run_script.ensures.shows bytes before told (c.reopen.ensures.line.said ∙ begun) old
-    (c.in-Ok.ensures.ends.1.settled file held)))
+    (c.in-Ok.ensures.ends.1.settled file held))))
 
 pub returns-in-Ok-clause-no_store : goal.returns-in-Ok-clause-no_store
 returns-in-Ok-clause-no_store g c = λ file held none.
@@ -44,14 +45,14 @@ pub returns-in-Err-clause-stops : goal.returns-in-Err-clause-stops
 returns-in-Err-clause-stops g c = λ file start held stands bytes before told begun.
     let desk = g.D.Desk in let old = c.args.desk.now in
     shows_opening desk old file start (script bytes) before old c.reopen.new.desk stands begun
-    (c.reopen.ensures.any_moment file held)
+    (c.in-Err.ensures.any_moment file held) (fault_told c.in-Err.ended c.from.result c.from.ensures)
 
 pub returns-in-Err-clause-ends : goal.returns-in-Err-clause-ends
 returns-in-Err-clause-ends g c = λ file start held stands bytes before told begun.
     let desk = g.D.Desk in let old = c.args.desk.now in let new = c.reopen.new.desk in
     ends_without desk c.in-Err.ended c.from.result file start bytes before (g.S.Source.left c.args.input.now) old new
     g.met.D.Desk.counts_now c.from.ensures held c.in-Err.ensures.ends stands told c.reopen.ensures.line.said begun
-    (c.reopen.ensures.any_moment file held)
+    (c.in-Err.ensures.any_moment file held)
 
 pub returns-in-Ok-clause-status : goal.returns-in-Ok-clause-status
 returns-in-Ok-clause-status g c =

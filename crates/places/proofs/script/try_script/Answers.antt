@@ -1,4 +1,4 @@
-use Rattle.std.proofs.Common.{false, inl, inr, refl, subst}
+use Rattle.std.proofs.Common.{false, refl, subst}
 use Rattle.pl_base.specs.Store.{Store, opening}
 use Rattle.pl_base.specs.Live.{slot_limit}
 use Rattle.pl_desk.specs.Shown.{ShowsOnly}
@@ -6,7 +6,7 @@ use Rattle.pl_script.specs.Script.{script}
 use Rattle.pl_task.specs.declared.task.Task.TheVariants as tasks
 use Rattle.places.specs.Ending.{LeavesAtEnd}
 use Rattle.places.specs.Stops.{ShowsAnswered}
-use Rattle.places.proofs.OpeningLemmas.{ends_unread, script_may_end, shows_unopened}
+use Rattle.places.proofs.OpeningLemmas.{ends_unread, script_may_end, shows_unrun}
 use Rattle.places.proofs.script.try_script.Goals as goal
 
 pub returns-in-Ok-clause-ends : goal.returns-in-Ok-clause-ends
@@ -20,14 +20,9 @@ returns-in-Ok-clause-ends g c = λ bytes before told begun.
 
 pub returns-in-Ok-clause-stops : goal.returns-in-Ok-clause-stops
 returns-in-Ok-clause-stops g c = λ bytes before told begun. let desk = g.D.Desk in let old = c.args.desk.now in
-    inr (record {
-      turn = old;
-      before = shows_unopened desk g.met.D.Desk.only_now old before begun;
-      since =
-          subst (λ (start : Store). ShowsOnly desk old c.run_script.new.desk
-          (ShowsAnswered desk false old slot_limit start (script bytes) before)) c.in-Ok.ensures.store
-          (c.run_script.ensures.shows bytes before told begun old (λ file left. left));
-    })
+    subst (λ (start : Store). ShowsOnly desk old c.run_script.new.desk
+    (ShowsAnswered desk false old slot_limit start (script bytes) before)) c.in-Ok.ensures.store
+    (c.run_script.ensures.shows bytes before told begun old (λ file left. left))
 
 pub returns-in-Err-clause-ends : goal.returns-in-Err-clause-ends
 returns-in-Err-clause-ends g c = λ bytes before told begun. let desk = g.D.Desk in let old = c.args.desk.now in
@@ -36,7 +31,7 @@ returns-in-Err-clause-ends g c = λ bytes before told begun. let desk = g.D.Desk
 
 pub returns-in-Err-clause-stops : goal.returns-in-Err-clause-stops
 returns-in-Err-clause-stops g c = λ bytes before told begun. let desk = g.D.Desk in
-    inl (shows_unopened desk g.met.D.Desk.only_now c.args.desk.now before begun)
+    shows_unrun desk g.met.D.Desk.only_now c.args.desk.now opening (script bytes) before begun
 
 pub returns-in-Ok-clause-status : goal.returns-in-Ok-clause-status
 returns-in-Ok-clause-status g c =

@@ -8,8 +8,3 @@ pub move_item-requires-clause-item : goal.move_item-requires-clause-item
 move_item-requires-clause-item g c =
     item_there (kept_of c.args.flat.now).items c.args.item c.in_ok-ok_or.field-0
     (ap result_ok (sym c.in_ok-ok_or.was) ∙ sym c.ok_or.ensures.ok_part ∙ c.item_at.ensures.row)
-
-pub move_item-requires-clause-parent : goal.move_item-requires-clause-parent
-move_item-requires-clause-parent g c =
-    item_there (kept_of c.args.flat.now).items c.args.parent c.in_ok-ok_or-2.field-0
-    (ap result_ok (sym c.in_ok-ok_or-2.was) ∙ sym c.ok_or-2.ensures.ok_part ∙ c.item_at-2.ensures.row)

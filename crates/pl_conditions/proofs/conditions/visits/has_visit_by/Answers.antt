@@ -14,13 +14,6 @@ has_transition-requires g c =
     has_here kept c.args.page (NonePasses test) c.in-Some.visit (g.met.R.Rows.well_kept c.args.rows.now)
     (visit_here kept c.args.page (NonePasses test) c.loop-next.next c.in-Some.visit c.loop-next.invariant c.in-Some.is)
 
-pub older-next-requires : goal.older-next-requires
-older-next-requires g c =
-    let kept : Kept = g.R.Rows.kept c.args.rows.now in
-    let test : Visit → Bool = λ v. transition_number v.transition == transition_number c.args.transition in
-    has_here kept c.args.page (NonePasses test) c.in-Some.visit (g.met.R.Rows.well_kept c.args.rows.now)
-    (visit_here kept c.args.page (NonePasses test) c.loop-next.next c.in-Some.visit c.loop-next.invariant c.in-Some.is)
-
 pub returns-then-has_transition : goal.returns-then-has_transition
 returns-then-has_transition g c =
     let kept : Kept = g.R.Rows.kept c.args.rows.now in

@@ -1,16 +1,14 @@
-use Rattle.std.proofs.Common.{◌≡◌, ◌∙◌, ◌&&◌, Bool, ap, false}
-use Rattle.std.specs.Prelude.{not}
+use Rattle.std.proofs.Common.{◌≡◌, ap, false}
 use Rattle.std.proofs.lemmas.Bool.{true≢false}
 use Rattle.pl_base.specs.declared.refusal.Refusal.{Refusal}
-use Rattle.pl_base.specs.Rows.{HaveTotals, store_of}
+use Rattle.pl_base.specs.Rows.{IsSound, store_of}
 use Rattle.pl_base.specs.Store.{Store}
 use Rattle.pl_step.specs.declared.reply.Reply.{Reply}
 use Rattle.pl_step.specs.declared.reply.Reply.TheVariants.{Refused}
-use Rattle.pl_history.specs.Sound.{IsSound}
-use Rattle.pl_step.specs.Refused.{is_refused}
 use Rattle.pl_step.specs.Commands.{is_change}
 use Rattle.pl_step.specs.Step.{perform}
-use Rattle.pl_step.proofs.KeptTotals.{refused_changes_none, still}
+use Rattle.pl_engine.specs.Idle.{IsIdle}
+use Rattle.pl_engine.specs.VisitPages.{AddsFewPages}
 use Rattle.pl_engine.proofs.engine.Engine.apply.Given.{Over}
 use Rattle.pl_engine.proofs.engine.Engine.apply.Goals.{Joined-command, in-Visit+in_ok-reply-in-Visit}
 use Rattle.pl_engine.proofs.engine.Engine.apply.Goals.{in-Title+in_ok-reply-in-Title, in-Page+in_ok-reply-in-Page}
@@ -38,19 +36,10 @@ sound g c =
     elim c.match-command.branch [
       | in-Visit+in_ok-reply-in-Visit w ↦ rw w.rows-is w.in_ok-reply-in-Visit.ensures.sound
       | in-Title+in_ok-reply-in-Title w ↦ rw w.rows-is w.in_ok-reply-in-Title.ensures.sound
-      | in-Page+in_ok-reply-in-Page w ↦ rw w.rows-is (record {
-        good = c.args.self.good;
-        right = c.args.self.right;
-      })
+      | in-Page+in_ok-reply-in-Page w ↦ rw w.rows-is c.args.self.sound
       | in-Day+in_ok-reply-in-Day w ↦ rw w.rows-is w.in_ok-reply-in-Day.ensures.sound
-      | in-Origin+in_ok-reply-in-Origin w ↦ rw w.rows-is (record {
-        good = c.args.self.good;
-        right = c.args.self.right;
-      })
-      | in-Stats+in_ok-reply-in-Stats w ↦ rw w.rows-is (record {
-        good = c.args.self.good;
-        right = c.args.self.right;
-      })
+      | in-Origin+in_ok-reply-in-Origin w ↦ rw w.rows-is c.args.self.sound
+      | in-Stats+in_ok-reply-in-Stats w ↦ rw w.rows-is c.args.self.sound
       | in-Unvisit+in_ok-reply-in-Unvisit w ↦ rw w.rows-is w.in_ok-reply-in-Unvisit.ensures.sound
       | in-Forget+in_ok-reply-in-Forget w ↦ rw w.rows-is w.in_ok-reply-in-Forget.ensures.sound
       | in-Expire+in_ok-reply-in-Expire w ↦ rw w.rows-is w.in_ok-reply-in-Expire.ensures.sound
@@ -63,26 +52,11 @@ sound g c =
       | in-Tag+in_ok-reply-in-Tag w ↦ rw w.rows-is w.in_ok-reply-in-Tag.ensures.sound
       | in-Untag+in_ok-reply-in-Untag w ↦ rw w.rows-is w.in_ok-reply-in-Untag.ensures.sound
       | in-Remove+in_ok-reply-in-Remove w ↦ rw w.rows-is w.in_ok-reply-in-Remove.ensures.sound
-      | in-List+in_ok-reply-in-List w ↦ rw w.rows-is (record {
-        good = c.args.self.good;
-        right = c.args.self.right;
-      })
-      | in-Query+in_ok-reply-in-Query w ↦ rw w.rows-is (record {
-        good = c.args.self.good;
-        right = c.args.self.right;
-      })
-      | in-Place+in_ok-reply-in-Place w ↦ rw w.rows-is (record {
-        good = c.args.self.good;
-        right = c.args.self.right;
-      })
-      | in-Bar+in_ok-reply-in-Bar w ↦ rw w.rows-is (record {
-        good = c.args.self.good;
-        right = c.args.self.right;
-      })
-      | in-Fill+in_ok-reply-in-Fill w ↦ rw w.rows-is (record {
-        good = c.args.self.good;
-        right = c.args.self.right;
-      })
+      | in-List+in_ok-reply-in-List w ↦ rw w.rows-is c.args.self.sound
+      | in-Query+in_ok-reply-in-Query w ↦ rw w.rows-is c.args.self.sound
+      | in-Place+in_ok-reply-in-Place w ↦ rw w.rows-is c.args.self.sound
+      | in-Bar+in_ok-reply-in-Bar w ↦ rw w.rows-is c.args.self.sound
+      | in-Fill+in_ok-reply-in-Fill w ↦ rw w.rows-is c.args.self.sound
       | in-Import+in_ok-reply-in-Import w ↦ rw w.rows-is w.in_ok-reply-in-Import.ensures.sound
     ]
 
@@ -140,55 +114,6 @@ step g c =
           (ap (λ (r : Reply). (r, store_of (g.R.Rows.kept c.args.self.rows))) w.in_ok-reply-in-Fill.ensures)
       | in-Import+in_ok-reply-in-Import w ↦ rw (w.rows-is, w.reply-is, w.in-Import.is)
           w.in_ok-reply-in-Import.ensures.step
-    ]
-
--- the rows of a command that changed nothing have their totals still
-kept : (g : Over) (c : Joined-command g)
-    → (is_change c.args.command.now && not (is_refused c.match-command.reply)) ≡ false
-    → HaveTotals (g.R.Rows.kept c.match-command.rows)
-kept g c same =
-    elim c.match-command.branch [
-      | in-Day+in_ok-reply-in-Day w ↦ rw w.rows-is (still (λ rows. HaveTotals (g.R.Rows.kept rows)) c.args.self.rows _ _
-          w.in_ok-reply-in-Day.ensures.refused (rw (w.reply-is, w.in-Day.is) at same) c.args.self.totals)
-      | in-Visit+in_ok-reply-in-Visit w ↦ rw w.rows-is (still (λ rows. HaveTotals (g.R.Rows.kept rows)) c.args.self.rows _ _
-          w.in_ok-reply-in-Visit.ensures.refused (rw (w.reply-is, w.in-Visit.is) at same) c.args.self.totals)
-      | in-Title+in_ok-reply-in-Title w ↦ rw w.rows-is (still (λ rows. HaveTotals (g.R.Rows.kept rows)) c.args.self.rows _ _
-          w.in_ok-reply-in-Title.ensures.refused (rw (w.reply-is, w.in-Title.is) at same) c.args.self.totals)
-      | in-Unvisit+in_ok-reply-in-Unvisit w ↦ rw w.rows-is (still (λ rows. HaveTotals (g.R.Rows.kept rows)) c.args.self.rows _ _
-          w.in_ok-reply-in-Unvisit.ensures.refused (rw (w.reply-is, w.in-Unvisit.is) at same) c.args.self.totals)
-      | in-Forget+in_ok-reply-in-Forget w ↦ rw w.rows-is (still (λ rows. HaveTotals (g.R.Rows.kept rows)) c.args.self.rows _ _
-          w.in_ok-reply-in-Forget.ensures.refused (rw (w.reply-is, w.in-Forget.is) at same) c.args.self.totals)
-      | in-Expire+in_ok-reply-in-Expire w ↦ rw w.rows-is (still (λ rows. HaveTotals (g.R.Rows.kept rows)) c.args.self.rows _ _
-          w.in_ok-reply-in-Expire.ensures.refused (rw (w.reply-is, w.in-Expire.is) at same) c.args.self.totals)
-      | in-Trim+in_ok-reply-in-Trim w ↦ rw w.rows-is (still (λ rows. HaveTotals (g.R.Rows.kept rows)) c.args.self.rows _ _
-          w.in_ok-reply-in-Trim.ensures.refused (rw (w.reply-is, w.in-Trim.is) at same) c.args.self.totals)
-      | in-Folder+in_ok-reply-in-Folder w ↦ rw w.rows-is (still (λ rows. HaveTotals (g.R.Rows.kept rows)) c.args.self.rows _ _
-          w.in_ok-reply-in-Folder.ensures.refused (rw (w.reply-is, w.in-Folder.is) at same) c.args.self.totals)
-      | in-Bookmark+in_ok-reply-in-Bookmark w ↦ rw w.rows-is (still (λ rows. HaveTotals (g.R.Rows.kept rows)) c.args.self.rows _ _
-          w.in_ok-reply-in-Bookmark.ensures.refused (rw (w.reply-is, w.in-Bookmark.is) at same) c.args.self.totals)
-      | in-Separator+in_ok-reply-in-Separator w ↦ rw w.rows-is (still (λ rows. HaveTotals (g.R.Rows.kept rows)) c.args.self.rows _ _
-          w.in_ok-reply-in-Separator.ensures.refused (rw (w.reply-is, w.in-Separator.is) at same) c.args.self.totals)
-      | in-Retitle+in_ok-reply-in-Retitle w ↦ rw w.rows-is (still (λ rows. HaveTotals (g.R.Rows.kept rows)) c.args.self.rows _ _
-          w.in_ok-reply-in-Retitle.ensures.refused (rw (w.reply-is, w.in-Retitle.is) at same) c.args.self.totals)
-      | in-Tag+in_ok-reply-in-Tag w ↦ rw w.rows-is (still (λ rows. HaveTotals (g.R.Rows.kept rows)) c.args.self.rows _ _
-          w.in_ok-reply-in-Tag.ensures.refused (rw (w.reply-is, w.in-Tag.is) at same) c.args.self.totals)
-      | in-Untag+in_ok-reply-in-Untag w ↦ rw w.rows-is (still (λ rows. HaveTotals (g.R.Rows.kept rows)) c.args.self.rows _ _
-          w.in_ok-reply-in-Untag.ensures.refused (rw (w.reply-is, w.in-Untag.is) at same) c.args.self.totals)
-      | in-Remove+in_ok-reply-in-Remove w ↦ rw w.rows-is (still (λ rows. HaveTotals (g.R.Rows.kept rows)) c.args.self.rows _ _
-          w.in_ok-reply-in-Remove.ensures.refused (rw (w.reply-is, w.in-Remove.is) at same) c.args.self.totals)
-      | in-Move w ↦ rw w.rows-is (still (λ rows. HaveTotals (g.R.Rows.kept rows)) c.args.self.rows _ _
-          w.move_item-reply.ensures.refused (rw (w.reply-is, w.in-Move.is) at same) c.args.self.totals)
-      | in-Page+in_ok-reply-in-Page w ↦ rw w.rows-is c.args.self.totals
-      | in-Origin+in_ok-reply-in-Origin w ↦ rw w.rows-is c.args.self.totals
-      | in-Stats+in_ok-reply-in-Stats w ↦ rw w.rows-is c.args.self.totals
-      | in-List+in_ok-reply-in-List w ↦ rw w.rows-is c.args.self.totals
-      | in-Query+in_ok-reply-in-Query w ↦ rw w.rows-is c.args.self.totals
-      | in-Place+in_ok-reply-in-Place w ↦ rw w.rows-is c.args.self.totals
-      | in-Bar+in_ok-reply-in-Bar w ↦ rw w.rows-is c.args.self.totals
-      | in-Fill+in_ok-reply-in-Fill w ↦ rw w.rows-is c.args.self.totals
-      | in-Import+in_ok-reply-in-Import w ↦ rw w.rows-is
-          (still (λ rows. HaveTotals (g.R.Rows.kept rows)) c.args.self.rows _ _
-          w.in_ok-reply-in-Import.ensures.refused (rw (w.reply-is, w.in-Import.is) at same) c.args.self.totals)
     ]
 
 -- a refused command leaves the very same rows
@@ -254,33 +179,88 @@ unchanged g c none =
       | in-Import+in_ok-reply-in-Import w ↦ absurd (true≢false (rw w.in-Import.is at none))
     ]
 
-pub keep_totals-requires-clause-sound : goal.keep_totals-requires-clause-sound
-keep_totals-requires-clause-sound g c = sound g c.before.before.before
+-- and so does a title that stands already
+idle : (g : Over) (c : Joined-command g) → IsIdle c.args.command.now (store_of (g.R.Rows.kept c.args.self.rows))
+    → c.match-command.rows ≡ c.args.self.rows
+idle g c same =
+    elim c.match-command.branch [
+      | in-Day+in_ok-reply-in-Day w ↦ absurd (rw w.in-Day.is at same)
+      | in-Visit+in_ok-reply-in-Visit w ↦ absurd (rw w.in-Visit.is at same)
+      | in-Title+in_ok-reply-in-Title w ↦ rw w.rows-is (w.in_ok-reply-in-Title.ensures.same (rw w.in-Title.is at same))
+      | in-Unvisit+in_ok-reply-in-Unvisit w ↦ absurd (rw w.in-Unvisit.is at same)
+      | in-Forget+in_ok-reply-in-Forget w ↦ absurd (rw w.in-Forget.is at same)
+      | in-Expire+in_ok-reply-in-Expire w ↦ absurd (rw w.in-Expire.is at same)
+      | in-Trim+in_ok-reply-in-Trim w ↦ absurd (rw w.in-Trim.is at same)
+      | in-Folder+in_ok-reply-in-Folder w ↦ absurd (rw w.in-Folder.is at same)
+      | in-Bookmark+in_ok-reply-in-Bookmark w ↦ absurd (rw w.in-Bookmark.is at same)
+      | in-Separator+in_ok-reply-in-Separator w ↦ absurd (rw w.in-Separator.is at same)
+      | in-Retitle+in_ok-reply-in-Retitle w ↦ absurd (rw w.in-Retitle.is at same)
+      | in-Tag+in_ok-reply-in-Tag w ↦ absurd (rw w.in-Tag.is at same)
+      | in-Untag+in_ok-reply-in-Untag w ↦ absurd (rw w.in-Untag.is at same)
+      | in-Remove+in_ok-reply-in-Remove w ↦ absurd (rw w.in-Remove.is at same)
+      | in-Move w ↦ absurd (rw w.in-Move.is at same)
+      | in-Page+in_ok-reply-in-Page w ↦ absurd (rw w.in-Page.is at same)
+      | in-Origin+in_ok-reply-in-Origin w ↦ absurd (rw w.in-Origin.is at same)
+      | in-Stats+in_ok-reply-in-Stats w ↦ absurd (rw w.in-Stats.is at same)
+      | in-List+in_ok-reply-in-List w ↦ absurd (rw w.in-List.is at same)
+      | in-Query+in_ok-reply-in-Query w ↦ absurd (rw w.in-Query.is at same)
+      | in-Place+in_ok-reply-in-Place w ↦ absurd (rw w.in-Place.is at same)
+      | in-Bar+in_ok-reply-in-Bar w ↦ absurd (rw w.in-Bar.is at same)
+      | in-Fill+in_ok-reply-in-Fill w ↦ absurd (rw w.in-Fill.is at same)
+      | in-Import+in_ok-reply-in-Import w ↦ absurd (rw w.in-Import.is at same)
+    ]
 
-pub keep_totals-requires-clause-totals : goal.keep_totals-requires-clause-totals
-keep_totals-requires-clause-totals g c same = kept g c.before.before.before same
+-- a visit adds few pages
+pages : (g : Over) (c : Joined-command g) → AddsFewPages c.args.command.now (store_of (g.R.Rows.kept c.args.self.rows))
+    (g.R.Rows.pending c.args.self.rows) (g.R.Rows.pending c.match-command.rows)
+pages g c =
+    elim c.match-command.branch [
+      | in-Day+in_ok-reply-in-Day w ↦ rw w.in-Day.is tt
+      | in-Visit+in_ok-reply-in-Visit w ↦ rw (w.rows-is, w.in-Visit.is) w.in_ok-reply-in-Visit.ensures.pages
+      | in-Title+in_ok-reply-in-Title w ↦ rw w.in-Title.is tt
+      | in-Unvisit+in_ok-reply-in-Unvisit w ↦ rw w.in-Unvisit.is tt
+      | in-Forget+in_ok-reply-in-Forget w ↦ rw w.in-Forget.is tt
+      | in-Expire+in_ok-reply-in-Expire w ↦ rw w.in-Expire.is tt
+      | in-Trim+in_ok-reply-in-Trim w ↦ rw w.in-Trim.is tt
+      | in-Folder+in_ok-reply-in-Folder w ↦ rw w.in-Folder.is tt
+      | in-Bookmark+in_ok-reply-in-Bookmark w ↦ rw w.in-Bookmark.is tt
+      | in-Separator+in_ok-reply-in-Separator w ↦ rw w.in-Separator.is tt
+      | in-Retitle+in_ok-reply-in-Retitle w ↦ rw w.in-Retitle.is tt
+      | in-Tag+in_ok-reply-in-Tag w ↦ rw w.in-Tag.is tt
+      | in-Untag+in_ok-reply-in-Untag w ↦ rw w.in-Untag.is tt
+      | in-Remove+in_ok-reply-in-Remove w ↦ rw w.in-Remove.is tt
+      | in-Move w ↦ rw w.in-Move.is tt
+      | in-Page+in_ok-reply-in-Page w ↦ rw w.in-Page.is tt
+      | in-Origin+in_ok-reply-in-Origin w ↦ rw w.in-Origin.is tt
+      | in-Stats+in_ok-reply-in-Stats w ↦ rw w.in-Stats.is tt
+      | in-List+in_ok-reply-in-List w ↦ rw w.in-List.is tt
+      | in-Query+in_ok-reply-in-Query w ↦ rw w.in-Query.is tt
+      | in-Place+in_ok-reply-in-Place w ↦ rw w.in-Place.is tt
+      | in-Bar+in_ok-reply-in-Bar w ↦ rw w.in-Bar.is tt
+      | in-Fill+in_ok-reply-in-Fill w ↦ rw w.in-Fill.is tt
+      | in-Import+in_ok-reply-in-Import w ↦ rw w.in-Import.is tt
+    ]
 
 pub invariant_of-result : goal.invariant_of-result
-invariant_of-result g c =
-    let s : IsSound (g.R.Rows.kept c.keep_totals.new.rows) = c.keep_totals.ensures.sound in
-    record { good = s.good; right = s.right; totals = c.keep_totals.ensures.totals; most = c.args.self.most }
+invariant_of-result g c = record { sound = sound g c; most = c.args.self.most }
 
 pub returns-clause-stands : goal.returns-clause-stands
-returns-clause-stands g c =
-    let s : IsSound (g.R.Rows.kept c.keep_totals.new.rows) = c.keep_totals.ensures.sound in
-    g.met.R.Rows.stands c.keep_totals.new.rows s.good s.right
+returns-clause-stands g c = g.met.R.Rows.stands c.match-command.rows (sound g c.before)
+
+pub returns-clause-sound : goal.returns-clause-sound
+returns-clause-sound g c = sound g c.before
 
 pub returns-clause-step : goal.returns-clause-step
-returns-clause-step g c =
-    let told : Store → Reply × Store = λ (s : Store). (c.match-command.reply, s) in
-    ap told c.keep_totals.ensures.store ∙ step g c.before.before.before.before.before
+returns-clause-step g c = step g c.before
 
 pub returns-clause-refused : goal.returns-clause-refused
-returns-clause-refused g c refusal is =
-    c.keep_totals.ensures.same (refused_changes_none c.args.command.now c.match-command.reply refusal is)
-    ∙ refused g c.before.before.before.before.before refusal is
+returns-clause-refused g c refusal is = refused g c.before refusal is
 
 pub returns-clause-unchanged : goal.returns-clause-unchanged
-returns-clause-unchanged g c none =
-    c.keep_totals.ensures.same (ap (λ (b : Bool). b && not (is_refused c.match-command.reply)) none)
-    ∙ unchanged g c.before.before.before.before.before none
+returns-clause-unchanged g c none = unchanged g c.before none
+
+pub returns-clause-idle : goal.returns-clause-idle
+returns-clause-idle g c same = idle g c.before same
+
+pub returns-clause-pages : goal.returns-clause-pages
+returns-clause-pages g c = pages g c.before

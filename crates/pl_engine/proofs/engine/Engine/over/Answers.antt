@@ -2,5 +2,4 @@ use Rattle.std.proofs.Common.{arith}
 use Rattle.pl_engine.proofs.engine.Engine.over.Goals as goal
 
 pub invariant_of-result : goal.invariant_of-result
-invariant_of-result g c =
-    record { good = c.requires.good; right = c.requires.right; totals = c.requires.totals; most = omega arith }
+invariant_of-result g c = record { sound = c.requires.sound; most = omega arith }

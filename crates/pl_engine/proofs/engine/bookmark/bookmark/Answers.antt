@@ -44,7 +44,8 @@ page_for-requires-clause-room g c =
 pub add_bookmark-requires-clause-ready : goal.add_bookmark-requires-clause-ready
 add_bookmark-requires-clause-ready g c =
     ready (g.R.Rows.kept c.args.rows.now) (g.R.Rows.kept c.page_for.new.rows) c.args.url.now c.in_ok-target.target
-    c.in_ok-page.page c.in_ok-parts.parts.is_place (g.met.R.Rows.well_kept c.args.rows.now) c.requires.sound
+    c.in_ok-page.page c.in_ok-parts.parts.is_place (g.met.R.Rows.well_kept c.args.rows.now)
+    (g.met.R.Rows.well_kept c.page_for.new.rows) c.requires.sound
     c.in_ok-target.ensures c.in_ok-page.ensures.page
     (is_place-by_parts c.args.url.now c.in_ok-parts.parts c.in_ok-parts.ensures.parts)
 

@@ -7,6 +7,6 @@ returns-in-Ok-clause-sound g c =
     sound_alike (g.R.Rows.kept c.args.rows.now) (g.R.Rows.kept c.move_to.new.rows)
     (g.R.Rows.kept c.args.rows.now).ids
     (with_moved c.args.item c.args.parent c.args.place c.args.date (g.R.Rows.kept c.args.rows.now).items)
-    c.in-Ok.ensures.kept (g.met.R.Rows.well_kept c.move_to.new.rows) c.in-Ok.ensures.good
+    c.in-Ok.ensures.kept (g.met.R.Rows.well_kept c.args.rows.now) (g.met.R.Rows.well_kept c.move_to.new.rows) c.in-Ok.ensures.good
     (reference_moved c.args.item c.args.parent c.args.place c.args.date (g.R.Rows.kept c.args.rows.now).items)
     c.requires.sound

@@ -30,5 +30,5 @@ returns-in-Ok-clause-step g c =
 pub returns-in-Ok-clause-sound : goal.returns-in-Ok-clause-sound
 returns-in-Ok-clause-sound g c =
     sound_retitled (g.R.Rows.kept c.args.rows.now) (g.R.Rows.kept c.retitle.new.rows) c.args.item
-    c.cut_title-text.result.now c.args.date c.in-Ok.ensures.kept (g.met.R.Rows.well_kept c.retitle.new.rows)
-    c.in-Ok.ensures.good c.requires.sound
+    c.cut_title-text.result.now c.args.date c.in-Ok.ensures.kept (g.met.R.Rows.well_kept c.args.rows.now)
+    (g.met.R.Rows.well_kept c.retitle.new.rows) c.in-Ok.ensures.good c.requires.sound

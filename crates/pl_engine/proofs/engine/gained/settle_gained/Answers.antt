@@ -7,8 +7,8 @@ use Rattle.pl_engine.specs.NewPage.{IsNew}
 use Rattle.pl_engine.proofs.NewPages.{from_point, settled_swapped}
 use Rattle.pl_engine.proofs.engine.gained.settle_gained.Goals as goal
 
-pub mark_new-requires : goal.mark_new-requires
-mark_new-requires g c =
+pub mark_new-requires-clause-made : goal.mark_new-requires-clause-made
+mark_new-requires-clause-made g c =
     from_point (IsNew (store_of (g.R.Rows.kept c.args.rows.now))) c.args.pages.now c.split_at.result.1.now
     c.args.first c.partition_point.result c.split_at.ensures.back
     (IsPartitionPoint-from_clause (λ (page : PageId). ltb page.0 c.args.first) c.args.pages.now
@@ -16,6 +16,9 @@ mark_new-requires g c =
     (IsPartitionedBy-ltb (λ (page : PageId). page.0) c.args.pages.now c.args.first c.requires.ascending)
     (λ a r f k. search (rules, tests)))
     c.requires.made
+
+pub mark_new-requires-clause-sums : goal.mark_new-requires-clause-sums
+mark_new-requires-clause-sums g c = c.requires.settled.sums
 
 pub settle_all-requires : goal.settle_all-requires
 settle_all-requires g c =

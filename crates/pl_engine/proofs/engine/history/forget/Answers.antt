@@ -1,11 +1,5 @@
-use Rattle.pl_history.proofs.KnownPage.{has_target}
 use Rattle.pl_engine.proofs.Removals.{forgets}
 use Rattle.pl_engine.proofs.engine.history.forget.Goals as goal
-
-pub forget-requires-clause-page : goal.forget-requires-clause-page
-forget-requires-clause-page g c =
-    has_target (g.R.Rows.kept c.args.rows.now) c.text.result.now c.in_ok-page.field-0 c.in-Some.page
-    c.in_ok-page.ensures c.in-Some.is
 
 pub returns-clause-step : goal.returns-clause-step
 returns-clause-step g c limit =

@@ -35,4 +35,4 @@ pub returns-clause-sound : goal.returns-clause-sound
 returns-clause-sound g c =
     sound_inserted (g.R.Rows.kept c.args.rows.now) (g.R.Rows.kept c.insert_allowed.new.rows) c.args.parent c.args.place
     (plain_item c.args.kind c.in_ok-copied.field-0 c.args.date) refl c.in_ok-id.ensures.kept
-    (g.met.R.Rows.well_kept c.insert_allowed.new.rows) c.in_ok-id.ensures.good c.requires.sound
+    (g.met.R.Rows.well_kept c.args.rows.now) (g.met.R.Rows.well_kept c.insert_allowed.new.rows) c.in_ok-id.ensures.good c.requires.sound

@@ -68,4 +68,5 @@ returns-clause-same g c same =
 pub returns-clause-sound : goal.returns-clause-sound
 returns-clause-sound g c =
     sound_titled (g.R.Rows.kept c.args.rows.now) (g.R.Rows.kept c.set_title.new.self) c.args.page c.args.title.now
-    c.in_ok-set_title.ensures.kept (g.met.R.Rows.well_kept c.set_title.new.self) c.requires.sound
+    c.in_ok-set_title.ensures.kept (g.met.R.Rows.well_kept c.args.rows.now)
+    (g.met.R.Rows.well_kept c.set_title.new.self) c.requires.sound

@@ -6,6 +6,7 @@ use Rattle.pl_step.specs.declared.reply.Reply.TheVariants.{Visit as VisitReply}
 use Rattle.pl_step.specs.Step.{visit_refusal}
 use Rattle.pl_history.proofs.OriginParts.{is_place-by_parts}
 use Rattle.pl_history.proofs.ReadyPage.{ready}
+use Rattle.pl_engine.proofs.FewPages.{few_pages}
 use Rattle.pl_engine.proofs.VisitAllowed.{has_id, has_room, has_slot, has_source}
 use Rattle.pl_engine.proofs.VisitStep.{step_after}
 use Rattle.pl_engine.proofs.engine.visit.visit.Goals as goal
@@ -19,7 +20,8 @@ page_for-requires-clause-room g c =
 pub add_visit-requires-clause-ready : goal.add_visit-requires-clause-ready
 add_visit-requires-clause-ready g c =
     ready (g.R.Rows.kept c.args.rows.now) (g.R.Rows.kept c.page_for.new.rows) c.args.url.now c.in_ok-target.target
-    c.in_ok-page.page c.in_ok-parts.parts.is_place (g.met.R.Rows.well_kept c.args.rows.now) c.requires.sound
+    c.in_ok-page.page c.in_ok-parts.parts.is_place (g.met.R.Rows.well_kept c.args.rows.now)
+    (g.met.R.Rows.well_kept c.page_for.new.rows) c.requires.sound
     c.in_ok-target.ensures c.in_ok-page.ensures.page
     (is_place-by_parts c.args.url.now c.in_ok-parts.parts c.in_ok-parts.ensures.parts)
 
@@ -63,3 +65,9 @@ returns-clause-step g c =
     ∙ step_after c.args.limit (g.R.Rows.kept c.args.rows.now) (g.R.Rows.kept c.page_for.new.rows)
     (g.R.Rows.kept c.add_visit.new.rows) c.args.url.now c.in_ok-target.target row c.in_ok-added.added
     c.in_ok-target.ensures c.in_ok-page.ensures.page allowed c.in_ok-added.ensures.added
+
+pub returns-clause-pages : goal.returns-clause-pages
+returns-clause-pages g c =
+    few_pages (g.R.Rows.kept c.args.rows.now) c.args.url.now c.in_ok-target.target (g.R.Rows.pending c.args.rows.now)
+    (g.R.Rows.pending c.page_for.new.rows) (g.R.Rows.pending c.add_visit.new.rows) c.in_ok-target.ensures
+    c.in_ok-page.ensures.pages c.in_ok-added.ensures.pages

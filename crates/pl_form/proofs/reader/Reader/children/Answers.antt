@@ -2,7 +2,8 @@ use Rattle.std.proofs.Common.{◌≡◌, ◌∙◌, ◌+◌, length, ap, arith, 
 use Rattle.std.proofs.lemmas.List.{length_push}
 use Rattle.std.proofs.lemmas.Result.{err_from_is_err_and}
 use Rattle.pl_base.specs.Store.{item_id}
-use Rattle.pl_form.specs.Stored.{IsChild, child_bytes}
+use Rattle.pl_form.specs.Stored.{child_bytes}
+use Rattle.pl_stored.specs.Stored.{IsChild}
 use Rattle.pl_form.proofs.ReadingItems.{child_read, no_child}
 use Rattle.pl_form.proofs.ReadingLists.{none_read, one_more_read, list_stopped, list_read}
 use Rattle.pl_form.proofs.reader.Reader.children.Goals as goal

@@ -1,5 +1,6 @@
 use Rattle.std.proofs.Common.{◌≡◌, length}
-use Rattle.pl_form.specs.Stored.{IsChild, child_bytes}
+use Rattle.pl_form.specs.Stored.{child_bytes}
+use Rattle.pl_stored.specs.Stored.{IsChild}
 use Rattle.pl_form.proofs.ReadingLists.{FirstRead}
 use Rattle.pl_form.proofs.reader.Reader.children.Given as goal
 

@@ -2,7 +2,7 @@ use Rattle.std.proofs.Common.{◌≡◌, ◌∙◌, ◌+◌, length, ap, arith, 
 use Rattle.std.proofs.lemmas.List.{length_push}
 use Rattle.std.proofs.lemmas.Result.{err_from_is_err_and}
 use Rattle.pl_form.specs.Form.{item_bytes}
-use Rattle.pl_form.specs.Stored.{IsStoredItem}
+use Rattle.pl_stored.specs.Stored.{IsStoredItem}
 use Rattle.pl_form.proofs.ReadingLists.{none_read, one_more_read, list_stopped, list_read}
 use Rattle.pl_form.proofs.reader.Reader.items.Goals as goal
 

@@ -1,6 +1,6 @@
 use Rattle.std.proofs.Common.{◌≡◌, length}
 use Rattle.pl_form.specs.Form.{item_bytes}
-use Rattle.pl_form.specs.Stored.{IsStoredItem}
+use Rattle.pl_stored.specs.Stored.{IsStoredItem}
 use Rattle.pl_form.proofs.ReadingLists.{FirstRead}
 use Rattle.pl_form.proofs.reader.Reader.items.Given as goal
 

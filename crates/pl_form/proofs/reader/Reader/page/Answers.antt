@@ -2,7 +2,8 @@ use Rattle.std.proofs.Common.{ℤ, Ok, w64, sym, subst}
 use Rattle.std.proofs.lemmas.Int.{to_z-of_z}
 use Rattle.std.proofs.lemmas.Result.{err_from_is_err_and}
 use Rattle.pl_form.specs.Form.{signed_eight}
-use Rattle.pl_form.specs.Reading.{IsSignedEight, Reads}
+use Rattle.pl_form.specs.Reading.{Reads}
+use Rattle.pl_stored.specs.Fits.{IsSignedEight}
 use Rattle.pl_form.proofs.ReadingRows.{title_stopped, page_arrived}
 use Rattle.pl_form.proofs.reader.Reader.page.Goals as goal
 

@@ -1,7 +1,8 @@
 use Rattle.std.proofs.Common.{◌≡◌, ◌∙◌, ◌+◌, length, ap, arith, refl}
 use Rattle.std.proofs.lemmas.List.{length_push}
 use Rattle.std.proofs.lemmas.Result.{err_from_is_err_and}
-use Rattle.pl_form.specs.Stored.{IsStoredPage, stored_page_bytes}
+use Rattle.pl_form.specs.Stored.{stored_page_bytes}
+use Rattle.pl_stored.specs.Stored.{IsStoredPage}
 use Rattle.pl_form.proofs.ReadingLists.{none_read, one_more_read, list_stopped, list_read}
 use Rattle.pl_form.proofs.reader.Reader.pages.Goals as goal
 

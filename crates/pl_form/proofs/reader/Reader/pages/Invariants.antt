@@ -1,5 +1,6 @@
 use Rattle.std.proofs.Common.{◌≡◌, length}
-use Rattle.pl_form.specs.Stored.{IsStoredPage, stored_page_bytes}
+use Rattle.pl_form.specs.Stored.{stored_page_bytes}
+use Rattle.pl_stored.specs.Stored.{IsStoredPage}
 use Rattle.pl_form.proofs.ReadingLists.{FirstRead}
 use Rattle.pl_form.proofs.reader.Reader.pages.Given as goal
 

@@ -1,5 +1,6 @@
 use Rattle.std.proofs.Common.{◌≡◌, length}
-use Rattle.pl_form.specs.Stored.{IsStoredVisit, stored_visit_bytes}
+use Rattle.pl_form.specs.Stored.{stored_visit_bytes}
+use Rattle.pl_stored.specs.Stored.{IsStoredVisit}
 use Rattle.pl_form.proofs.ReadingLists.{FirstRead}
 use Rattle.pl_form.proofs.reader.Reader.visits.Given as goal
 

@@ -1,6 +1,8 @@
 use Rattle.std.proofs.Common.{◌≡◌, ◌∙◌, [], ◌∷◌, List, ap, length, refl, subst, sym}
 use Rattle.pl_base.specs.Rows.{Kept, store_of}
 use Rattle.pl_base.specs.Store.{item_id}
+use Rattle.pl_base.specs.Tree.{children_of}
+use Rattle.pl_tree.proofs.ChildWalk.{last_before_end}
 use Rattle.pl_graft.specs.declared.grafting.Open.{Open}
 use Rattle.pl_graft.specs.Import.{folders_behind, with_list}
 use Rattle.pl_graft.specs.OpenFolders.{AreOpen, MayGoOn, inner_of, root_of}
@@ -25,7 +27,12 @@ loop-node-init g c =
       are_open =
           subst (AreOpen (store_of (g.R.Rows.kept c.args.rows.now))) (sym first)
           (root_open (store_of (g.R.Rows.kept c.args.rows.now)) place
-          (record { takes = c.requires.takes; last_child = c.last_child.ensures }));
+          (record {
+            takes = c.requires.takes;
+            last_child =
+                c.last_child.ensures.last
+                ∙ last_before_end (children_of (g.R.Rows.kept c.args.rows.now).items c.args.root);
+          }));
       fits =
           subst (λ (os : List Open). MayGoOn (length os) c.args.nodes.now) (sym first)
           (may_begin c.args.nodes.now c.requires.formed);

@@ -69,6 +69,9 @@ returns-clause-standing g c =
 
 pub returns-clause-goes_on : goal.returns-clause-goes_on
 returns-clause-goes_on g c =
+    let made = c.before.before.before.before.before.before.before.before.before in
+    let asked = made.before.before.before.before.before.before.before.before in
     page_goes_on (g.R.Rows.kept c.args.rows.now) (g.R.Rows.kept c.insert_page.new.self) c.text.result.now
     c.match-branch-3.origin c.args.self.now (record c.args.self.now { pages = c.add.new.self })
-    c.in_ok-page-2.ensures.kept refl refl
+    (g.met.R.Rows.well_kept c.args.rows.now) (g.met.R.Rows.well_kept c.insert_page.new.self)
+    (insert_page-requires-clause-origin g asked) c.in_ok-page-2.ensures.kept refl refl

@@ -59,3 +59,7 @@ returns-clause-inner g c =
     (pushed_are c.pop.new.self.items c.push.new.self.items c.open_folder.new.folders.items put
     c.args.node.now.kind c.in_ok-id.id c.in_ok-push.ensures.items pushed)))
     c.open_folder.ensures
+
+pub returns-clause-base : goal.returns-clause-base
+returns-clause-base g c =
+    on_ok_weaker c.open_folder.result (λ pushed bytes was. c.in_ok-id.ensures.base bytes was) c.open_folder.ensures

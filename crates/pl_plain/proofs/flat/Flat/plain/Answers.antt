@@ -1,6 +1,6 @@
 use Rattle.std.proofs.Common.{◌∙◌, ◌++◌, ap, map, sym, length}
 use Rattle.pl_base.specs.Rows.{KeptPage}
-use Rattle.pl_form.specs.Stored.{visit_of}
+use Rattle.pl_stored.specs.Stored.{visit_of}
 use Rattle.pl_plain.specs.Flat.{kept_of}
 use Rattle.pl_plain.specs.FlatRows.{form_row, page_of}
 use Rattle.pl_form.specs.Form.{four, item_bytes, kept_rows, listed, page_bytes, plain_bytes, visit_bytes}

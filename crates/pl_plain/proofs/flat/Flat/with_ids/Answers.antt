@@ -1,6 +1,6 @@
 use Rattle.std.proofs.Common.{arith, refl}
 use Rattle.std.proofs.lemmas.List.Elements.{All-nil}
-use Rattle.pl_plain.proofs.OpeningGood.{no_ids, opening_is_good, root_ids, root_titles}
+use Rattle.pl_plain.proofs.OpeningGood.{no_ids, opening_is_sound, root_ids, root_titles}
 use Rattle.pl_plain.proofs.flat.Flat.with_ids.Goals as goal
 
 pub invariant_of-result : goal.invariant_of-result
@@ -31,11 +31,8 @@ invariant_of-result c =
       settled = λ settled. absurd (cc);
     }
 
-pub returns-clause-good : goal.returns-clause-good
-returns-clause-good c =
-    rw (c.new.ensures.items, c.new-2.ensures.items, c.in_ok-opening.ensures)
-    (opening_is_good c.args.ids c.requires.page c.requires.visit c.requires.item (omega arith) (omega arith)
+pub returns-clause-sound : goal.returns-clause-sound
+returns-clause-sound c =
+    rw (c.new.ensures.items, c.new-2.ensures.items, c.new-3.ensures.items, c.in_ok-opening.ensures)
+    (opening_is_sound c.args.ids c.requires.page c.requires.visit c.requires.item (omega arith) (omega arith)
     (omega arith))
-
-pub returns-clause-totals : goal.returns-clause-totals
-returns-clause-totals c = rw (c.new.ensures.items) (All-nil _)

@@ -1,6 +1,6 @@
 use Rattle.std.proofs.Common.{◌∙◌, ◌==◌, ap, sym}
 use Rattle.std.specs.Option.{option_copied}
-use Rattle.pl_form.specs.declared.stored.StoredVisit.{StoredVisit}
+use Rattle.pl_stored.specs.declared.stored.StoredVisit.{StoredVisit}
 use Rattle.pl_base.proofs.Searches.{found_at, got_at, none_at}
 use Rattle.pl_plain.proofs.flat.search.find_visit.Goals as goal
 

@@ -3,7 +3,8 @@ use Rattle.std.specs.List.{flat_map}
 use Rattle.std.proofs.lemmas.List.{take_all}
 use Rattle.pl_base.specs.Store.{Item}
 use Rattle.pl_form.specs.Form.{four, item_bytes}
-use Rattle.pl_plain.proofs.Appends.{children_within, two_writes, written_more}
+use Rattle.pl_stored.proofs.FewChildren.{children_within}
+use Rattle.pl_plain.proofs.Appends.{two_writes, written_more}
 use Rattle.pl_plain.proofs.flat.write.put_items.Goals as goal
 
 -- the item that is written, in the list

@@ -1,7 +1,7 @@
 use Rattle.std.proofs.Common.{◌≡◌, ◌++◌, map, take}
 use Rattle.std.specs.List.{flat_map}
 use Rattle.pl_form.specs.Form.{visit_bytes}
-use Rattle.pl_form.specs.Stored.{visit_of}
+use Rattle.pl_stored.specs.Stored.{visit_of}
 use Rattle.pl_plain.proofs.flat.write.put_visits.Given as goal
 
 abbrev pub invariant-loop-visit : goal.invariant-loop-visit

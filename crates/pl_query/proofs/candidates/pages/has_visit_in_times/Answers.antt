@@ -28,13 +28,6 @@ returns-then-is_in_times g c =
     (at_here kept c.args.page none c.in-Some.visit (g.met.R.Rows.well_kept c.args.rows.now) w))
     ∙ c.if-is_in_times.true))
 
-pub older-next-requires : goal.older-next-requires
-older-next-requires g c =
-    let kept : Kept = g.R.Rows.kept c.args.rows.now in
-    let none = NoneInTimes (store_of kept) c.args.asked.now.query.now in
-    has_here kept c.args.page none c.in-Some.visit (g.met.R.Rows.well_kept c.args.rows.now)
-    (visit_here kept c.args.page none c.loop-next.next c.in-Some.visit c.loop-next.invariant c.in-Some.is)
-
 pub loop-next-smaller : goal.loop-next-smaller
 loop-next-smaller g c =
     let kept : Kept = g.R.Rows.kept c.args.rows.now in

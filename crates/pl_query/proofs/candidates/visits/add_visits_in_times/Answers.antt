@@ -1,5 +1,5 @@
 use Rattle.pl_base.specs.Rows.{Kept}
-use Rattle.pl_marks.proofs.VisitWalk.{IsVisitHere, at_here, has_here, visit_here, walk_goes_on, walk_nears}
+use Rattle.pl_marks.proofs.VisitWalk.{IsVisitHere, at_here, visit_here, walk_goes_on, walk_nears}
 use Rattle.pl_query.proofs.PageParts.{HasVisits, visit_subject_there, visits_more}
 use Rattle.pl_query.proofs.candidates.visits.add_visits_in_times.Goals as goal
 
@@ -12,14 +12,6 @@ add_visit-requires-clause-there g c =
     visit_here kept c.args.page has c.loop-next.next c.in-Some.visit c.loop-next.invariant c.in-Some.is in
     visit_subject_there kept c.args.page c.in-Some.visit w.visit c.requires.page
     (at_here kept c.args.page has c.in-Some.visit (g.met.R.Rows.well_kept c.args.rows.now) w)
-
-pub older-next-requires : goal.older-next-requires
-older-next-requires g c =
-    let kept : Kept = g.R.Rows.kept c.args.rows.now in
-    let has =
-    HasVisits kept c.args.asked.now.query.now c.args.page c.args.candidates.now.items c.loop-next.candidates.items in
-    has_here kept c.args.page has c.in-Some.visit (g.met.R.Rows.well_kept c.args.rows.now)
-    (visit_here kept c.args.page has c.loop-next.next c.in-Some.visit c.loop-next.invariant c.in-Some.is)
 
 pub loop-next-smaller : goal.loop-next-smaller
 loop-next-smaller g c =

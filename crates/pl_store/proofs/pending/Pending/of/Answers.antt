@@ -1,4 +1,4 @@
-use Rattle.std.proofs.Common.{◌≡◌, ℕ, List, length, take, ap, sym, ◌∙◌}
+use Rattle.std.proofs.Common.{◌≡◌, ℕ, List, length, take, ap, refl, sym, ◌∙◌}
 use Rattle.std.proofs.lemmas.List.{length-take, nil_from_length, take_min}
 use Rattle.pl_base.specs.Touched.{Change, PageImage, bytes_before, changed, with_pages}
 use Rattle.pl_store.proofs.pending.Pending.of.Goals as goal
@@ -15,4 +15,5 @@ front_left change bytes none =
 pub returns-then-count-eq0 : goal.returns-then-count-eq0
 returns-then-count-eq0 c = record {
   leads = λ before len. front_left c.args.touched before (sym c.count.ensures.count ∙ c.if-count-eq0.true);
+  none = λ empty. refl;
 }

@@ -1,10 +1,14 @@
-use Rattle.std.proofs.Common.{◌≡◌, ℕ, List, length, take, inl, inr, ⊎_elim, sym, subst}
+use Rattle.std.proofs.Common.{◌≡◌, ◌∙◌, ℕ, All, List, [], ◌∷◌, ap, arith, length, take, inl, inr, ⊎_elim, refl}
+use Rattle.std.proofs.Common.{sym, subst}
 use Rattle.std.proofs.Math.Seq.{take-length}
 use Rattle.std.proofs.lemmas.Bool.{both_ways}
+use Rattle.std.proofs.lemmas.List.{length-map}
 use Rattle.pl_base.specs.Rows.{store_of}
+use Rattle.pl_base.specs.Touched.{MayDiffer, PageImage, page_of, page_numbers}
 use Rattle.pl_form.specs.Form.{StandsFor}
 use Rattle.pl_plain.specs.declared.flat.Flat.{Flat}
 use Rattle.pl_plain.specs.Flat.{IsBase, bytes_of, kept_of}
+use Rattle.pl_store.specs.OwnBase.{HasOwnBase}
 use Rattle.pl_store.specs.Session.{LeadsTo}
 use Rattle.pl_store.proofs.session.Session.prepare.Goals.{Then-changes_nothing}
 use Rattle.pl_store.proofs.session.Session.prepare.Goals as goal
@@ -17,7 +21,7 @@ same_rows c =
 
 pub invariant_of-result : goal.invariant_of-result
 invariant_of-result c =
-    record { base = subst (λ (rows : Flat). IsBase rows (bytes_of rows)) (sym (same_rows c)) c.args.self.base }
+    record { base = subst HasOwnBase (sym (same_rows c)) c.args.self.base }
 
 pub returns-then-changes_nothing-clause-from : goal.returns-then-changes_nothing-clause-from
 returns-then-changes_nothing-clause-from c = record {
@@ -30,7 +34,7 @@ returns-then-changes_nothing-clause-from c = record {
 pub returns-clause-from : goal.returns-clause-from
 returns-clause-from c =
     let before = bytes_of c.args.self.engine.rows in
-    let base = c.in_ok-engine.ensures.base before c.args.self.base in
+    let base = c.in_ok-engine.ensures.base before ((c.args.self.base before).1 refl) in
     let mid = c.in_ok-engine.engine.rows in let new = c.touched.new.engine.rows in
     record {
       leads =
@@ -50,3 +54,20 @@ returns-clause-refused c refusal is =
 pub returns-clause-unchanged : goal.returns-clause-unchanged
 returns-clause-unchanged c is =
     absurd (both_ways c.changes_nothing.result c.if-changes_nothing.false (c.changes_nothing.ensures.1 (inr is)))
+
+-- no page differs from itself
+none_differ : (base : List ℕ → Type 0) (bytes pages : List ℕ) → ((before : List ℕ) → base before → before ≡ bytes)
+    → All (MayDiffer base bytes) pages → length pages ≡ 0
+none_differ base bytes [] own differ = refl
+none_differ base bytes (page ∷ pages) own differ =
+    absurd (differ 0 page (omega arith) (λ before was. ap (page_of page) (own before was)))
+
+pub returns-clause-idle : goal.returns-clause-idle
+returns-clause-idle c idle =
+    let mid = c.in_ok-engine.engine.rows in
+    let pages : List PageImage = c.in_ok-touched.touched.pages in
+    let own : HasOwnBase mid = subst HasOwnBase (sym (c.in_ok-engine.ensures.idle idle)) c.args.self.base in
+    c.of-change.ensures.none
+    (sym (length-map pages (λ (p : PageImage). p.page))
+    ∙ none_differ (IsBase mid) (bytes_of c.touched.new.engine.rows) (page_numbers pages)
+    (λ before was. (own before).0 was ∙ sym c.touched.ensures.bytes) c.in_ok-touched.ensures.needed)

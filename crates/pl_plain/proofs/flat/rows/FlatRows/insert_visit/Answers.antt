@@ -1,7 +1,7 @@
 use Rattle.std.proofs.Common.{length}
 use Rattle.std.proofs.lemmas.Bool.{true≢false}
 use Rattle.std.proofs.lemmas.List.{map_push}
-use Rattle.pl_form.specs.Stored.{visit_of}
+use Rattle.pl_stored.specs.Stored.{visit_of}
 use Rattle.pl_plain.specs.Flat.{kept_of}
 use Rattle.pl_plain.proofs.FlatChanges.{IsFlat-with_visit}
 use Rattle.pl_plain.proofs.flat.rows.FlatRows.insert_visit.Goals as goal

@@ -4,7 +4,11 @@ use Rattle.pl_base.specs.Store.{Item}
 use Rattle.pl_plain.specs.Flat.{kept_of}
 use Rattle.pl_plain.specs.FlatRows.{IsFlat, kept_from}
 use Rattle.pl_plain.proofs.ItemChanges.{IsFlat-with_moved}
+use Rattle.pl_plain.proofs.Lookups.{folder_there}
 use Rattle.pl_plain.proofs.flat.rows.FlatRows.move_item.Goals as goal
+
+pub move_to-requires-clause-parent : goal.move_to-requires-clause-parent
+move_to-requires-clause-parent g c = folder_there c.args.self.now.items c.args.parent c.requires.parent
 
 pub invariant_of-self : goal.invariant_of-self
 invariant_of-self g c =

@@ -3,7 +3,7 @@ use Rattle.std.specs.Option.{option_map}
 use Rattle.pl_base.specs.Rows.{visit_at}
 use Rattle.pl_base.specs.Store.{Visit}
 use Rattle.pl_base.specs.Visits.{latest_first}
-use Rattle.pl_form.specs.Stored.{visit_of}
+use Rattle.pl_stored.specs.Stored.{visit_of}
 use Rattle.pl_plain.specs.Flat.{kept_of}
 use Rattle.pl_check.specs.Latest.{first_of, is_within}
 use Rattle.pl_plain.proofs.Lookups.{none-found, older_visit-none, one-found}

@@ -1,7 +1,7 @@
 use Rattle.std.proofs.Common.{◌∙◌, ◌==◌, Some, ap}
 use Rattle.pl_base.specs.Rows.{row_of}
 use Rattle.pl_base.specs.Store.{Visit}
-use Rattle.pl_form.specs.Stored.{visit_of}
+use Rattle.pl_stored.specs.Stored.{visit_of}
 use Rattle.pl_plain.proofs.Lookups.{found-none, found-some}
 use Rattle.pl_plain.proofs.Searches.{visits_ascend}
 use Rattle.pl_plain.proofs.flat.rows.FlatRows.visit_at.Goals as goal
