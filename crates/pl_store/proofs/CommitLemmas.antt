@@ -1,5 +1,5 @@
 -- A commit for the keeper that prepared its command.
-use Rattle.std.proofs.Common.{ℕ, List}
+use Rattle.std.proofs.Common.{◌≡◌, true, ℕ, List, refl}
 use Rattle.pl_desk.specs.Shown.{AtAnyMoment}
 use Rattle.pl_desk.specs.declared.desk.Desk.{Ghosts}
 use Rattle.pl_store.specs.declared.session.Prepared.{Prepared}
@@ -9,6 +9,12 @@ use Rattle.pl_store.specs.declared.keeper.Keeper.{Keeper}
 use Rattle.pl_store.specs.declared.keeper.Keeper.TheVariants.{Memory, File}
 use Rattle.pl_store.specs.declared.keeper.Ready.TheVariants as ready
 use Rattle.pl_store.specs.Keeper.{IsKept, IsReadyFrom, LeavesEither, is_file, keeper_store}
+
+-- a keeper that prepared a command for a file has one
+pub was_file : (before : Keeper) (prepared : Prepared) → IsReadyFrom before (ready.File prepared)
+    → is_file before ≡ true
+was_file (Memory memory) prepared from = absurd from
+was_file (File s) prepared from = refl
 
 module _ {D : Type 0} (desk : Ghosts D) (before : Keeper) (first old new : D) (prepared : Prepared)
     (from : IsReadyFrom before (ready.File prepared)) (kept : IsKept desk before first old) where

@@ -1,5 +1,5 @@
 // A store in memory alone, or in a file too.
-ghost use Rattle.std.specs.Prelude.{◌≡◌, ◌≤◌, List, ℕ, Some, false, IfOk, OnErr};
+ghost use Rattle.std.specs.Prelude.{◌≡◌, ◌≤◌, List, ℕ, Some, true, false, IfOk, OnErr};
 ghost use Rattle.pl_desk.specs.Shown.{AtAnyMoment};
 ghost use Rattle.pl_desk.specs.Counts.{Counts};
 ghost use Rattle.pl_desk.specs.Calls.{KeepsLine};
@@ -72,6 +72,8 @@ impl Ready {
             (keeper_store before) (ready_store self) file) }
         ensures alone { (before : Keeper) → IsReadyFrom before self → is_file before ≡ false
             → desk.new ≡ desk.old }
+        ensures in_file { OnErr result
+            ((before : Keeper) → IsReadyFrom before self → is_file before ≡ true) }
         ensures no_less { D.written desk.old ≤ D.written desk.new }
         ensures line { KeepsLine D.Desk desk.old desk.new }
         ensures counted { Counts result (D.device_faults desk.old) (D.device_faults desk.new) }

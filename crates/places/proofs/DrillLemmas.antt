@@ -391,7 +391,7 @@ pub drill_may_end : (count seed : ℕ) (end : Result ⊤ AnswerError)
     → EndsTask (tasks.Drill count seed) (drill_status end)
 drill_may_end count seed (Ok done) = tt
 drill_may_end count seed (Err answer.SayFault) = tt
-drill_may_end count seed (Err answer.DeviceFault) = tt
+drill_may_end count seed (Err answer.DeviceFault) = λ same. absurd (cc)
 drill_may_end count seed (Err answer.NoMemory) = tt
 
 pub drill_opened : (end : Result ⊤ AnswerError) → drill_status end ≡ status.NotAStore → ⊥

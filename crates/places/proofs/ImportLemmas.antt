@@ -368,8 +368,8 @@ some_import s stops =
     commit =
         ⊎_elim (λ is. turned (sym is) (tt, λ same. absurd (cc)))
         (⊎_elim (λ is. turned (sym is) (tt, λ same. absurd (cc)))
-        (⊎_elim (λ is. turned (sym is) (tt, λ same. absurd (cc)))
-        (λ refused. turned (sym refused.1) (refl, λ same. absurd (cc)))))
+        (⊎_elim (λ is. turned (sym is) (λ same. absurd (cc), λ same. absurd (cc)))
+        (λ refused. turned (sym refused.1) ((refl, refused.2), λ same. absurd (cc)))))
 
 -- an import's run may end so, and never as a file that is no store
 pub import_may_end : (end : Result ⊤ Status) → IfErr end StopsImport → EndsTask tasks.Import (done_or end)

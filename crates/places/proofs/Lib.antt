@@ -1,5 +1,6 @@
 mod AnswerCounts
 mod AnswerLemmas
+mod CompletenessLemmas
 mod DrillLemmas
 mod EndingLemmas
 mod EntryLemmas
@@ -9,6 +10,7 @@ mod LineLemmas
 mod LongLines
 mod OpeningLemmas
 mod ProgressLemmas
+mod RefusalLemmas
 mod SaidLemmas
 mod SayingLemmas
 mod StopLemmas

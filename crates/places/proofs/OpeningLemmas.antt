@@ -1,8 +1,9 @@
 -- The ends of a run by its status, and the runs that have no store to begin with.
 use Rattle.std.specs.Prelude.{⊤, IsSome, IsTrue}
-use Rattle.std.proofs.Common.{◌≡◌, ◌≤◌, ◌<◌, Bool, true, false, ℕ, List, [], ◌∷◌, ◌++◌, append_assoc, take}
+use Rattle.std.proofs.Common.{◌≡◌, ◌≢◌, ◌≤◌, ◌<◌, Bool, true, false, ℕ, List, [], ◌∷◌, ◌++◌, append_assoc, take}
 use Rattle.std.proofs.Common.{length, arith, Some, Option, Result, Ok, Err, refl, ap, sym}
 use Rattle.std.proofs.Common.{subst, ◌∙◌, append-nil, inl, inr, ⊎_elim}
+use Rattle.std.proofs.lemmas.Bool.{true≢false}
 use Rattle.std.proofs.lemmas.Option.{MatchOption-at_some, same_Some}
 use Rattle.pl_base.specs.Store.{Store, opening}
 use Rattle.pl_base.specs.Live.{slot_limit}
@@ -152,18 +153,16 @@ says_at_end desk (status.NotBookmarks at) kind first start bytes before left now
 says_at_end desk (status.ImportRefused refusal) kind first start bytes before left now leaves = leaves
 says_at_end desk (status.TooLong limit) kind first start bytes before left now leaves = (leaves.says, leaves.read)
 
--- a script's run, of a task that reads a script
+-- a script's run, of a task that reads a script; where the file fails the task is not `try`
 pub script_may_end : (task : Task) (end : Result ⊤ Stop) (s : Status) → input_limit task ≡ Some script_limit
-    → EndsAs end s → EndsTask task s
-script_may_end task end s reads is = at end is
-  where
-    at : (end : Result ⊤ Stop) → EndsAs end s → EndsTask task s
-    at (Ok done) is = subst (EndsTask task) (sym is) tt
-    at (Err stop.ReadFault) is = subst (EndsTask task) (sym is) (subst IsSome (sym reads) refl)
-    at (Err stop.SayFault) is = subst (EndsTask task) (sym is) tt
-    at (Err stop.DeviceFault) is = subst (EndsTask task) (sym is) tt
-    at (Err stop.NoMemory) is = subst (EndsTask task) (sym is) tt
-    at (Err stop.TooLong) is = subst (EndsTask task) (sym is) reads
+    → (end ≡ Err stop.DeviceFault → task ≢ tasks.Try) → EndsAs end s → EndsTask task s
+script_may_end task (Ok done) s reads in_file is = subst (EndsTask task) (sym is) tt
+script_may_end task (Err stop.ReadFault) s reads in_file is =
+    subst (EndsTask task) (sym is) (subst IsSome (sym reads) refl)
+script_may_end task (Err stop.SayFault) s reads in_file is = subst (EndsTask task) (sym is) tt
+script_may_end task (Err stop.DeviceFault) s reads in_file is = subst (EndsTask task) (sym is) (in_file refl)
+script_may_end task (Err stop.NoMemory) s reads in_file is = subst (EndsTask task) (sym is) tt
+script_may_end task (Err stop.TooLong) s reads in_file is = subst (EndsTask task) (sym is) reads
 
 -- a store that was opened is no fault of the device, and such a fault is told by the status
 pub no_fault : (session : Session) → ◌≡◌ {A = Result Session Ended} (Ok session) (Err ended.DeviceFault) → ⊥
@@ -185,7 +184,8 @@ no_refusal (Err stop.TooLong) s is at = absurd (cc)
 pub opening_may_end : (task : Task) → IsTrue (opens_store task)
     → {D : Type 0} (desk : Ghosts D) (limit : ℕ) (e : Ended) (s : Status) (old new : D) → s ≡ without_session e
     → Opens desk limit (Err e) old new → EndsTask task s
-opening_may_end task asked desk limit ended.DeviceFault s old new is opens = subst (EndsTask task) (sym is) tt
+opening_may_end task asked desk limit ended.DeviceFault s old new is opens =
+    subst (EndsTask task) (sym is) (λ memory. true≢false (sym asked ∙ ap opens_store memory))
 opening_may_end task asked desk limit ended.NoMemory s old new is opens = subst (EndsTask task) (sym is) tt
 opening_may_end task asked desk limit ended.NotAStore s old new is opens = subst (EndsTask task) (sym is) asked
 opening_may_end task asked desk limit (ended.NotEmpty n) s old new is opens = absurd opens

@@ -1,13 +1,17 @@
 -- What a run leaves at each of its ends, where the source and the desk tell their content.
-use Rattle.std.specs.Prelude.{◌≡◌, ◌⊎◌, ⊤, ℕ, Bool, true, false, ◌<◌, List, [], ◌++◌}
+use Rattle.std.specs.Prelude.{◌≡◌, ◌≢◌, ◌⊎◌, ⊤, ℕ, Bool, true, false, ◌<◌, List, [], ◌++◌}
 use Rattle.std.specs.Prelude.{codes, length, take}
 use Rattle.std.specs.Prelude.{IsSome, IsTrue, Option, Some, None}
 use Rattle.pl_base.specs.Store.{Store, opening}
 use Rattle.pl_base.specs.Live.{slot_limit}
+use Rattle.pl_base.specs.declared.id.IdKind.TheVariants.{Page, Visit, Item}
+use Rattle.pl_base.specs.declared.refusal.Refusal.{Refusal}
+use Rattle.pl_base.specs.declared.refusal.Refusal.TheVariants as refusals
 use Rattle.pl_desk.specs.Calls.{KeepsFile, LeavesNoMore}
 use Rattle.pl_desk.specs.Shown.{Rests}
 use Rattle.pl_desk.specs.declared.desk.Desk as desks
 use Rattle.pl_desk.specs.declared.source.Source as sources
+use Rattle.pl_graft.specs.Import.{most_rows}
 use Rattle.pl_step.specs.Run.{replies, after}
 use Rattle.pl_store.specs.Ending.{FindsBytes, IsFinished, SparesBytes}
 use Rattle.pl_store.specs.Keeper.{Keeps}
@@ -35,19 +39,44 @@ Becomes answer.NoMemory e = e ≡ stop.NoMemory
 
 -- ---- tasks
 
+-- which refusals an import may have: more rows than it may, no ids for pages or for items, more
+-- slots than a store may take
+abbrev pub RefusesImport : Refusal → Type 0
+RefusesImport (refusals.TooMany rows) = most_rows < rows
+RefusesImport (refusals.NoIds Page) = ⊤
+RefusesImport (refusals.NoIds Visit) = ⊥
+RefusesImport (refusals.NoIds Item) = ⊤
+RefusesImport (refusals.Full slots) = slot_limit < slots
+RefusesImport refusals.BadUrl = ⊥
+RefusesImport refusals.NotRecorded = ⊥
+RefusesImport (refusals.NoVisit id) = ⊥
+RefusesImport refusals.NoPage = ⊥
+RefusesImport (refusals.NoItem id) = ⊥
+RefusesImport (refusals.NotAFolder id) = ⊥
+RefusesImport (refusals.Fixed id) = ⊥
+RefusesImport (refusals.BadPlace position len) = ⊥
+RefusesImport (refusals.Inside id) = ⊥
+RefusesImport (refusals.DayBack kept) = ⊥
+RefusesImport (refusals.BadQuery piece) = ⊥
+RefusesImport (refusals.BadLine column) = ⊥
+RefusesImport refusals.DupTag = ⊥
+RefusesImport refusals.BadDate = ⊥
+RefusesImport refusals.BadTag = ⊥
+RefusesImport refusals.NoTag = ⊥
+
 -- which tasks may end so
 abbrev pub EndsTask : Task → Status → Type 0
 EndsTask task status.Done = ⊤
 EndsTask task status.Usage = ⊥
 EndsTask task status.ReadFault = IsSome (input_limit task)
 EndsTask task status.SayFault = ⊤
-EndsTask task status.DeviceFault = ⊤
+EndsTask task status.DeviceFault = task ≢ tasks.Try
 EndsTask task status.NoMemory = ⊤
 EndsTask task status.NotAStore = IsTrue (opens_store task)
 EndsTask task (status.NotEmpty len) = task ≡ tasks.New
 EndsTask task (status.NotBookmarks at) = task ≡ tasks.Import
 EndsTask task (status.TooLong limit) = input_limit task ≡ Some limit
-EndsTask task (status.ImportRefused refusal) = task ≡ tasks.Import
+EndsTask task (status.ImportRefused refusal) = (task ≡ tasks.Import) × RefusesImport refusal
 
 -- which words may end so, by what they ask for
 abbrev pub MayEnd : Option Task → Status → Type 0

@@ -9,6 +9,7 @@ use Rattle.pl_desk.specs.declared.desk.Desk as desks
 use Rattle.pl_desk.specs.declared.source.Source as sources
 use Rattle.pl_nbread.specs.BookmarkFile.{file_limit, offset}
 use Rattle.pl_nbread.specs.BookmarkTree.{tree_of}
+use Rattle.pl_nbread.specs.declared.tree.Tree.{Tree}
 use Rattle.pl_script.specs.Reply.{reply_text}
 use Rattle.pl_step.specs.declared.command.Command.{Command}
 use Rattle.pl_step.specs.declared.command.Command.TheVariants.{Import}
@@ -21,13 +22,17 @@ use Rattle.places.specs.declared.status.Status.{Status}
 use Rattle.places.specs.declared.status.Status.TheVariants as status
 use Rattle.pl_task.specs.declared.task.Task.{Task}
 use Rattle.pl_task.specs.declared.task.Task.TheVariants as tasks
-use Rattle.places.specs.Ending.{IfTold, IsHeld, LeavesUnopened}
+use Rattle.places.specs.Ending.{IfTold, IsHeld, LeavesUnopened, RefusesImport}
 
 -- ---- what is asked for
 
 -- the import of the tree that the bytes hold
 abbrev pub import_of : List ℕ → Command
 import_of bytes = Import (tree_of bytes)
+
+-- the command is the import of some tree
+abbrev pub IsImport : Command → Type 0
+IsImport command = (tree : Tree) × (command ≡ Import tree)
 
 -- the command is the import of these bytes, which are a bookmark file within its limit
 pub record Imports (command : Command) (bytes : List ℕ) : Type 0 where
@@ -89,7 +94,7 @@ StopsParsing bytes s =
 abbrev pub StopsCommit : Status → Type 0
 StopsCommit s =
     (s ≡ status.NoMemory) ⊎ (s ≡ status.SayFault) ⊎ (s ≡ status.DeviceFault)
-    ⊎ ((refusal : Refusal) × (s ≡ status.ImportRefused refusal))
+    ⊎ ((refusal : Refusal) × (s ≡ status.ImportRefused refusal) × RefusesImport refusal)
 
 -- any of these
 abbrev pub StopsImport : Status → Type 0

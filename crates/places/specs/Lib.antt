@@ -1,3 +1,4 @@
+pub mod Completeness
 pub mod Drilling
 pub mod Ending
 pub mod Exporting

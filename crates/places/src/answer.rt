@@ -1,6 +1,7 @@
 // The answer to one line. A command and a reply are dropped by name, here and in an import and a
 // drill, which is cheaper to prove than that they go at a function's end.
-ghost use Rattle.std.specs.Prelude.{◌≡◌, ℕ, List, [], ◌∷◌, Some, Ok, Err, false, IfOk, IfErr, OnOk};
+ghost use Rattle.std.specs.Prelude.{◌≡◌, ℕ, List, [], ◌∷◌, Some, Ok, Err, true, false};
+ghost use Rattle.std.specs.Prelude.{IfOk, IfErr, OnOk};
 ghost use Rattle.pl_desk.specs.Shown.{ShowsOnly};
 ghost use Rattle.pl_desk.specs.Counts.{CountsAt};
 ghost use Rattle.pl_desk.specs.Calls.{LeavesFile};
@@ -52,6 +53,7 @@ pub fn answer<D: Desk>(
         (is_file keeper) first (keeper_limit keeper) (keeper_store keeper) (entries_in bytes.now)
         before) }
     ensures alone { is_file keeper ≡ false → LeavesFile D.Desk desk.old desk.new }
+    ensures in_file { result ≡ Err AnswerError.DeviceFault → is_file keeper ≡ true }
     ensures no_memory { result ≡ Err AnswerError.NoMemory → desk.new ≡ desk.old }
     ensures says_counted { CountsAt (result ≡ Err AnswerError.SayFault)
         (D.line_faults desk.old) (D.line_faults desk.new) }
@@ -101,6 +103,7 @@ fn perform<D: Desk>(
         (is_file keeper) first (keeper_limit keeper) (keeper_store keeper) (Ok command.now ∷ [])
         before) }
     ensures alone { is_file keeper ≡ false → LeavesFile D.Desk desk.old desk.new }
+    ensures in_file { result ≡ Err AnswerError.DeviceFault → is_file keeper ≡ true }
     ensures no_memory { result ≡ Err AnswerError.NoMemory → desk.new ≡ desk.old }
     ensures says_counted { CountsAt (result ≡ Err AnswerError.SayFault)
         (D.line_faults desk.old) (D.line_faults desk.new) }
@@ -142,6 +145,8 @@ pub(crate) fn conclude<D: Desk>(
         line) }
     ensures alone { (before : Keeper) → IsReadyFrom before ready → is_file before ≡ false
         → LeavesFile D.Desk desk.old desk.new }
+    ensures in_file { result ≡ Err AnswerError.DeviceFault → (before : Keeper)
+        → IsReadyFrom before ready → is_file before ≡ true }
     ensures no_memory { result ≡ Err AnswerError.NoMemory → desk.new ≡ desk.old }
     ensures says_counted { CountsAt (result ≡ Err AnswerError.SayFault)
         (D.line_faults desk.old) (D.line_faults desk.new) }

@@ -14,8 +14,8 @@ ghost use Rattle.pl_store.specs.Ending.{KeepsFinished, RefusesFile, StandsForNon
 ghost use Rattle.pl_store.specs.Keeper.{IsKept, is_file, keeper_limit, keeper_store};
 ghost use Rattle.pl_store.specs.Session.{Stands};
 ghost use Rattle.places.specs.Ending.{EndsTask, EndsUnopened, IfTold};
-ghost use Rattle.places.specs.Importing.{EndsImport, Imports, LeavesRead, ShowsImport, StopsCommit};
-ghost use Rattle.places.specs.Importing.{StopsImport, StopsParsing, StopsReading};
+ghost use Rattle.places.specs.Importing.{EndsImport, Imports, IsImport, LeavesRead, ShowsImport};
+ghost use Rattle.places.specs.Importing.{StopsCommit, StopsImport, StopsParsing, StopsReading};
 ghost use Rattle.places.specs.Status.{done_or};
 ghost use Rattle.places.specs.Stops.{ShowsUnopened};
 
@@ -146,6 +146,7 @@ fn commit<D: Desk>(
     command: &Command,
     desk: &mut D,
 ) -> Result<(), Status>
+    requires import { IsImport command.now }
     requires dates { HasDates command.now }
     requires limit { keeper_limit keeper ≡ slot_limit }
     requires file { is_file keeper ≡ true }

@@ -19,13 +19,14 @@ mod script_run;
 mod status;
 mod stop;
 
-ghost use Rattle.std.specs.Prelude.{◌≡◌, ℕ, List, Some, None, true};
+ghost use Rattle.std.specs.Prelude.{◌≡◌, ◌⊎◌, ℕ, List, Some, None, true};
 ghost use Rattle.pl_base.specs.Live.{slot_limit};
 ghost use Rattle.pl_desk.specs.Calls.{LeavesFile};
 ghost use Rattle.pl_desk.specs.Counts.{CountsAt};
 ghost use Rattle.pl_desk.specs.Settling.{ShowsThen};
 ghost use Rattle.pl_store.specs.Ending.{KeepsFinished, RefusesFile, StandsForNone};
 ghost use Rattle.pl_script.specs.Script.{script};
+ghost use Rattle.places.specs.Completeness.{NothingFails};
 ghost use Rattle.places.specs.Drilling.{EndsDrill, OfDrill, ShowsDrill};
 ghost use Rattle.places.specs.Ending.{EndsNew, EndsScript, EndsUnopened, LeavesAtEnd, MayEnd};
 ghost use Rattle.places.specs.Ending.{OfScript};
@@ -146,6 +147,11 @@ pub fn run<S: Source, D: Desk>(alloc: Global, words: &[&str], input: &mut S, des
         (D.line_faults desk.old) (D.line_faults desk.new) }
     ensures device_counted { CountsAt (result ≡ Status.DeviceFault)
         (D.device_faults desk.old) (D.device_faults desk.new) }
+
+    // Where nothing outside fails its task, a run does it, but for want of memory.
+    ensures complete { (task : Task) → asked_of words.now ≡ Some task
+        → NothingFails S.Source D.Desk task input.old desk.old input.new desk.new
+        → (result ≡ Status.Done) ⊎ (result ≡ Status.NoMemory) }
 
     // `try` leaves the desk's file alone.
     ensures alone { asked_of words.now ≡ Some Task.Try → LeavesFile D.Desk desk.old desk.new }

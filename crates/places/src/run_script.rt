@@ -1,5 +1,5 @@
 // The script of the input on a store.
-ghost use Rattle.std.specs.Prelude.{◌≡◌, false, Err};
+ghost use Rattle.std.specs.Prelude.{◌≡◌, true, false, Err};
 ghost use Rattle.pl_base.specs.Live.{slot_limit};
 ghost use Rattle.pl_desk.specs.Shown.{ShowsOnly};
 ghost use Rattle.pl_desk.specs.Counts.{CountsAt};
@@ -36,6 +36,7 @@ pub fn run_script<S: Source, D: Desk>(
         (ShowsAnswered D.Desk (is_file keeper) first slot_limit (keeper_store keeper) (script bytes)
         before)) }
     ensures alone { is_file keeper ≡ false → LeavesFile D.Desk desk.old desk.new }
+    ensures in_file { result ≡ Err Stop.DeviceFault → is_file keeper ≡ true }
     ensures reads_counted { CountsAt (result ≡ Err Stop.ReadFault) (S.faults input.old)
         (S.faults input.new) }
     ensures says_counted { CountsAt (result ≡ Err Stop.SayFault)

@@ -1,6 +1,6 @@
 // A run of a script whose bytes come one after another.
-ghost use Rattle.std.specs.Prelude.{◌≡◌, ◌≢◌, ℕ, List, Option, [], ◌∷◌, ◌++◌, Err, false, IfErr};
-ghost use Rattle.std.specs.Prelude.{IfOk, OnOk};
+ghost use Rattle.std.specs.Prelude.{◌≡◌, ◌≢◌, ℕ, List, Option, [], ◌∷◌, ◌++◌, Err, true, false};
+ghost use Rattle.std.specs.Prelude.{IfErr, IfOk, OnOk};
 ghost use Rattle.std.specs.Str.Lines.{strip_carriage_return};
 
 use crate::answer::answer;
@@ -59,6 +59,7 @@ impl ScriptRun {
         ensures shows { ShowsIn D.Desk self (λ bytes. ended_entries (bytes ++ piece.now)) desk.old
             desk.new }
         ensures alone { is_file self.keeper ≡ false → LeavesFile D.Desk desk.old desk.new }
+        ensures in_file { result ≡ Err AnswerError.DeviceFault → is_file self.keeper ≡ true }
         ensures says_counted { CountsAt (result ≡ Err AnswerError.SayFault)
             (D.line_faults desk.old) (D.line_faults desk.new) }
         ensures device_counted { CountsAt (result ≡ Err AnswerError.DeviceFault)
@@ -82,6 +83,7 @@ impl ScriptRun {
         ensures shows { ShowsIn D.Desk self (λ bytes. ended_entries (bytes ++ byte ∷ [])) desk.old
             desk.new }
         ensures alone { is_file self.keeper ≡ false → LeavesFile D.Desk desk.old desk.new }
+        ensures in_file { result ≡ Err AnswerError.DeviceFault → is_file self.keeper ≡ true }
         ensures says_counted { CountsAt (result ≡ Err AnswerError.SayFault)
             (D.line_faults desk.old) (D.line_faults desk.new) }
         ensures device_counted { CountsAt (result ≡ Err AnswerError.DeviceFault)
@@ -106,6 +108,7 @@ impl ScriptRun {
         ensures shows { ShowsIn D.Desk self (λ bytes. ended_entries (bytes ++ 10 ∷ [])) desk.old
             desk.new }
         ensures alone { is_file self.keeper ≡ false → LeavesFile D.Desk desk.old desk.new }
+        ensures in_file { result ≡ Err AnswerError.DeviceFault → is_file self.keeper ≡ true }
         ensures says_counted { CountsAt (result ≡ Err AnswerError.SayFault)
             (D.line_faults desk.old) (D.line_faults desk.new) }
         ensures device_counted { CountsAt (result ≡ Err AnswerError.DeviceFault)
@@ -156,6 +159,7 @@ impl ScriptRun {
             StopsIn D.Desk error self script desk.old desk.new) }
         ensures shows { ShowsIn D.Desk self script desk.old desk.new }
         ensures alone { is_file self.keeper ≡ false → LeavesFile D.Desk desk.old desk.new }
+        ensures in_file { result ≡ Err AnswerError.DeviceFault → is_file self.keeper ≡ true }
         ensures says_counted { CountsAt (result ≡ Err AnswerError.SayFault)
             (D.line_faults desk.old) (D.line_faults desk.new) }
         ensures device_counted { CountsAt (result ≡ Err AnswerError.DeviceFault)

@@ -1,9 +1,11 @@
-use Rattle.std.proofs.Common.{◌≡◌, ◌∙◌, Some, Option, ap, false, subst, sym, true}
+use Rattle.std.proofs.Common.{◌≡◌, ◌∙◌, Some, Option, ap, false, refl, subst, sym, true}
 use Rattle.pl_base.specs.Store.{opening}
 use Rattle.pl_task.specs.declared.task.Task.{Task}
 use Rattle.pl_task.specs.declared.task.Task.TheVariants as tasks
 use Rattle.places.specs.Ending.{BeginsWith}
 use Rattle.pl_task.specs.Task.{asked_of, spelled}
+use Rattle.places.proofs.CompletenessLemmas.{drill_done, export_done, import_done, new_done, none_failed, of_task}
+use Rattle.places.proofs.CompletenessLemmas.{said_so, script_done}
 use Rattle.places.proofs.DrillLemmas.{few_lines, same_drill}
 use Rattle.places.proofs.OpeningLemmas.{begins_in_memory, begins_on_file, says_at_end}
 use Rattle.places.proofs.run.Goals as goal
@@ -80,3 +82,104 @@ returns-in-Drill-clause-drill_stops g c = λ count seed asked start held before 
     let same = same_drill c.in-Drill.count c.in-Drill.seed count seed
     (sym (sym c.of.ensures ∙ c.in-Some.is ∙ ap (λ (t : Task). Some t) c.in-Drill.is) ∙ asked) in
     rw (← same.0, ← same.1) (c.drill_stored.ensures.stops held.0 start before held.1 held.2 begun)
+
+-- ---- where nothing outside fails
+
+pub returns-in-Try-clause-complete : goal.returns-in-Try-clause-complete
+returns-in-Try-clause-complete g c = λ task wanted nothing.
+    let source = g.S.Source in let desk = g.D.Desk in let did = c.try_script.ensures in
+    let old = c.args.desk.now in let new = c.try_script.new.desk in
+    let asked : asked_of c.args.words.now ≡ Some tasks.Try =
+    sym c.of.ensures ∙ c.in-Some.is ∙ ap (λ (t : Task). Some t) c.in-Try.is in
+    let fails = of_task source desk tasks.Try task (asked_of c.args.words.now) c.args.input.now old
+    c.try_script.new.input new asked wanted nothing in
+    let say = none_failed (desk.line_faults old) (desk.line_faults new) did.says_counted fails.says in
+    let call = none_failed (desk.device_faults old) (desk.device_faults new) did.device_counted fails.calls in
+    let said = said_so (desk.said old) fails.told in
+    let read = none_failed (source.faults c.args.input.now) (source.faults c.try_script.new.input) did.reads_counted
+    fails.reads in
+    let left = source.left c.try_script.new.input in let script = fails.needs in
+    script_done tasks.Try c.try_script.result opening script.0 said.0 left (desk.said new) refl script.2 did.status read
+    say call
+    (says_at_end desk c.try_script.result false old opening script.0 said.0 left new
+    (did.ends script.0 said.0 script.1 said.1))
+
+pub returns-in-New-clause-complete : goal.returns-in-New-clause-complete
+returns-in-New-clause-complete g c = λ task wanted nothing.
+    let source = g.S.Source in let desk = g.D.Desk in let did = c.make_store.ensures in
+    let old = c.args.desk.now in let new = c.make_store.new.desk in
+    let asked : asked_of c.args.words.now ≡ Some tasks.New =
+    sym c.of.ensures ∙ c.in-Some.is ∙ ap (λ (t : Task). Some t) c.in-New.is in
+    let fails = of_task source desk tasks.New task (asked_of c.args.words.now) c.args.input.now old
+    c.args.input.now new asked wanted nothing in
+    let say = none_failed (desk.line_faults old) (desk.line_faults new) did.says_counted fails.says in
+    let call = none_failed (desk.device_faults old) (desk.device_faults new) did.device_counted fails.calls in
+    new_done desk c.make_store.result old new fails.needs say call did.ends
+
+pub returns-in-Run-clause-complete : goal.returns-in-Run-clause-complete
+returns-in-Run-clause-complete g c = λ task wanted nothing.
+    let source = g.S.Source in let desk = g.D.Desk in let did = c.run_stored.ensures in
+    let old = c.args.desk.now in let new = c.run_stored.new.desk in
+    let asked : asked_of c.args.words.now ≡ Some tasks.Run =
+    sym c.of.ensures ∙ c.in-Some.is ∙ ap (λ (t : Task). Some t) c.in-Run.is in
+    let fails = of_task source desk tasks.Run task (asked_of c.args.words.now) c.args.input.now old
+    c.run_stored.new.input new asked wanted nothing in
+    let say = none_failed (desk.line_faults old) (desk.line_faults new) did.says_counted fails.says in
+    let call = none_failed (desk.device_faults old) (desk.device_faults new) did.device_counted fails.calls in
+    let said = said_so (desk.said old) fails.told in
+    let read = none_failed (source.faults c.args.input.now) (source.faults c.run_stored.new.input) did.reads_counted
+    fails.reads in
+    let left = source.left c.run_stored.new.input in let script = fails.needs.0 in
+    let start = fails.needs.1.0 in let held = fails.needs.1.1 in
+    script_done tasks.Run c.run_stored.result start script.0 said.0 left (desk.said new) refl script.2 did.status read
+    say call
+    (says_at_end desk c.run_stored.result true old start script.0 said.0 left new
+    (did.ends held.0 start held.1 held.2 script.0 said.0 script.1 said.1))
+
+pub returns-in-Import-clause-complete : goal.returns-in-Import-clause-complete
+returns-in-Import-clause-complete g c = λ task wanted nothing.
+    let source = g.S.Source in let desk = g.D.Desk in let did = c.import_stored.ensures in
+    let old = c.args.desk.now in let new = c.import_stored.new.desk in
+    let asked : asked_of c.args.words.now ≡ Some tasks.Import =
+    sym c.of.ensures ∙ c.in-Some.is ∙ ap (λ (t : Task). Some t) c.in-Import.is in
+    let fails = of_task source desk tasks.Import task (asked_of c.args.words.now) c.args.input.now old
+    c.import_stored.new.input new asked wanted nothing in
+    let say = none_failed (desk.line_faults old) (desk.line_faults new) did.says_counted fails.says in
+    let call = none_failed (desk.device_faults old) (desk.device_faults new) did.device_counted fails.calls in
+    let said = said_so (desk.said old) fails.told in
+    let read = none_failed (source.faults c.args.input.now) (source.faults c.import_stored.new.input) did.reads_counted
+    fails.reads in
+    let left = source.left c.import_stored.new.input in let start = fails.needs.0 in let held = fails.needs.1 in
+    let file = fails.needs.2 in
+    import_done desk c.import_stored.result old start file.0 said.0 left new file.2 read say call
+    (did.ends held.0 start held.1 held.2 file.0 said.0 file.1 said.1)
+
+pub returns-in-Export-clause-complete : goal.returns-in-Export-clause-complete
+returns-in-Export-clause-complete g c = λ task wanted nothing.
+    let source = g.S.Source in let desk = g.D.Desk in let did = c.export_stored.ensures in
+    let old = c.args.desk.now in let new = c.export_stored.new.desk in
+    let asked : asked_of c.args.words.now ≡ Some tasks.Export =
+    sym c.of.ensures ∙ c.in-Some.is ∙ ap (λ (t : Task). Some t) c.in-Export.is in
+    let fails = of_task source desk tasks.Export task (asked_of c.args.words.now) c.args.input.now old
+    c.args.input.now new asked wanted nothing in
+    let say = none_failed (desk.line_faults old) (desk.line_faults new) did.says_counted fails.says in
+    let call = none_failed (desk.device_faults old) (desk.device_faults new) did.device_counted fails.calls in
+    let said = said_so (desk.said old) fails.told in
+    let start = fails.needs.0 in let held = fails.needs.1 in
+    export_done desk c.export_stored.result old start said.0 new say call
+    (did.ends held.0 start said.0 held.1 held.2 said.1)
+
+pub returns-in-Drill-clause-complete : goal.returns-in-Drill-clause-complete
+returns-in-Drill-clause-complete g c = λ task wanted nothing.
+    let source = g.S.Source in let desk = g.D.Desk in let did = c.drill_stored.ensures in
+    let old = c.args.desk.now in let new = c.drill_stored.new.desk in
+    let asked : asked_of c.args.words.now ≡ Some (tasks.Drill c.in-Drill.count c.in-Drill.seed) =
+    sym c.of.ensures ∙ c.in-Some.is ∙ ap (λ (t : Task). Some t) c.in-Drill.is in
+    let fails = of_task source desk (tasks.Drill c.in-Drill.count c.in-Drill.seed) task (asked_of c.args.words.now) c.args.input.now old
+    c.args.input.now new asked wanted nothing in
+    let say = none_failed (desk.line_faults old) (desk.line_faults new) did.says_counted fails.says in
+    let call = none_failed (desk.device_faults old) (desk.device_faults new) did.device_counted fails.calls in
+    let said = said_so (desk.said old) fails.told in
+    let start = fails.needs.0 in let held = fails.needs.1 in
+    drill_done desk c.drill_stored.result c.in-Drill.count c.in-Drill.seed old start said.0 new say call
+    (did.ends held.0 start said.0 held.1 held.2 said.1)

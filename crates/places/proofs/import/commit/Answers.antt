@@ -1,10 +1,11 @@
-use Rattle.std.proofs.Common.{◌∙◌, true}
+use Rattle.std.proofs.Common.{◌∙◌, inr, refl, true}
 use Rattle.std.proofs.lemmas.Result.{err_from_is_err_and}
-use Rattle.pl_store.specs.Keeper.{is_file, keeper_store, ready_store}
+use Rattle.pl_store.specs.Keeper.{is_file, keeper_limit, keeper_store, ready_store}
 use Rattle.pl_store.specs.KeeperLaws.{kept_keeps}
 use Rattle.places.proofs.AnswerLemmas.{keeps_as}
 use Rattle.places.proofs.ImportLemmas.{answer_stops, device_as, ends_failed, ends_refused, ends_said, ends_unprepared}
 use Rattle.places.proofs.ImportLemmas.{not_refused, says_as, shows_begun, shows_taking}
+use Rattle.places.proofs.RefusalLemmas.{import_refused}
 use Rattle.places.proofs.import.commit.Goals as goal
 
 -- want of memory for the step
@@ -26,6 +27,15 @@ returns-in-Refused-clause-ends g c bytes before first imports begun kept =
     ends_refused g.D.Desk c.args.keeper c.args.command.now bytes before first c.args.desk.now c.args.desk.now
     c.in_ok-ready.reply (ready_store c.in_ok-ready.ready) c.requires.limit c.requires.file imports begun
     c.in_ok-ready.ensures.step c.in-Refused.refusal c.in-Refused.is kept
+
+pub returns-in-Refused-clause-stops : goal.returns-in-Refused-clause-stops
+returns-in-Refused-clause-stops g c = inr (inr (inr (
+  c.in-Refused.refusal,
+  refl,
+  import_refused (keeper_limit c.args.keeper) (keeper_store c.args.keeper) (ready_store c.in_ok-ready.ready)
+      c.args.command.now c.in_ok-ready.reply c.in-Refused.refusal c.requires.limit c.requires.import
+      c.in_ok-ready.ensures.step c.in-Refused.is,
+)))
 
 pub returns-in-Refused-clause-shows : goal.returns-in-Refused-clause-shows
 returns-in-Refused-clause-shows g c bytes before first imports begun kept =

@@ -35,7 +35,8 @@ not_made : {D : Type 0} (desk : Ghosts D) (e : Ended) (s : Status) (old new : D)
     → Makes desk (Err e) old new
     → desk.said new ≡ desk.said old → EndsNew desk s old new × EndsTask tasks.New s
 not_made desk ended.DeviceFault s old new is makes unsaid =
-    subst (λ (t : Status). EndsNew desk t old new × EndsTask tasks.New t) (sym is) ((unsaid, makes), tt)
+    subst (λ (t : Status). EndsNew desk t old new × EndsTask tasks.New t) (sym is)
+    ((unsaid, makes), λ same. absurd (cc))
 not_made desk ended.NoMemory s old new is makes unsaid =
     subst (λ (t : Status). EndsNew desk t old new × EndsTask tasks.New t) (sym is) ((unsaid, makes), tt)
 not_made desk ended.NotAStore s old new is makes unsaid = absurd makes

@@ -56,7 +56,7 @@ returns-in-Err-clause-ends g c = λ file start held stands bytes before told beg
 
 pub returns-in-Ok-clause-status : goal.returns-in-Ok-clause-status
 returns-in-Ok-clause-status g c =
-    script_may_end tasks.Run c.run_script.result c.status_of.result refl c.status_of.ensures
+    script_may_end tasks.Run c.run_script.result c.status_of.result refl (λ fault same. absurd (cc)) c.status_of.ensures
 
 pub returns-in-Err-clause-status : goal.returns-in-Err-clause-status
 returns-in-Err-clause-status g c =

@@ -1,4 +1,5 @@
-use Rattle.std.proofs.Common.{false, refl, subst}
+use Rattle.std.proofs.Common.{false, refl, subst, sym}
+use Rattle.std.proofs.lemmas.Bool.{true≢false}
 use Rattle.pl_base.specs.Store.{Store, opening}
 use Rattle.pl_base.specs.Live.{slot_limit}
 use Rattle.pl_desk.specs.Shown.{ShowsOnly}
@@ -35,4 +36,5 @@ returns-in-Err-clause-stops g c = λ bytes before told begun. let desk = g.D.Des
 
 pub returns-in-Ok-clause-status : goal.returns-in-Ok-clause-status
 returns-in-Ok-clause-status g c =
-    script_may_end tasks.Try c.run_script.result c.status_of.result refl c.status_of.ensures
+    script_may_end tasks.Try c.run_script.result c.status_of.result refl
+    (λ fault. absurd (true≢false (sym (c.run_script.ensures.in_file fault)))) c.status_of.ensures

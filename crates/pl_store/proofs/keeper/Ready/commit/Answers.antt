@@ -1,5 +1,5 @@
 use Rattle.std.proofs.lemmas.Result.{err_from_is_err_and}
-use Rattle.pl_store.proofs.CommitLemmas.{commits, keeps, leaves_either}
+use Rattle.pl_store.proofs.CommitLemmas.{commits, keeps, leaves_either, was_file}
 use Rattle.pl_store.proofs.keeper.Ready.commit.Goals as goal
 
 pub returns-in_err-commit-in-File-clause-any_moment : goal.returns-in_err-commit-in-File-clause-any_moment
@@ -23,3 +23,8 @@ returns-in_err-commit-in-File-clause-left g c =
     rw (c.in-File.is, p.1) (λ before first file from kept left.
     leaves_either g.D.Desk before first c.args.desk.now c.commit.new.desk c.in-File.prepared from kept file
     c.commit.ensures.left left)
+
+pub returns-in_err-commit-in-File-clause-in_file : goal.returns-in_err-commit-in-File-clause-in_file
+returns-in_err-commit-in-File-clause-in_file g c =
+    let p = err_from_is_err_and c.from_residual.result c.from_residual.ensures.1 in
+    rw (c.in-File.is, p.1) (λ before from. was_file before c.in-File.prepared from)
