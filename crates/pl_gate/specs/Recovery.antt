@@ -1,15 +1,15 @@
 -- What a recovery reads, and what it leaves.
 use Rattle.std.specs.Prelude.{◌≡◌, ℕ, ◌+◌, ◌*◌, false, List, if◌then◌else◌}
 use Rattle.pl_base.specs.Touched.{page_size}
-use Rattle.pl_gate.specs.declared.read.Place.{Place}
+use Rattle.pl_gate.specs.declared.read.GatePage.{GatePage}
 use Rattle.pl_gate.specs.Gate.{has_gate, is_set, journal_len, journal_start, laid, pages_after}
 
 -- what the gate's page tells
-pub record IsPlaceOf (place : Place) (file : List ℕ) : Type 0 where
-  pub is_set : place.is_set ≡ is_set file
-  pub start : place.start ≡ journal_start file
-  pub count : place.count ≡ journal_len file
-  pub after : place.after ≡ pages_after file
+pub record IsGatePageOf (told : GatePage) (file : List ℕ) : Type 0 where
+  pub is_set : told.is_set ≡ is_set file
+  pub start : told.start ≡ journal_start file
+  pub count : told.count ≡ journal_len file
+  pub after : told.after ≡ pages_after file
 
 -- the later file stands for what this one stands for
 pub record StandsAs (file later : List ℕ) : Type 0 where

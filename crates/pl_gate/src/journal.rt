@@ -9,53 +9,53 @@ ghost use Rattle.pl_desk.specs.Counts.{CountsAt, Writes};
 ghost use Rattle.pl_desk.specs.Calls.{KeepsLine, OnlyReads};
 ghost use Rattle.pl_gate.specs.Device.{image_ranges, with_images, TornIn};
 ghost use Rattle.pl_gate.specs.Gate.{entry_at, entry_size, has_gate, is_journal, is_set, journal};
-ghost use Rattle.pl_gate.specs.Recovery.{IsPlaceOf};
+ghost use Rattle.pl_gate.specs.Recovery.{IsGatePageOf};
 
 use crate::device::ENTRY_SIZE;
 use crate::error::GateError;
-use crate::read::{Place, read_u64};
+use crate::read::{GatePage, read_u64};
 use pl_base::PAGE_SIZE;
 use pl_desk::Desk;
 
 /// Whether the journal keeps to its format, in a file of this length.
-pub fn check_journal<D: Desk>(desk: &mut D, place: &Place, len: u64) -> Result<(), GateError>
+pub fn check_journal<D: Desk>(desk: &mut D, told: &GatePage, len: u64) -> Result<(), GateError>
     requires len { IfSome (D.held desk.old) (λ file. len ≡ length file) }
     requires range { len ≤ last_offset }
-    requires place { IfSome (D.held desk.old) (IsPlaceOf place.now) }
+    requires told { IfSome (D.held desk.old) (IsGatePageOf told.now) }
     ensures journal { OnOk result (IfSome (D.held desk.old) (λ file. is_journal file ≡ true)) }
     ensures bad { result ≡ Err GateError.BadGate
         → IfSome (D.held desk.old) (λ file. is_journal file ≡ false) }
-    ensures bound { OnOk result (place.now.start + entry_size * place.now.count ≤ len) }
+    ensures bound { OnOk result (told.now.start + entry_size * told.now.count ≤ len) }
     ensures reads { OnlyReads D.Desk desk.old desk.new }
     ensures counted { CountsAt (result ≡ Err GateError.DeviceFault)
         (D.device_faults desk.old) (D.device_faults desk.new) }
 {
-    if !lies_behind(place, len) {
+    if !lies_behind(told, len) {
         return Err(GateError::BadGate);
     }
     let mut last = 0;
     let mut index = 0;
-    while index < place.count {
-        let at = place.start + ENTRY_SIZE as u64 * index as u64;
-        last = read_page(desk, at, last, place.after)?;
+    while index < told.count {
+        let at = told.start + ENTRY_SIZE as u64 * index as u64;
+        last = read_page(desk, at, last, told.after)?;
         index += 1;
     }
     Ok(())
 }
 
 // Whether the journal lies within a file of this length, behind the store's pages.
-fn lies_behind(place: &Place, len: u64) -> bool
+fn lies_behind(told: &GatePage, len: u64) -> bool
     ensures { (result ≡ true)
-        ↔ ((place.now.start + entry_size * place.now.count ≤ len)
-        × (page_size * place.now.after ≤ place.now.start)) }
+        ↔ ((told.now.start + entry_size * told.now.count ≤ len)
+        × (page_size * told.now.after ≤ told.now.start)) }
 {
-    let Some(end) = place
+    let Some(end) = told
         .start
-        .checked_add(ENTRY_SIZE as u64 * place.count as u64)
+        .checked_add(ENTRY_SIZE as u64 * told.count as u64)
     else {
         return false;
     };
-    end <= len && PAGE_SIZE as u64 * place.after as u64 <= place.start
+    end <= len && PAGE_SIZE as u64 * told.after as u64 <= told.start
 }
 
 // The number of an entry's page, which is above the last one and a page of the store.
@@ -81,9 +81,9 @@ fn read_page<D: Desk>(desk: &mut D, at: u64, last: u64, after: u32) -> Result<u6
 }
 
 /// Puts the images of the journal's pages into their places.
-pub fn install_journal<D: Desk>(desk: &mut D, place: &Place) -> Result<(), GateError>
-    requires range { place.now.start + entry_size * place.now.count ≤ last_offset }
-    requires place { IfSome (D.held desk.old) (IsPlaceOf place.now) }
+pub fn install_journal<D: Desk>(desk: &mut D, told: &GatePage) -> Result<(), GateError>
+    requires range { told.now.start + entry_size * told.now.count ≤ last_offset }
+    requires told { IfSome (D.held desk.old) (IsGatePageOf told.now) }
     requires set { IfSome (D.held desk.old) (λ file. is_set file ≡ true) }
     requires gate { IfSome (D.held desk.old) (λ file. has_gate file ≡ true) }
     ensures held { OnOk result
@@ -94,7 +94,7 @@ pub fn install_journal<D: Desk>(desk: &mut D, place: &Place) -> Result<(), GateE
     ensures moments { (file : List ℕ) → D.held desk.old ≡ Some file
         → ShowsStep D.Desk desk.old desk.new (TornIn (image_ranges (journal file))) }
     ensures line { KeepsLine D.Desk desk.old desk.new }
-    ensures written { Writes result (page_size * place.now.count)
+    ensures written { Writes result (page_size * told.now.count)
         (D.written desk.old) (D.written desk.new) }
     ensures counted { CountsAt (result ≡ Err GateError.DeviceFault)
         (D.device_faults desk.old) (D.device_faults desk.new) }
@@ -102,9 +102,9 @@ pub fn install_journal<D: Desk>(desk: &mut D, place: &Place) -> Result<(), GateE
 {
     let mut last = 0;
     let mut index = 0;
-    while index < place.count {
-        let at = place.start + ENTRY_SIZE as u64 * index as u64;
-        last = install_entry(desk, at, last, place.after)?;
+    while index < told.count {
+        let at = told.start + ENTRY_SIZE as u64 * index as u64;
+        last = install_entry(desk, at, last, told.after)?;
         index += 1;
     }
     Ok(())

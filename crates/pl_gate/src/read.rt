@@ -5,23 +5,23 @@ ghost use Rattle.pl_base.specs.Touched.{page_size};
 ghost use Rattle.pl_desk.specs.Desk.{last_offset};
 ghost use Rattle.pl_desk.specs.Counts.{Counts};
 ghost use Rattle.pl_desk.specs.Calls.{OnlyReads};
-ghost use Rattle.pl_gate.specs.Recovery.{IsPlaceOf};
+ghost use Rattle.pl_gate.specs.Recovery.{IsGatePageOf};
 
 use pl_desk::{Desk, Failed};
 
 /// What the gate's page tells: whether the gate is set, where the journal begins, how many entries
 /// it has, and the store's length in pages once it is installed.
 #[derive(Clone, Copy, Debug)]
-pub struct Place {
+pub struct GatePage {
     pub is_set: bool,
     pub start: u64,
     pub count: u32,
     pub after: u32,
 }
 
-pub fn read_place<D: Desk>(desk: &mut D) -> Result<Place, Failed>
+pub fn read_gate_page<D: Desk>(desk: &mut D) -> Result<GatePage, Failed>
     requires within { IfSome (D.held desk.old) (λ file. page_size ≤ length file) }
-    ensures place { IfOk result (λ place. IfSome (D.held desk.old) (IsPlaceOf place)) }
+    ensures told { IfOk result (λ told. IfSome (D.held desk.old) (IsGatePageOf told)) }
     ensures reads { OnlyReads D.Desk desk.old desk.new }
     ensures counted { Counts result (D.device_faults desk.old) (D.device_faults desk.new) }
 {
@@ -30,7 +30,7 @@ pub fn read_place<D: Desk>(desk: &mut D) -> Result<Place, Failed>
     let start = read_u64(desk, 8)?;
     let count = read_u32(desk, 16)?;
     let after = read_u32(desk, 20)?;
-    Ok(Place {
+    Ok(GatePage {
         is_set: gate[0] == 1,
         start,
         count,

@@ -7,13 +7,13 @@ ghost use Rattle.pl_desk.specs.Shown.{AtAnyMoment, Rests};
 ghost use Rattle.pl_desk.specs.Counts.{CountsAt, Writes};
 ghost use Rattle.pl_desk.specs.Calls.{KeepsLine};
 ghost use Rattle.pl_gate.specs.Gate.{entry_size, has_gate, is_set};
-ghost use Rattle.pl_gate.specs.Recovery.{IsPlaceOf, IsSettledAs, StandsAs, recovery_bytes};
+ghost use Rattle.pl_gate.specs.Recovery.{IsGatePageOf, IsSettledAs, StandsAs, recovery_bytes};
 
 use crate::device::write_gate;
 use crate::error::GateError;
 use crate::gate::Gate;
 use crate::journal::{check_journal, install_journal};
-use crate::read::{Place, read_place};
+use crate::read::{GatePage, read_gate_page};
 use crate::states::Closed;
 use pl_base::PAGE_SIZE;
 use pl_desk::Desk;
@@ -65,19 +65,19 @@ impl<'d, D: Desk> Gate<'d, D> {
         if len < PAGE_SIZE as u64 {
             return Err(GateError::BadGate);
         }
-        let place = read_place(self.desk)?;
-        if place.is_set {
-            check_journal(self.desk, &place, len)?;
-            clear_gate(self.desk, &place)?;
+        let told = read_gate_page(self.desk)?;
+        if told.is_set {
+            check_journal(self.desk, &told, len)?;
+            clear_gate(self.desk, &told)?;
         }
         Ok(Closed { seal: () })
     }
 }
 
 // Installs the journal and clears the gate, on a file that is at rest.
-fn clear_gate<D: Desk>(desk: &mut D, place: &Place) -> Result<(), GateError>
-    requires range { place.now.start + entry_size * place.now.count ≤ last_offset }
-    requires place { IfSome (D.held desk.old) (IsPlaceOf place.now) }
+fn clear_gate<D: Desk>(desk: &mut D, told: &GatePage) -> Result<(), GateError>
+    requires range { told.now.start + entry_size * told.now.count ≤ last_offset }
+    requires told { IfSome (D.held desk.old) (IsGatePageOf told.now) }
     requires set { IfSome (D.held desk.old) (λ file. is_set file ≡ true) }
     requires gate { IfSome (D.held desk.old) (λ file. has_gate file ≡ true) }
     requires only { IfSome (D.held desk.old) (λ file. Only file (D.may_leave desk.old)) }
@@ -88,13 +88,13 @@ fn clear_gate<D: Desk>(desk: &mut D, place: &Place) -> Result<(), GateError>
     ensures left { (file : List ℕ) → D.held desk.old ≡ Some file → (later : List ℕ)
         → D.may_leave desk.new later → StandsAs file later }
     ensures good { result ≡ Err GateError.BadGate → D.held desk.old ≡ None }
-    ensures written { Writes result (page_size * place.now.count + 1)
+    ensures written { Writes result (page_size * told.now.count + 1)
         (D.written desk.old) (D.written desk.new) }
     ensures line { KeepsLine D.Desk desk.old desk.new }
     ensures counted { CountsAt (result ≡ Err GateError.DeviceFault)
         (D.device_faults desk.old) (D.device_faults desk.new) }
 {
-    install_journal(desk, place)?;
+    install_journal(desk, told)?;
     desk.sync()?;
     write_gate(desk, 0)?;
     Ok(())

@@ -7,7 +7,7 @@ use Rattle.pl_base.proofs.ListLaws.{weaker}
 use Rattle.pl_nbread.specs.declared.builder.Builder.{Builder}
 use Rattle.pl_nbread.specs.declared.builder.Titled.{Titled}
 use Rattle.pl_nbread.specs.declared.part.Part as seen
-use Rattle.pl_nbread.specs.declared.place.Place.{Place}
+use Rattle.pl_nbread.specs.declared.open_list.OpenList.{OpenList}
 use Rattle.pl_nbread.specs.declared.tree.Node.{Node}
 use Rattle.pl_nbread.specs.BookmarkTree.{Made, made_of, menu, tree_with}
 use Rattle.pl_nbread.specs.Building.{IsWithin, StaysAt, grown, made_within, titled, yields}
@@ -17,7 +17,7 @@ use Rattle.pl_nbread.specs.Tokens.{Token}
 use Rattle.pl_nbread.proofs.NestedLaws.{made_of_within}
 
 -- a builder with nothing in it makes what parts make
-pub yields_empty : (m t u o : Vec Node Global) (outer : Vec Place Global) (title : String Global) → m.items ≡ []
+pub yields_empty : (m t u o : Vec Node Global) (outer : Vec OpenList Global) (title : String Global) → m.items ≡ []
     → t.items ≡ [] → u.items ≡ [] → o.items ≡ [] → outer.items ≡ [] → (more : List Part)
     → yields
     (record {
@@ -35,8 +35,8 @@ pub yields_empty : (m t u o : Vec Node Global) (outer : Vec Place Global) (title
 yields_empty m t u o outer title no_menu no_toolbar no_unfiled no_mobile no_outer more =
     rw (no_menu, no_toolbar, no_unfiled, no_mobile, no_outer, zero-add, made_of_within more) refl
 
-le_pending : (n m : ℕ) (pending : Option Place) → n ≤ m → IfSome pending (λ (p : Place). p.depth ≤ n)
-    → IfSome pending (λ (p : Place). p.depth ≤ m)
+le_pending : (n m : ℕ) (pending : Option OpenList) → n ≤ m → IfSome pending (λ (p : OpenList). p.depth ≤ n)
+    → IfSome pending (λ (p : OpenList). p.depth ≤ m)
 le_pending n m None le all = tt
 le_pending n m (Some p) le all = omega (arith, all)
 
@@ -46,7 +46,7 @@ within_more n m b le within =
     record {
       skipped = omega (arith, within.skipped);
       here = omega (arith, within.here);
-      outer = weaker _ _ b.outer.items (λ (p : Place) few. omega arith) within.outer;
+      outer = weaker _ _ b.outer.items (λ (p : OpenList) few. omega arith) within.outer;
       pending = le_pending n m b.pending le within.pending;
     }
 

@@ -2,7 +2,7 @@
 use Rattle.std.proofs.Common.{◌≡◌, ◌≢◌, ◌∙◌, ◌++◌, ℕ, List, [], ◌∷◌, Option, Some, None}
 use Rattle.std.proofs.Common.{ap, append-nil, append_assoc, refl, sym}
 use Rattle.std.specs.Prelude.{unwrap_or}
-use Rattle.pl_nbread.specs.declared.place.Place.{Place}
+use Rattle.pl_nbread.specs.declared.open_list.OpenList.{OpenList}
 use Rattle.pl_nbread.specs.BookmarkTree.{Content, Nothing, Made, Child}
 use Rattle.pl_nbread.specs.BookmarkTree.{bookmark_if, enclosed, folder_unless, inside, levels, made}
 use Rattle.pl_nbread.specs.BookmarkTree.{made_of, made_of_all, menu, put_front, root_at, separator}
@@ -88,26 +88,26 @@ title_first (Other ∷ parts) = title_other (levels parts) ∙ title_first parts
 
 -- ---- what is made
 
--- where no list is open any more, the place at the bottom goes on
-abbrev at_bottom : Place → List Content → List Made
+-- where no other list is open any more, the one at the bottom goes on
+abbrev at_bottom : OpenList → List Content → List Made
 at_bottom here [] = []
 at_bottom here (content ∷ outer) = made here None content ++ at_bottom here outer
 
 -- what stands behind the end of the list that is open here
-abbrev around : Place → List Place → List Content → List Made
+abbrev around : OpenList → List OpenList → List Content → List Made
 around here [] all = at_bottom here all
-around here (place ∷ outer) [] = []
-around here (place ∷ outer) (content ∷ all) = made place None content ++ around place outer all
+around here (next ∷ outer) [] = []
+around here (next ∷ outer) (content ∷ all) = made next None content ++ around next outer all
 
-abbrev joined : Place → List Place → Option Place → List Content → List Made
+abbrev joined : OpenList → List OpenList → Option OpenList → List Content → List Made
 joined here outer pending [] = []
 joined here outer pending (content ∷ all) = made here pending content ++ around here outer all
 
-around_nil : (here : Place) (outer : List Place) → around here outer [] ≡ []
+around_nil : (here : OpenList) (outer : List OpenList) → around here outer [] ≡ []
 around_nil here [] = refl
-around_nil here (place ∷ outer) = refl
+around_nil here (next ∷ outer) = refl
 
-at_start : (here : Place) (outer : List Place) (pending : Option Place) (all : List Content)
+at_start : (here : OpenList) (outer : List OpenList) (pending : Option OpenList) (all : List Content)
     → joined (unwrap_or pending here) (here ∷ outer) None all ≡ joined here outer pending (enclosed all)
 at_start here outer pending [] = refl
 at_start here outer pending (inner ∷ []) =
@@ -116,16 +116,16 @@ at_start here outer pending (inner ∷ []) =
 at_start here outer pending (inner ∷ behind ∷ all) =
     sym (append_assoc (made (unwrap_or pending here) None inner) (made here None behind) (around here outer all))
 
-at_end : (here place : Place) (outer : List Place) (all : List Content)
-    → joined place outer None all ≡ around here (place ∷ outer) all
-at_end here place outer [] = refl
-at_end here place outer (content ∷ all) = refl
+at_end : (here next : OpenList) (outer : List OpenList) (all : List Content)
+    → joined next outer None all ≡ around here (next ∷ outer) all
+at_end here next outer [] = refl
+at_end here next outer (content ∷ all) = refl
 
-at_last_end : (here : Place) (all : List Content) → joined here [] None all ≡ at_bottom here all
+at_last_end : (here : OpenList) (all : List Content) → joined here [] None all ≡ at_bottom here all
 at_last_end here [] = refl
 at_last_end here (content ∷ all) = refl
 
-at_heading : (here : Place) (outer : List Place) (pending : Option Place) (attributes : List Attribute) (ahead : List ℕ)
+at_heading : (here : OpenList) (outer : List OpenList) (pending : Option OpenList) (attributes : List Attribute) (ahead : List ℕ)
     (all : List Content) → all ≢ [] → title_text (first all) ≡ ahead
     → folder_unless (root_at here attributes) here attributes (title_in ahead)
     ++ joined here outer (Some (inside here attributes)) all
@@ -135,42 +135,42 @@ at_heading here outer pending attributes ahead (content ∷ all) some is =
     rw (← is) (sym (append_assoc (folder_unless (root_at here attributes) here attributes (title content))
     (made here (Some (inside here attributes)) content) (around here outer all)))
 
-at_link : (here : Place) (outer : List Place) (pending : Option Place) (attributes : List Attribute) (ahead : List ℕ)
+at_link : (here : OpenList) (outer : List OpenList) (pending : Option OpenList) (attributes : List Attribute) (ahead : List ℕ)
     (all : List Content) → all ≢ [] → title_text (first all) ≡ ahead
     → bookmark_if (url attributes) here attributes (title_in ahead) ∷ joined here outer None all
     ≡ joined here outer pending (put_front (Link attributes) all)
 at_link here outer pending attributes ahead [] some is = absurd (some refl)
 at_link here outer pending attributes ahead (content ∷ all) some is = rw (← is) refl
 
-at_rule : (here : Place) (outer : List Place) (pending : Option Place) (all : List Content) → all ≢ []
+at_rule : (here : OpenList) (outer : List OpenList) (pending : Option OpenList) (all : List Content) → all ≢ []
     → Child here.root (separator here) ∷ joined here outer None all ≡ joined here outer pending (put_front Rule all)
 at_rule here outer pending [] some = absurd (some refl)
 at_rule here outer pending (content ∷ all) some = refl
 
-at_title_end : (here : Place) (outer : List Place) (pending : Option Place) (all : List Content)
+at_title_end : (here : OpenList) (outer : List OpenList) (pending : Option OpenList) (all : List Content)
     → joined here outer pending all ≡ joined here outer pending (put_front TitleEnd all)
 at_title_end here outer pending [] = refl
 at_title_end here outer pending (content ∷ all) = refl
 
-at_words : (here : Place) (outer : List Place) (pending : Option Place) (text : List ℕ) (all : List Content)
+at_words : (here : OpenList) (outer : List OpenList) (pending : Option OpenList) (text : List ℕ) (all : List Content)
     → joined here outer pending all ≡ joined here outer pending (put_front (Words text) all)
 at_words here outer pending text [] = refl
 at_words here outer pending text (content ∷ all) = refl
 
-at_other : (here : Place) (outer : List Place) (pending : Option Place) (all : List Content)
+at_other : (here : OpenList) (outer : List OpenList) (pending : Option OpenList) (all : List Content)
     → joined here outer pending all ≡ joined here outer pending (put_front Other all)
 at_other here outer pending [] = refl
 at_other here outer pending (content ∷ all) = refl
 
-within_joined : (here : Place) (outer : List Place) (pending : Option Place) (parts : List Part)
+within_joined : (here : OpenList) (outer : List OpenList) (pending : Option OpenList) (parts : List Part)
     → made_within here outer pending parts ≡ joined here outer pending (levels parts)
 within_joined here outer pending [] = sym (around_nil here outer)
 within_joined here outer pending (ListStart ∷ parts) =
     within_joined (unwrap_or pending here) (here ∷ outer) None parts ∙ at_start here outer pending (levels parts)
 within_joined here [] pending (ListEnd ∷ parts) =
     within_joined here [] None parts ∙ at_last_end here (levels parts)
-within_joined here (place ∷ outer) pending (ListEnd ∷ parts) =
-    within_joined place outer None parts ∙ at_end here place outer (levels parts)
+within_joined here (next ∷ outer) pending (ListEnd ∷ parts) =
+    within_joined next outer None parts ∙ at_end here next outer (levels parts)
 within_joined here outer pending (Heading attributes ∷ parts) =
     ap (λ (m : List Made). folder_unless (root_at here attributes) here attributes (title_in (title_ahead parts)) ++ m)
     (within_joined here outer (Some (inside here attributes)) parts)

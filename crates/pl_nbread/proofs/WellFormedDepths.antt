@@ -8,8 +8,8 @@ use Rattle.std.specs.List.{cons_option}
 use Rattle.std.specs.Option.{unwrap_or}
 use Rattle.std.proofs.lemmas.Bool.{and_from, and_parts, eq-eqb, eqb-true, le-leb, leb-false, true≢false}
 use Rattle.std.proofs.lemmas.List.Elements.{filter_map-append}
-use Rattle.pl_nbread.specs.declared.place.Place.{Place}
-use Rattle.pl_nbread.specs.declared.place.Root.{Root}
+use Rattle.pl_nbread.specs.declared.open_list.OpenList.{OpenList}
+use Rattle.pl_nbread.specs.declared.open_list.Root.{Root}
 use Rattle.pl_nbread.specs.declared.tree.Node.{Node}
 use Rattle.pl_nbread.specs.BookmarkTree.{Content, Nothing, Then, Inner, Made, Child}
 use Rattle.pl_nbread.specs.BookmarkTree.{below, bookmark, bookmark_if, folder_unless, inside}
@@ -83,8 +83,8 @@ stays_both reach between depth xs ys front behind = record {
 
 -- ---- what is made
 
--- how deep nodes of this root's list are at a place
-abbrev depth_in : Root → Place → ℕ
+-- how deep nodes of this root's list are in an open list
+abbrev depth_in : Root → OpenList → ℕ
 depth_in root here = cond (is_same_root root here.root) here.depth 0
 
 module _ (root : Root) where
@@ -94,8 +94,8 @@ module _ (root : Root) where
       subst (Stays reach depth) (sym (filter_map-append (node_in root) xs ys))
       (stays_both reach between depth (nodes_in root xs) (nodes_in root ys) front behind)
 
-  -- a node at a place is made
-  stays_child : (here : Place) (node : Node) → node.depth ≡ here.depth → (reach : ℕ) → depth_in root here ≤ reach
+  -- a node in an open list is made
+  stays_child : (here : OpenList) (node : Node) → node.depth ≡ here.depth → (reach : ℕ) → depth_in root here ≤ reach
       → Stays reach (depth_in root here) (nodes_in root (Child here.root node ∷ []))
   stays_child here node is reach within = choose (is_same_root root here.root) within
     where
@@ -104,14 +104,14 @@ module _ (root : Root) where
       choose true within = record { fits = (omega arith, tt); leaves = omega arith }
       choose false within = record { fits = tt; leaves = within }
 
-  stays_link : (url : Option (List ℕ)) (here : Place) (a : List Attribute) (title : List ℕ) (reach : ℕ)
+  stays_link : (url : Option (List ℕ)) (here : OpenList) (a : List Attribute) (title : List ℕ) (reach : ℕ)
       → depth_in root here ≤ reach
       → Stays reach (depth_in root here) (nodes_in root (bookmark_if url here a title ∷ []))
   stays_link None here a title reach within = record { fits = tt; leaves = within }
   stays_link (Some url) here a title reach within =
       stays_child here (bookmark here url a title) refl reach within
 
-  at_menu : (here : Place) → is_menu here ≡ true → depth_in root here ≡ 0
+  at_menu : (here : OpenList) → is_menu here ≡ true → depth_in root here ≡ 0
   at_menu here is = choose (is_same_root root here.root)
       (eqb-true here.depth 0 (and_parts (is_menu_root here.root) (here.depth == 0) is).1)
     where
@@ -120,11 +120,11 @@ module _ (root : Root) where
       choose false zero = refl
 
   -- what a heading leaves: its children may stand behind it
-  pub record Opens (here inner : Place) (front : List Made) : Type 0 where
+  pub record Opens (here inner : OpenList) (front : List Made) : Type 0 where
     pub stays : (reach : ℕ) → depth_in root here ≤ reach → Stays reach (depth_in root inner) (nodes_in root front)
     pub deeper : depth_in root here ≤ depth_in root inner
 
-  opens_below : (here : Place) (a : List Attribute) (title : List ℕ)
+  opens_below : (here : OpenList) (a : List Attribute) (title : List ℕ)
       → Opens here (below here) (folder_unless None here a title)
   opens_below here a title = choose (is_same_root root here.root) refl
     where
@@ -140,7 +140,7 @@ module _ (root : Root) where
         deeper = rw is (omega arith);
       }
 
-  opens_root : (here : Place) (other : Root) → depth_in root here ≡ 0 → Opens here (inside_of here (Some other)) []
+  opens_root : (here : OpenList) (other : Root) → depth_in root here ≡ 0 → Opens here (inside_of here (Some other)) []
   opens_root here other zero = choose (is_same_root root other) refl
     where
       choose : (v : Bool) → is_same_root root other ≡ v → Opens here (inside_of here (Some other)) []
@@ -153,7 +153,7 @@ module _ (root : Root) where
         deeper = omega (arith, zero);
       }
 
-  opens : (here : Place) (a : List Attribute) (title : List ℕ)
+  opens : (here : OpenList) (a : List Attribute) (title : List ℕ)
       → Opens here (inside here a) (folder_unless (root_at here a) here a title)
   opens here a title = choose (is_menu here) refl
     where
@@ -168,7 +168,7 @@ module _ (root : Root) where
       choose true is = by_root (root_named a) (at_menu here is)
       choose false is = opens_below here a title
 
-  made_stays : (here : Place) (pending : Option Place) (content : Content) (reach : ℕ)
+  made_stays : (here : OpenList) (pending : Option OpenList) (content : Content) (reach : ℕ)
       → depth_in root here ≤ depth_in root (unwrap_or pending here)
       → depth_in root (unwrap_or pending here) ≤ reach
       → Stays reach (depth_in root here) (nodes_in root (made here pending content))

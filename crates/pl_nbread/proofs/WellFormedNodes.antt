@@ -12,8 +12,8 @@ use Rattle.pl_base.specs.NumberText.{number_of}
 use Rattle.pl_words.specs.TagLists.{each_once, firsts, is_same_tag}
 use Rattle.pl_words.specs.TagName.{is_tag_name, tag_named, trimmed}
 use Rattle.pl_words.proofs.TagListLaws.{once-firsts}
-use Rattle.pl_nbread.specs.declared.place.Place.{Place}
-use Rattle.pl_nbread.specs.declared.place.Root.{Root}
+use Rattle.pl_nbread.specs.declared.open_list.OpenList.{OpenList}
+use Rattle.pl_nbread.specs.declared.open_list.Root.{Root}
 use Rattle.pl_nbread.specs.BookmarkTree.{Content, Nothing, Then, Inner, Made, Child, Skipped}
 use Rattle.pl_nbread.specs.BookmarkTree.{added, added_seconds, bookmark, bookmark_if, folder}
 use Rattle.pl_nbread.specs.BookmarkTree.{folder_unless, if_date, inside, is_same_root, made}
@@ -88,17 +88,17 @@ tags_once text = once-firsts is_same_tag (filter_map tag_named (slice_split _ te
 
 -- ---- nodes
 
-folder_formed : (here : Place) (a : List Attribute) (title : List ℕ) → is_formed (folder here a title) ≡ true
+folder_formed : (here : OpenList) (a : List Attribute) (title : List ℕ) → is_formed (folder here a title) ≡ true
 folder_formed here a title =
     and_from _ _ (and_from _ _ (and_from _ _ (added_dated a) (modified_dated a)) refl) refl
 
-bookmark_formed : (here : Place) (url : List ℕ) (a : List Attribute) (title : List ℕ)
+bookmark_formed : (here : OpenList) (url : List ℕ) (a : List Attribute) (title : List ℕ)
     → is_formed (bookmark here url a title) ≡ true
 bookmark_formed here url a title =
     and_from _ _ (and_from _ _ (and_from _ _ (added_dated a) (modified_dated a))
     (tags_named (value _ a))) (tags_once (value _ a))
 
-separator_formed : (here : Place) → is_formed (separator here) ≡ true
+separator_formed : (here : OpenList) → is_formed (separator here) ≡ true
 separator_formed here = refl
 
 abbrev is_made_formed : Made → Bool
@@ -111,17 +111,17 @@ are_formed all = list_all is_made_formed all
 both : (xs ys : List Made) → are_formed xs ≡ true → are_formed ys ≡ true → are_formed (xs ++ ys) ≡ true
 both xs ys front behind = list_all-append is_made_formed xs ys ∙ and_from _ _ front behind
 
-heading_formed : (root : Option Root) (here : Place) (a : List Attribute) (title : List ℕ)
+heading_formed : (root : Option Root) (here : OpenList) (a : List Attribute) (title : List ℕ)
     → are_formed (folder_unless root here a title) ≡ true
 heading_formed None here a title = and_from _ _ (folder_formed here a title) refl
 heading_formed (Some root) here a title = refl
 
-link_formed : (url : Option (List ℕ)) (here : Place) (a : List Attribute) (title : List ℕ)
+link_formed : (url : Option (List ℕ)) (here : OpenList) (a : List Attribute) (title : List ℕ)
     → is_made_formed (bookmark_if url here a title) ≡ true
 link_formed None here a title = refl
 link_formed (Some url) here a title = bookmark_formed here url a title
 
-made_formed : (here : Place) (pending : Option Place) (content : Content)
+made_formed : (here : OpenList) (pending : Option OpenList) (content : Content)
     → are_formed (made here pending content) ≡ true
 made_formed here pending Nothing = refl
 made_formed here pending (Inner inner behind) =

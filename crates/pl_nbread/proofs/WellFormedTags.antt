@@ -11,8 +11,8 @@ use Rattle.std.proofs.lemmas.List.Sums.{count_by-le-length, length-filter, sum-m
 use Rattle.std.proofs.lemmas.Str.{length-encode, len_utf8_bounds}
 use Rattle.pl_words.specs.TagLists.{firsts, is_same_tag}
 use Rattle.pl_words.specs.TagName.{is_tag_name, tag_named, trimmed}
-use Rattle.pl_nbread.specs.declared.place.Place.{Place}
-use Rattle.pl_nbread.specs.declared.place.Root.{Root}
+use Rattle.pl_nbread.specs.declared.open_list.OpenList.{OpenList}
+use Rattle.pl_nbread.specs.declared.open_list.Root.{Root}
 use Rattle.pl_nbread.specs.declared.tree.Node.{Node}
 use Rattle.pl_nbread.specs.BookmarkFile.{file_limit}
 use Rattle.pl_nbread.specs.BookmarkTree.{Content, Nothing, Then, Inner, Made, Child, Skipped}
@@ -126,17 +126,17 @@ counted_both : (xs ys : List Made) → all_counted (xs ++ ys) ≡ all_counted xs
 counted_both [] ys = omega arith
 counted_both (x ∷ xs) ys = omega (arith, counted_both xs ys)
 
-heading_none : (root : Option Root) (here : Place) (a : List Attribute) (title : List ℕ)
+heading_none : (root : Option Root) (here : OpenList) (a : List Attribute) (title : List ℕ)
     → all_counted (folder_unless root here a title) ≡ 0
 heading_none None here a title = refl
 heading_none (Some root) here a title = refl
 
-link_few : (url : Option (List ℕ)) (here : Place) (a : List Attribute) (title : List ℕ)
+link_few : (url : Option (List ℕ)) (here : OpenList) (a : List Attribute) (title : List ℕ)
     → counted (bookmark_if url here a title) ≤ 4 * weight (Link a)
 link_few None here a title = omega arith
 link_few (Some url) here a title = tags_few a
 
-made_few : (here : Place) (pending : Option Place) (content : Content)
+made_few : (here : OpenList) (pending : Option OpenList) (content : Content)
     → all_counted (made here pending content) ≤ 4 * heft content
 made_few here pending Nothing = omega arith
 made_few here pending (Inner inner behind) =

@@ -1,7 +1,7 @@
 -- Every tree of bookmarks that a text gives is well formed.
 use Rattle.std.proofs.Common.{◌<◌, ℕ, List, length, map}
-use Rattle.pl_nbread.specs.declared.place.Root.{Root}
-use Rattle.pl_nbread.specs.declared.place.Root.TheVariants.{Menu, Toolbar, Unfiled, Mobile}
+use Rattle.pl_nbread.specs.declared.open_list.Root.{Root}
+use Rattle.pl_nbread.specs.declared.open_list.Root.TheVariants.{Menu, Toolbar, Unfiled, Mobile}
 use Rattle.pl_nbread.specs.BookmarkFile.{file_limit}
 use Rattle.pl_nbread.specs.BookmarkTree.{levels, made_of, nodes_in, tree_in}
 use Rattle.pl_nbread.specs.Parts.{part_of}

@@ -10,9 +10,9 @@ use Rattle.pl_base.specs.Address.{canon}
 use Rattle.pl_base.specs.NumberText.{number_of}
 use Rattle.pl_words.specs.TagLists.{firsts, is_same_tag}
 use Rattle.pl_words.specs.TagName.{tag_named, trimmed}
-use Rattle.pl_nbread.specs.declared.place.Place.{Place}
-use Rattle.pl_nbread.specs.declared.place.Root.{Root}
-use Rattle.pl_nbread.specs.declared.place.Root.TheVariants.{Menu, Toolbar, Unfiled, Mobile}
+use Rattle.pl_nbread.specs.declared.open_list.OpenList.{OpenList}
+use Rattle.pl_nbread.specs.declared.open_list.Root.{Root}
+use Rattle.pl_nbread.specs.declared.open_list.Root.TheVariants.{Menu, Toolbar, Unfiled, Mobile}
 use Rattle.pl_nbread.specs.declared.tree.Node.{Node}
 use Rattle.pl_nbread.specs.declared.tree.Tree.{Tree}
 use Rattle.pl_nbread.specs.BookmarkFile.{body, lowered}
@@ -79,10 +79,10 @@ tags_in text = firsts is_same_tag (filter_map tag_named (slice_split (λ b. b ==
 abbrev pub tags : List Attribute → List (List ℕ)
 tags attributes = tags_in (value (codes "tags") attributes)
 
--- ---- places
+-- ---- open lists
 
--- where the children of the menu root stand
-abbrev pub menu : Place
+-- the list of the menu root's children
+abbrev pub menu : OpenList
 menu = record { root = Menu; depth = 0 }
 
 -- the root of the store that a heading names; the first of these three counts
@@ -99,23 +99,23 @@ is_menu_root Unfiled = false
 is_menu_root Mobile = false
 
 -- children of the menu root stand here
-abbrev pub is_menu : Place → Bool
+abbrev pub is_menu : OpenList → Bool
 is_menu here = is_menu_root here.root && here.depth == 0
 
 -- the root that a heading stands for; in the menu root alone it may stand for one
-abbrev pub root_at : Place → List Attribute → Option Root
+abbrev pub root_at : OpenList → List Attribute → Option Root
 root_at here attributes = if is_menu here then root_named attributes else None
 
--- where the children of a folder stand that is a child here
-abbrev pub below : Place → Place
+-- the list of the children of a folder that is a child here
+abbrev pub below : OpenList → OpenList
 below here = record { root = here.root; depth = here.depth + 1 }
 
-abbrev pub inside_of : Place → Option Root → Place
+abbrev pub inside_of : OpenList → Option Root → OpenList
 inside_of here None = below here
 inside_of here (Some root) = record { root = root; depth = 0 }
 
--- where the children of the folder stand that a heading makes or stands for
-abbrev pub inside : Place → List Attribute → Place
+-- the list of the children of the folder that a heading makes or stands for
+abbrev pub inside : OpenList → List Attribute → OpenList
 inside here attributes = inside_of here (root_at here attributes)
 
 -- ---- what is made
@@ -125,7 +125,7 @@ pub data Made : Type 0 where
   Child : Root → Node → Made
   Skipped : Made
 
-abbrev pub folder : Place → List Attribute → List ℕ → Node
+abbrev pub folder : OpenList → List Attribute → List ℕ → Node
 folder here attributes title =
     record {
       depth = here.depth;
@@ -138,12 +138,12 @@ folder here attributes title =
     }
 
 -- a heading that stands for a root makes no folder
-abbrev pub folder_unless : Option Root → Place → List Attribute → List ℕ → List Made
+abbrev pub folder_unless : Option Root → OpenList → List Attribute → List ℕ → List Made
 folder_unless None here attributes title =
     Child here.root (folder here attributes title) ∷ []
 folder_unless (Some root) here attributes title = []
 
-abbrev pub bookmark : Place → List ℕ → List Attribute → List ℕ → Node
+abbrev pub bookmark : OpenList → List ℕ → List Attribute → List ℕ → Node
 bookmark here url attributes title =
     record {
       depth = here.depth;
@@ -155,12 +155,12 @@ bookmark here url attributes title =
       tags = tags attributes;
     }
 
-abbrev pub bookmark_if : Option (List ℕ) → Place → List Attribute → List ℕ → Made
+abbrev pub bookmark_if : Option (List ℕ) → OpenList → List Attribute → List ℕ → Made
 bookmark_if None here attributes title = Skipped
 bookmark_if (Some url) here attributes title =
     Child here.root (bookmark here url attributes title)
 
-abbrev pub separator : Place → Node
+abbrev pub separator : OpenList → Node
 separator here =
     record {
       depth = here.depth;
@@ -225,7 +225,7 @@ title behind = title_in (title_text behind)
 
 -- what stands here, behind a heading whose list has not begun: its children stand there. Lists are
 -- `Inner` content, so their tags by themselves say nothing
-abbrev pub made : Place → Option Place → Content → List Made
+abbrev pub made : OpenList → Option OpenList → Content → List Made
 made here pending Nothing = []
 made here pending (Inner inner behind) =
     made (unwrap_or pending here) None inner ++ made here None behind

@@ -6,9 +6,9 @@ use Rattle.std.specs.Option.{IfSome}
 use Rattle.std.specs.String.{string_bytes}
 use Rattle.pl_nbread.specs.declared.builder.Builder.{Builder}
 use Rattle.pl_nbread.specs.declared.builder.Titled.{Titled}
-use Rattle.pl_nbread.specs.declared.place.Place.{Place}
-use Rattle.pl_nbread.specs.declared.place.Root.{Root}
-use Rattle.pl_nbread.specs.declared.place.Root.TheVariants.{Menu, Toolbar, Unfiled, Mobile}
+use Rattle.pl_nbread.specs.declared.open_list.OpenList.{OpenList}
+use Rattle.pl_nbread.specs.declared.open_list.Root.{Root}
+use Rattle.pl_nbread.specs.declared.open_list.Root.TheVariants.{Menu, Toolbar, Unfiled, Mobile}
 use Rattle.pl_nbread.specs.declared.tree.Node.{Node}
 use Rattle.pl_nbread.specs.declared.tree.Tree.{Tree}
 use Rattle.pl_nbread.specs.BookmarkTree.{Made, Child, bookmark_if, folder_unless, inside}
@@ -28,8 +28,8 @@ title_ahead (ListEnd ∷ parts) = []
 title_ahead (Rule ∷ parts) = []
 title_ahead (TitleEnd ∷ parts) = []
 
--- what parts make here, with lists open around this place, from the innermost on
-abbrev pub made_within : Place → List Place → Option Place → List Part → List Made
+-- what parts make in this list, with others open around it, from the innermost on
+abbrev pub made_within : OpenList → List OpenList → Option OpenList → List Part → List Made
 made_within here outer pending [] = []
 made_within here outer pending (ListStart ∷ parts) =
     made_within (unwrap_or pending here) (here ∷ outer) None parts
@@ -99,9 +99,9 @@ pub record Closes (before after : Builder) : Type 0 where
 abbrev pub most_parts : ℕ
 most_parts = 4_294_967_294
 
--- no place is deeper than this, and no more bookmarks are left out
+-- no open list is deeper than this, and no more bookmarks are left out
 pub record IsWithin (n : ℕ) (builder : Builder) : Type 0 where
   pub skipped : builder.skipped ≤ n
   pub here : builder.here.depth ≤ n
-  pub outer : AllByRecursion (λ (p : Place). p.depth ≤ n) builder.outer.items
-  pub pending : IfSome builder.pending (λ (p : Place). p.depth ≤ n)
+  pub outer : AllByRecursion (λ (p : OpenList). p.depth ≤ n) builder.outer.items
+  pub pending : IfSome builder.pending (λ (p : OpenList). p.depth ≤ n)

@@ -10,7 +10,7 @@ mod nodes;
 
 use crate::attributes::Attributes;
 use crate::part::Part;
-use crate::place::{Place, Root};
+use crate::open_list::{OpenList, Root};
 use crate::tree::{Node, Tree};
 use crate::values;
 use nodes::{bookmark, folder, root_at, separator};
@@ -33,10 +33,10 @@ pub(crate) struct Builder {
     mobile: Vec<Node>,
     skipped: u32,
     /// Where the next child stands, by the lists that are open: the innermost, and those around it.
-    here: Place,
-    outer: Vec<Place>,
+    here: OpenList,
+    outer: Vec<OpenList>,
     /// Where the children stand of a heading whose list has not begun.
-    pending: Option<Place>,
+    pending: Option<OpenList>,
     titled: Option<Titled>,
     /// The text of that title so far.
     title: String,
@@ -53,7 +53,7 @@ impl Builder {
             unfiled: Vec::new(alloc),
             mobile: Vec::new(alloc),
             skipped: 0,
-            here: Place {
+            here: OpenList {
                 root: Root::Menu,
                 depth: 0,
             },
@@ -64,7 +64,7 @@ impl Builder {
         }
     }
 
-    /// Takes the next part. A part puts no place deeper by more than one, and leaves out one
+    /// Takes the next part. A part puts no list deeper by more than one, and leaves out one
     /// bookmark at most.
     pub(crate) fn take(&mut self, alloc: Global, part: &Part<'_>) -> Result<(), NoMemory>
         requires room { IsWithin most_parts self.old }
@@ -108,7 +108,7 @@ impl Builder {
         self.close(alloc)?;
         let here = self.here;
         if let Some(root) = root_at(alloc, here, attributes)? {
-            self.pending = Some(Place { root, depth: 0 });
+            self.pending = Some(OpenList { root, depth: 0 });
             return Ok(());
         }
         let node = folder(alloc, here, attributes)?;
@@ -116,7 +116,7 @@ impl Builder {
             root: here.root,
             node,
         });
-        self.pending = Some(Place {
+        self.pending = Some(OpenList {
             root: here.root,
             depth: here.depth + 1,
         });

@@ -4,8 +4,8 @@
 
 mod attributes;
 mod builder;
+mod open_list;
 mod part;
-mod place;
 mod reader;
 mod references;
 mod tree;

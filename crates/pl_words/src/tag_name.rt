@@ -1,8 +1,10 @@
 ghost use Rattle.std.specs.Prelude.{◌≡◌, ◌↔◌, bytes_eq, IfOk, IsErrOf, IsTrue, None, Some};
 ghost use Rattle.pl_base.specs.Good.{IsTagName};
 ghost use Rattle.pl_words.specs.declared.tag_name.TagError.TheVariants as variants;
+ghost use Rattle.pl_words.specs.TagLists.{is_same_tag};
 ghost use Rattle.pl_words.specs.TagName.{tag_named, trimmed};
 
+use crate::fold;
 use pl_base::{NoMemory, Txt};
 use std::alloc::Global;
 use std::marker::Model;
@@ -81,12 +83,18 @@ impl TagName {
         self.name.as_str()
     }
 
-    /// Whether both names are spelled alike, byte for byte. Names of one tag need not be: tags are
-    /// the same where the folds of their names are.
+    /// Whether both names are spelled alike, byte for byte. Names of one tag need not be.
     pub fn has_same_spelling(&self, other: &TagName) -> bool
         ensures { result ≡ bytes_eq self.now other.now }
     {
         self.name == other.name
+    }
+
+    /// Whether both names are of one tag: their folds are equal.
+    pub fn is_same_tag(&self, alloc: Global, other: &TagName) -> Result<bool, NoMemory>
+        ensures { IfOk result (λ same. same ≡ is_same_tag self.now other.now) }
+    {
+        Ok(fold(alloc, self.text())? == fold(alloc, other.text())?)
     }
 }
 

@@ -142,23 +142,25 @@ fn reads_tag_names(rt: HostRuntime) -> Result<(), Fail> {
     Ok(())
 }
 
-// Two names, and whether they are spelled alike.
-const SPELLINGS: &[(&str, &str, bool)] = &[
-    ("news", "news", true),
-    (" news\t", "news", true),
-    ("news", "News", false),
-    ("Straße", "STRASSE", false),
-    ("new", "news", false),
-    ("news", "new", false),
-    ("é", "e\u{301}", false),
+// Two names, whether they are spelled alike, and whether they are of one tag.
+const NAMES: &[(&str, &str, bool, bool)] = &[
+    ("news", "news", true, true),
+    (" news\t", "news", true, true),
+    ("news", "News", false, true),
+    ("Straße", "STRASSE", false, true),
+    ("new", "news", false, false),
+    ("news", "new", false, false),
+    ("é", "e\u{301}", false, false),
 ];
 
 #[test]
-fn compares_spellings(rt: HostRuntime) -> Result<(), Fail> {
+fn compares_names(rt: HostRuntime) -> Result<(), Fail> {
     let alloc = rt.alloc();
-    for (one, other, want) in SPELLINGS {
+    for (one, other, spelling, tag) in NAMES {
         let (name, again) = (TagName::read(alloc, one)?, TagName::read(alloc, other)?);
-        assert_eq!(rt; name.has_same_spelling(&again), *want, "{one:?} {other:?}");
+        assert_eq!(rt; name.has_same_spelling(&again), *spelling, "{one:?} {other:?}");
+        let is_same = name.is_same_tag(alloc, &again)?;
+        assert_eq!(rt; is_same, *tag, "{one:?} {other:?}");
     }
     Ok(())
 }

@@ -7,7 +7,7 @@ ghost use Rattle.pl_nbread.specs.Scanned.{Tells, now};
 ghost use Rattle.pl_nbread.specs.Tokens.{Attribute};
 
 use crate::attributes::Attributes;
-use crate::place::{Place, Root};
+use crate::open_list::{OpenList, Root};
 use crate::tree::Node;
 use crate::values;
 use pl_base::{ItemKind, MICROS_PER_SECOND, Micros, NoMemory, Seq, Txt};
@@ -16,7 +16,7 @@ use std::alloc::Global;
 /// The root that a heading stands for. Only in the menu root may it stand for one.
 pub(crate) fn root_at(
     alloc: Global,
-    here: Place,
+    here: OpenList,
     attributes: &Attributes<'_>,
 ) -> Result<Option<Root>, NoMemory>
     ensures { (all : List Attribute) → Tells attributes.now all
@@ -40,7 +40,7 @@ pub(crate) fn root_at(
 /// A folder.
 pub(crate) fn folder(
     alloc: Global,
-    here: Place,
+    here: OpenList,
     attributes: &Attributes<'_>,
 ) -> Result<Node, NoMemory>
     ensures { (all : List Attribute) → Tells attributes.now all
@@ -61,7 +61,7 @@ pub(crate) fn folder(
 /// A bookmark. `None` where its address is no URL of the store.
 pub(crate) fn bookmark(
     alloc: Global,
-    here: Place,
+    here: OpenList,
     attributes: &Attributes<'_>,
 ) -> Result<Option<Node>, NoMemory>
     ensures { (all : List Attribute) → Tells attributes.now all → IfOk result (λ node.
@@ -83,7 +83,7 @@ pub(crate) fn bookmark(
 }
 
 /// A separator.
-pub(crate) fn separator(alloc: Global, here: Place) -> Node
+pub(crate) fn separator(alloc: Global, here: OpenList) -> Node
     ensures { result ≡ spec.separator here }
 {
     Node {

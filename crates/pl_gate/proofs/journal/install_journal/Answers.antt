@@ -30,11 +30,11 @@ loop-index-init g c =
       held = λ file is. is;
       none = λ is. is;
       numbers = λ file is.
-          let place = MatchOption-at_some _ _ file is c.requires.place in
+          let told = MatchOption-at_some _ _ file is c.requires.told in
           let has =
           gate_journal file (MatchOption-at_some _ _ file is c.requires.gate)
           (MatchOption-at_some _ _ file is c.requires.set) in
-          ap (λ (n : ℕ). numbers_fit 0 n (page_numbers (journal file))) place.after
+          ap (λ (n : ℕ). numbers_fit 0 n (page_numbers (journal file))) told.after
           ∙ and_from _ _ has.ascending has.below;
       leaves = λ file is later left. (later, left, refl);
       moments =
@@ -48,17 +48,17 @@ loop-index-init g c =
 -- the entry that is installed next
 abbrev entry : (g : Over) (c : In-loop-index g) → List ℕ → PageImage
 entry g c file =
-    entry_at (c.args.place.now.start + entry_size * c.loop-index.index)
+    entry_at (c.args.told.now.start + entry_size * c.loop-index.index)
     (with_images (take c.loop-index.index (journal file)) file)
 
 next_is : (g : Over) (c : In-loop-index g) (file : List ℕ) → g.D.Desk.held c.args.desk.now ≡ Some file
     → drop c.loop-index.index (journal file) ≡ entry g c file ∷ drop (c.loop-index.index + 1) (journal file)
 next_is g c file is =
-    let place = MatchOption-at_some _ _ file is c.requires.place in let k = c.loop-index.index in
+    let told = MatchOption-at_some _ _ file is c.requires.told in let k = c.loop-index.index in
     next_entry file k (MatchOption-at_some _ _ file is c.requires.set) (MatchOption-at_some _ _ file is c.requires.gate)
-    (omega (arith, c.loop-index-test.true, place.count))
+    (omega (arith, c.loop-index-test.true, told.count))
     ∙ ap (λ (n : ℕ). entry_at (n + entry_size * k) (with_images (take k (journal file)) file)
-    ∷ drop (k + 1) (journal file)) (sym place.start)
+    ∷ drop (k + 1) (journal file)) (sym told.start)
 
 held_is : (g : Over) (c : In-loop-index g) (file : List ℕ) → g.D.Desk.held c.args.desk.now ≡ Some file
     → g.D.Desk.held c.loop-index.desk ≡ Some (with_images (take c.loop-index.index (journal file)) file)
@@ -70,12 +70,12 @@ install_entry-requires-clause-within g c =
   where
     at : (now : List ℕ) → g.D.Desk.held c.loop-index.desk ≡ Some now → (old : Option (List ℕ))
         → g.D.Desk.held c.args.desk.now ≡ old
-        → c.args.place.now.start + entry_size * c.loop-index.index + entry_size ≤ length now
+        → c.args.told.now.start + entry_size * c.loop-index.index + entry_size ≤ length now
     at now now_is None is = absurd (none-some now (sym (c.loop-index.invariant.none is) ∙ now_is))
     at now now_is (Some file) is =
         let set = MatchOption-at_some _ _ file is c.requires.set in
         let gate = MatchOption-at_some _ _ file is c.requires.gate in
-        let place = MatchOption-at_some _ _ file is c.requires.place in
+        let told = MatchOption-at_some _ _ file is c.requires.told in
         let stays = stays_front file c.loop-index.index set gate in
         let same =
         same_Some (with_images (take c.loop-index.index (journal file)) file) now
@@ -83,8 +83,8 @@ install_entry-requires-clause-within g c =
         omega (
           arith,
           (gate_journal file gate set).within,
-          place.start,
-          place.count,
+          told.start,
+          told.count,
           stays.len,
           ap length same,
           c.loop-index-test.true,
@@ -145,10 +145,10 @@ shown g c file is =
 
 -- the numbers that are left, with the next one apart
 numbers_is : (g : Over) (c : After-install_entry g) (file : List ℕ) → g.D.Desk.held c.args.desk.now ≡ Some file
-    → numbers_fit c.loop-index.last c.args.place.now.after
+    → numbers_fit c.loop-index.last c.args.told.now.after
     ((entry g c.before.before file).page ∷ page_numbers (drop (c.loop-index.index + 1) (journal file))) ≡ true
 numbers_is g c file is =
-    ap (λ (l : List PageImage). numbers_fit c.loop-index.last c.args.place.now.after (page_numbers l))
+    ap (λ (l : List PageImage). numbers_fit c.loop-index.last c.args.told.now.after (page_numbers l))
     (sym (next_is g c.before.before file is)) ∙ c.loop-index.invariant.numbers file is
 
 pub returns-in_err-last-clause-leaves : goal.returns-in_err-last-clause-leaves
@@ -166,7 +166,7 @@ returns-in_err-last-clause-good g c bad =
     let stop =
     MatchOption-at_some _ _ (with_images (take c.loop-index.index (journal file)) file)
     (held_is g first.before.before file is) (c.install_entry.ensures.bad same) in
-    both_ways _ (numbers_stop c.loop-index.last c.args.place.now.after (entry g first.before.before file).page
+    both_ways _ (numbers_stop c.loop-index.last c.args.told.now.after (entry g first.before.before file).page
     (page_numbers (drop (c.loop-index.index + 1) (journal file))) stop) (numbers_is g first file is))
 
 pub loop-index-preserved : goal.loop-index-preserved
@@ -178,8 +178,8 @@ loop-index-preserved g c =
           c.in_ok-last.ensures.held
           ∙ ap
           (option_map (λ now. overwritten 0
-          (page_size * (entry_at (c.args.place.now.start + entry_size * k) now).page)
-          (entry_at (c.args.place.now.start + entry_size * k) now).image now))
+          (page_size * (entry_at (c.args.told.now.start + entry_size * k) now).page)
+          (entry_at (c.args.told.now.start + entry_size * k) now).image now))
           (held_is g first.before.before file is)
           ∙ ap Some (next_image (journal file) k (entry g first.before.before file) (drop (k + 1) (journal file)) file
           (next_is g first.before.before file is));
@@ -187,14 +187,14 @@ loop-index-preserved g c =
           c.in_ok-last.ensures.held
           ∙ ap
           (option_map (λ now. overwritten 0
-          (page_size * (entry_at (c.args.place.now.start + entry_size * k) now).page)
-          (entry_at (c.args.place.now.start + entry_size * k) now).image now)) (c.loop-index.invariant.none is);
+          (page_size * (entry_at (c.args.told.now.start + entry_size * k) now).page)
+          (entry_at (c.args.told.now.start + entry_size * k) now).image now)) (c.loop-index.invariant.none is);
       numbers = λ file is.
           let page =
           MatchOption-at_some _ _ (with_images (take k (journal file)) file)
           (held_is g first.before.before file is) c.in_ok-last.ensures.page in
-          ap (λ (n : ℕ). numbers_fit n c.args.place.now.after (page_numbers (drop (k + 1) (journal file)))) page
-          ∙ (numbers_true c.loop-index.last c.args.place.now.after (entry g first.before.before file).page
+          ap (λ (n : ℕ). numbers_fit n c.args.told.now.after (page_numbers (drop (k + 1) (journal file)))) page
+          ∙ (numbers_true c.loop-index.last c.args.told.now.after (entry g first.before.before file).page
           (page_numbers (drop (k + 1) (journal file))) (numbers_is g first file is)).2;
       leaves = λ file is. begun g first file is;
       moments = λ file is. shown g first file is;
@@ -215,13 +215,13 @@ returns-clause-held g c = at (g.D.Desk.held c.args.desk.now) refl
         ≡ option_map (λ file. with_images (journal file) file) (g.D.Desk.held c.args.desk.now)
     at None is = c.loop-index.invariant.none is ∙ ap (option_map (λ file. with_images (journal file) file)) (sym is)
     at (Some file) is =
-        let place = MatchOption-at_some _ _ file is c.requires.place in
+        let told = MatchOption-at_some _ _ file is c.requires.told in
         let all =
         take_all c.loop-index.index (journal file)
         (omega (
           arith,
           length-entries (journal_len file) (journal_start file) file,
-          place.count,
+          told.count,
           c.loop-index-test.false,
         )) in
         c.loop-index.invariant.held file is ∙ ap (λ (l : List PageImage). Some (with_images l file)) all
@@ -229,13 +229,13 @@ returns-clause-held g c = at (g.D.Desk.held c.args.desk.now) refl
 
 pub returns-clause-leaves : goal.returns-clause-leaves
 returns-clause-leaves g c file is =
-    let place = MatchOption-at_some _ _ file is c.requires.place in
+    let told = MatchOption-at_some _ _ file is c.requires.told in
     let all =
     take_all c.loop-index.index (journal file)
     (omega (
       arith,
       length-entries (journal_len file) (journal_start file) file,
-      place.count,
+      told.count,
       c.loop-index-test.false,
     )) in
     subst (λ (l : List PageImage). Follows (TornIn (image_ranges l)) (g.D.Desk.may_leave c.args.desk.now)

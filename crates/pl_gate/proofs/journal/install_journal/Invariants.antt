@@ -13,12 +13,12 @@ abbrev pub invariant-loop-index : goal.invariant-loop-index
 invariant-loop-index g l =
     let desk = g.D.Desk in let old = l.initial.desk in
     record {
-      within : l.index ≤ l.place.count;
+      within : l.index ≤ l.told.count;
       held : (file : List ℕ) → desk.held old ≡ Some file
           → desk.held l.desk ≡ Some (with_images (take l.index (journal file)) file);
       none : desk.held old ≡ None → desk.held l.desk ≡ None;
       numbers : (file : List ℕ) → desk.held old ≡ Some file
-          → numbers_fit l.last l.place.after (page_numbers (drop l.index (journal file))) ≡ true;
+          → numbers_fit l.last l.told.after (page_numbers (drop l.index (journal file))) ≡ true;
       leaves : (file : List ℕ) → desk.held old ≡ Some file
           → Follows (TornIn (image_ranges (take l.index (journal file)))) (desk.may_leave old) (desk.may_leave l.desk);
       moments : (file : List ℕ) → desk.held old ≡ Some file
@@ -29,4 +29,4 @@ invariant-loop-index g l =
     }
 
 abbrev pub decreases-loop-index : goal.decreases-loop-index
-decreases-loop-index g l = l.place.count - l.index
+decreases-loop-index g l = l.told.count - l.index

@@ -7,7 +7,7 @@ use Rattle.pl_desk.specs.Settling.{IsFirstSync, TurnsTo, settles_at}
 use Rattle.pl_desk.specs.Shown.{AtAnyMoment, Unsaid}
 use Rattle.pl_gate.specs.Recovery.{StandsAs}
 use Rattle.pl_gate.proofs.gate.Gate.recover.Given.{Over}
-use Rattle.pl_gate.proofs.gate.Gate.recover.Goals.{After-len, After-read_place, After-check_journal, After-clear_gate}
+use Rattle.pl_gate.proofs.gate.Gate.recover.Goals.{After-len, After-read_gate_page, After-check_journal, After-clear_gate}
 use Rattle.pl_gate.proofs.gate.Gate.recover.Goals as goal
 
 abbrev Held : (g : Over) → After-len g → List ℕ → Type 0
@@ -50,15 +50,15 @@ len_read g c = let desk = g.D.Desk in let turn = c.sync.new.self in let len = c.
     read_call desk turn turn c.len.new.self (reads_none desk g.met.D.Desk.only_now turn) len.held len.said len.written
     len.line len.leaves len.time
 
-place_read : (g : Over) (c : After-read_place g) → OnlyReads g.D.Desk c.sync.new.self c.read_place.new.desk
-place_read g c =
-    read_on g.D.Desk c.sync.new.self c.len.new.self c.read_place.new.desk
-    (len_read g c.before.before.before.before.before) c.read_place.ensures.reads
+told_read : (g : Over) (c : After-read_gate_page g) → OnlyReads g.D.Desk c.sync.new.self c.read_gate_page.new.desk
+told_read g c =
+    read_on g.D.Desk c.sync.new.self c.len.new.self c.read_gate_page.new.desk
+    (len_read g c.before.before.before.before.before) c.read_gate_page.ensures.reads
 
 journal_read : (g : Over) (c : After-check_journal g) → OnlyReads g.D.Desk c.sync.new.self c.check_journal.new.desk
 journal_read g c =
-    read_on g.D.Desk c.sync.new.self c.read_place.new.desk c.check_journal.new.desk
-    (place_read g c.before.before.before.before.before.before) c.check_journal.ensures.reads
+    read_on g.D.Desk c.sync.new.self c.read_gate_page.new.desk c.check_journal.new.desk
+    (told_read g c.before.before.before.before.before.before) c.check_journal.ensures.reads
 
 -- reads show the file that the sync left, and no other
 reads_shown : (g : Over) (c : After-len g) (new : g.row.D.Denot) (file : List ℕ) → Held g c file
@@ -94,15 +94,15 @@ returns-then-len-clause-any_moment g c file is =
     let first = c.before.before.before in
     inr (turns g first _ file is (reads_shown g first _ file is (len_read g first)))
 
-pub returns-in_err-place-clause-any_moment : goal.returns-in_err-place-clause-any_moment
-returns-in_err-place-clause-any_moment g c file is =
-    let place = c.before.before.before in let first = place.before.before.before.before.before in
-    inr (turns g first _ file is (reads_shown g first _ file is (place_read g place)))
+pub returns-in_err-told-clause-any_moment : goal.returns-in_err-told-clause-any_moment
+returns-in_err-told-clause-any_moment g c file is =
+    let told = c.before.before.before in let first = told.before.before.before.before.before in
+    inr (turns g first _ file is (reads_shown g first _ file is (told_read g told)))
 
-pub returns-else-place-clause-any_moment : goal.returns-else-place-clause-any_moment
-returns-else-place-clause-any_moment g c file is =
-    let place = c.before.before.before in let first = place.before.before.before.before.before in
-    inr (turns g first _ file is (reads_shown g first _ file is (place_read g place)))
+pub returns-else-told-clause-any_moment : goal.returns-else-told-clause-any_moment
+returns-else-told-clause-any_moment g c file is =
+    let told = c.before.before.before in let first = told.before.before.before.before.before in
+    inr (turns g first _ file is (reads_shown g first _ file is (told_read g told)))
 
 pub returns-in_err-check_journal-clause-any_moment : goal.returns-in_err-check_journal-clause-any_moment
 returns-in_err-check_journal-clause-any_moment g c file is =

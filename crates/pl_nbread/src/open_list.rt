@@ -7,9 +7,9 @@ pub(crate) enum Root {
     Mobile,
 }
 
-/// Where the next child of a folder stands.
+/// A list that is open: whose nodes its own are, and how deep they stand.
 #[derive(Clone, Copy, PartialEq, Eq)]
-pub(crate) struct Place {
+pub(crate) struct OpenList {
     pub(crate) root: Root,
     /// 0 for a child of the root.
     pub(crate) depth: u32,

@@ -1,8 +1,8 @@
 use Rattle.pl_desk.specs.AnyMoment.{read_call, read_on, reads_none}
 use Rattle.pl_desk.specs.Calls.{OnlyReads}
-use Rattle.pl_gate.proofs.read.read_place.Given.{Over}
-use Rattle.pl_gate.proofs.read.read_place.Goals.{After-read_at, After-read_u64, After-read_u32, After-read_u32-2}
-use Rattle.pl_gate.proofs.read.read_place.Goals as goal
+use Rattle.pl_gate.proofs.read.read_gate_page.Given.{Over}
+use Rattle.pl_gate.proofs.read.read_gate_page.Goals.{After-read_at, After-read_u64, After-read_u32, After-read_u32-2}
+use Rattle.pl_gate.proofs.read.read_gate_page.Goals as goal
 
 gate_read : (g : Over) (c : After-read_at g) → OnlyReads g.D.Desk c.args.desk.now c.read_at.new.self
 gate_read g c =
