@@ -9,8 +9,8 @@ ghost use Rattle.pl_nbread.specs.Tokens.{Attribute};
 mod nodes;
 
 use crate::attributes::Attributes;
-use crate::part::Part;
 use crate::open_list::{OpenList, Root};
+use crate::part::Part;
 use crate::tree::{Node, Tree};
 use crate::values;
 use nodes::{bookmark, folder, root_at, separator};

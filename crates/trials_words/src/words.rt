@@ -158,7 +158,11 @@ fn compares_names(rt: HostRuntime) -> Result<(), Fail> {
     let alloc = rt.alloc();
     for (one, other, spelling, tag) in NAMES {
         let (name, again) = (TagName::read(alloc, one)?, TagName::read(alloc, other)?);
-        assert_eq!(rt; name.has_same_spelling(&again), *spelling, "{one:?} {other:?}");
+        assert_eq!(rt;
+            name.has_same_spelling(&again),
+            *spelling,
+            "{one:?} {other:?}"
+        );
         let is_same = name.is_same_tag(alloc, &again)?;
         assert_eq!(rt; is_same, *tag, "{one:?} {other:?}");
     }
