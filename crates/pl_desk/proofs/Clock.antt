@@ -7,23 +7,13 @@ use Rattle.std.proofs.lemmas.List.Elements.{All-get_or}
 use Rattle.std.proofs.Math.Seq.{take-append-add}
 use Rattle.pl_desk.specs.Desk.{Elapses}
 use Rattle.pl_desk.specs.MemDesk.{Deed, Recorded, nothing, file_after, Takes, LeftAfter, begun_at, said_len_at, IsShown}
-use Rattle.pl_desk.specs.Replay.{said_len_past, push_reaches, counts_now}
+use Rattle.pl_desk.specs.Replay.{said_len_past, counts_now}
 use Rattle.pl_desk.proofs.Inside.{said_len_push}
+use Rattle.pl_desk.proofs.ReplayLaws.{push_reaches}
 
 -- what a stop from the end of the first t calls on might have shown
 abbrev pub Since : List ℕ → List Recorded → List ℕ → ℕ → List ℕ → List ℕ → Type 0
 Since first calls said t file line = (k : ℕ) × (t ≤ k) × IsShown first calls said k file line
-
--- no time passes
-pub no_time : (first : List ℕ) (calls : List Recorded) (said : List ℕ) (shows : List ℕ → List ℕ → Type 0)
-    → Elapses (length calls) (length calls) (Since first calls said) (Since first calls said) shows
-no_time first calls said shows =
-    record {
-      later = omega arith;
-      nothing_else = λ t file line le shown. inl shown;
-      keeps =
-          λ t file line le shown. shown;
-    }
 
 -- a call that shows less
 pub weaker : (before now : ℕ) (past since : ℕ → List ℕ → List ℕ → Type 0) (shows more : List ℕ → List ℕ → Type 0)

@@ -3,9 +3,9 @@ use Rattle.std.proofs.Common.{◌≡◌, ◌+◌, ◌≤◌, Some, List, [], ◌
 use Rattle.pl_desk.specs.Desk.{Follows, Elapses, Shows}
 use Rattle.pl_desk.specs.MemDesk.{Deed, Recorded, DeskState, after_deed, written_by, Takes, written_in, begun_at}
 use Rattle.pl_desk.specs.MemDesk.{held_by, MayLeave, ShownSince, with_call}
-use Rattle.pl_desk.specs.Replay.{file_after_push, reaches_push}
 use Rattle.pl_desk.specs.Stopped.{IsQuiet}
 use Rattle.pl_desk.proofs.Clock.{passes}
+use Rattle.pl_desk.proofs.ReplayLaws.{file_after_push, reaches_push}
 
 pub held_after : (desk : DeskState) (deed : Deed) → held_by (with_call desk deed) ≡ after_deed deed (held_by desk)
 held_after desk deed = file_after_push desk.first desk.calls (record { said_before = length desk.said; deed = deed })

@@ -6,9 +6,10 @@ use Rattle.std.proofs.lemmas.List.{map_push, length-map, length_push, get_or_app
 use Rattle.std.proofs.lemmas.List.Elements.{All-push, All-same, All-weaker}
 use Rattle.pl_desk.specs.declared.record.Recorded.{Recorded as RecordedInMemory}
 use Rattle.pl_desk.specs.MemDesk.{Recorded, nothing, after_deed, file_after, begun_at, said_len_at}
-use Rattle.pl_desk.specs.Replay.{file_after_push, said_len_past}
+use Rattle.pl_desk.specs.Replay.{said_len_past}
 use Rattle.pl_desk.specs.Stopped.{deed_at, IsQuiet}
 use Rattle.pl_desk.specs.Record.{call_of, calls_of}
+use Rattle.pl_desk.proofs.ReplayLaws.{file_after_push}
 
 pub calls_push : (old new : List RecordedInMemory) (call : RecordedInMemory) → new ≡ old ++ call ∷ []
     → calls_of new ≡ calls_of old ++ call_of call ∷ []

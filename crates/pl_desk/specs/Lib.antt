@@ -1,10 +1,8 @@
-pub mod AnyMoment
 pub mod Calls
 pub mod Counts
 pub mod Desk
 pub mod MemDesk
 pub mod MemSource
-pub mod Moments
 pub mod Overwritten
 pub mod QuickDesk
 pub mod Record

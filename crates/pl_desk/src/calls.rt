@@ -1,7 +1,6 @@
 ghost use Rattle.std.specs.Prelude.{◌≡◌, ◌↔◌, ℕ, ◌≤◌, ◌+◌, Ok, OnOk, OnErr, IfOk, IsErr, IsTrue};
 ghost use Rattle.std.specs.Prelude.{◌<◌};
-ghost use Rattle.pl_desk.specs.Counts.{Rose, last_count};
-ghost use Rattle.pl_desk.specs.Counts.{no_calls, after_write, after_device_fault};
+ghost use Rattle.pl_desk.specs.Counts.{Rose, last_count, no_calls, after_write, after_device_fault};
 ghost use Rattle.pl_desk.specs.Counts.{after_line_fault};
 
 use crate::Failed;

@@ -1,8 +1,7 @@
 ghost use Rattle.std.specs.Prelude.{◌≡◌, ◌+◌, ◌≤◌, ◌<◌, Some, IfOk, OnOk};
 ghost use Rattle.std.specs.String.{string_bytes};
 ghost use Rattle.pl_drill.specs.Drill as spec;
-ghost use Rattle.pl_drill.specs.Drill.{behind, drill_of, drawn, line_of, next_random};
-ghost use Rattle.pl_drill.specs.Drill.{random_after};
+ghost use Rattle.pl_drill.specs.Drill.{behind, drill_of, drawn, line_of, next_random, random_after};
 
 use crate::draws::Draws;
 use crate::lines::{bar, bookmark, day, expire, tag, title, visit};

@@ -1,8 +1,7 @@
 // The lines of the drill.
-ghost use Rattle.std.specs.Prelude.{◌≡◌, ◌+◌, ◌≤◌, [], ◌∷◌, IfOk, decimal};
+ghost use Rattle.std.specs.Prelude.{◌≡◌, ◌+◌, ◌≤◌, IfOk, decimal};
 ghost use Rattle.std.specs.String.{string_bytes};
 ghost use Rattle.pl_drill.specs.Drill as spec;
-ghost use Rattle.pl_drill.specs.Drill.{tabbed};
 
 use crate::draws::Draws;
 use pl_base::{NoMemory, VisitId};

@@ -59,12 +59,6 @@ front_kept (p ∷ pages) at m old new le long (mid, torn, rest) =
     ∙ sym (take-take m (min at (length old)) mid (omega (arith, le, long))) ∙ ap (take m) torn.before
     ∙ take-take m at old le
 
-pub longer : (pages : List PageImage) (at : ℕ) (old new : List ℕ) → TornIn (entry_ranges at pages) old new
-    → length old ≤ length new
-longer [] at old new torn = omega (arith, ap length torn)
-longer (p ∷ pages) at old new (mid, torn, rest) =
-    omega (arith, torn.no_shorter, longer pages (at + entry_size) mid new rest)
-
 -- the writes that go through are writes that a stop may leave
 pub torn_entries : (pages : List PageImage) (at : ℕ) (file : List ℕ) → AreEntries pages
     → TornIn (entry_ranges at pages) file (with_entries at pages file)

@@ -2,7 +2,7 @@
 use Rattle.std.specs.List.{list_all}
 use Rattle.std.specs.Int.{w64, from_le_bytes}
 use Rattle.std.proofs.Common.{◌≡◌, ℕ, zero, suc, ◌+◌, ◌-◌, ◌*◌, ◌≤◌, ◌<◌, Bool, true, false, ◌&&◌, ◌||◌, not, ◌⊎◌, inl}
-use Rattle.std.proofs.Common.{inr, List, [], ◌∷◌, length, drop, slice_range, nat_le, nat_lt, Option, Some, None, IfSome}
+use Rattle.std.proofs.Common.{inr, List, [], ◌∷◌, length, drop, slice_range, nat_le, nat_lt, Option, Some, None}
 use Rattle.std.proofs.Common.{refl, sym, ◌∙◌, ap, subst, arith}
 use Rattle.std.proofs.lemmas.Bool.{and_cases, and_from, and_left, and_parts, and_right, le-leb, le-ltb, leb-true}
 use Rattle.std.proofs.lemmas.Bool.{lt-ltb, ltb-true}
@@ -174,10 +174,6 @@ journal_fits file within behind fit =
     is_journal_by file (record { within = within; behind = behind; ascending = both.0; below = both.1 })
 
 -- ---- what holds of a value that may be there
-
-pub if_some : {A : Type 0} (o : Option A) (Q : A → Type 0) → ((x : A) → o ≡ Some x → Q x) → IfSome o Q
-if_some None Q has = tt
-if_some (Some x) Q has = has x refl
 
 pub none_of : {A : Type 0} (o : Option A) → ((x : A) → o ≡ Some x → ⊥) → o ≡ None
 none_of None lacks = refl

@@ -1,6 +1,6 @@
 -- Calls of a desk's file, one after another, and what a stop within them shows.
 use Rattle.std.proofs.Common.{◌≡◌, ◌↔◌, ℕ, List, IsSome, sym, subst}
-use Rattle.pl_desk.specs.AnyMoment.{OnlyNow, and_call, and_more, begun, some_said, weaker}
+use Rattle.pl_desk.proofs.AnyMoment.{OnlyNow, and_call, and_more, begun, some_said, weaker}
 use Rattle.pl_desk.specs.Calls.{OnlyReads}
 use Rattle.pl_desk.specs.Desk.{Elapses, Shows}
 use Rattle.pl_desk.specs.Shown.{AtAnyMoment, LeftBy, Rests, ShowsStep}

@@ -28,10 +28,6 @@ pub escaped_at : (field xs : List ℕ) (i b : ℕ) → i < length field → esca
 escaped_at field xs i b within known =
     rw (rest_at field i within, known) (behind xs b (unescaped false (drop (i + 1) field)))
 
-pub unknown_at : (field xs : List ℕ) (i : ℕ) → i < length field → escaped_byte (get_or field i 0) ≡ None
-    → option_map (λ more. xs ++ more) (unescaped true (drop i field)) ≡ None
-unknown_at field xs i within unknown = rw (rest_at field i within, unknown)
-
 pub backslash_at : (field xs : List ℕ) (i : ℕ) → i < length field → get_or field i 0 ≡ 92
     → option_map (λ more. xs ++ more) (unescaped true (drop (i + 1) field))
     ≡ option_map (λ more. xs ++ more) (unescaped false (drop i field))

@@ -1,5 +1,5 @@
 // The lines of the bookmark tree.
-ghost use Rattle.std.specs.Prelude.{◌≡◌, IfOk};
+ghost use Rattle.std.specs.Prelude.{IfOk};
 ghost use Rattle.pl_step.specs.Commands.{HasDates};
 ghost use Rattle.pl_script.specs.LineError.{ReadsAs, ReadsInPlace};
 ghost use Rattle.pl_script.specs.Script as spec;

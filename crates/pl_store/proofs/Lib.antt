@@ -1,2 +1,4 @@
 mod CommitLemmas
+pub mod KeeperLaws
 mod OpenedFiles
+pub mod StandsLaws

@@ -7,7 +7,8 @@ use Rattle.std.proofs.lemmas.Option.{MatchOption-at_some, same_Some}
 use Rattle.std.proofs.lemmas.Result.{err_from_is_err_and}
 use Rattle.pl_base.specs.Store.{Store}
 use Rattle.pl_base.specs.Touched.{page_size}
-use Rattle.pl_desk.specs.AnyMoment.{rests_less, still_rests}
+use Rattle.pl_desk.proofs.Told.{if_some}
+use Rattle.pl_desk.proofs.AnyMoment.{rests_less, still_rests}
 use Rattle.pl_desk.specs.Calls.{KeepsLine, OnlyReads}
 use Rattle.pl_desk.specs.Shown.{Rests}
 use Rattle.pl_desk.specs.declared.desk.Desk.{Ghosts}
@@ -24,11 +25,6 @@ use Rattle.pl_store.specs.Ending.{Opens, OpensStore, RefusesFile}
 use Rattle.pl_store.specs.Errors.{ended_by_gate}
 use Rattle.pl_store.specs.Reading.{HoldNone, IsReadFrom, EndsReading}
 use Rattle.pl_store.specs.Session.{Stands, StandsAlike, session_bytes, session_store}
-
--- what holds of each value that there may be
-pub if_some : {X : Type 0} (o : Option X) (P : X → Type 0) → ((x : X) → o ≡ Some x → P x) → IfSome o P
-if_some None P holds = tt
-if_some (Some x) P holds = holds x refl
 
 -- files that stand for the same pages stand for the same store
 pub stands_alike : (file later : List ℕ) → StandsAs file later → StandsAlike file later

@@ -1,9 +1,7 @@
 pub mod Ending
 pub mod Errors
 pub mod Keeper
-pub mod KeeperLaws
 pub mod OwnBase
 pub mod Reading
 pub mod Session
-pub mod StandsLaws
 pub mod Unchanged

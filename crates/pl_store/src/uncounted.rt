@@ -2,8 +2,7 @@
 ghost use Rattle.std.specs.Prelude.{◌≡◌, ◌≤◌, ◌<◌, ℕ, List, false, length, IfOk, OnOk};
 ghost use Rattle.std.specs.List.{All};
 ghost use Rattle.pl_base.specs.Rows.{store_of};
-ghost use Rattle.pl_base.specs.Touched.{IsWithin, MayDiffer, bytes_before, changed};
-ghost use Rattle.pl_base.specs.Touched.{page_numbers};
+ghost use Rattle.pl_base.specs.Touched.{IsWithin, MayDiffer, bytes_before, changed, page_numbers};
 ghost use Rattle.pl_engine.specs.Idle.{IsIdle};
 ghost use Rattle.pl_engine.specs.Returns.{Returns};
 ghost use Rattle.pl_form.specs.Form.{StandsFor};

@@ -1,6 +1,5 @@
 ghost use Rattle.std.specs.Prelude.{◌≡◌};
-ghost use Rattle.pl_task.specs.Task.{spelled, task_alone, task_drill, task_of};
-ghost use Rattle.pl_task.specs.Task.{task_on_file};
+ghost use Rattle.pl_task.specs.Task.{spelled, task_alone, task_drill, task_of, task_on_file};
 
 use pl_base::{number, number_32};
 use pl_drill::MOST_LINES;

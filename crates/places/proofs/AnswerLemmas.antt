@@ -4,11 +4,11 @@ use Rattle.std.proofs.Common.{◌∙◌, subst, append-nil}
 use Rattle.std.proofs.lemmas.Option.{same_Some}
 use Rattle.pl_base.specs.declared.refusal.Refusal.{Refusal}
 use Rattle.pl_base.specs.Store.{Store}
-use Rattle.pl_desk.specs.Moments.{started, and_on, shows_less}
+use Rattle.pl_desk.proofs.Moments.{started, and_on, shows_less}
 use Rattle.pl_desk.specs.declared.desk.Desk.{Ghosts}
 use Rattle.pl_desk.specs.Shown.{AtAnyMoment, ShowsOnly}
 use Rattle.pl_desk.specs.Calls.{KeepsFile}
-use Rattle.pl_desk.specs.AnyMoment.{OnlyNow}
+use Rattle.pl_desk.proofs.AnyMoment.{OnlyNow}
 use Rattle.pl_step.specs.declared.command.Command.{Command}
 use Rattle.pl_step.specs.declared.reply.Reply.{Reply}
 use Rattle.pl_step.specs.declared.reply.Reply.TheVariants.{Refused}
@@ -17,7 +17,7 @@ use Rattle.pl_step.specs.Run.{replies, after}
 use Rattle.pl_step.specs.Step.{perform}
 use Rattle.pl_store.specs.declared.keeper.Keeper.{Keeper}
 use Rattle.pl_store.specs.Keeper.{IsKept, Keeps, Leaves, LeavesEither, is_file, keeper_store}
-use Rattle.pl_store.specs.KeeperLaws.{kept_keeps, kept_leaves, still_keeps}
+use Rattle.pl_store.proofs.KeeperLaws.{kept_keeps, kept_leaves, still_keeps}
 use Rattle.pl_script.specs.Reply.{reply_text}
 use Rattle.places.specs.declared.answer_error.AnswerError.{AnswerError}
 use Rattle.places.specs.declared.answer_error.AnswerError.TheVariants as answer

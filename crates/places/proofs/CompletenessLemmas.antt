@@ -1,6 +1,5 @@
 -- A run that nothing outside fails ends Done or for want of memory, status by status.
-use Rattle.std.specs.Prelude.{IsSome}
-use Rattle.std.proofs.Common.{◌≡◌, ◌⊎◌, ◌∙◌, ◌<◌, ◌++◌, ℕ, List, [], length, Some, None, Option, ap, arith, inl, inr, refl}
+use Rattle.std.proofs.Common.{◌≡◌, ◌⊎◌, ◌∙◌, ◌<◌, ◌++◌, ℕ, List, [], length, Some, Option, ap, arith, inl, inr, refl}
 use Rattle.std.proofs.Common.{length-append, subst, sym, ⊎_elim}
 use Rattle.std.proofs.lemmas.Bool.{true≢false}
 use Rattle.std.proofs.lemmas.Option.{MatchOption-at_some, same_Some}
@@ -21,10 +20,6 @@ use Rattle.places.specs.Exporting.{EndsExport}
 use Rattle.places.specs.Importing.{EndsImport, IsTaken}
 
 -- ---- the outside
-
-pub said_so : (said : Option (List ℕ)) → IsSome said → (text : List ℕ) × (said ≡ Some text)
-said_so None some = absurd (cc)
-said_so (Some text) some = (text, refl)
 
 not_risen : (before after last : ℕ) → (before < after) ⊎ (after ≡ last) → after ≡ before → after < last → ⊥
 not_risen before after last rose same below =

@@ -2,20 +2,19 @@
 use Rattle.std.specs.Prelude.{⊤, IsSome, if◌then◌else◌, ◌==◌, ◌&&◌, nat_le, bytes_eq, codes, decimal}
 use Rattle.std.specs.List.{count_by}
 use Rattle.std.specs.Option.{option_map}
-use Rattle.std.proofs.Common.{◌≡◌, ◌≤◌, ◌<◌, ◌+◌, ℕ, ℤ, zero, suc, Bool, true, false, List, [], ◌∷◌, ◌++◌, length}
+use Rattle.std.proofs.Common.{◌≡◌, ◌≤◌, ◌<◌, ◌+◌, ℕ, zero, suc, Bool, true, false, List, [], ◌∷◌, ◌++◌, length}
 use Rattle.std.proofs.Common.{take, Option, Some, None, Result, Ok, Err, option_to_list, refl, ap, sym, subst, ◌∙◌}
 use Rattle.std.proofs.Common.{arith, inl, inr, ⊎_elim}
 use Rattle.std.proofs.lemmas.Bool.{leb-true}
 use Rattle.std.proofs.lemmas.Option.{MatchOption-at_some, same_Some}
 use Rattle.pl_base.specs.Live.{slot_limit}
 use Rattle.pl_base.specs.Store.{Store}
-use Rattle.pl_base.specs.declared.id.PageId.{PageId}
-use Rattle.pl_base.specs.declared.id.VisitId.{VisitId}
 use Rattle.pl_base.specs.NumberText.{number_32_of, number_of}
-use Rattle.pl_desk.specs.AnyMoment.{CountsNow, OnlyNow, and_more, begun, rests_less, weaker}
+use Rattle.pl_desk.proofs.AnyMoment.{CountsNow, OnlyNow, and_more, begun, rests_less, weaker}
 use Rattle.pl_desk.specs.Calls.{KeepsFile}
-use Rattle.pl_desk.specs.Moments.{and_on, shows_less}
-use Rattle.pl_desk.specs.Settling.{Settles, ShowsThen, left_settled, shows_then_less}
+use Rattle.pl_desk.proofs.Moments.{and_on, shows_less}
+use Rattle.pl_desk.proofs.SettlingLaws.{left_settled, shows_then_less}
+use Rattle.pl_desk.specs.Settling.{Settles, ShowsThen}
 use Rattle.pl_desk.specs.Shown.{AtAnyMoment, ShowsOnly, Unsaid}
 use Rattle.pl_desk.specs.declared.desk.Desk.{Ghosts}
 use Rattle.pl_drill.specs.Drill.{behind, draws, line_of, most_lines, tabbed}
@@ -35,7 +34,7 @@ use Rattle.pl_store.specs.declared.ended.Ended.TheVariants as ended
 use Rattle.pl_store.specs.declared.keeper.Keeper.{Keeper}
 use Rattle.pl_store.specs.Ending.{Opens}
 use Rattle.pl_store.specs.Keeper.{IsKept, Keeps, LeavesEither, is_file, keeper_limit, keeper_store}
-use Rattle.pl_store.specs.KeeperLaws.{kept_keeps, kept_leaves, still_keeps}
+use Rattle.pl_store.proofs.KeeperLaws.{kept_keeps, kept_leaves, still_keeps}
 use Rattle.pl_store.specs.Session.{Stands, StandsAlike, StandsForEither}
 use Rattle.places.specs.declared.answer_error.AnswerError.{AnswerError}
 use Rattle.places.specs.declared.answer_error.AnswerError.TheVariants as answer
@@ -55,27 +54,6 @@ use Rattle.pl_task.specs.Task.{drill_task, task_of}
 use Rattle.places.specs.Stops.{LeavesOfAnswer, ShowsFront, ShowsUnopened}
 
 -- ---- replies
-
--- a reply that is of no visit leaves the drill as it was
-pub untold : (reply : Reply) (drill : Drill)
-    → ((visit : VisitId) (page : PageId) (frecency : ℤ) → reply ≡ reply_of.Visit visit page frecency → ⊥)
-    → told reply drill ≡ drill
-untold (reply_of.Visit visit page frecency) drill none = absurd (none visit page frecency refl)
-untold (reply_of.Day day changed) drill none = refl
-untold reply_of.Done drill none = refl
-untold (reply_of.Page id frecency count last typed hidden bookmarked url title tags) drill none = refl
-untold (reply_of.Origin prefix host reversed total pages passes) drill none = refl
-untold (reply_of.Stats pages visits items origins sum slots) drill none = refl
-untold (reply_of.Removed visits pages) drill none = refl
-untold (reply_of.Item id) drill none = refl
-untold (reply_of.List rows) drill none = refl
-untold (reply_of.Rows rows) drill none = refl
-untold (reply_of.Place text) drill none = refl
-untold (reply_of.Bar rows) drill none = refl
-untold (reply_of.Fill group total) drill none = refl
-untold reply_of.NoFill drill none = refl
-untold (reply_of.Imported items tags skipped) drill none = refl
-untold (reply_of.Refused refusal) drill none = refl
 
 -- no reply changes the day
 told_day : (reply : Reply) (drill : Drill) → (told reply drill).day ≡ drill.day
@@ -137,7 +115,7 @@ later : (is : Bool) (day : ℕ) → (day ≤ (if is then day + 1 else day)) × (
 later true day = (omega arith, omega arith)
 later false day = (omega arith, omega arith)
 
-behind_day : (number : ℕ) (drill : Drill)
+pub behind_day : (number : ℕ) (drill : Drill)
     → (drill.day ≤ (behind number drill).day) × ((behind number drill).day ≤ drill.day + 1)
 behind_day zero drill = (omega arith, omega arith)
 behind_day (suc n) drill = later ((draws drill.random).kind == 12) drill.day

@@ -10,10 +10,10 @@ use Rattle.std.proofs.lemmas.List.{drop-drop}
 use Rattle.std.proofs.lemmas.Bool.{eqb-true}
 use Rattle.pl_base.specs.Store.{Store}
 use Rattle.pl_base.specs.Live.{slot_limit}
-use Rattle.pl_desk.specs.Moments.{and_on, shows_less}
+use Rattle.pl_desk.proofs.Moments.{and_on, shows_less}
 use Rattle.pl_desk.specs.declared.desk.Desk.{Ghosts}
 use Rattle.pl_desk.specs.Shown.{ShowsOnly}
-use Rattle.pl_desk.specs.AnyMoment.{OnlyNow}
+use Rattle.pl_desk.proofs.AnyMoment.{OnlyNow}
 use Rattle.pl_step.specs.Run.{replies, after}
 use Rattle.pl_store.specs.Keeper.{IsKept, Keeps, is_file}
 use Rattle.pl_script.specs.Script.{script}

@@ -11,7 +11,7 @@ use Rattle.pl_step.specs.declared.command.Command.{Command}
 use Rattle.pl_step.specs.Parsed.{Parsed}
 use Rattle.pl_step.specs.Run.{replies, after}
 use Rattle.pl_store.specs.Keeper.{IsKept, Keeps, is_file, keeper_limit, keeper_store}
-use Rattle.pl_store.specs.KeeperLaws.{kept_keeps}
+use Rattle.pl_store.proofs.KeeperLaws.{kept_keeps}
 use Rattle.pl_script.specs.Script.{entry, script}
 use Rattle.places.specs.declared.answer_error.AnswerError.{AnswerError}
 use Rattle.places.specs.declared.answer_error.AnswerError.TheVariants.{NoMemory}

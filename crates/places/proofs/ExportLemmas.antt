@@ -5,10 +5,11 @@ use Rattle.std.proofs.Common.{ap, append-nil, inl, inr, subst, sym, ◌∙◌, �
 use Rattle.std.proofs.lemmas.Option.{MatchOption-at_some, same_Some}
 use Rattle.pl_base.specs.Live.{slot_limit}
 use Rattle.pl_base.specs.Store.{Store, opening}
-use Rattle.pl_desk.specs.AnyMoment.{CountsNow, rests_less, still_rests}
+use Rattle.pl_desk.proofs.AnyMoment.{CountsNow, rests_less, still_rests}
 use Rattle.pl_desk.specs.Calls.{KeepsFile}
-use Rattle.pl_desk.specs.Moments.{shows_less}
-use Rattle.pl_desk.specs.Settling.{Settles, ShowsThen, left_settled, shows_then_less}
+use Rattle.pl_desk.proofs.Moments.{shows_less}
+use Rattle.pl_desk.proofs.SettlingLaws.{left_settled, shows_then_less}
+use Rattle.pl_desk.specs.Settling.{Settles, ShowsThen}
 use Rattle.pl_desk.specs.Shown.{Rests, ShowsOnly, Unsaid}
 use Rattle.pl_desk.specs.declared.desk.Desk.{Ghosts}
 use Rattle.pl_engine.specs.Returns.{Returns}
@@ -26,7 +27,7 @@ use Rattle.pl_store.specs.declared.ended.Ended.TheVariants as ended
 use Rattle.pl_store.specs.declared.session.Session.{Session}
 use Rattle.pl_store.specs.Ending.{Opens}
 use Rattle.pl_store.specs.Session.{IsSettled, Stands, StandsAlike, session_bytes, session_store}
-use Rattle.pl_store.specs.StandsLaws.{stands_by}
+use Rattle.pl_store.proofs.StandsLaws.{stands_by}
 use Rattle.places.specs.declared.status.Status.{Status}
 use Rattle.places.specs.declared.status.Status.TheVariants as status
 use Rattle.places.specs.Exporting.{ComesBack, EndsExport, ShowsExport, export_text}

@@ -1,5 +1,5 @@
 -- An import from the reading of its input to the reply that is said of it.
-use Rattle.std.specs.Prelude.{⊤, IfErr, IfSome}
+use Rattle.std.specs.Prelude.{⊤, IfErr}
 use Rattle.std.specs.Option.{option_map}
 use Rattle.std.proofs.Common.{◌≡◌, ◌<◌, ◌+◌, true, false, ℕ, List, [], ◌∷◌, ◌++◌, length, take}
 use Rattle.std.proofs.Common.{Some, None, Option, Result, Ok, Err, refl, ap, sym, subst, ◌∙◌, append_assoc, append-nil}
@@ -8,10 +8,11 @@ use Rattle.std.proofs.lemmas.Option.{MatchOption-at_some, same_Some}
 use Rattle.pl_base.specs.Live.{slot_limit}
 use Rattle.pl_base.specs.Store.{Store}
 use Rattle.pl_base.specs.declared.refusal.Refusal.{Refusal}
-use Rattle.pl_desk.specs.AnyMoment.{CountsNow, OnlyNow, rests_less}
+use Rattle.pl_desk.proofs.AnyMoment.{CountsNow, OnlyNow, rests_less}
 use Rattle.pl_desk.specs.Counts.{CountsAt}
-use Rattle.pl_desk.specs.Moments.{shows_less, started}
-use Rattle.pl_desk.specs.Settling.{Settles, ShowsThen, left_settled, shows_then_less}
+use Rattle.pl_desk.proofs.Moments.{shows_less, started}
+use Rattle.pl_desk.proofs.SettlingLaws.{left_settled, shows_then_less}
+use Rattle.pl_desk.specs.Settling.{Settles, ShowsThen}
 use Rattle.pl_desk.specs.Shown.{ShowsOnly, Unsaid}
 use Rattle.pl_desk.specs.declared.desk.Desk.{Ghosts}
 use Rattle.pl_nbread.specs.BookmarkFile.{file_limit, offset}
@@ -26,7 +27,7 @@ use Rattle.pl_step.specs.Refused.{is_refused}
 use Rattle.pl_step.specs.Step.{perform}
 use Rattle.pl_store.specs.declared.keeper.Keeper.{Keeper}
 use Rattle.pl_store.specs.Keeper.{IsKept, Keeps, is_file, keeper_limit, keeper_store}
-use Rattle.pl_store.specs.KeeperLaws.{kept_keeps, kept_leaves}
+use Rattle.pl_store.proofs.KeeperLaws.{kept_keeps, kept_leaves}
 use Rattle.pl_store.specs.declared.ended.Ended.{Ended}
 use Rattle.pl_store.specs.declared.ended.Ended.TheVariants as ended
 use Rattle.pl_store.specs.Ending.{Opens}
@@ -70,18 +71,6 @@ pub read_more : (HasLength : ℕ → Type 0) (items piece bytes : List ℕ) (fir
 read_more HasLength items piece bytes first left left' so_far taken told long =
     read_front HasLength (items ++ piece) bytes first left' (read_on items piece first left left' so_far taken) told
     (subst HasLength (sym (length-append items piece)) long)
-
--- at the end of the input it is all of it
-pub read_whole : (items piece bytes : List ℕ) (first left left' : Option (List ℕ))
-    → first ≡ option_map (λ rest. items ++ rest) left → left ≡ option_map (λ rest. piece ++ rest) left'
-    → length piece ≡ 0 → IfSome left (λ rest. rest ≡ []) → first ≡ Some bytes → (items ≡ bytes) × (left' ≡ Some [])
-read_whole items piece bytes first None left' so_far taken none ended told = absurd (cc)
-read_whole items piece bytes first (Some rest) None so_far taken none ended told = absurd (cc)
-read_whole items [] bytes first (Some rest) (Some rest') so_far taken none ended told =
-    let same : rest ≡ rest' = cc in
-    let whole : bytes ≡ items ++ rest = cc in
-    (sym (append-nil items) ∙ ap (λ tail. items ++ tail) (sym ended) ∙ sym whole, ap Some (sym same ∙ ended))
-read_whole items (b ∷ piece) bytes first (Some rest) (Some rest') so_far taken none ended told = absurd (omega arith)
 
 -- an end by its status
 ends_as : {D : Type 0} (desk : Ghosts D) (first : D) (start : Store) (bytes before : List ℕ) (left : Option (List ℕ))

@@ -1,7 +1,7 @@
 mod AnswerCounts
 mod AnswerLemmas
 mod CompletenessLemmas
-mod DrillLemmas
+pub mod DrillLemmas
 mod EndingLemmas
 mod EntryLemmas
 mod ExportLemmas
@@ -9,7 +9,7 @@ mod ImportLemmas
 mod LineLemmas
 mod LongLines
 mod OpeningLemmas
-mod ProgressLemmas
+pub mod ProgressLemmas
 mod RefusalLemmas
 mod SaidLemmas
 mod SayingLemmas

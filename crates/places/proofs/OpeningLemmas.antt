@@ -7,11 +7,12 @@ use Rattle.std.proofs.lemmas.Bool.{true≢false}
 use Rattle.std.proofs.lemmas.Option.{MatchOption-at_some, same_Some}
 use Rattle.pl_base.specs.Store.{Store, opening}
 use Rattle.pl_base.specs.Live.{slot_limit}
-use Rattle.pl_desk.specs.Moments.{started}
-use Rattle.pl_desk.specs.Settling.{Settles, ShowsThen, left_settled, shows_then_less}
+use Rattle.pl_desk.proofs.Moments.{started}
+use Rattle.pl_desk.specs.Settling.{Settles, ShowsThen}
 use Rattle.pl_desk.specs.declared.desk.Desk.{Ghosts}
 use Rattle.pl_desk.specs.Shown.{ShowsOnly, Unsaid}
-use Rattle.pl_desk.specs.AnyMoment.{CountsNow, OnlyNow, rests_less}
+use Rattle.pl_desk.proofs.AnyMoment.{CountsNow, OnlyNow, rests_less}
+use Rattle.pl_desk.proofs.SettlingLaws.{left_settled, shows_then_less}
 use Rattle.pl_step.specs.declared.command.Command.{Command}
 use Rattle.pl_step.specs.Parsed.{Parsed}
 use Rattle.pl_step.specs.Run.{replies, after}

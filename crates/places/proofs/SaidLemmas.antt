@@ -1,12 +1,10 @@
 -- One piece said after another.
 use Rattle.std.specs.Option.{option_map}
-use Rattle.std.proofs.Common.{◌≡◌, append-nil, option_to_list, ◌≤◌, ◌+◌, ◌-◌, ℕ, List, ◌++◌, length, take, drop, Some}
+use Rattle.std.proofs.Common.{◌≡◌, ◌≤◌, ◌+◌, ◌-◌, ℕ, List, ◌++◌, length, take, drop, Some}
 use Rattle.std.proofs.Common.{None, Option, refl, ap, sym, ◌∙◌, append_assoc, arith, length-drop}
 use Rattle.std.proofs.lemmas.List.{take_all}
 use Rattle.std.proofs.Math.Seq.{take-add}
-use Rattle.pl_step.specs.declared.reply.Reply.{Reply}
-use Rattle.pl_script.specs.Reply.{reply_text}
-use Rattle.places.specs.Said.{Says, texts}
+use Rattle.places.specs.Said.{Says}
 
 pub says_both : (before : Option (List ℕ)) (x y : List ℕ)
     → option_map (λ said. said ++ y) (option_map (λ said. said ++ x) before)
@@ -25,9 +23,3 @@ take_further bytes s n within =
     let rest : take (length bytes - s) (drop s bytes) ≡ drop s bytes =
     take_all (length bytes - s) (drop s bytes) (omega arith) in
     take-add s n bytes ∙ ap (λ tail. take s bytes ++ take n tail) (sym rest)
-
--- the text of the one reply
-pub text_of_one : (found : Option Reply) (reply : Reply) (all : List Reply) (text : List ℕ) → option_to_list found ≡ all
-    → found ≡ Some reply → text ≡ reply_text reply → texts all ≡ text
-text_of_one found reply all text is some written =
-    ap texts (sym is) ∙ ap (λ r. texts (option_to_list r)) some ∙ append-nil (reply_text reply) ∙ sym written

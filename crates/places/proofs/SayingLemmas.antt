@@ -4,10 +4,10 @@ use Rattle.std.proofs.Common.{◌≡◌, ◌≤◌, ◌+◌, ◌-◌, ℕ, List,
 use Rattle.std.proofs.Common.{append-nil}
 use Rattle.std.proofs.lemmas.Option.{same_Some}
 use Rattle.pl_desk.specs.Desk.{Elapses, ShowsSaying}
-use Rattle.pl_desk.specs.Moments.{started, goes_on}
+use Rattle.pl_desk.proofs.Moments.{started, goes_on}
 use Rattle.pl_desk.specs.declared.desk.Desk.{Ghosts}
 use Rattle.pl_desk.specs.Shown.{ShowsOnly}
-use Rattle.pl_desk.specs.AnyMoment.{OnlyNow}
+use Rattle.pl_desk.proofs.AnyMoment.{OnlyNow}
 use Rattle.places.specs.Said.{Says}
 use Rattle.places.specs.Stops.{ShowsFront}
 use Rattle.places.proofs.SaidLemmas.{says_more, take_further}

@@ -4,15 +4,15 @@ use Rattle.std.proofs.Common.{◌≡◌, ◌<◌, ◌+◌, Bool, ℕ, List, [], 
 use Rattle.std.proofs.Common.{option_to_list, ap, sym, subst, ◌∙◌, append_assoc, append-nil, arith, inl}
 use Rattle.pl_base.specs.Store.{Store}
 use Rattle.pl_base.specs.Live.{slot_limit}
-use Rattle.pl_desk.specs.Moments.{and_on, started}
+use Rattle.pl_desk.proofs.Moments.{and_on, started}
 use Rattle.pl_desk.specs.declared.desk.Desk.{Ghosts}
 use Rattle.pl_desk.specs.Shown.{ShowsOnly}
-use Rattle.pl_desk.specs.AnyMoment.{OnlyNow}
+use Rattle.pl_desk.proofs.AnyMoment.{OnlyNow}
 use Rattle.pl_step.specs.declared.command.Command.{Command}
 use Rattle.pl_step.specs.Parsed.{Parsed}
 use Rattle.pl_step.specs.Run.{replies, after}
 use Rattle.pl_store.specs.Keeper.{IsKept, Leaves, is_file, keeper_limit, keeper_store}
-use Rattle.pl_store.specs.KeeperLaws.{kept_leaves}
+use Rattle.pl_store.proofs.KeeperLaws.{kept_leaves}
 use Rattle.pl_script.specs.Script.{entry, script}
 use Rattle.places.specs.declared.script_run.ScriptRun.{ScriptRun}
 use Rattle.places.specs.Lines.{entries_in, open_line}

@@ -39,8 +39,8 @@ module _ {S D : Type 0} (source : sources.Ghosts S) (desk : desks.Ghosts D) wher
   HasNeeds tasks.Export input now = HoldsStore now
   HasNeeds (tasks.Drill count seed) input now = HoldsStore now
 
-  -- Nothing outside fails the task: it has what it needs, the desk tells what was said, and no read,
-  -- no call of the file and no saying fails meanwhile.
+  -- Nothing outside fails the task: it has what it needs, the desk tells what was said, and no
+  -- read, no call of the file and no saying fails meanwhile.
   pub record NothingFails (task : Task) (input : S) (old : D) (input' : S) (new : D) : Type 0 where
     pub needs : HasNeeds task input old
     pub told : IsSome (desk.said old)

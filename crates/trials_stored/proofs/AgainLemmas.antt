@@ -1,24 +1,18 @@
 -- What a second run goes on from.
-use Rattle.std.proofs.Common.{◌≡◌, ℕ, true, false, List, [], ◌∷◌, ◌++◌, Option, None, Some, IsSome, append-nil, arith}
+use Rattle.std.proofs.Common.{◌≡◌, ℕ, true, List, [], ◌++◌, Option, Some, IsSome, append-nil, arith}
 use Rattle.std.proofs.Common.{inl, inr, refl, sym, ap, subst, ◌∙◌}
-use Rattle.std.proofs.lemmas.Bool.{both_ways}
 use Rattle.pl_base.specs.Store.{Store}
 use Rattle.pl_base.specs.Live.{slot_limit}
 use Rattle.pl_desk.specs.declared.desk.Desk.{Ghosts}
 use Rattle.pl_step.specs.declared.command.Command.{Command}
 use Rattle.pl_step.specs.Parsed.{Parsed}
 use Rattle.pl_step.specs.Run.{replies, after}
-use Rattle.pl_step.specs.Step.{step}
 use Rattle.pl_store.specs.Session.{Stands}
 use Rattle.places.specs.declared.status.Status.TheVariants as status
 use Rattle.places.specs.Ending.{LeavesAtEnd}
 use Rattle.places.specs.Said.{texts}
+use Rattle.places.proofs.ProgressLemmas.{after-append}
 use Rattle.trials_stored.specs.Again.{AreDone, GoesOn}
-
-after-append : (start : Store) (xs ys : List (Parsed Command))
-    → after slot_limit start (xs ++ ys) ≡ after slot_limit (after slot_limit start xs) ys
-after-append start [] ys = refl
-after-append start (x ∷ xs) ys = after-append (step slot_limit start x).1 xs ys
 
 -- where a run left the file whose calls failed, and what it had said
 pub record Left (start : Store) (before : List ℕ) (said : Option (List ℕ)) (file : List ℕ) : Type 0 where
@@ -76,7 +70,3 @@ module _ {D : Type 0} (desk : Ghosts D) (first : D) (start : Store) where
     text = ends.0.all_said;
     rests = ends.1;
   }
-
-pub some_is : (o : Option (List ℕ)) → IsSome o → (x : List ℕ) × (o ≡ Some x)
-some_is None some = absurd (both_ways false refl some)
-some_is (Some x) some = (x, refl)

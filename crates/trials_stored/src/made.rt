@@ -4,7 +4,6 @@
 ghost use Rattle.std.specs.Prelude.{◌≡◌, ℕ, List, [], ◌++◌, Some, Ok};
 ghost use Rattle.pl_base.specs.Store.{Store, opening};
 ghost use Rattle.pl_base.specs.Live.{slot_limit};
-ghost use Rattle.pl_desk.specs.Moments.{goes_on};
 ghost use Rattle.pl_step.specs.Run.{after, replies};
 ghost use Rattle.pl_store.specs.Session.{Stands};
 ghost use Rattle.pl_script.specs.Script.{script};

@@ -4,11 +4,12 @@ use Rattle.std.proofs.lemmas.List.{drop_all}
 use Rattle.std.proofs.lemmas.Option.{MatchOption-at_some, none-some}
 use Rattle.std.proofs.lemmas.Result.{err_from_is_err_and, IfErr-at_err}
 use Rattle.pl_base.specs.Touched.{PageImage, page_numbers}
-use Rattle.pl_desk.specs.AnyMoment.{read_on, reads_none}
+use Rattle.pl_desk.proofs.AnyMoment.{read_on, reads_none}
+use Rattle.pl_desk.proofs.Told.{if_some}
 use Rattle.pl_gate.specs.declared.error.GateError.TheVariants.{BadGate}
 use Rattle.pl_gate.specs.Gate.{entry_at, entry_size, journal, journal_len, journal_start}
 use Rattle.pl_gate.specs.Recovery.{IsGatePageOf}
-use Rattle.pl_gate.proofs.JournalFiles.{entries_at, if_some, is_no_journal, journal_fits, length-entries, numbers_fit}
+use Rattle.pl_gate.proofs.JournalFiles.{entries_at, is_no_journal, journal_fits, length-entries, numbers_fit}
 use Rattle.pl_gate.proofs.JournalFiles.{numbers_next, numbers_stop}
 use Rattle.pl_gate.proofs.journal.check_journal.Given.{Over}
 use Rattle.pl_gate.proofs.journal.check_journal.Goals.{After-read_page}

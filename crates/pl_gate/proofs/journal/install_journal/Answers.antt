@@ -7,13 +7,14 @@ use Rattle.std.proofs.lemmas.List.{take_all}
 use Rattle.std.proofs.lemmas.Option.{MatchOption-at_some, none-some, same_Some}
 use Rattle.std.proofs.lemmas.Result.{err_from_is_err_and, IfErr-at_err}
 use Rattle.pl_base.specs.Touched.{PageImage, page_numbers, page_size}
+use Rattle.pl_desk.proofs.Told.{if_some}
 use Rattle.pl_desk.specs.Desk.{Follows, Torn, overwritten}
 use Rattle.pl_desk.specs.Shown.{ShowsStep}
 use Rattle.pl_gate.specs.declared.error.GateError.TheVariants.{BadGate}
 use Rattle.pl_gate.specs.Device.{Range, TornIn, image_ranges, with_images}
 use Rattle.pl_gate.specs.Gate.{entry_at, entry_size, journal, journal_len, journal_start}
 use Rattle.pl_gate.proofs.ArmedFiles.{next_entry, stays_front}
-use Rattle.pl_gate.proofs.JournalFiles.{gate_journal, if_some, length-entries, none_of, numbers_fit, numbers_stop}
+use Rattle.pl_gate.proofs.JournalFiles.{gate_journal, length-entries, none_of, numbers_fit, numbers_stop}
 use Rattle.pl_gate.proofs.JournalFiles.{numbers_true}
 use Rattle.pl_gate.proofs.Moments.{began, went_on}
 use Rattle.pl_gate.proofs.Ranges.{follows_more, images_all, next_image, next_range, torn_in_front, torn_in_more}

@@ -1,4 +1,4 @@
-use Rattle.pl_desk.specs.AnyMoment.{read_call, read_on, reads_none}
+use Rattle.pl_desk.proofs.AnyMoment.{read_call, read_on, reads_none}
 use Rattle.pl_desk.specs.Calls.{OnlyReads}
 use Rattle.pl_gate.proofs.read.read_gate_page.Given.{Over}
 use Rattle.pl_gate.proofs.read.read_gate_page.Goals.{After-read_at, After-read_u64, After-read_u32, After-read_u32-2}

@@ -1,4 +1,4 @@
-use Rattle.pl_desk.specs.AnyMoment.{read_call, reads_none}
+use Rattle.pl_desk.proofs.AnyMoment.{read_call, reads_none}
 use Rattle.pl_gate.proofs.read.read_u32.Goals as goal
 
 pub returns-in_err-read_at-clause-reads : goal.returns-in_err-read_at-clause-reads

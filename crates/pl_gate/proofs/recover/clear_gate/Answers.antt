@@ -2,7 +2,7 @@ use Rattle.std.specs.Option.{option_map}
 use Rattle.std.proofs.Common.{◌≡◌, ℕ, List, Some, refl, ◌∙◌, ap, subst}
 use Rattle.std.proofs.lemmas.Option.{MatchOption-at_some}
 use Rattle.pl_desk.specs.Desk.{Torn}
-use Rattle.pl_desk.specs.AnyMoment.{and_call, rests_at, some_said}
+use Rattle.pl_desk.proofs.AnyMoment.{and_call, rests_at, some_said}
 use Rattle.pl_desk.specs.Shown.{AtAnyMoment, Rests}
 use Rattle.pl_gate.specs.Device.{TornIn, image_ranges, with_gate, with_images}
 use Rattle.pl_gate.specs.Gate.{journal}

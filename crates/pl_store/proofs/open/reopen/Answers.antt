@@ -1,7 +1,8 @@
 use Rattle.std.proofs.Common.{ℕ, List, IsSome, inr, sym, ◌∙◌, subst}
-use Rattle.pl_desk.specs.AnyMoment.{some_said}
-use Rattle.pl_desk.specs.Moments.{shows_less}
-use Rattle.pl_desk.specs.Settling.{Settles, settles_less, settles_on}
+use Rattle.pl_desk.proofs.AnyMoment.{some_said}
+use Rattle.pl_desk.proofs.Moments.{shows_less}
+use Rattle.pl_desk.proofs.SettlingLaws.{settles_less, settles_on}
+use Rattle.pl_desk.specs.Settling.{Settles}
 use Rattle.pl_desk.specs.Shown.{Unsaid}
 use Rattle.pl_gate.specs.Recovery.{StandsAs}
 use Rattle.pl_store.specs.Session.{StandsAlike}

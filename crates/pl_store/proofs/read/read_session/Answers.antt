@@ -6,16 +6,16 @@ use Rattle.std.proofs.Math.Seq.{take-append_seam}
 use Rattle.std.proofs.lemmas.Option.{MatchOption-at_some}
 use Rattle.std.proofs.lemmas.Result.{err_from_is_err_and}
 use Rattle.pl_base.specs.Touched.{bytes_before, page_size}
-use Rattle.pl_desk.specs.AnyMoment.{read_call}
+use Rattle.pl_desk.proofs.AnyMoment.{read_call}
 use Rattle.pl_base.specs.declared.check_error.CheckError.{CheckError}
+use Rattle.pl_desk.proofs.Told.{if_some}
 use Rattle.pl_base.specs.declared.check_error.CheckError.TheVariants as check
 use Rattle.pl_form.specs.Form.{form_bytes, store_rows}
 use Rattle.pl_store.specs.declared.session.Session.{Session}
 use Rattle.pl_store.specs.Errors.{ended_by_check}
 use Rattle.pl_store.specs.Reading.{HoldNone, HoldPages, IsReadFrom, IsStoreOf, EndsReading}
 use Rattle.pl_store.specs.Session.{session_bytes, session_store}
-use Rattle.pl_store.specs.StandsLaws.{stands_for_more}
-use Rattle.pl_store.proofs.OpenedFiles.{if_some}
+use Rattle.pl_store.proofs.StandsLaws.{stands_for_more}
 use Rattle.pl_store.proofs.read.read_session.Goals as goal
 
 -- as many of the bytes as each of their stores has

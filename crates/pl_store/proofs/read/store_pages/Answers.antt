@@ -4,11 +4,11 @@ use Rattle.std.proofs.lemmas.List.{length-append, length-drop, length-take}
 use Rattle.std.proofs.lemmas.Option.{IfSome_then, MatchOption-at_some}
 use Rattle.pl_base.specs.Store.{Store}
 use Rattle.pl_base.specs.Touched.{page_size}
-use Rattle.pl_desk.specs.AnyMoment.{read_call, reads_none}
+use Rattle.pl_desk.proofs.Told.{if_some}
+use Rattle.pl_desk.proofs.AnyMoment.{read_call, reads_none}
 use Rattle.pl_desk.specs.Calls.{OnlyReads}
 use Rattle.pl_form.specs.Form.{StandsFor, filled_pages, form_bytes, header, plain_bytes, store_rows}
 use Rattle.pl_store.specs.Reading.{ArePagesOf, HoldNone, HoldPages}
-use Rattle.pl_store.proofs.OpenedFiles.{if_some}
 use Rattle.pl_store.proofs.read.store_pages.Given.{Over}
 use Rattle.pl_store.proofs.read.store_pages.Goals.{After-len, After-read_at}
 use Rattle.pl_store.proofs.read.store_pages.Goals as goal

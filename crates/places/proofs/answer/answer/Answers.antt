@@ -6,7 +6,7 @@ use Rattle.pl_step.specs.declared.command.Command.{Command}
 use Rattle.pl_step.specs.Parsed.{Parsed}
 use Rattle.pl_step.specs.Run.{replies}
 use Rattle.pl_store.specs.Keeper.{is_file, keeper_limit, keeper_store}
-use Rattle.pl_store.specs.KeeperLaws.{kept_keeps, still_kept}
+use Rattle.pl_store.proofs.KeeperLaws.{kept_keeps, still_kept}
 use Rattle.places.specs.Lines.{entries_in}
 use Rattle.places.specs.Said.{Says, texts}
 use Rattle.places.specs.Stops.{ShowsAnswer}

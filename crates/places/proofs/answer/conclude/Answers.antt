@@ -2,7 +2,7 @@ use Rattle.std.proofs.Common.{refl, subst, ◌∙◌}
 use Rattle.std.proofs.lemmas.Result.{err_from_is_err_and}
 use Rattle.pl_desk.specs.Calls.{LeavesFile}
 use Rattle.pl_store.specs.Keeper.{is_file, keeper_store, ready_store}
-use Rattle.pl_store.specs.KeeperLaws.{kept_keeps, still_keeps, still_kept}
+use Rattle.pl_store.proofs.KeeperLaws.{kept_keeps, still_keeps, still_kept}
 use Rattle.pl_script.specs.Reply.{reply_text}
 use Rattle.places.proofs.AnswerCounts.{leaves_self, rose_at, rose_from, stood}
 use Rattle.places.proofs.AnswerLemmas.{committing, keeps_as, taking, untaken}

@@ -3,7 +3,7 @@ use Rattle.std.proofs.lemmas.Result.{IfErr-weaker, IfOk-weaker, err_from_is_err_
 use Rattle.pl_base.specs.Store.{Store}
 use Rattle.pl_step.specs.Run.{after}
 use Rattle.pl_store.specs.Keeper.{is_file, keeper_limit, keeper_store, ready_store}
-use Rattle.pl_store.specs.KeeperLaws.{kept_keeps}
+use Rattle.pl_store.proofs.KeeperLaws.{kept_keeps}
 use Rattle.places.specs.Stops.{LeavesOfAnswer}
 use Rattle.places.proofs.AnswerLemmas.{after_command, performing, replies_of_command, text_of_command, unanswered}
 use Rattle.places.proofs.answer.perform.Goals as goal

@@ -1,7 +1,7 @@
 use Rattle.std.proofs.Common.{◌≡◌, ◌∙◌, ap, inr, sym}
 use Rattle.std.proofs.lemmas.Option.{MatchOption-at_some}
+use Rattle.pl_desk.proofs.SettlingLaws.{settles_on}
 use Rattle.pl_base.specs.Store.{Store}
-use Rattle.pl_desk.specs.Settling.{settles_on}
 use Rattle.pl_store.specs.Session.{session_store}
 use Rattle.places.specs.Exporting.{ShowsExport, export_text}
 use Rattle.places.specs.Stops.{ShowsUnopened}

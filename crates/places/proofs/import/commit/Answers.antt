@@ -1,7 +1,7 @@
 use Rattle.std.proofs.Common.{◌∙◌, inr, refl, true}
 use Rattle.std.proofs.lemmas.Result.{err_from_is_err_and}
 use Rattle.pl_store.specs.Keeper.{is_file, keeper_limit, keeper_store, ready_store}
-use Rattle.pl_store.specs.KeeperLaws.{kept_keeps}
+use Rattle.pl_store.proofs.KeeperLaws.{kept_keeps}
 use Rattle.places.proofs.AnswerLemmas.{keeps_as}
 use Rattle.places.proofs.ImportLemmas.{answer_stops, device_as, ends_failed, ends_refused, ends_said, ends_unprepared}
 use Rattle.places.proofs.ImportLemmas.{not_refused, says_as, shows_begun, shows_taking}

@@ -2,8 +2,8 @@ use Rattle.std.proofs.Common.{◌∙◌, ◌≡◌, inr, refl, subst, sym}
 use Rattle.std.proofs.lemmas.Option.{MatchOption-at_some}
 use Rattle.pl_base.specs.Store.{Store}
 use Rattle.pl_base.specs.Live.{slot_limit}
-use Rattle.pl_desk.specs.Settling.{settles_on}
 use Rattle.pl_desk.specs.Shown.{ShowsOnly}
+use Rattle.pl_desk.proofs.SettlingLaws.{settles_on}
 use Rattle.pl_store.specs.Session.{session_store}
 use Rattle.pl_task.specs.declared.task.Task.TheVariants as tasks
 use Rattle.places.specs.Importing.{EndsImport, ShowsImport}

@@ -1,7 +1,7 @@
 use Rattle.std.proofs.Common.{◌≡◌, Err, refl, subst, sym}
 use Rattle.std.proofs.lemmas.Option.{MatchOption-at_some}
 use Rattle.pl_base.specs.Store.{opening}
-use Rattle.pl_desk.specs.AnyMoment.{rests_less, still_rests}
+use Rattle.pl_desk.proofs.AnyMoment.{rests_less, still_rests}
 use Rattle.pl_desk.specs.Calls.{KeepsFile}
 use Rattle.pl_desk.specs.declared.desk.Desk.{Ghosts}
 use Rattle.pl_store.specs.declared.ended.Ended.{Ended}
@@ -9,7 +9,7 @@ use Rattle.pl_store.specs.declared.ended.Ended.TheVariants as ended
 use Rattle.pl_store.specs.declared.session.Session.{Session}
 use Rattle.pl_store.specs.Ending.{IsFinished, Makes, MakesStore}
 use Rattle.pl_store.specs.Session.{Stands, session_bytes, session_store}
-use Rattle.pl_store.specs.StandsLaws.{stands_by}
+use Rattle.pl_store.proofs.StandsLaws.{stands_by}
 use Rattle.places.specs.Ending.{EndsNew, EndsTask, MadeOfEmpty}
 use Rattle.places.specs.declared.status.Status.{Status}
 use Rattle.pl_task.specs.declared.task.Task.TheVariants as tasks

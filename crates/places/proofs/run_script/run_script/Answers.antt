@@ -2,10 +2,10 @@ use Rattle.std.specs.Result.{result_err}
 use Rattle.std.proofs.Common.{◌∙◌, [], ap, sym, length, arith, refl, subst, take, ℕ, List, Option}
 use Rattle.std.proofs.lemmas.Option.{none-some}
 use Rattle.std.proofs.lemmas.Result.{err_from_is_err_and}
-use Rattle.pl_desk.specs.AnyMoment.{alone_on, left_alone}
+use Rattle.pl_desk.proofs.AnyMoment.{alone_on, left_alone}
 use Rattle.pl_store.specs.declared.keeper.Keeper.{Keeper}
 use Rattle.pl_store.specs.Keeper.{is_file, keeper_store}
-use Rattle.pl_store.specs.KeeperLaws.{kept_keeps}
+use Rattle.pl_store.proofs.KeeperLaws.{kept_keeps}
 use Rattle.places.specs.Progress.{IsAt}
 use Rattle.places.proofs.EndingLemmas.{empty_piece, ends_done, ends_last, ends_piece, ends_reading, ends_too_long}
 use Rattle.places.proofs.EndingLemmas.{goes_on_behind, shows_begun, shows_last, shows_piece, starts_behind}

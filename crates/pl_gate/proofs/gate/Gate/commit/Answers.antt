@@ -1,7 +1,7 @@
 use Rattle.std.proofs.Common.{◌≡◌, ℕ, List, [], length, inl, inr, sym, ◌∙◌, subst}
 use Rattle.std.proofs.lemmas.Result.{on_ok_weaker}
 use Rattle.pl_base.specs.Touched.{Change, changed, bytes_before}
-use Rattle.pl_desk.specs.AnyMoment.{and_more, weaker}
+use Rattle.pl_desk.proofs.AnyMoment.{and_more, weaker}
 use Rattle.pl_desk.specs.Shown.{AtAnyMoment, Rests}
 use Rattle.pl_gate.specs.Gate.{Holds}
 use Rattle.pl_gate.specs.States.{HoldsEither, IsArmed, IsClosed, IsInstalled, IsStaged}

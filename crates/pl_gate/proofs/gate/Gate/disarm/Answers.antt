@@ -1,7 +1,7 @@
 use Rattle.std.specs.Option.{option_map}
 use Rattle.std.proofs.Common.{◌≡◌, Some, sym, ◌∙◌, ap, subst}
 use Rattle.pl_desk.specs.Desk.{Torn}
-use Rattle.pl_desk.specs.AnyMoment.{rests_at}
+use Rattle.pl_desk.proofs.AnyMoment.{rests_at}
 use Rattle.pl_gate.specs.Device.{with_gate}
 use Rattle.pl_gate.specs.Gate.{Holds}
 use Rattle.pl_gate.specs.States.{IsClosed, IsInstalled}

@@ -2,7 +2,7 @@ use Rattle.std.specs.Option.{option_map}
 use Rattle.std.proofs.Common.{◌≡◌, List, ℕ, sym, ◌∙◌, ap, subst}
 use Rattle.pl_base.specs.Touched.{Change}
 use Rattle.pl_desk.specs.Desk.{Follows}
-use Rattle.pl_desk.specs.AnyMoment.{and_call, rests_synced}
+use Rattle.pl_desk.proofs.AnyMoment.{and_call, rests_synced}
 use Rattle.pl_desk.specs.Shown.{AtAnyMoment, Rests, ShowsStep}
 use Rattle.pl_gate.specs.Device.{TornIn, image_ranges, with_images}
 use Rattle.pl_gate.specs.Gate.{Holds}

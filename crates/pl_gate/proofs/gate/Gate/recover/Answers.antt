@@ -1,9 +1,10 @@
 use Rattle.std.proofs.Common.{◌≡◌, List, ℕ, Option, Some, IfSome, IsSome, inr, refl, ◌∙◌, subst, sym}
 use Rattle.std.proofs.lemmas.Option.{MatchOption-at_some}
-use Rattle.pl_desk.specs.AnyMoment.{and_more, read_call, read_on, reads_none, some_said, weaker}
+use Rattle.pl_desk.proofs.AnyMoment.{and_more, read_call, read_on, reads_none, some_said, weaker}
+use Rattle.pl_desk.proofs.SettlingLaws.{settles_at}
 use Rattle.pl_desk.specs.Calls.{OnlyReads}
 use Rattle.pl_desk.specs.Desk.{Only}
-use Rattle.pl_desk.specs.Settling.{IsFirstSync, TurnsTo, settles_at}
+use Rattle.pl_desk.specs.Settling.{IsFirstSync, TurnsTo}
 use Rattle.pl_desk.specs.Shown.{AtAnyMoment, Unsaid}
 use Rattle.pl_gate.specs.Recovery.{StandsAs}
 use Rattle.pl_gate.proofs.gate.Gate.recover.Given.{Over}

@@ -2,7 +2,7 @@ use Rattle.std.specs.Option.{option_map}
 use Rattle.std.proofs.Common.{◌≡◌, ◌<◌, ◌*◌, ◌^◌, List, ℕ, [], Some, length, sym, ◌∙◌, ap, subst, arith}
 use Rattle.pl_base.specs.Touched.{bytes_before, page_size}
 use Rattle.pl_desk.specs.Desk.{overwritten, Torn}
-use Rattle.pl_desk.specs.AnyMoment.{and_call, rests_synced, some_said}
+use Rattle.pl_desk.proofs.AnyMoment.{and_call, rests_synced, some_said}
 use Rattle.pl_desk.specs.Shown.{AtAnyMoment, Rests}
 use Rattle.pl_gate.specs.Device.{TornIn, entry_ranges, place_bytes, start_of, with_entries}
 use Rattle.pl_gate.specs.Gate.{Holds}

@@ -1,6 +1,6 @@
 use Rattle.std.proofs.Common.{◌≡◌, ℕ, IsSome, List, Some, length, inl, sym, subst}
 use Rattle.pl_base.specs.Touched.{bytes_before}
-use Rattle.pl_desk.specs.AnyMoment.{begun, left_now, rests_less, some_said, weaker}
+use Rattle.pl_desk.proofs.AnyMoment.{begun, left_now, rests_less, some_said, weaker}
 use Rattle.pl_desk.specs.Shown.{AtAnyMoment, Rests}
 use Rattle.pl_gate.specs.States.{HoldsEither, IsClosed}
 use Rattle.pl_store.specs.declared.pending.Pending.{Pending}
@@ -8,7 +8,7 @@ use Rattle.pl_store.specs.declared.session.Prepared.{Prepared}
 use Rattle.pl_store.specs.declared.session.Session.{Session}
 use Rattle.pl_store.specs.Session.{IsPreparedFrom, IsSettled, StandsForEither, session_bytes, next_bytes, next_store}
 use Rattle.pl_store.specs.Session.{session_store}
-use Rattle.pl_store.specs.StandsLaws.{closed_by, settled_stands, stands_by_either}
+use Rattle.pl_store.proofs.StandsLaws.{closed_by, settled_stands, stands_by_either}
 use Rattle.pl_store.proofs.session.Prepared.commit.Given.{Over}
 use Rattle.pl_store.proofs.session.Prepared.commit.Goals as goal
 

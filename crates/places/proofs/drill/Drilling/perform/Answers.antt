@@ -2,7 +2,7 @@ use Rattle.std.proofs.lemmas.Result.{err_from_is_err_and}
 use Rattle.pl_base.specs.Live.{slot_limit}
 use Rattle.pl_step.specs.Step.{perform}
 use Rattle.pl_store.specs.Keeper.{keeper_store, ready_store}
-use Rattle.pl_store.specs.KeeperLaws.{kept_keeps}
+use Rattle.pl_store.proofs.KeeperLaws.{kept_keeps}
 use Rattle.places.proofs.DrillLemmas.{at_command, at_first, takes_either}
 use Rattle.places.proofs.drill.Drilling.perform.Goals as goal
 

@@ -8,7 +8,7 @@ use Rattle.pl_step.specs.declared.command.Command.{Command}
 use Rattle.pl_step.specs.Parsed.{Parsed}
 use Rattle.pl_step.specs.Step.{perform}
 use Rattle.pl_store.specs.Keeper.{keeper_store}
-use Rattle.pl_store.specs.KeeperLaws.{kept_keeps}
+use Rattle.pl_store.proofs.KeeperLaws.{kept_keeps}
 use Rattle.pl_store.specs.Session.{StandsForEither}
 use Rattle.places.specs.Drilling.{line_done, so_far}
 use Rattle.places.specs.Lines.{entries_in}

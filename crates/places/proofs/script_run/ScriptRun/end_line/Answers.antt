@@ -2,7 +2,7 @@ use Rattle.std.specs.Str.Lines.{strip_carriage_return}
 use Rattle.std.proofs.Common.{◌∙◌, ◌++◌, ◌∷◌, [], ap}
 use Rattle.std.proofs.lemmas.Result.{err_from_is_err_and}
 use Rattle.pl_base.specs.Live.{slot_limit}
-use Rattle.pl_desk.specs.Moments.{shows_less}
+use Rattle.pl_desk.proofs.Moments.{shows_less}
 use Rattle.pl_step.specs.Run.{replies}
 use Rattle.pl_store.specs.Keeper.{is_file}
 use Rattle.places.specs.Progress.{ended_entries}

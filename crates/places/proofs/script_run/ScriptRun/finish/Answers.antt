@@ -1,7 +1,7 @@
 use Rattle.std.proofs.Common.{◌++◌}
 use Rattle.std.proofs.lemmas.Result.{IfOk-weaker, on_ok_weaker}
 use Rattle.pl_base.specs.Live.{slot_limit}
-use Rattle.pl_desk.specs.Moments.{shows_less}
+use Rattle.pl_desk.proofs.Moments.{shows_less}
 use Rattle.pl_step.specs.Run.{replies}
 use Rattle.pl_store.specs.Keeper.{is_file, keeper_store}
 use Rattle.pl_script.specs.Script.{script}

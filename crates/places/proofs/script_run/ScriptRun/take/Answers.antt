@@ -1,7 +1,7 @@
 use Rattle.std.proofs.Common.{[], ◌∷◌, ◌++◌}
 use Rattle.std.proofs.lemmas.Result.{err_from_is_err_and}
 use Rattle.pl_base.specs.Live.{slot_limit}
-use Rattle.pl_desk.specs.Moments.{shows_less}
+use Rattle.pl_desk.proofs.Moments.{shows_less}
 use Rattle.pl_store.specs.Keeper.{is_file}
 use Rattle.places.specs.declared.answer_error.AnswerError.TheVariants as answer
 use Rattle.places.specs.Progress.{ended_entries}

@@ -3,8 +3,8 @@ use Rattle.std.proofs.Common.{◌∙◌, ◌++◌, ℕ, List, Some, append-nil, 
 use Rattle.std.proofs.lemmas.Option.{none-some}
 use Rattle.std.proofs.lemmas.Result.{err_from_is_err_and}
 use Rattle.pl_base.specs.Live.{slot_limit}
-use Rattle.pl_desk.specs.Moments.{shows_less}
-use Rattle.pl_desk.specs.AnyMoment.{alone_on, left_alone}
+use Rattle.pl_desk.proofs.Moments.{shows_less}
+use Rattle.pl_desk.proofs.AnyMoment.{alone_on, left_alone}
 use Rattle.pl_store.specs.Keeper.{is_file}
 use Rattle.places.specs.Progress.{IsAt, ended_entries}
 use Rattle.places.specs.Stops.{ShowsAnswered}

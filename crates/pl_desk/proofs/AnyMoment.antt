@@ -6,7 +6,7 @@ use Rattle.std.proofs.lemmas.Bool.{both_ways}
 use Rattle.std.proofs.lemmas.Option.{MatchOption-at_some}
 use Rattle.pl_desk.specs.Calls.{LeavesFile, LeavesNoMore, OnlyReads}
 use Rattle.pl_desk.specs.Desk.{Elapses, Only, Shows}
-use Rattle.pl_desk.specs.Moments.{goes_on, shows_less, started}
+use Rattle.pl_desk.proofs.Moments.{goes_on, shows_less, started}
 use Rattle.pl_desk.specs.Shown.{AtAnyMoment, Rests, Unsaid}
 use Rattle.pl_desk.specs.declared.desk.Desk.{Ghosts}
 

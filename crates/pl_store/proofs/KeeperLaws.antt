@@ -1,10 +1,10 @@
 -- Which files a stop may leave beside a keeper.
 use Rattle.std.proofs.Common.{◌≡◌, ℕ, Bool, true, false, List}
 use Rattle.pl_base.specs.Store.{Store}
-use Rattle.pl_desk.specs.AnyMoment.{rests_less, still_rests}
+use Rattle.pl_desk.proofs.AnyMoment.{rests_less, still_rests}
 use Rattle.pl_desk.specs.Calls.{LeavesNoMore}
 use Rattle.pl_desk.specs.declared.desk.Desk.{Ghosts}
-use Rattle.pl_store.specs.StandsLaws.{settled_stands, stands_by}
+use Rattle.pl_store.proofs.StandsLaws.{settled_stands, stands_by}
 use Rattle.pl_store.specs.declared.keeper.Keeper.{Keeper}
 use Rattle.pl_store.specs.declared.keeper.Keeper.TheVariants.{Memory, File}
 use Rattle.pl_store.specs.Keeper.{IsKept, Keeps, Leaves, is_file, keeper_store}
