@@ -151,14 +151,14 @@ with_image : (p : PageImage) (file : List ℕ) → 1 ≤ p.page → length p.ima
     → drop page_size (overwritten 0 (page_size * p.page) p.image file) ≡ with_page p (drop page_size file)
 with_image p file one whole le =
     let at = page_size * p.page in
-    let told : page_size + bytes_before p.page ≡ at = omega (arith, one) in
-    let end : at + length p.image ≡ page_size + (bytes_before p.page + page_size) = omega (arith, told, whole) in
+    let place : page_size + bytes_before p.page ≡ at = omega (arith, one) in
+    let end : at + length p.image ≡ page_size + (bytes_before p.page + page_size) = omega (arith, place, whole) in
     ap (drop page_size) (overwritten_within 0 at p.image file le
     ∙ append_assoc (take at file) p.image (drop (at + length p.image) file))
     ∙ drop-append-le page_size (take at file) (p.image ++ drop (at + length p.image) file)
-    (omega (arith, le, told, length-take at file))
+    (omega (arith, le, place, length-take at file))
     ∙ ap (λ (l : List ℕ). l ++ (p.image ++ drop (at + length p.image) file))
-    (ap (λ (n : ℕ). drop page_size (take n file)) (sym told) ∙ drop-take page_size (bytes_before p.page) file)
+    (ap (λ (n : ℕ). drop page_size (take n file)) (sym place) ∙ drop-take page_size (bytes_before p.page) file)
     ∙ ap (λ (n : ℕ). take (bytes_before p.page) (drop page_size file) ++ (p.image ++ drop n file)) end
     ∙ ap (λ (l : List ℕ). take (bytes_before p.page) (drop page_size file) ++ (p.image ++ l))
     (sym (drop-drop (bytes_before p.page + page_size) page_size file))

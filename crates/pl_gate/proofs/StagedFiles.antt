@@ -113,17 +113,17 @@ module _ (change : Change) (told : IsTold change) (pages file : List ℕ) (close
     (len : length pages ≡ bytes_before change.before) (some : 1 ≤ change.before)
     (written : entries (length change.pages) (start_of change) file ≡ change.pages)
     (reaches : start_of change + entry_size * length change.pages ≤ length file) where
-  abbrev told : List ℕ
-  told = place_bytes (start_of change) (length change.pages) change.after
+  abbrev place : List ℕ
+  place = place_bytes (start_of change) (length change.pages) change.after
 
   abbrev told_file : List ℕ
-  told_file = overwritten 0 8 told file
+  told_file = overwritten 0 8 place file
 
   abbrev set_file : List ℕ
   set_file = 1 ∷ drop 1 told_file
 
   torn_place : Torn 8 16 file told_file
-  torn_place = torn_overwritten 0 8 told file
+  torn_place = torn_overwritten 0 8 place file
 
   len_told : length told_file ≡ length file
   len_told = omega (arith, torn_place.no_shorter, torn_place.no_longer, has_long pages file closed)
@@ -131,8 +131,8 @@ module _ (change : Change) (told : IsTold change) (pages file : List ℕ) (close
   len_set : length set_file ≡ length file
   len_set = omega (arith, len_told, length-drop 1 told_file, has_long pages file closed)
 
-  from_place : take 16 (drop 8 told_file) ≡ told
-  from_place = (overwritten_range 8 told file).0
+  from_place : take 16 (drop 8 told_file) ≡ place
+  from_place = (overwritten_range 8 place file).0
 
   start_told : journal_start told_file ≡ start_of change
   start_told =
