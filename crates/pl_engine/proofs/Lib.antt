@@ -1,6 +1,6 @@
 mod BookmarkAllowed
 mod BroughtBack
-mod ChildItems
+pub mod ChildItems
 mod FewPages
 mod FreshPage
 mod ImportSettled
@@ -20,5 +20,5 @@ mod TagMade
 mod TitleStep
 mod Titled
 mod Untagged
-mod VisitAllowed
+pub mod VisitAllowed
 mod VisitStep

@@ -1,32 +1,32 @@
 mod Allowed
 pub mod AncestorLaws
-mod Causes
+pub mod Causes
 mod ChildLists
 pub mod ChildSlots
 pub mod ChildWalk
-mod EntryRemoved
+pub mod EntryRemoved
 pub mod GoodChanges
 mod GoodEntered
-mod GoodInserted
-mod GoodMoved
-mod GoodRemoved
-mod GoodRetitled
+pub mod GoodInserted
+pub mod GoodMoved
+pub mod GoodRemoved
+pub mod GoodRetitled
 mod GoodRows
 pub mod GoodStores
 pub mod GoodTagged
 mod InsertedChildren
 mod InsertedRows
-mod Insides
+pub mod Insides
 mod KeptItems
 mod KeptRoots
 mod KeptTags
-mod KeyCounts
-mod LookedUp
+pub mod KeyCounts
+pub mod LookedUp
 mod MappedItems
 mod MoreItems
 mod MoreTags
 mod PageOrder
-mod PutPlaces
+pub mod PutPlaces
 mod RefusalSteps
 mod Remaining
 mod RemovalSteps
@@ -38,7 +38,7 @@ mod TagRows
 mod TagSteps
 mod TagWalks
 mod TaggedRows
-mod TreeLaws
+pub mod TreeLaws
 mod TreeRows
 mod TwoInserted
 mod UntagSteps
