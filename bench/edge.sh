@@ -1,11 +1,13 @@
 #!/bin/sh
-# What `places new` and `places run` do with what is at a path: what is no regular file, links, a store that
-# another run holds, streams that are the store, a folder that may not be read.
+# What the program does with what is at a path: what is no regular file, links, a store that another run holds,
+# streams that are the store, a folder that may not be read, a file system that is full, may only be read, has no
+# locks or syncs no folders. What of this needs no root, `.ci/program` tries too, and more: modes of files, streams
+# that are closed, not read any longer, or do not block.
 #
 #     bench/edge.sh PROGRAM
 #
 # One line a case, with what was expected and what was seen. Ends with status 0 only where all hold. What
-# this machine cannot do (a loop device, another user, a trace) is passed over, and a line says so.
+# this machine cannot do (a loop device, a mount, another user, a trace) is passed over, and a line says so.
 if [ $# -ne 1 ] || [ ! -x "$1" ]; then
     echo 'usage: bench/edge.sh PROGRAM' >&2
     exit 2
@@ -13,9 +15,12 @@ fi
 folder=$(mktemp -d) || exit 2
 folder=$(cd -- "$folder" && pwd -P)
 loop=
+mounted=
 end() {
+    cd /
+    [ -z "$mounted" ] || umount "$mounted"
     [ -z "$loop" ] || losetup -d "$loop"
-    cd / && rm -rf -- "$folder"
+    rm -rf -- "$folder"
 }
 trap end EXIT
 trap 'exit 1' HUP INT TERM
@@ -71,8 +76,10 @@ mkdir folder
 mkfifo pipe
 python3 -c 'import socket; socket.socket(socket.AF_UNIX).bind("socket")'
 for path in folder pipe socket /dev/null; do
-    check '5, same' "$path" "new $path"
-    check '5, same' "$path" "run $path"
+    for words in new run import export; do
+        check '5, same' "$path" "$words $path"
+    done
+    check '5, same' "$path" "drill $path 5 1"
 done
 truncate -s 1M disk
 if loop=$(losetup -f --show disk 2>/dev/null); then
@@ -107,21 +114,23 @@ while [ ! -s answers ] && [ $tries -lt 100 ]; do
     sleep 0.1
     tries=$((tries + 1))
 done
-check '5, same' held 'run held'
-check '5, same' held 'new held'
-check '5, same' held 'run other_name'
+for words in 'run held' 'new held' 'import held' 'export held' 'drill held 5 1' 'run other_name'; do
+    check '5, same' held "$words"
+done
 exec 3>&-
 wait $holder
 tell 'the holder itself' "0, $first" "$?, $(tr '\t' ' ' <answers)"
 check "0, changed, $second" held 'run held'
 
 # ---- streams that are the store, and streams that are closed
-for stream in '1<>' '1>>' '2<>' '2>>'; do
+for stream in '<' '1<>' '1>>' '2<>' '2>>'; do
     "$program" new "by_$stream" >status
     check '5, same' "by_$stream" "run 'by_$stream' $stream'by_$stream'"
 done
 : >empty
 check '5, same' empty 'new empty 1<>empty'
+check '5, same' 'by_<' "import 'by_<' <'by_<'"
+check '5, same' 'by_1<>' "export 'by_1<>' 1<>'by_1<>'"
 "$program" new store >status
 check "0, changed, $first" store 'run store 2>&-'
 check '4, changed' store 'run store 1>&-'
@@ -140,6 +149,30 @@ else
     pass_over 'a folder that may not be read: there is no other user'
 fi
 
+# ---- a file system that is full, and one that may only be read
+mkdir small
+truncate -s 256K image
+if mke2fs -q -t ext2 -b 1024 image 2>/dev/null && mount -o loop image small 2>/dev/null; then
+    mounted=$folder/work/small
+    "$program" new small/store >status
+    dd if=/dev/zero of=small/filler bs=1k 2>errors
+    check '5, made' small/another 'new small/another'
+    long=$(head -c 4000 /dev/zero | tr '\0' x)
+    bookmark="bookmark\t5\tend\thttps://long.example/\t$long\t0\n"
+    tell 'a change with no room for it' '5, ' \
+        "$(printf "$bookmark" | "$program" run small/store 2>errors >said; echo "$?, $(cat said)")" ''
+    rm small/filler
+    check "0, changed, $first" small/store 'run small/store'
+    mount -o remount,ro "$mounted"
+    check '5, same' small/store 'run small/store'
+    check '5, same' small/third 'new small/third'
+    tell 'an export where nothing may be written' '0' \
+        "$("$program" export small/store >said 2>errors; echo $?)" ", $(wc -c <said) bytes"
+    umount "$mounted" && mounted=
+else
+    pass_over 'a file system that is full or may only be read: none was made and mounted'
+fi
+
 # ---- what the system is asked
 if strace -o trace true 2>/dev/null; then
     no_locks='strace -o trace -e inject=flock:error=EOPNOTSUPP'
@@ -151,8 +184,15 @@ if strace -o trace true 2>/dev/null; then
     strace -y -o trace "$program" run real/store </dev/null 2>errors
     calls=$(sed -n 's,^\(flock\|pread64\|pwrite64\)([0-9]*<.*/real/store>.*,\1,p' trace | head -2 | tr '\n' ' ')
     tell 'the first calls of run on the file' 'flock pread64 ' "$calls"
+    mkdir unsynced
+    no_folder="strace -o trace -P $folder/work/unsynced -e trace=fsync -e inject=fsync:error"
+    check '0, made, new' unsynced/store 'new unsynced/store' "$no_folder=EINVAL"
+    check "0, changed, $first" unsynced/store 'run unsynced/store' "$no_folder=EINVAL"
+    check '5, same' unsynced/store 'run unsynced/store' "$no_folder=EIO"
+    no_file="strace -o trace -P $folder/work/unsynced/store -e trace=fsync -e inject=fsync:error"
+    check '5, same' unsynced/store 'run unsynced/store' "$no_file=EINVAL"
 else
-    pass_over 'a file system without locks, and what is synced: there is no strace'
+    pass_over 'a file system without locks or syncs of folders, and what is synced: there is no strace'
 fi
 
 [ "$failures" -eq 0 ]

@@ -36,7 +36,8 @@ impl<'a, R> Model for FileDesk<'a, R> {
 
 impl<'a, R: AllocGlobal> FileDesk<'a, R> {
     /// The file is opened and locked at first need, before a byte of it is read or written. A
-    /// missing file reads as empty, and the first write makes it.
+    /// missing file reads as empty, and the first write makes it, for its owner alone. Of a file
+    /// that may only be read each write fails.
     pub fn at(rt: &'a R, path: &str) -> Result<FileDesk<'a, R>, NoMemory>
         ensures { IfOk result (λ desk. desk ≡ new_file) }
     {

@@ -1,6 +1,6 @@
 // A store's file with one holder at a time.
 use crate::place::check_regular;
-use crate::standard_streams::{above_streams, is_file_at, is_standard_error, is_standard_output};
+use crate::standard_streams::{above_streams, is_file_at, is_standard_stream};
 use std::fs::{File, Files};
 use std::io::{self, ErrorKind};
 
@@ -13,7 +13,7 @@ pub struct HeldFile {
 impl HeldFile {
     /// Locks the file that was opened at the path. It is an error where another open of it holds
     /// the lock, where its system has no locks, where the path leads elsewhere by now, and where it
-    /// is standard output or standard error.
+    /// is a standard stream of this process.
     pub fn hold(rt: &impl Files, path: &str, file: File) -> io::Result<HeldFile> {
         let file = above_streams(file)?;
         file.try_lock()?;
@@ -22,7 +22,7 @@ impl HeldFile {
         if !is_file_at(rt, path, &held) {
             return Err(ErrorKind::NotFound.into());
         }
-        if is_standard_output(rt, &held) || is_standard_error(rt, &held) {
+        if is_standard_stream(rt, &held) {
             return Err(ErrorKind::InvalidInput.into());
         }
         Ok(HeldFile { file })

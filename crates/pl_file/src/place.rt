@@ -1,14 +1,21 @@
 // What is at a store's path, behind its links.
-ghost use Rattle.std.specs.Prelude.{◌↔◌, IsOk};
+ghost use Rattle.std.specs.Prelude.{◌≡◌, ◌↔◌, ◌⊎◌, IfErr, IsOk, IsTrue};
 ghost use Rattle.std.specs.Fs.{file_type, IsFile};
+ghost use Rattle.std.specs.IoError.{error_kind};
+ghost use Rattle.std.specs.declared.io.ErrorKind.TheVariants.{InvalidInput, PermissionDenied};
+ghost use Rattle.std.specs.declared.io.ErrorKind.TheVariants.{ReadOnlyFilesystem};
 
 use crate::standard_streams::above_streams;
 use std::fs::{self, File, Files, Metadata, OpenOptions};
 use std::io::{self, ErrorKind};
+use std::os::unix::fs::OpenOptionsExt;
 use std::path::{Path, PathBuf};
 
 // As many as the system itself follows.
 const MAX_LINKS: usize = 40;
+
+// A new store is its owner's alone to read and write.
+const OWNER_ONLY: u32 = 0o600;
 
 /// A name that is no link, and the folder that has it.
 #[derive(Drop)]
@@ -37,25 +44,32 @@ impl Place {
         self.has_file
     }
 
+    /// Opens the file to read and to write it. One that may not be written is opened to be read,
+    /// and each write of it fails.
     pub fn open(&self, rt: &impl Files<File = File>) -> io::Result<File> {
-        OpenOptions::new()
+        let to_write = OpenOptions::new()
             .read(true)
             .write(true)
-            .open(rt, &self.name)
+            .open(rt, &self.name);
+        match to_write {
+            Err(error) if is_write_refused(&error) => File::open(rt, &self.name),
+            opened => opened,
+        }
     }
 
-    /// Makes the file. It is an error where one was made meanwhile.
+    /// Makes the file, for its owner alone. It is an error where one was made meanwhile.
     pub fn make(&self, rt: &impl Files<File = File>) -> io::Result<File> {
         OpenOptions::new()
             .read(true)
             .write(true)
             .create_new(true)
+            .mode(OWNER_ONLY)
             .open(rt, &self.name)
     }
 
-    /// Syncs the file's name in its folder.
+    /// Syncs the file's name in its folder, where its file system syncs folders.
     pub fn sync_name(&self) -> io::Result<()> {
-        self.folder.sync_all()
+        folder_synced(self.folder.sync_all())
     }
 }
 
@@ -67,6 +81,30 @@ pub fn check_regular(found: &Metadata) -> io::Result<()>
         Ok(())
     } else {
         Err(ErrorKind::InvalidInput.into())
+    }
+}
+
+// Whether the system refuses to write the file at all: by its mode, or since nothing of its file
+// system may be written.
+fn is_write_refused(error: &io::Error) -> bool
+    ensures { IsTrue result ↔ (error_kind error.now ≡ PermissionDenied)
+        ⊎ (error_kind error.now ≡ ReadOnlyFilesystem) }
+{
+    matches!(
+        error.kind(),
+        ErrorKind::PermissionDenied | ErrorKind::ReadOnlyFilesystem
+    )
+}
+
+// By the answer to the sync of a folder. EINVAL says that its file system syncs none: there a new
+// name lasts as soon as that system sees to it.
+fn folder_synced(answer: io::Result<()>) -> io::Result<()>
+    ensures synced { IsOk answer → IsOk result }
+    ensures refused { IfErr answer (λ e. IsOk result ↔ (error_kind e ≡ InvalidInput)) }
+{
+    match answer {
+        Err(error) if error.kind() == ErrorKind::InvalidInput => Ok(()),
+        other => other,
     }
 }
 

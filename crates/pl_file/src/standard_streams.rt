@@ -4,7 +4,9 @@ use std::io;
 use std::os::fd::AsRawFd;
 use std::os::unix::fs::MetadataExt;
 
-// Where Linux shows what standard output and standard error are open on.
+// Where Linux shows what the standard streams are open on.
+const INPUT: &str = "/proc/self/fd/0";
+
 const OUTPUT: &str = "/proc/self/fd/1";
 
 const ERRORS: &str = "/proc/self/fd/2";
@@ -17,9 +19,9 @@ pub fn above_streams(file: File) -> io::Result<File> {
     file.try_clone()
 }
 
-/// Whether what is said lands in the file.
-pub fn is_standard_output(rt: &impl Files, file: &Metadata) -> bool {
-    is_file_at(rt, OUTPUT, file)
+/// Whether the input is read from the file, or what is said or told on standard error lands in it.
+pub fn is_standard_stream(rt: &impl Files, file: &Metadata) -> bool {
+    is_file_at(rt, INPUT, file) || is_file_at(rt, OUTPUT, file) || is_standard_error(rt, file)
 }
 
 /// Whether what is told on standard error lands in the file.

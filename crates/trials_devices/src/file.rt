@@ -2,8 +2,8 @@
 
 use pl_desk::Desk;
 use pl_file::FileDesk;
-use std::fs;
-use std::os::unix::fs::symlink;
+use std::fs::{self, Permissions};
+use std::os::unix::fs::{PermissionsExt, symlink};
 use std::process::Abort;
 use std::test::Fail;
 
@@ -43,6 +43,13 @@ fn expect_bytes(rt: &impl Abort, desk: &mut FileDesk<HostRuntime>, at: u64, byte
     let out = &mut back[..bytes.len()];
     assert!(rt; read(rt, desk, at, out));
     assert_eq!(rt; *out, *bytes);
+}
+
+// Its owner alone may read and write the file at this path.
+fn expect_private(rt: &impl Abort, files: &HostRuntime, path: &str) -> Result<(), Fail> {
+    let mode = fs::metadata(files, path)?.permissions().mode();
+    assert_eq!(rt; mode & 0o777, 0o600);
+    Ok(())
 }
 
 // A file at this path holds these bytes.
@@ -88,6 +95,7 @@ fn writes_syncs_reads_and_opens_again(rt: HostRuntime) -> Result<(), Fail> {
     const PATH: &str = "pl_file_test/store";
     empty_folder(&rt, FOLDER)?;
     make_new(&rt, &rt, PATH)?;
+    expect_private(&rt, &rt, PATH)?;
     expect_file(&rt, &rt, PATH, b"\0xabc\0\0")?;
     fs::remove_dir_all(&rt, FOLDER)?;
     Ok(())
@@ -124,6 +132,21 @@ fn fails_where_there_can_be_no_file(rt: HostRuntime) -> Result<(), Fail> {
         expect_no_file(&rt, &rt, path)?;
     }
     assert_eq!(rt; fs::metadata(&rt, "pl_file_paths/file")?.len(), 4);
+    fs::remove_dir_all(&rt, FOLDER)?;
+    Ok(())
+}
+
+// A file that may only be read is read and synced.
+#[test]
+fn reads_what_may_only_be_read(rt: HostRuntime) -> Result<(), Fail> {
+    const FOLDER: &str = "pl_file_read";
+    const PATH: &str = "pl_file_read/store";
+    empty_folder(&rt, FOLDER)?;
+    fs::write(&rt, PATH, b"kept".as_slice())?;
+    fs::set_permissions(&rt, PATH, Permissions::from_mode(0o400))?;
+    let mut desk = FileDesk::at(&rt, PATH)?;
+    expect_bytes(&rt, &mut desk, 0, b"kept");
+    assert!(rt; sync(&mut desk));
     fs::remove_dir_all(&rt, FOLDER)?;
     Ok(())
 }
