@@ -1,5 +1,5 @@
 // A store's file with one holder at a time.
-use crate::place::check_regular;
+use crate::entry::check_regular;
 use crate::standard_streams::{above_streams, is_file_at, is_standard_stream};
 use std::fs::{File, Files};
 use std::io::{self, ErrorKind};

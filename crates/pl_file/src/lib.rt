@@ -4,9 +4,9 @@
 //! this system keeps the words of `Desk` on what a stop may leave is a premise.
 #![tactic(auto)]
 
+mod entry;
 mod file_desk;
 mod held_file;
-mod place;
 mod standard_streams;
 mod store_file;
 mod stream_source;

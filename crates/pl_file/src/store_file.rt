@@ -2,8 +2,8 @@
 ghost use Rattle.std.specs.Prelude.{◌≡◌, ◌≤◌, ◌↔◌, false, IfOk, IsErr, IsTrue};
 ghost use Rattle.pl_desk.specs.Desk.{last_offset};
 
+use crate::entry::Entry;
 use crate::held_file::HeldFile;
-use crate::place::Place;
 use crate::standard_streams::is_standard_error;
 use std::fs::{self, File, Files};
 use std::io::{self, ErrorKind};
@@ -18,7 +18,7 @@ const LAST_OFFSET: u64 = (1 << 63) - 1;
 pub struct StoreFile {
     path: String,
     // where the path led when the file was first needed
-    place: Option<Place>,
+    entry: Option<Entry>,
     file: Option<HeldFile>,
     // the file's name in its folder was synced
     is_named: bool,
@@ -41,7 +41,7 @@ impl StoreFile {
     {
         StoreFile {
             path,
-            place: None,
+            entry: None,
             file: None,
             is_named: false,
             is_in_doubt: false,
@@ -134,10 +134,10 @@ impl StoreFile {
             return Ok(());
         };
         file.as_file().sync_all()?;
-        if let Some(place) = &self.place
+        if let Some(entry) = &self.entry
             && !self.is_named
         {
-            place.sync_name()?;
+            entry.sync_name()?;
             self.is_named = true;
         }
         Ok(())
@@ -148,14 +148,14 @@ impl StoreFile {
     fn open(&mut self, rt: &(impl Files<File = File> + AllocGlobal)) -> io::Result<()>
         ensures doubt { self.new ≡ self.old }
     {
-        if self.place.is_some() {
+        if self.entry.is_some() {
             return Ok(());
         }
-        let place = Place::at(rt, &self.path)?;
-        if place.has_file() {
-            self.file = Some(HeldFile::hold(rt, &self.path, place.open(rt)?)?);
+        let entry = Entry::at(rt, &self.path)?;
+        if entry.has_file() {
+            self.file = Some(HeldFile::hold(rt, &self.path, entry.open(rt)?)?);
         }
-        self.place = Some(place);
+        self.entry = Some(entry);
         Ok(())
     }
 
@@ -166,10 +166,10 @@ impl StoreFile {
         if self.file.is_some() {
             return Ok(());
         }
-        let Some(place) = &self.place else {
+        let Some(entry) = &self.entry else {
             return Err(ErrorKind::NotFound.into());
         };
-        self.file = Some(HeldFile::hold(rt, &self.path, place.make(rt)?)?);
+        self.file = Some(HeldFile::hold(rt, &self.path, entry.make(rt)?)?);
         Ok(())
     }
 }

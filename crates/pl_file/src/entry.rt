@@ -19,20 +19,20 @@ const OWNER_ONLY: u32 = 0o600;
 
 /// A name that is no link, and the folder that has it.
 #[derive(Drop)]
-pub struct Place {
+pub struct Entry {
     name: PathBuf,
     folder: File,
     has_file: bool,
 }
 
-impl Place {
+impl Entry {
     /// Where the path leads. The folder is opened here, so that one whose names can't be synced is
     /// an error before the file is read or written. So is anything there but a regular file.
-    pub fn at(rt: &(impl Files<File = File> + AllocGlobal), path: &str) -> io::Result<Place> {
+    pub fn at(rt: &(impl Files<File = File> + AllocGlobal), path: &str) -> io::Result<Entry> {
         let has_file = has_file(rt, path)?;
         let name = behind_links(rt, path)?;
         let folder = File::open(rt, folder_of(name.as_path())?)?;
-        Ok(Place {
+        Ok(Entry {
             name,
             folder: above_streams(folder)?,
             has_file,
