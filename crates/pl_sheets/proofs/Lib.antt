@@ -1,0 +1,5 @@
+mod Bits
+mod Flags
+mod Levels
+mod Listing
+mod PagesLaws

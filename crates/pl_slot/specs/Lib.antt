@@ -1,0 +1,4 @@
+pub mod Slot
+pub mod SlotKind
+pub mod SlotReading
+pub mod SlotWriting
