@@ -143,7 +143,7 @@ fn reads_tag_names(rt: HostRuntime) -> Result<(), Fail> {
 }
 
 // Two names, whether they are spelled alike, and whether they are of one tag.
-const NAMES: &[(&str, &str, bool, bool)] = &[
+const PAIRS: &[(&str, &str, bool, bool)] = &[
     ("news", "news", true, true),
     (" news\t", "news", true, true),
     ("news", "News", false, true),
@@ -156,7 +156,7 @@ const NAMES: &[(&str, &str, bool, bool)] = &[
 #[test]
 fn compares_names(rt: HostRuntime) -> Result<(), Fail> {
     let alloc = rt.alloc();
-    for (one, other, spelling, tag) in NAMES {
+    for (one, other, spelling, tag) in PAIRS {
         let (name, again) = (TagName::read(alloc, one)?, TagName::read(alloc, other)?);
         assert_eq!(rt;
             name.has_same_spelling(&again),
