@@ -1,5 +1,5 @@
--- What the types of a command promise of what it may put into a store: URLs of the store, texts in UTF-8, and names of
--- tags.
+-- What the types of a command promise of what it may put into a store: URLs of the store, texts in
+-- UTF-8, and names of tags.
 use Rattle.std.specs.Prelude.{◌≡◌, ℕ, List, Some, IfSome, IfOk}
 use Rattle.std.specs.List.{All}
 use Rattle.std.specs.Str.{IsUtf8}

@@ -1,6 +1,6 @@
 -- Pages in memory, and which of them have changed.
-use Rattle.std.specs.Prelude.{◌≡◌, ℕ, ◌+◌, ◌*◌, ◌/◌, ◌^◌, ◌<◌, ◌≤◌, Bool, true, false, if◌then◌else◌}
-use Rattle.std.specs.Prelude.{List, [], ◌∷◌, ◌++◌, length, take, drop, map, replicate}
+use Rattle.std.specs.Prelude.{◌≡◌, ℕ, ◌+◌, ◌*◌, ◌/◌, ◌^◌, ◌<◌, ◌≤◌, Bool, true, false}
+use Rattle.std.specs.Prelude.{List, [], ◌∷◌, ◌++◌, length, take, drop, map, replicate, if◌then◌else◌}
 use Rattle.std.specs.Prelude.{bytes_eq, slice_index_or, slice_set}
 use Rattle.std.specs.List.{filter, range_with_len}
 use Rattle.pl_base.specs.Touched.{Change, PageImage, page_size}
@@ -29,7 +29,8 @@ pub record ArePages (pages : Pages) : Type 0 where
   pub gate : has_changed 0 pages ≡ false
   pub some_before : 1 ≤ pages.before
   pub before : pages.before ≤ page_count pages
-  pub added : (page : ℕ) → pages.before ≤ page → page < page_count pages → has_changed page pages ≡ true
+  pub added : (page : ℕ) → pages.before ≤ page → page < page_count pages
+      → has_changed page pages ≡ true
 
 -- where a place of a page lies among all bytes
 abbrev pub place_in : ℕ → ℕ → ℕ
@@ -72,7 +73,8 @@ with_blank pages =
 
 -- a page with what it holds
 abbrev pub image_of : Pages → ℕ → PageImage
-image_of pages page = record { page = page; image = bytes_at (page_size * page) page_size pages.bytes }
+image_of pages page =
+    record { page = page; image = bytes_at (page_size * page) page_size pages.bytes }
 
 -- the pages below a number that have changed, by ascending number
 abbrev pub changed_below : ℕ → Pages → List ℕ

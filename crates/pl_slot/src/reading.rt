@@ -12,9 +12,9 @@ use crate::row::{PAYLOAD_SIZE, SLOT_SIZE, SlotRow};
 use crate::writing::encode;
 use pl_base::{ItemId, ItemKind, Micros, PageId, Transition, VisitId};
 
-/// The row that a slot with these bytes holds. `None` comes exactly where they are those of no row: an
-/// unknown kind or mark, a part of a text that has no byte, more than 120, or another than 0 behind
-/// them, or a byte beside the fields that is not 0.
+/// The row that a slot with these bytes holds. `None` comes exactly where they are those of no row:
+/// an unknown kind or mark, a part of a text that has no byte, more than 120, or another than 0
+/// behind them, or a byte beside the fields that is not 0.
 pub fn decode(bytes: &[u8; SLOT_SIZE]) -> Option<SlotRow>
     ensures row { IfSome result slot.IsSlotRow }
     ensures bytes { IfSome result (λ row. bytes.now ≡ slot.slot_bytes row) }

@@ -10,10 +10,10 @@ pub const SLOT_SIZE: usize = 128;
 /// The bytes of a text that a slot takes.
 pub const PAYLOAD_SIZE: usize = 120;
 
-/// What a slot holds. A `Slot` in it is 0 where it names none, and an id is any number. The rows of a
-/// kind are chained, each with the one before it and the one behind; so are the pages of an origin,
-/// the visits of a page, those that came from a visit, the children of an item, and the items of a
-/// page. A row has the ends of the chains that are its own.
+/// What a slot holds. A `Slot` in it is 0 where it names none, and an id is any number. The rows of
+/// a kind are chained, each with the one before it and the one behind; so are the pages of an
+/// origin, the visits of a page, those that came from a visit, the children of an item, and the
+/// items of a page. A row has the ends of the chains that are its own.
 #[derive(Clone, Copy, Debug, PartialEq, Eq)]
 pub enum SlotRow {
     /// Nothing, with the free slot behind it in the chain of free ones.
@@ -87,8 +87,8 @@ pub enum SlotRow {
         added: Micros,
         modified: Micros,
     },
-    /// A part of a text, before the one in the slot `next`: how many bytes it has, from 1 to 120, and
-    /// these, with 0 behind them.
+    /// A part of a text, before the one in the slot `next`: how many bytes it has, from 1 to 120,
+    /// and these, with 0 behind them.
     Text {
         used: u8,
         next: Slot,

@@ -9,8 +9,8 @@ use crate::SlotKind;
 use crate::bytes::{put_byte, put_eight, put_four, put_payload, put_slots, put_text};
 use crate::row::{SLOT_SIZE, SlotRow};
 
-/// The bytes of a slot that holds this row. Numbers have their lowest byte first, and each byte beside
-/// the fields is 0. A part of a text is written as it is, also one that `decode` refuses.
+/// The bytes of a slot that holds this row. Numbers have their lowest byte first, and each byte
+/// beside the fields is 0. A part of a text is written as it is, also one that `decode` refuses.
 pub fn encode(row: &SlotRow) -> [u8; SLOT_SIZE]
     ensures { result ≡ slot_bytes row.now }
 {
