@@ -1,11 +1,9 @@
 -- The pages that may be offered, as they are gone through.
-use Rattle.std.proofs.Common.{◌≡◌, ◌∙◌, ◌++◌, ◌==◌, ◌&&◌, ◌||◌, Bool, true, false, List, [], ◌∷◌, ℕ, Option, Some, None}
-use Rattle.std.proofs.Common.{ap, arith, if◌then◌else◌, length, map, nat_lt, not, pos, refl, sym}
+use Rattle.std.proofs.Common.{◌≡◌, ◌∙◌, ◌++◌, ◌&&◌, ◌||◌, Bool, true, false, List, [], ◌∷◌, ℕ, Option, Some, None}
+use Rattle.std.proofs.Common.{ap, if◌then◌else◌, map, nat_lt, not, pos, refl, sym}
 use Rattle.std.specs.List.{filter_map, list_all}
-use Rattle.std.specs.Option.{option_map}
 use Rattle.std.specs.Ordering.{int_eq}
 use Rattle.std.proofs.lemmas.List.Elements.{filter_map-append}
-use Rattle.std.proofs.lemmas.Bool.{eqb-true}
 use Rattle.std.proofs.lemmas.List.{map-append}
 use Rattle.pl_base.specs.Fold.{folded}
 use Rattle.pl_base.specs.declared.id.PageId.{PageId}
@@ -15,6 +13,7 @@ use Rattle.pl_base.specs.Marks.{visit_count}
 use Rattle.pl_base.specs.Rows.{IsRight, Kept, KeptPage, mark_of, page_at, store_of}
 use Rattle.pl_base.specs.Tags.{is_bookmarked, is_tagged, tag_text}
 use Rattle.pl_base.specs.Store.{Page, Store}
+use Rattle.pl_base.proofs.ListLaws.{list_all-alike}
 use Rattle.pl_marks.proofs.PageRows.{mark_in, right_mark}
 use Rattle.pl_words.specs.declared.bar_text.Marks.{Marks}
 use Rattle.pl_words.specs.Pieces.{found, in_address}
@@ -67,16 +66,11 @@ word_is store marks p texts boundary word are =
 
 -- ---- all words
 
-all_alike : {X : Type 0} (f g : X → Bool) (xs : List X) → ((x : X) → f x ≡ g x) → list_all f xs ≡ list_all g xs
-all_alike f g [] alike = refl
-all_alike f g (x ∷ xs) alike =
-    ap (λ (b : Bool). b && list_all f xs) (alike x) ∙ ap (λ (b : Bool). g x && b) (all_alike f g xs alike)
-
 all_is : (store : Store) (marks : Marks) (words : List (List ℕ)) (p : Page) (texts : Folded) (boundary : Bool)
     → AreTextsOf store marks p texts
     → list_all (word_in texts marks boundary) words ≡ all_match store marks words boundary p
 all_is store marks words p texts boundary are =
-    all_alike (word_in texts marks boundary) (word_matches store marks boundary p) words
+    list_all-alike (word_in texts marks boundary) (word_matches store marks boundary p) words
     (λ word. word_is store marks p texts boundary word are)
 
 pub tier_is : (store : Store) (marks : Marks) (words : List (List ℕ)) (p : Page) (texts : Folded)
@@ -87,12 +81,6 @@ tier_is store marks words p texts are =
     (all_is store marks words p texts true are)
     ∙ ap (λ (b : Bool). if all_match store marks words true p then Some Boundary else
     if b then Some Anywhere else None) (all_is store marks words p texts false are)
-
--- without a word each page is in the first tier
-pub tier_without : (store : Store) (marks : Marks) (words : List (List ℕ)) (p : Page) → (length words == 0) ≡ true
-    → Some Boundary ≡ tier_of store marks words p
-tier_without store marks [] p none = refl
-tier_without store marks (word ∷ words) p none = absurd (omega (arith, eqb-true (length (word ∷ words)) 0 none))
 
 -- ---- one page more
 
@@ -131,10 +119,6 @@ candidate_is kept id p mark marks right at is =
     (not marks.bookmark || is_bookmarked store p.page.id) (not marks.tag || is_tagged store p.page.id)
 
 -- ---- what joins the others
-
-pub mark_told : (kept : Kept) (id : PageId) (p : KeptPage) (mark : Mark) → page_at kept id ≡ Some p
-    → Some mark ≡ option_map mark_of (page_at kept id) → mark ≡ mark_of p
-mark_told kept id p mark at told = let is : Some mark ≡ Some (mark_of p) = told ∙ ap (option_map mark_of) at in cc
 
 pub one_joins : (kept : Kept) (id : PageId) (p : KeptPage) (mark : Mark) (marks : Marks) (words : List (List ℕ))
     (t : Tier) (ranked : List Ranked) → IsRight kept → page_at kept id ≡ Some p → mark ≡ mark_of p

@@ -12,6 +12,7 @@ use Rattle.pl_base.specs.Expiration.{expired, stale_pages, trimmed, visits_befor
 use Rattle.pl_base.specs.Frecency.{frecency_of}
 use Rattle.pl_base.specs.Removal.{forgotten, visits_left, without_visits}
 use Rattle.pl_base.specs.Store.{Store, Page, Visit, Item, item_id, opening}
+use Rattle.pl_base.proofs.WorkedRows as worked
 
 abbrev day : ℕ → Day
 day n = record { 0 = n }
@@ -24,14 +25,7 @@ page n = record { id = record { 0 = n }; url = []; title = []; typed = false }
 
 -- the visit `id` to page `of`, so many hours after the first moment of 1970
 abbrev visit : ℕ → ℕ → ℕ → Transition → Option VisitId → Visit
-visit id of hours transition source =
-    record {
-      id = visit_id id;
-      page = record { 0 = of };
-      date = record { 0 = hours * 3_600_000_000 };
-      transition = transition;
-      source = source;
-    }
+visit id of hours transition source = worked.visit id of (hours * 3_600_000_000) transition source
 
 -- a bookmark of the page
 abbrev bookmark : ℕ → ℕ → Item

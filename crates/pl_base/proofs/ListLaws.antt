@@ -1,8 +1,8 @@
 -- Facts of lists.
-use Rattle.std.proofs.Common.{Some, find}
+use Rattle.std.proofs.Common.{Some, append_assoc, find}
 use Rattle.std.proofs.Common.{◌≡◌, ◌+◌, ◌<◌, ◌≤◌, ◌++◌, ◌&&◌, ◌||◌, ◌∙◌, ℕ, All, Bool, true, false, List}
 use Rattle.std.proofs.Common.{[], ◌∷◌, ap, arith, count_by, filter, if◌then◌else◌, length, map, refl, subst}
-use Rattle.std.specs.List.{AllByRecursion, AllPairs, list_any, sum_by}
+use Rattle.std.specs.List.{AllByRecursion, AllPairs, list_all, list_any, sum_by}
 use Rattle.std.specs.Option.{IsSome, option_map}
 use Rattle.std.proofs.lemmas.Bool.{or_left, or_right}
 use Rattle.std.proofs.lemmas.List.{get_or-map, length-map}
@@ -51,6 +51,11 @@ sum_by-agree f g (x ∷ xs) agree =
       sum_by-agree f g xs (All-tail (λ y. f y ≡ g y) x xs agree),
     )
 
+pub sum_by-le : {X : Type 0} (f g : X → ℕ) (xs : List X) → ((x : X) → f x ≤ g x) → sum_by f xs ≤ sum_by g xs
+sum_by-le f g [] below = omega arith
+sum_by-le f g (x ∷ xs) below =
+    omega (arith, sum_by-cons f x xs, sum_by-cons g x xs, below x, sum_by-le f g xs below)
+
 pub list_any-map : {X Y : Type 0} (p : Y → Bool) (f : X → Y) (xs : List X)
     → list_any p (map f xs) ≡ list_any (λ x. p (f x)) xs
 list_any-map p f [] = refl
@@ -59,6 +64,38 @@ list_any-map p f (x ∷ xs) = ap (λ b. p (f x) || b) (list_any-map p f xs)
 pub list_any-alike : {X : Type 0} (p q : X → Bool) (xs : List X) → ((x : X) → p x ≡ q x) → list_any p xs ≡ list_any q xs
 list_any-alike p q [] alike = refl
 list_any-alike p q (x ∷ xs) alike = rw (alike x, list_any-alike p q xs alike)
+
+pub list_all-alike : {X : Type 0} (p q : X → Bool) (xs : List X) → ((x : X) → p x ≡ q x) → list_all p xs ≡ list_all q xs
+list_all-alike p q [] alike = refl
+list_all-alike p q (x ∷ xs) alike =
+    ap (λ (b : Bool). b && list_all p xs) (alike x) ∙ ap (λ (b : Bool). q x && b) (list_all-alike p q xs alike)
+
+pub any-or : {X : Type 0} (p q : X → Bool) (xs : List X)
+    → list_any (λ x. p x || q x) xs ≡ (list_any p xs || list_any q xs)
+any-or p q [] = refl
+any-or p q (x ∷ xs) =
+    ap (λ (b : Bool). (p x || q x) || b) (any-or p q xs) ∙ mix (p x) (q x) (list_any p xs) (list_any q xs)
+  where
+    mix : (a b c d : Bool) → ((a || b) || (c || d)) ≡ ((a || c) || (b || d))
+    mix true b c d = refl
+    mix false true true d = refl
+    mix false true false d = refl
+    mix false false c d = refl
+
+pub any-and : {X : Type 0} (p : X → Bool) (b : Bool) (xs : List X) → list_any (λ x. p x && b) xs ≡ (list_any p xs && b)
+any-and p b [] = refl
+any-and p b (x ∷ xs) = ap (λ (c : Bool). (p x && b) || c) (any-and p b xs) ∙ join (p x) b (list_any p xs)
+  where
+    join : (a b c : Bool) → ((a && b) || (c && b)) ≡ ((a || c) && b)
+    join true true c = refl
+    join true false true = refl
+    join true false false = refl
+    join false b c = refl
+
+pub any-where : {X : Type 0} (p q : X → Bool) (xs : List X) → AllByRecursion (λ x. p x ≡ q x) xs
+    → list_any p xs ≡ list_any q xs
+any-where p q [] alike = refl
+any-where p q (x ∷ xs) alike = rw (alike.0, any-where p q xs alike.1)
 
 pub list_any_push : {X : Type 0} (p : X → Bool) (xs : List X) (x : X) → list_any p xs ≡ true
     → list_any p (xs ++ x ∷ []) ≡ true
@@ -111,6 +148,24 @@ all-filter P q (x ∷ xs) all = choose (q x) (all-filter P q xs all.1)
     choose true rest = (all.0, rest)
     choose false rest = rest
 
+pub everyone : {X : Type 0} (P : X → Type 0) (xs : List X) → ((x : X) → P x) → AllByRecursion P xs
+everyone P [] holds = tt
+everyone P (x ∷ xs) holds = (holds x, everyone P xs holds)
+
+pub all_append : {X : Type 0} (P : X → Type 0) (xs ys : List X) → AllByRecursion P xs → AllByRecursion P ys
+    → AllByRecursion P (xs ++ ys)
+all_append P [] ys one two = two
+all_append P (x ∷ xs) ys one two = (one.0, all_append P xs ys one.1 two)
+
+pub all_push : {X : Type 0} (P : X → Type 0) (xs : List X) (x : X) → AllByRecursion P xs → P x
+    → AllByRecursion P (xs ++ x ∷ [])
+all_push P [] x all one = (one, tt)
+all_push P (y ∷ ys) x all one = (all.0, all_push P ys x all.1 one)
+
+pub all_stay : {X : Type 0} (test : X → Bool) (xs : List X) → AllByRecursion (λ x. test x ≡ true) xs → filter test xs ≡ xs
+all_stay test [] all = refl
+all_stay test (x ∷ xs) all = rw (all.0, all_stay test xs all.1) refl
+
 -- ---- what is found
 
 pub find-map : {A B : Type 0} (p : B → Bool) (f : A → B) (xs : List A)
@@ -137,3 +192,12 @@ some_in p (x ∷ xs) found = choose (p x) found (some_in p xs)
         → (b || list_any p xs) ≡ true
     choose true here rest = refl
     choose false here rest = rest here
+
+-- ---- joined lists, grouped from the back
+
+pub regroup_four : {X : Type 0} (a b c d : List X) → ((a ++ b) ++ c) ++ d ≡ a ++ (b ++ (c ++ d))
+regroup_four a b c d = simp append_assoc
+
+pub regroup_seven : {X : Type 0} (a b c d e f g : List X)
+    → (((((a ++ b) ++ c) ++ d) ++ e) ++ f) ++ g ≡ a ++ (b ++ (c ++ (d ++ (e ++ (f ++ g)))))
+regroup_seven a b c d e f g = simp append_assoc

@@ -1,10 +1,10 @@
 -- Look-ups by a number that stands once.
 use Rattle.std.proofs.Common.{◌≡◌, ◌≢◌, ◌<◌, ◌++◌, ◌||◌, ◌==◌, ◌∙◌, ℕ, Bool, true, false, List, [], ◌∷◌}
-use Rattle.std.proofs.Common.{Option, Some, arith, eq-eqb, filter, find, if◌then◌else◌, map, refl, subst, suc, sym}
+use Rattle.std.proofs.Common.{All, Option, Some, ap, arith, eq-eqb, filter, find, if◌then◌else◌, map, refl, subst, suc, sym}
 use Rattle.std.specs.List.{AllByRecursion, AllPairs, list_any}
 use Rattle.std.specs.Option.{IsSome, option_map}
-use Rattle.std.proofs.lemmas.Bool.{eqb-true, false≢true, ne_eqb, or_parts}
-use Rattle.std.proofs.lemmas.List.Elements.{recursion_from_All}
+use Rattle.std.proofs.lemmas.Bool.{eqb-true, false≢true, ne_eqb, or_left, or_parts, or_right}
+use Rattle.std.proofs.lemmas.List.Elements.{All-from_recursion, recursion_from_All}
 use Rattle.pl_base.proofs.ListLaws.{from_map, weaker}
 
 -- ---- what holds of each
@@ -19,6 +19,14 @@ pub front : {X : Type 0} (P : X → Type 0) (xs ys : List X) → AllByRecursion 
 front P [] ys all = tt
 front P (x ∷ xs) ys all = (all.0, front P xs ys all.1)
 
+pub rest_of : {X : Type 0} (P : X → Type 0) (xs ys : List X) → AllByRecursion P (xs ++ ys) → AllByRecursion P ys
+rest_of P [] ys all = all
+rest_of P (x ∷ xs) ys all = rest_of P xs ys all.1
+
+pub part : {X : Type 0} (P : X → Type 0) (front : List X) (x : X) (rest : List X)
+    → AllByRecursion P (front ++ x ∷ rest) → P x
+part P front x rest all = (rest_of P front (x ∷ rest) all).0
+
 -- of those that pass a test
 pub where_passes : {X : Type 0} (P : X → Type 0) (test : X → Bool) (xs : List X)
     → AllByRecursion (λ x. test x ≡ true → P x) xs → AllByRecursion P (filter test xs)
@@ -30,6 +38,17 @@ where_passes P test (x ∷ xs) all = choose (test x) refl (where_passes P test x
     choose true is rest = (all.0 is, rest)
     choose false is rest = rest
 
+pub where_passed : {X : Type 0} (P : X → Type 0) (test : X → Bool) (xs : List X) → AllByRecursion P (filter test xs)
+    → AllByRecursion (λ x. test x ≡ true → P x) xs
+where_passed P test [] all = tt
+where_passed P test (x ∷ xs) all = choose (test x) refl all (where_passed P test xs)
+  where
+    choose : (b : Bool) → test x ≡ b → AllByRecursion P (if b then x ∷ filter test xs else filter test xs)
+        → (AllByRecursion P (filter test xs) → AllByRecursion (λ y. test y ≡ true → P y) xs)
+        → AllByRecursion (λ y. test y ≡ true → P y) (x ∷ xs)
+    choose true is each rest = (λ _. each.0, rest each.1)
+    choose false is each rest = (λ passes. absurd (false≢true (sym is ∙ passes)), rest each)
+
 -- none passes a test that fails of all together
 pub none_pass : {X : Type 0} (test : X → Bool) (xs : List X) → list_any test xs ≡ false
     → AllByRecursion (λ x. test x ≡ false) xs
@@ -38,7 +57,14 @@ none_pass test (x ∷ xs) none =
     let parts : (test x ≡ false) × (list_any test xs ≡ false) = or_parts (test x) (list_any test xs) none in
     (parts.0, none_pass test xs parts.1)
 
+pub none_at : {X : Type 0} (test : X → Bool) (xs : List X) → list_any test xs ≡ false → All (λ x. test x ≡ false) xs
+none_at test xs none = All-from_recursion (λ x. test x ≡ false) xs (none_pass test xs none)
+
 -- ---- what is found
+
+pub find-alike : {X : Type 0} (p q : X → Bool) (xs : List X) → ((x : X) → p x ≡ q x) → find p xs ≡ find q xs
+find-alike p q [] alike = refl
+find-alike p q (x ∷ xs) alike = rw (alike x, find-alike p q xs alike) refl
 
 pub found_holds : {X : Type 0} (P : X → Type 0) (test : X → Bool) (xs : List X) (x : X) → AllByRecursion P xs
     → find test xs ≡ Some x → P x
@@ -71,6 +97,19 @@ found_some test (y ∷ ys) x found = choose (test y) found (found_some test ys x
         → (find test ys ≡ Some x → list_any test ys ≡ true) → (b || list_any test ys) ≡ true
     choose true here rest = refl
     choose false here rest = rest here
+
+-- what is found passes another test
+pub found_any : {X : Type 0} (p q : X → Bool) (xs : List X) (x : X) → find p xs ≡ Some x → q x ≡ true
+    → list_any q xs ≡ true
+found_any p q [] x found passes = absurd (cc)
+found_any {X} p q (y ∷ ys) x found passes = choose (p y) found (λ h. found_any p q ys x h passes)
+  where
+    choose : (b : Bool) → (if b then Some y else find p ys) ≡ Some x
+        → (find p ys ≡ Some x → list_any q ys ≡ true) → (q y || list_any q ys) ≡ true
+    choose true here rest =
+        let same : y ≡ x = cc in
+        or_left (q y) (list_any q ys) (ap q same ∙ passes)
+    choose false here rest = or_right (q y) (list_any q ys) (rest here)
 
 -- one behind is not found before one in front
 pub find_push : {X : Type 0} (test : X → Bool) (xs ys : List X) → list_any test xs ≡ true

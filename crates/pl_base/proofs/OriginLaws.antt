@@ -79,8 +79,8 @@ same_text : (url : List ℕ) (o : Option (List ℕ)) → is_text url o ≡ true 
 same_text url None own = absurd (cc)
 same_text url (Some other) own = ap (λ (text : List ℕ). Some text) ((bytes_eq-Decides other url).0 own)
 
-pub canon-store_url : (url : List ℕ) → is_store_url url ≡ true → canon url ≡ Some url
-canon-store_url url own =
+pub store_url_own : (url : List ℕ) → is_store_url url ≡ true → canon url ≡ Some url
+store_url_own url own =
     let text : serialized (record_of url) ≡ Some url =
     same_text url (serialized (record_of url))
     (and_parts (is_text url (serialized (record_of url))) (nat_le (length url) longest_url) own).0 in
@@ -88,15 +88,19 @@ canon-store_url url own =
     ap (λ b. if b then if_store_url (serialized (record_of url)) else None) (lt-ltb (length url) text_limit short)
     ∙ ap if_store_url text ∙ ap (λ b. if b then Some url else None) own
 
-of_store : (short : Bool) (url : List ℕ) (o : Option (List ℕ)) → (if short then if_store_url o else None) ≡ Some url
+pub store_url_given : (text : Option (List ℕ)) (url : List ℕ) → if_store_url text ≡ Some url
     → is_store_url url ≡ true
-of_store true url None is = absurd (cc)
-of_store true url (Some other) is = from (is_store_url other) is refl
+store_url_given None url is = absurd (cc)
+store_url_given (Some other) url is = from (is_store_url other) is refl
   where
     from : (own : Bool) → (if own then Some other else None) ≡ Some url → is_store_url other ≡ own
         → is_store_url url ≡ true
     from true same own = let one : other ≡ url = cc in ap is_store_url (sym one) ∙ own
     from false same own = absurd (cc)
+
+of_store : (short : Bool) (url : List ℕ) (o : Option (List ℕ)) → (if short then if_store_url o else None) ≡ Some url
+    → is_store_url url ≡ true
+of_store true url o is = store_url_given o url is
 of_store false url o is = absurd (cc)
 
 pub store_url-from_canon : (text url : List ℕ) → canon text ≡ Some url → is_store_url url ≡ true

@@ -26,7 +26,7 @@ weight_of-le : (age : ℤ) → weight_of age ≤ 100
 weight_of-le (negsuc n) = omega arith
 weight_of-le (pos days) = grind (arith, nat_tests)
 
-points-le : (day : Day) (date : Micros) (bonus : ℕ) → bonus ≤ greatest_bonus → points day date bonus ≤ 207_500
+pub points-le : (day : Day) (date : Micros) (bonus : ℕ) → bonus ≤ greatest_bonus → points day date bonus ≤ 207_500
 points-le day date bonus small = grind (arith, weight_of-le (age day date))
 
 rounded-le : (a b c : ℕ) → 0 < b → a ≤ c * b → rounded_up a b ≤ c

@@ -4,13 +4,14 @@ use Rattle.std.proofs.Common.{◌∙◌, leb, take}
 use Rattle.std.proofs.Common.{length, refl, slice_index, subst, suc, sym, zero}
 use Rattle.std.proofs.lemmas.Bool.{cases_order}
 use Rattle.std.proofs.lemmas.Bool.Decides.{nat_tests}
+use Rattle.std.proofs.lemmas.List.{length-take}
 use Rattle.std.specs.Fmt.{is_char_start}
 use Rattle.std.specs.Fmt.Cut.{floor_char_boundary}
 use Rattle.std.specs.Str.{IsCharBoundary}
 use Rattle.pl_base.specs.Good.{longest_title}
 use Rattle.pl_base.specs.Title.{cut_title}
 
-starts : (b : ℕ) → is_char_start b ≡ true → 128 ≤ b → 192 ≤ b
+pub starts : (b : ℕ) → is_char_start b ≡ true → 128 ≤ b → 192 ≤ b
 starts b is high = grind (arith, nat_tests)
 
 goes_on : (b : ℕ) → is_char_start b ≡ false → (128 ≤ b) × (b < 192)
@@ -64,3 +65,26 @@ cut_at text n long is =
     ∙ sym (ap (λ (b : Bool). if b then text else take (floor_char_boundary text longest_title) text)
     (longer (length text) longest_title long)
     ∙ ap (λ (m : ℕ). take m text) is)
+
+floor-le : (text : List ℕ) (i : ℕ) → floor_char_boundary text i ≤ i
+unfolding floor_char_boundary
+floor-le text zero = omega arith
+floor-le text (suc i) = choose (is_char_start (slice_index text (suc i))) (floor-le text i)
+  where
+    choose : (b : Bool) → floor_char_boundary text i ≤ i → (if b then suc i else floor_char_boundary text i) ≤ suc i
+    choose true rest = omega arith
+    choose false rest = omega (arith, rest)
+
+-- a title that is cut is short
+pub cut_title-le : (text : List ℕ) → length (cut_title text) ≤ longest_title
+cut_title-le text = choose (leb (length text) longest_title) refl
+  where
+    choose : (b : Bool) → leb (length text) longest_title ≡ b
+        → length (if b then text else take (floor_char_boundary text longest_title) text) ≤ longest_title
+    choose true few = grind (arith, nat_tests)
+    choose false many =
+        omega (
+          arith,
+          length-take (floor_char_boundary text longest_title) text,
+          floor-le text longest_title,
+        )

@@ -21,7 +21,7 @@ abbrev page : ℕ → Page
 page n = record { id = record { 0 = n }; url = []; title = []; typed = false }
 
 -- the visit `id` to page `of`
-abbrev visit : ℕ → ℕ → ℕ → Transition → Option VisitId → Visit
+abbrev pub visit : ℕ → ℕ → ℕ → Transition → Option VisitId → Visit
 visit id of date transition source =
     record {
       id = record { 0 = id };

@@ -20,9 +20,9 @@ ghost use Rattle.pl_base.specs.Rows.{has_origin, total_at, with_total, without_v
 ghost use Rattle.pl_base.specs.Store.{Store, Visit};
 ghost use Rattle.pl_base.specs.Touched.{IsAtMostMore, IsWithin, MayDiffer, bytes_before, changed};
 ghost use Rattle.pl_base.specs.Touched.{page_numbers, row_pages};
-ghost use Rattle.pl_base.specs.Tree.{IsFolder, children_of, first_item, has_item, item_at, item_row};
-ghost use Rattle.pl_base.specs.Tree.{item_title, last_item, lies_in, moved, parent_of, redated};
-ghost use Rattle.pl_base.specs.Tree.{reference_behind, references, removed, retitled};
+ghost use Rattle.pl_base.specs.Tree.{IsFolder, children_of, first_item, has_item, item_at};
+ghost use Rattle.pl_base.specs.Tree.{item_row, item_title, last_item, lies_in, moved, parent_of};
+ghost use Rattle.pl_base.specs.Tree.{redated, reference_behind, references, removed, retitled};
 ghost use Rattle.pl_base.specs.Tree.{sibling_behind};
 
 use crate::{
@@ -357,5 +357,6 @@ pub trait Rows {
         → AreTargets (store_of (kept rows)) source (targets rows source) };
 
     /// The bytes stand for a good store whose marks and totals are right.
-    ghost stands: { (rows : Self) → IsSound (kept rows) → form (bytes rows) (store_of (kept rows)) };
+    ghost stands: { (rows : Self) → IsSound (kept rows)
+        → form (bytes rows) (store_of (kept rows)) };
 }

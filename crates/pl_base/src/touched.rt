@@ -1,5 +1,5 @@
-ghost use Rattle.std.specs.Prelude.{◌≡◌, ◌<◌, ◌≤◌, [], ◌∷◌, ◌++◌, length};
-ghost use Rattle.std.specs.Prelude.{map, slice_index, OnOk, OnErr, true};
+ghost use Rattle.std.specs.Prelude.{◌≡◌, ◌<◌, [], ◌∷◌, ◌++◌, length};
+ghost use Rattle.std.specs.Prelude.{slice_index, OnOk, OnErr, true};
 ghost use Rattle.std.specs.List.{slice_index_or};
 ghost use Rattle.pl_base.specs.Touched.{ascends_above, page_images, page_numbers};
 ghost use Rattle.pl_base.specs.Touched.{page_size, with_one_more, AreImages};

@@ -40,22 +40,8 @@ use Rattle.pl_check.proofs.RootTests.{root-from, root-to, root_there, top-from, 
 use Rattle.pl_check.proofs.TagTests.{tags-from, tags-to}
 use Rattle.pl_check.proofs.ListTests.{all_pass, pass_all}
 use Rattle.pl_base.proofs.ListLaws.{found_in, some_in}
-
--- ---- tests of lists
-
-none_of_two : (a b : Bool) → (a || b) ≡ false → (a ≡ false) × (b ≡ false)
-none_of_two true b h = absurd (cc)
-none_of_two false b h = (refl, h)
-
-pub none_pass : {X : Type 0} (p : X → Bool) (xs : List X) → list_any p xs ≡ false → All (λ x. p x ≡ false) xs
-none_pass p [] none = All-nil _
-none_pass p (x ∷ xs) none =
-    let parts = none_of_two (p x) (list_any p xs) none in
-    All-cons (λ y. p y ≡ false) x xs parts.0 (none_pass p xs parts.1)
-
-pub none_by : (b : Bool) → (b ≡ true → ⊥) → b ≡ false
-none_by true h = absurd (h refl)
-none_by false h = refl
+use Rattle.pl_base.proofs.LookUps.{none_at}
+use Rattle.pl_base.proofs.Truths.{no_test}
 
 -- ---- ids
 
@@ -130,7 +116,7 @@ own_urls-to : (pages : List StoredPage) → have_own_urls pages ≡ true
 own_urls-to [] h = pairs_nil (λ (p q : StoredPage). p.url ≢ q.url)
 own_urls-to (p ∷ pages) h =
     let parts = and_parts (not (list_any (λ (q : StoredPage). bytes_eq q.url p.url) pages)) (have_own_urls pages) h in
-    let none = none_pass (λ (q : StoredPage). bytes_eq q.url p.url) pages (not-true _ parts.0) in
+    let none = none_at (λ (q : StoredPage). bytes_eq q.url p.url) pages (not-true _ parts.0) in
     pairs_cons (λ (p q : StoredPage). p.url ≢ q.url) p pages
     (λ k d within same. true≢false
     (sym ((bytes_eq-Decides (get_or pages k d).url p.url).1 (sym same)) ∙ none k d within))
@@ -141,7 +127,7 @@ own_urls-from : (pages : List StoredPage) → AllPairs (λ (p q : StoredPage). p
 own_urls-from [] h = refl
 own_urls-from (p ∷ pages) h =
     and_from (not (list_any (λ (q : StoredPage). bytes_eq q.url p.url) pages)) (have_own_urls pages)
-    (not_from_false _ (none_by _ (λ some.
+    (not_from_false _ (no_test _ (λ some.
     let at = Any-from_list_any (λ (q : StoredPage). bytes_eq q.url p.url) pages some in
     h 0 (suc at.0) at.1 (omega arith) (omega (arith, at.2))
     (sym (ap (λ (q : StoredPage). q.url) at.3 ∙ (bytes_eq-Decides at.1.url p.url).0 at.4)))))
@@ -168,7 +154,7 @@ typed-to : (id : PageId) (t : Bool) (visits : List StoredVisit)
     → All (λ (v : StoredVisit). IsTypedBy id t (visit_of v)) visits
 typed-to id true visits h k d within page typed = refl
 typed-to id false visits h k d within page typed =
-    let none = none_pass (is_typed_visit id) visits (not-true _ h) in
+    let none = none_at (is_typed_visit id) visits (not-true _ h) in
     let passes : is_typed_visit id (get_or visits k d) ≡ true =
     and_from ((get_or visits k d).page.0 == id.0) (is_typed (get_or visits k d).transition)
     (eq-eqb _ _ (ap (λ (p : PageId). p.0) page)) (ap is_typed typed) in
@@ -179,7 +165,7 @@ typed-from : (id : PageId) (t : Bool) (visits : List StoredVisit)
     → (t || not (list_any (is_typed_visit id) visits)) ≡ true
 typed-from id true visits h = refl
 typed-from id false visits h =
-    not_from_false _ (none_by _ (λ some.
+    not_from_false _ (no_test _ (λ some.
     let at = Any-from_list_any (is_typed_visit id) visits some in
     let parts = and_parts (at.1.page.0 == id.0) (is_typed at.1.transition) at.4 in
     let typed : IsTypedBy id false (visit_of at.1) =

@@ -25,6 +25,7 @@ use Rattle.pl_stored.specs.declared.stored.StoredPage.{StoredPage}
 use Rattle.pl_stored.specs.Stored.{IsStoredItem, Stored, stored_page, stored_store}
 use Rattle.pl_check.specs.Items.{AreReferences, has_own_page, is_bookmark, is_folder, is_good_item}
 use Rattle.pl_check.specs.Items.{referenced_pages}
+use Rattle.pl_base.proofs.ItemLookUps.{folder_kind}
 use Rattle.pl_base.proofs.ListLaws.{list_any-map}
 
 -- ---- pages
@@ -71,11 +72,6 @@ bookmark_kind Bookmark h = refl
 bookmark_kind Folder h = absurd (false≢true h)
 bookmark_kind Separator h = absurd (false≢true h)
 
-pub folder_kind : (k : ItemKind) → is_folder k ≡ true → k ≡ Folder
-folder_kind Folder h = refl
-folder_kind Bookmark h = absurd (false≢true h)
-folder_kind Separator h = absurd (false≢true h)
-
 -- the page is there
 abbrev IsThere : List StoredPage → PageId → Type 0
 IsThere pages id = list_any (λ (p : StoredPage). p.id.0 == id.0) pages ≡ true
@@ -106,7 +102,8 @@ not_empty x xs = ne_eqb (length (x ∷ xs)) 0 (λ same. omega (arith, same))
 folder-to : (ids : List ItemId) (kind : ItemKind) → ((length ids == 0) || is_folder kind) ≡ true → ids ≢ []
     → kind ≡ Folder
 folder-to [] kind h some = absurd (some refl)
-folder-to (id ∷ ids) kind h some = folder_kind kind (sym (ap (λ b. b || is_folder kind) (not_empty id ids)) ∙ h)
+folder-to (id ∷ ids) kind h some =
+    folder_kind is_folder refl refl kind (sym (ap (λ b. b || is_folder kind) (not_empty id ids)) ∙ h)
 
 folder-from : (ids : List ItemId) (kind : ItemKind) → (ids ≢ [] → kind ≡ Folder)
     → ((length ids == 0) || is_folder kind) ≡ true

@@ -18,6 +18,7 @@ use Rattle.pl_base.specs.Live.{live_slots, origin_count, slot_limit}
 use Rattle.pl_base.specs.Store.{Page, Store}
 use Rattle.pl_base.specs.Totals.{Origin, Scored, is_origin, most_share, scored_pages, share, total_of}
 use Rattle.pl_base.proofs.SmallFrecencies.{small_frecency}
+use Rattle.pl_base.proofs.Truths.{same_tests}
 use Rattle.pl_stored.specs.declared.stored.StoredPage.{StoredPage}
 use Rattle.pl_stored.specs.Stored.{Stored, stored_page, stored_store}
 use Rattle.pl_check.specs.declared.pages.AssessedPage.{AssessedPage}
@@ -181,16 +182,10 @@ totals_push pages p origins sum some last is = same_lists new (totals_by (pages 
 
 -- ---- the totals of the definition
 
-true_both : (a b : Bool) → (a ≡ true → b ≡ true) → (b ≡ true → a ≡ true) → a ≡ b
-true_both true true f g = refl
-true_both false false f g = refl
-true_both true false f g = sym (f refl)
-true_both false true f g = g refl
-
 origin_where : (keys : List Origin) (origin : Slot) (name : ℕ) (key own : Origin) → AllPairs (λ a b. a ≢ b) keys
     → IsNamed keys origin.0 own → IsNamed keys name key → is_origin own key ≡ (origin.0 == name)
 origin_where keys origin name key own distinct first second =
-    true_both (is_origin own key) (origin.0 == name)
+    same_tests (is_origin own key) (origin.0 == name)
     (λ same.
     let parts = and_parts (bytes_eq own.0 key.0) (bytes_eq own.1 key.1) same in
     let left : own.0 ≡ key.0 = (bytes_eq-Decides own.0 key.0).0 parts.0 in

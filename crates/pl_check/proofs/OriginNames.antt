@@ -16,7 +16,7 @@ use Rattle.pl_link.specs.declared.parts.Parts.{Parts}
 use Rattle.pl_base.specs.Totals.{Origin}
 use Rattle.pl_check.specs.Origins.{AreNamed, HasName, IsNamed, NamedUrl, Names, key_of}
 use Rattle.pl_base.proofs.ListLaws.{list_any-map, list_any_last, list_any_push}
-use Rattle.pl_check.proofs.GoodRows.{none_by}
+use Rattle.pl_base.proofs.Truths.{no_test}
 
 abbrev pub is_same : Parts → Parts → Bool
 is_same parts other = bytes_eq other.prefix parts.prefix && bytes_eq other.host parts.host
@@ -197,7 +197,7 @@ not_seen : (keys : List Origin) (key : Origin) (url : List ℕ) (pages : List Na
     → All (λ k. k ≢ key) keys → origin_of_url url ≡ Some key
     → list_any (same_origin url) (map (λ (q : NamedUrl). q.url) pages) ≡ false
 not_seen keys key url pages h new own =
-    none_by (list_any (same_origin url) (map (λ (q : NamedUrl). q.url) pages)) (λ some.
+    no_test (list_any (same_origin url) (map (λ (q : NamedUrl). q.url) pages)) (λ some.
     let at =
     Any-from_list_any (λ (q : NamedUrl). same_origin url q.url) pages
     (sym (list_any-map (same_origin url) (λ (q : NamedUrl). q.url) pages) ∙ some) in
@@ -255,14 +255,4 @@ named_push old new key p pages before h own =
       distinct = distinct_more old new key p.origin.0 h before.distinct;
       used = used_more old new key p pages h before.used;
       counted = counted_after old new key p pages h before own;
-    }
-
-pub named_nil : AreNamed [] []
-named_nil =
-    record {
-      named = All-nil _;
-      distinct = λ i j d before within. absurd (omega arith);
-      used =
-          λ n some last. absurd (omega arith);
-      counted = refl;
     }

@@ -1,6 +1,6 @@
 -- The tests of the six roots pass exactly where they stand as they stood at first.
 use Rattle.std.proofs.Common.{◌≡◌, ◌∙◌, ◌==◌, ℕ, Bool, true, false, List, [], ◌∷◌, Option, Some, None}
-use Rattle.std.proofs.Common.{ap, find, if◌then◌else◌, length, refl, subst, sym}
+use Rattle.std.proofs.Common.{ap, length, refl, subst, sym}
 use Rattle.std.specs.Option.{IsSome, IsSomeAnd, is_none}
 use Rattle.std.proofs.lemmas.Bool.{and_parts, eqb-true, false≢true}
 use Rattle.pl_base.specs.declared.date.Micros.{Micros}
@@ -12,24 +12,10 @@ use Rattle.pl_base.specs.Store.{Item, item_id, root_folder, top_folders}
 use Rattle.pl_base.specs.Tree.{has_item, item_at}
 use Rattle.pl_check.specs.Items.{are_top_folders, has_root, has_top_folder, is_folder, is_plain_folder, is_root}
 use Rattle.pl_check.specs.Items.{passes}
-use Rattle.pl_check.proofs.ItemTests.{folder_kind, not_empty}
+use Rattle.pl_base.proofs.ItemLookUps.{folder_kind}
 use Rattle.pl_base.proofs.ListLaws.{some_in}
-
--- what was found passes the test
-pub found_passes : {X : Type 0} (p : X → Bool) (xs : List X) (x : X) → find p xs ≡ Some x → p x ≡ true
-found_passes p [] x found = absurd (cc)
-found_passes p (y ∷ ys) x found = choose (p y) refl found (found_passes p ys x)
-  where
-    choose : (b : Bool) → p y ≡ b → (if b then Some y else find p ys) ≡ Some x → (find p ys ≡ Some x → p x ≡ true)
-        → p x ≡ true
-    choose true here found rest =
-        let same : y ≡ x = cc in
-        ap p (sym same) ∙ here
-    choose false here found rest = rest found
-
-pub empty : {X : Type 0} (xs : List X) → (length xs == 0) ≡ true → xs ≡ []
-empty [] h = refl
-empty (x ∷ xs) h = absurd (false≢true (sym (not_empty x xs) ∙ h))
+use Rattle.pl_base.proofs.LookUps.{found_passes}
+use Rattle.pl_base.proofs.Truths.{no_length}
 
 none : {X : Type 0} (o : Option X) → is_none o ≡ true → o ≡ None
 none None h = refl
@@ -48,8 +34,9 @@ plain i n id h =
     let fourth = and_parts _ (i.added.0 == 0) last.0 in
     let third = and_parts _ (is_none i.page) fourth.0 in
     let second = and_parts (is_folder i.kind) (length i.title == 0) third.0 in
-    alike i.id i.kind i.title i.page i.added i.modified (id_is i.id n id) (folder_kind i.kind second.0)
-    (empty i.title second.1) (none i.page third.1) (first_moment i.added fourth.1) (first_moment i.modified last.1)
+    alike i.id i.kind i.title i.page i.added i.modified (id_is i.id n id)
+    (folder_kind is_folder refl refl i.kind second.0)
+    (no_length i.title second.1) (none i.page third.1) (first_moment i.added fourth.1) (first_moment i.modified last.1)
   where
     alike : (id : ItemId) (kind : ItemKind) (title : List ℕ) (page : Option PageId) (added modified : Micros)
         → id ≡ item_id n → kind ≡ Folder → title ≡ [] → page ≡ None → added ≡ record { 0 = 0 }

@@ -1,25 +1,15 @@
 -- URLs and titles that a file's rows hold.
 use Rattle.std.proofs.Common.{◌≡◌, ℕ, ◌+◌, ◌*◌, ◌≤◌, All, Bool, true, false, List, Option, Some}
-use Rattle.std.proofs.Common.{None, arith, get_or, if◌then◌else◌, length, nat_lt, refl, subst}
+use Rattle.std.proofs.Common.{None, arith, get_or, if◌then◌else◌, length, nat_lt}
 use Rattle.std.specs.List.{sum_by}
 use Rattle.std.proofs.lemmas.List.Sums.{sum_by-le}
 use Rattle.pl_base.specs.Address.{if_store_url, is_store_url, record_of, serialized, text_limit}
 use Rattle.pl_base.specs.Live.{chunks}
 use Rattle.pl_base.specs.Store.{Item}
-use Rattle.pl_base.proofs.OriginLaws.{store_url-fits}
+use Rattle.pl_base.proofs.OriginLaws.{store_url-fits, store_url_given}
 use Rattle.pl_stored.specs.declared.stored.StoredPage.{StoredPage}
 use Rattle.pl_stored.specs.Fits.{IsUrl}
 use Rattle.pl_stored.specs.Stored.{AreStored, IsStoredPage, Stored}
-
-kept : (b : Bool) (v u : List ℕ) → is_store_url v ≡ b → (if b then Some v else None) ≡ Some u → is_store_url u ≡ true
-kept true v u is h =
-    let same : v ≡ u = cc in
-    subst (λ (w : List ℕ). is_store_url w ≡ true) same is
-kept false v u is h = absurd (cc)
-
-store_url_if : (o : Option (List ℕ)) (u : List ℕ) → if_store_url o ≡ Some u → is_store_url u ≡ true
-store_url_if None u h = absurd (cc)
-store_url_if (Some v) u h = kept (is_store_url v) v u refl h
 
 some_if : (b : Bool) (o : Option (List ℕ)) (u : List ℕ) → (if b then o else None) ≡ Some u → o ≡ Some u
 some_if true o u h = h
@@ -27,7 +17,7 @@ some_if false o u h = absurd (cc)
 
 pub store_url-is : (url : List ℕ) → IsUrl url → is_store_url url ≡ true
 store_url-is url one =
-    store_url_if (serialized (record_of url)) url
+    store_url_given (serialized (record_of url)) url
     (some_if (nat_lt (length url) text_limit) (if_store_url (serialized (record_of url))) url one.1)
 
 chunks-le : (p : StoredPage) → IsStoredPage p → chunks p.url + chunks p.title ≤ 582

@@ -18,8 +18,10 @@ use Rattle.pl_check.specs.Items.{is_bookmark, item_ids}
 use Rattle.pl_check.specs.Tags.{AreDistinct, HaveGoodTags, IsGoodTag, is_tag_entry, number_of}
 use Rattle.pl_base.proofs.IdsLaws.{same_page}
 use Rattle.pl_base.proofs.ListLaws.{AllPairs-from_map, AllPairs-map}
+use Rattle.pl_base.proofs.LookUps.{found_passes}
+use Rattle.pl_base.proofs.Truths.{no_length}
 use Rattle.pl_check.proofs.ItemTests.{bookmark_kind}
-use Rattle.pl_check.proofs.RootTests.{empty, found_passes, id_is}
+use Rattle.pl_check.proofs.RootTests.{id_is}
 use Rattle.pl_check.proofs.ListTests.{all_pass, pass_all}
 
 -- ---- children are items
@@ -79,7 +81,7 @@ distinct_ids items h =
 entry-to : (i : Item) → is_tag_entry i ≡ true → (i.kind ≡ Bookmark) × (i.title ≡ [])
 entry-to i h =
     let parts = and_parts (is_bookmark i.kind) (length i.title == 0) h in
-    (bookmark_kind i.kind parts.0, empty i.title parts.1)
+    (bookmark_kind i.kind parts.0, no_length i.title parts.1)
 
 entry-from : (i : Item) → (i.kind ≡ Bookmark) × (i.title ≡ []) → is_tag_entry i ≡ true
 entry-from i h =

@@ -15,6 +15,7 @@ use Rattle.pl_base.specs.Fold.{folded}
 use Rattle.pl_base.specs.Marks.{is_hidden, visit_count}
 use Rattle.pl_base.specs.Store.{Page, Store}
 use Rattle.pl_base.specs.Tags.{is_bookmarked}
+use Rattle.pl_base.proofs.ListLaws.{list_all-alike}
 use Rattle.pl_words.specs.Pieces.{in_address, occurs, searched}
 use Rattle.pl_place.specs.declared.query.Query.{Query}
 use Rattle.pl_conditions.specs.declared.conditions.words.PageTexts.{PageTexts}
@@ -22,11 +23,6 @@ use Rattle.pl_conditions.specs.AskedParts.{AreTextsOf, are_among, is_among, is_c
 use Rattle.pl_conditions.specs.Conditions.{has_tags_asked, has_word, is_at_least, is_at_most, is_in_domain, is_uri}
 use Rattle.pl_conditions.specs.Conditions.{has_mark_in, has_tag_named, has_transitions, history_holds}
 use Rattle.pl_conditions.specs.Conditions.{page_holds, words_asked}
-
-pub list_all-alike : {X : Type 0} (p q : X → Bool) (xs : List X) → ((x : X) → p x ≡ q x) → list_all p xs ≡ list_all q xs
-list_all-alike p q [] alike = refl
-list_all-alike p q (x ∷ xs) alike =
-    ap (λ (b : Bool). b && list_all p xs) (alike x) ∙ ap (λ (b : Bool). q x && b) (list_all-alike p q xs alike)
 
 -- a word stands in a URL as it is searched
 pub in_searched : (url prefix text : List ℕ) → IsOkAnd (record_of url) (λ found. prefix ≡ address.prefix found)

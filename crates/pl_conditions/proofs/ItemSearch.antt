@@ -14,11 +14,12 @@ use Rattle.pl_base.specs.Tags.{is_tag_entry}
 use Rattle.pl_base.specs.Tree.{is_page, item_at}
 use Rattle.pl_base.specs.View.{bookmarks_of}
 use Rattle.pl_base.proofs.LookUps.{found_passes}
-use Rattle.pl_base.proofs.OneParent.{same_item}
+use Rattle.pl_base.proofs.ItemLookUps.{same_item}
+use Rattle.pl_base.proofs.PagesRun.{there}
+use Rattle.pl_base.proofs.ReferencesRun.{having, item_names}
+use Rattle.pl_base.proofs.Walk.{StandsAt, Walk, ends}
 use Rattle.pl_marks.specs.TagFolders.{tag_folder}
-use Rattle.pl_marks.proofs.ItemWalk.{IsItemHere, ItemWalk, having, walk_ends}
 use Rattle.pl_marks.proofs.PageTags.{outside_is}
-use Rattle.pl_marks.proofs.PageWalk.{there}
 use Rattle.pl_conditions.specs.AskedParts.{is_mark_in}
 use Rattle.pl_conditions.specs.Conditions.{is_in_parents}
 
@@ -63,19 +64,21 @@ marks_in kept page parents =
 
 -- a bookmark of the page is in a folder
 pub mark_here : (kept : Kept) (page : PageId) (parents : List ItemId) (P : List Item → Type 0) (id : ItemId)
-    → (w : IsItemHere kept page P id) → is_mark_in (store_of kept) parents w.item ≡ true
+    → (w : StandsAt item_names (having kept.items page) P id) → is_mark_in (store_of kept) parents w.element ≡ true
     → true ≡ list_any (is_in_parents (store_of kept) parents) (bookmarks_of (store_of kept) page)
 mark_here kept page parents P id w is =
     sym (ap (list_any (is_mark_in (store_of kept) parents)) w.whole
-    ∙ there (is_mark_in (store_of kept) parents) w.front w.item w.rest is)
+    ∙ there (is_mark_in (store_of kept) parents) w.front w.element w.rest is)
     ∙ marks_in kept page parents
 
 -- or none is
 pub no_mark : (kept : Kept) (page : PageId) (parents : List ItemId) (next : Option ItemId)
-    → ItemWalk kept page (NonePasses (is_mark_in (store_of kept) parents)) next → ((id : ItemId) → next ≢ Some id)
+    → Walk item_names (having kept.items page) (NonePasses (is_mark_in (store_of kept) parents)) next →
+    ((id : ItemId) → next ≢ Some id)
     → false ≡ list_any (is_in_parents (store_of kept) parents) (bookmarks_of (store_of kept) page)
 no_mark kept page parents next w none =
-    sym (walk_ends kept page (NonePasses (is_mark_in (store_of kept) parents)) next w none) ∙ marks_in kept page parents
+    sym (ends item_names (having kept.items page) (NonePasses (is_mark_in (store_of kept) parents)) next w none) ∙
+    marks_in kept page parents
 
 -- an item is in no tag folder
 pub outside_at : (store : Store) (id : ItemId) (i : Item) → item_at store.items id ≡ Some i

@@ -1,18 +1,12 @@
 -- What the mark of a page tells of it.
-use Rattle.std.proofs.Common.{◌≡◌, ◌∙◌, ◌==◌, ℕ, List, Option, Some, None, ap, refl}
+use Rattle.std.proofs.Common.{◌≡◌, ◌∙◌, Option, Some, None, ap, refl}
 use Rattle.std.specs.Option.{option_map}
 use Rattle.pl_base.specs.declared.id.PageId.{PageId}
 use Rattle.pl_base.specs.declared.row.Mark.{Mark}
 use Rattle.pl_base.specs.Marks.{is_hidden, visit_count}
-use Rattle.pl_base.specs.Rows.{IsRight, Kept, KeptPage, mark_of, page_at, store_of, title_of, url_of}
-use Rattle.pl_base.proofs.IdsLaws.{same_page}
-use Rattle.pl_base.proofs.LookUps.{found_passes}
+use Rattle.pl_base.specs.Rows.{IsRight, Kept, KeptPage, mark_of, page_at, store_of}
+use Rattle.pl_base.proofs.PageLaws.{id_at}
 use Rattle.pl_marks.proofs.PageRows.{mark_in, right_mark}
-
--- the page that is found has the id
-pub id_at : (kept : Kept) (page : PageId) (p : KeptPage) → page_at kept page ≡ Some p → p.page.id ≡ page
-id_at kept page p at =
-    same_page p.page.id page (found_passes (λ (q : KeptPage). q.page.id.0 == page.0) kept.pages p at)
 
 mark_at : (kept : Kept) (page : PageId) (mark : Mark) (p : KeptPage) → IsRight kept
     → Some mark ≡ option_map mark_of (page_at kept page) → page_at kept page ≡ Some p
@@ -37,17 +31,3 @@ pub hidden_at : (kept : Kept) (page : PageId) (mark : Mark) (p : KeptPage) → I
     → Some mark ≡ option_map mark_of (page_at kept page) → page_at kept page ≡ Some p
     → mark.hidden ≡ is_hidden (store_of kept) p.page
 hidden_at kept page mark p right is at = ap (λ (m : Mark). m.hidden) (mark_at kept page mark p right is at)
-
--- ---- its texts
-
-pub url_at : (kept : Kept) (page : PageId) (p : KeptPage) (url : List ℕ) → page_at kept page ≡ Some p
-    → Some url ≡ url_of kept page → url ≡ p.page.url
-url_at kept page p url at is =
-    let same : Some url ≡ Some p.page.url = is ∙ ap (option_map (λ (q : KeptPage). q.page.url)) at in
-    cc
-
-pub title_at : (kept : Kept) (page : PageId) (p : KeptPage) (title : List ℕ) → page_at kept page ≡ Some p
-    → Some title ≡ title_of kept page → title ≡ p.page.title
-title_at kept page p title at is =
-    let same : Some title ≡ Some p.page.title = is ∙ ap (option_map (λ (q : KeptPage). q.page.title)) at in
-    cc

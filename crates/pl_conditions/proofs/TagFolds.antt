@@ -17,8 +17,10 @@ use Rattle.pl_base.specs.Rows.{IsWellKept, Kept, store_of}
 use Rattle.pl_base.specs.Store.{Item}
 use Rattle.pl_base.specs.Tags.{has_tag, tags_of}
 use Rattle.pl_base.proofs.ListLaws.{weaker}
+use Rattle.pl_base.proofs.Truths.{same_tests}
+use Rattle.pl_base.proofs.ReferencesRun.{IsItemOf, having, item_names, items_stand}
+use Rattle.pl_base.proofs.Walk.{StandsAt, Walk, ends}
 use Rattle.pl_marks.specs.TagFolders.{tag_title}
-use Rattle.pl_marks.proofs.ItemWalk.{IsItemHere, IsItemOf, ItemWalk, having, items_stand, walk_ends}
 use Rattle.pl_marks.proofs.TagEntries.{look, tag_entry}
 use Rattle.pl_marks.proofs.TagTree.{HaveTags, tag_is_one, tags_there}
 use Rattle.pl_conditions.specs.AskedParts.{is_among, with_fold}
@@ -45,17 +47,18 @@ abbrev pub AreFolds : List Item → List (List ℕ) → List Item → Type 0
 AreFolds items folds front = folds ≡ folds_of items front
 
 pub folds_more : (kept : Kept) (page : PageId) (id : ItemId) (folds more : List (List ℕ))
-    → (w : IsItemHere kept page (AreFolds kept.items folds) id) → more ≡ with_fold (tag_title kept.items id) folds
-    → AreFolds kept.items more (w.front ++ w.item ∷ [])
+    → (w : StandsAt item_names (having kept.items page) (AreFolds kept.items folds) id) → more ≡ with_fold
+    (tag_title kept.items id) folds
+    → AreFolds kept.items more (w.front ++ w.element ∷ [])
 folds_more kept page id folds more w is =
     is ∙ ap (λ (fs : List (List ℕ)). with_fold (tag_title kept.items id) fs) w.so_far
     ∙ ap (λ (i : ItemId). with_fold (tag_title kept.items i) (folds_of kept.items w.front)) (sym w.is)
-    ∙ choose (tag_title kept.items w.item.id) refl
-    ∙ sym (filter_map-append (λ (i : Item). option_map folded (tag_title kept.items i.id)) w.front (w.item ∷ []))
+    ∙ choose (tag_title kept.items w.element.id) refl
+    ∙ sym (filter_map-append (λ (i : Item). option_map folded (tag_title kept.items i.id)) w.front (w.element ∷ []))
   where
-    choose : (o : Option (List ℕ)) → tag_title kept.items w.item.id ≡ o
+    choose : (o : Option (List ℕ)) → tag_title kept.items w.element.id ≡ o
         → with_fold o (folds_of kept.items w.front)
-        ≡ folds_of kept.items w.front ++ folds_of kept.items (w.item ∷ [])
+        ≡ folds_of kept.items w.front ++ folds_of kept.items (w.element ∷ [])
     choose None at = rw at (sym (append-nil (folds_of kept.items w.front)))
     choose (Some title) at = rw at refl
 
@@ -237,18 +240,15 @@ tag_there kept page name h good has =
 
 -- ---- the law
 
-both_ways : (a b : Bool) → (a ≡ true → b ≡ true) → (b ≡ true → a ≡ true) → a ≡ b
-both_ways true b to from = sym (to refl)
-both_ways false true to from = from refl
-both_ways false false to from = refl
-
 pub folds_tell : (kept : Kept) (page : PageId) (next : Option ItemId) (folds : List (List ℕ)) (name : List ℕ)
-    → IsWellKept kept → IsGood (store_of kept) → ItemWalk kept page (AreFolds kept.items folds) next
+    → IsWellKept kept → IsGood (store_of kept) → Walk item_names (having kept.items page) (AreFolds kept.items folds)
+    next
     → ((id : ItemId) → next ≢ Some id)
     → is_among folds (folded name) ≡ has_tag_named (store_of kept) page name
 folds_tell kept page next folds name h good w none =
-    ap (list_any (is_fold (folded name))) (walk_ends kept page (AreFolds kept.items folds) next w none)
-    ∙ both_ways (list_any (is_fold (folded name)) (folds_of kept.items (having kept.items page)))
+    ap (list_any (is_fold (folded name))) (ends item_names (having kept.items page) (AreFolds kept.items folds) next w
+    none)
+    ∙ same_tests (list_any (is_fold (folded name)) (folds_of kept.items (having kept.items page)))
     (has_tag_named (store_of kept) page name)
     (one_named kept page name (having kept.items page) h good (items_stand kept page h))
     (tag_there kept page name h good)

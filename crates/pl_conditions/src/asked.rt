@@ -1,5 +1,5 @@
 // A query that is made ready for many rows.
-ghost use Rattle.std.specs.Prelude.{◌≡◌, ℕ, List, map, IfOk};
+ghost use Rattle.std.specs.Prelude.{◌≡◌, map, IfOk};
 ghost use Rattle.pl_base.specs.Fold.{folded};
 ghost use Rattle.pl_base.specs.Rows.{store_of};
 ghost use Rattle.pl_base.specs.Store.{Store};

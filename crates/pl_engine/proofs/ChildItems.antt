@@ -5,8 +5,8 @@ use Rattle.std.proofs.lemmas.List.Elements.{recursion_from_All}
 use Rattle.pl_base.specs.declared.id.ItemId.{ItemId}
 use Rattle.pl_base.specs.Store.{Item}
 use Rattle.pl_base.specs.Tree.{child_items, children_of, item_at}
+use Rattle.pl_base.proofs.ItemLookUps.{hold_all}
 use Rattle.pl_base.proofs.LookUps.{found_holds}
-use Rattle.pl_marks.proofs.TagTree.{hold_all}
 
 -- what holds of each item that is looked up holds of the children
 pub children_hold : (P : Item → Type 0) (items : List Item) (id : ItemId)

@@ -10,10 +10,11 @@ use Rattle.pl_base.specs.Rows.{IsWellKept, Kept, KeptPage, store_of}
 use Rattle.pl_base.specs.Store.{Item, Page}
 use Rattle.pl_base.specs.Tree.{child_items, is_page}
 use Rattle.pl_base.proofs.ListLaws.{list_any-map, weaker}
+use Rattle.pl_base.proofs.PageLaws.{ids_below}
+use Rattle.pl_base.proofs.PagesRun.{not_equal}
 use Rattle.pl_tree.specs.Tagged.{entry_in, tag_entry, tag_named}
-use Rattle.pl_marks.proofs.PageWalk.{not_equal}
 use Rattle.pl_engine.proofs.ChildItems.{children_too}
-use Rattle.pl_history.proofs.ReadyPage.{id_below, ids_below}
+use Rattle.pl_history.proofs.ReadyPage.{id_below}
 
 none_found : (test : Item → Bool) (items : List Item) → AllByRecursion (λ (i : Item). test i ≡ false) items
     → find test items ≡ None

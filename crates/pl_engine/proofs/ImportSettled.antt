@@ -22,11 +22,11 @@ use Rattle.pl_base.specs.Removal.{is_standing, without_idle_pages}
 use Rattle.pl_base.specs.Rows.{HaveSums, IsSound, IsWellKept, Kept, KeptOrigin, KeptPage, has_page, store_of}
 use Rattle.pl_base.specs.Store.{Item, Page, Store, Visit}
 use Rattle.pl_base.specs.Tree.{is_page}
-use Rattle.pl_base.proofs.ListLaws.{All-from_map, AllPairs-from_map, AllPairs-map, list_any-map, weaker}
-use Rattle.pl_base.proofs.LookUps.{none_pass}
+use Rattle.pl_base.proofs.ListLaws.{All-from_map, AllPairs-from_map, AllPairs-map, all_stay, list_any-map, weaker}
+use Rattle.pl_base.proofs.LookUps.{none_pass, rest_of}
 use Rattle.pl_base.proofs.OriginSums.{sums_of_sound}
+use Rattle.pl_base.proofs.PagesRun.{Ascend, ascend}
 use Rattle.pl_marks.specs.Refreshed.{IsRightPage}
-use Rattle.pl_marks.proofs.PageWalk.{Ascend, ascend}
 use Rattle.pl_history.specs.Settled.{AreSettledBut}
 use Rattle.pl_history.specs.Sound.{AreStanding, IsTypedRight}
 use Rattle.pl_history.proofs.GoodRows.{standing_of}
@@ -37,16 +37,6 @@ use Rattle.pl_graft.specs.Gained.{Grows, IsBlank, gained, has_new_item}
 use Rattle.pl_graft.specs.Import.{imported}
 use Rattle.pl_engine.proofs.ListParts.{left, none_counted, right}
 use Rattle.pl_engine.proofs.ImportedRows.{AddsItems, AddsPages, by_page, imported_items, imported_pages}
-
--- ---- lists
-
-behind : {X : Type 0} (P : X → Type 0) (xs ys : List X) → AllByRecursion P (xs ++ ys) → AllByRecursion P ys
-behind P [] ys all = all
-behind P (x ∷ xs) ys all = behind P xs ys all.1
-
-all_stay : {X : Type 0} (test : X → Bool) (xs : List X) → AllByRecursion (λ x. test x ≡ true) xs → filter test xs ≡ xs
-all_stay test [] all = refl
-all_stay test (x ∷ xs) all = rw (all.0, all_stay test xs all.1) refl
 
 -- ---- the items of a page
 
@@ -168,7 +158,7 @@ page_below (q ∷ old) added n ordered there =
     choose true is here rest =
         weaker (λ (p : KeptPage). q.page.id.0 < p.page.id.0) (λ (p : KeptPage). n < p.page.id.0) added
         (λ p above. omega (arith, eqb-true q.page.id.0 n is))
-        (behind (λ (p : KeptPage). q.page.id.0 < p.page.id.0) old added ordered.0)
+        (rest_of (λ (p : KeptPage). q.page.id.0 < p.page.id.0) old added ordered.0)
     choose false is here rest = rest here
 
 -- no visit has a new page

@@ -9,7 +9,8 @@ use Rattle.std.proofs.lemmas.List.Folds.{list_any_none}
 use Rattle.pl_base.specs.declared.id.PageId.{PageId}
 use Rattle.pl_base.specs.Rows.{IsWellKept, Kept, KeptPage, store_of}
 use Rattle.pl_base.specs.Store.{Page, Store, Visit}
-use Rattle.pl_base.proofs.ListLaws.{All-from_map, list_any-map}
+use Rattle.pl_base.proofs.ListLaws.{list_any-map}
+use Rattle.pl_base.proofs.PageLaws.{ids_below}
 use Rattle.pl_nbread.specs.declared.tree.Tree.{Tree}
 use Rattle.pl_graft.specs.Gained.{Grows, gained, has_new_item}
 use Rattle.pl_graft.specs.Import.{imported}
@@ -30,11 +31,6 @@ below_next n next (p ∷ pages) below there =
     choose true is here rest = omega (arith, eqb-true p.page.id.0 n is, below.0)
     choose false is here rest = rest here
 
-old_ids : (old : Kept) → IsWellKept old → All (λ (p : KeptPage). p.page.id.0 < old.ids.page) old.pages
-old_ids old h k d within =
-    (All-from_map (λ (id : ℕ). (0 < id) × (id < old.ids.page)) (λ (p : KeptPage). p.page.id.0) old.pages
-    h.page_ids.given k d within).1
-
 -- ---- a new page
 
 module _ (tree : Tree) (old new : Kept) (h : IsWellKept old) (is : store_of new ≡ imported tree (store_of old))
@@ -54,7 +50,7 @@ module _ (tree : Tree) (old new : Kept) (h : IsWellKept old) (is : store_of new 
         above,
         same,
         below_next v.page.0 old.ids.page old.pages
-            (recursion_from_All (λ (p : KeptPage). p.page.id.0 < old.ids.page) old.pages (old_ids old h))
+            (recursion_from_All (λ (p : KeptPage). p.page.id.0 < old.ids.page) old.pages (ids_below old h))
             (h.visits k d within).1,
       )))
 
@@ -69,7 +65,7 @@ module _ (tree : Tree) (old new : Kept) (h : IsWellKept old) (is : store_of new 
       (All-append Untyped (store_of old).pages a.added
       (All-map Untyped (λ (p : KeptPage). p.page) old.pages
       (λ k d within same.
-      absurd (omega (arith, above, ap (λ (id : PageId). id.0) same, old_ids old h k d within))))
+      absurd (omega (arith, above, ap (λ (id : PageId). id.0) same, ids_below old h k d within))))
       (λ k d within same. a.untyped k d within))
 
   -- of the pages with a new item those from the old next id on are new

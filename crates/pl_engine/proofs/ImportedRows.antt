@@ -28,6 +28,8 @@ use Rattle.pl_graft.specs.Gained.{has_new_item}
 use Rattle.pl_graft.specs.Import.{folder_of, folders_behind, imported, node_row, page_of, tagged_store, with_item_of}
 use Rattle.pl_graft.specs.Import.{with_list, with_node, with_nodes, with_page_of, with_row, with_tag, with_tags}
 use Rattle.pl_graft.specs.Import.{with_tags_of}
+use Rattle.pl_graft.proofs.Ready.{items_page}
+use Rattle.pl_graft.proofs.NodeLaws.{item_page}
 
 -- ---- items
 
@@ -177,35 +179,6 @@ page_held first old store url items some a = choose (find_page url store.pages) 
     }
     choose (Some p) own = a
 
--- a page more changes no item and no id of one
-page_items : (store : Store) (url : List ℕ) → (with_page_for store url).items ≡ store.items
-page_items store url = choose (find_page url store.pages)
-  where
-    choose : (found : Option Page)
-        → (if is_none found
-        then record store {
-          pages = store.pages ++ new_page store url ∷ [];
-          ids = record store.ids { page = store.ids.page + 1 };
-        }
-        else store).items
-        ≡ store.items
-    choose None = refl
-    choose (Some p) = refl
-
-page_next : (store : Store) (url : List ℕ) → (with_page_for store url).ids.item ≡ store.ids.item
-page_next store url = choose (find_page url store.pages)
-  where
-    choose : (found : Option Page)
-        → (if is_none found
-        then record store {
-          pages = store.pages ++ new_page store url ∷ [];
-          ids = record store.ids { page = store.ids.page + 1 };
-        }
-        else store).ids.item
-        ≡ store.ids.item
-    choose None = refl
-    choose (Some p) = refl
-
 -- ---- a store
 
 -- the store has what the old one has, and behind it items from this id on, and pages that have such an item
@@ -230,8 +203,8 @@ adds_row first old store parent row title None is a =
     }
 adds_row first old store parent row title (Some url) is a =
     let made : Store = with_page_for store url in
-    let items : made.items ≡ store.items = page_items store url in
-    let next : made.ids.item ≡ store.ids.item = page_next store url in
+    let items : made.items ≡ store.items = items_page store url in
+    let next : made.ids.item ≡ store.ids.item = item_page store url in
     let item : Item = new_item (item_id made.ids.item) row title in
     let above : first ≤ made.ids.item = omega (arith, a.next) in
     let front : List Item = with_child parent End (item_id made.ids.item) made.items in

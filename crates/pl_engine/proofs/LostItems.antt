@@ -1,6 +1,6 @@
 -- What holds of the rows once an item went with all below it, but of the pages that lost an item.
 use Rattle.std.proofs.Common.{◌≡◌, ◌≢◌, ◌∙◌, ◌==◌, ◌&&◌, ◌||◌, ℕ, Bool, true, false, IsTrue, List, []}
-use Rattle.std.proofs.Common.{◌∷◌, IfSome, Option, Some, None, ap, arith, eq-eqb, filter, map, refl}
+use Rattle.std.proofs.Common.{◌∷◌, ap, arith, eq-eqb, filter, map, refl}
 use Rattle.std.proofs.Common.{subst, sym}
 use Rattle.std.specs.Prelude.{not}
 use Rattle.std.specs.List.{AllByRecursion, list_any}
@@ -14,9 +14,9 @@ use Rattle.pl_base.specs.Good.{HasGoodItems, IsGoodItem, has_page_at}
 use Rattle.pl_base.specs.Rows.{IsSound, IsWellKept, Kept, KeptPage, has_page, store_of, with_items}
 use Rattle.pl_base.specs.Store.{Item, Page, Store}
 use Rattle.pl_base.specs.Tree.{is_page, leaving, lies_in}
-use Rattle.pl_base.proofs.IdsLaws.{same_page}
 use Rattle.pl_base.proofs.ListLaws.{AllPairs-from_map, list_any-alike, list_any-map, weaker}
 use Rattle.pl_base.proofs.LookUps.{none_pass}
+use Rattle.pl_base.proofs.PageLaws.{page_of_item}
 use Rattle.pl_tree.specs.Changes.{loses_item, with_removed}
 use Rattle.pl_history.specs.Settled.{AreSettledBut}
 use Rattle.pl_history.proofs.Dropped.{any_left}
@@ -35,12 +35,6 @@ referenced_still items item page none =
     ∙ any_left gone has items (none_pass (λ (i : Item). gone i && has i) items none)
 
 -- ---- the pages that lost one
-
--- a page that an item has is there
-page_of_item : (store : Store) (page : PageId) (of : Option PageId) → is_page page of ≡ true
-    → IfSome of (λ id. IsTrue (has_page_at store id)) → has_page_at store page ≡ true
-page_of_item store page None is there = absurd (cc)
-page_of_item store page (Some id) is there = ap (has_page_at store) (sym (same_page id page is)) ∙ there
 
 second : (a b : Bool) → (a && b) ≡ true → b ≡ true
 second true b both = both

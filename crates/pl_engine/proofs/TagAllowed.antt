@@ -37,17 +37,9 @@ use Rattle.pl_engine.proofs.TagMade.{folder_slots, live_tagged}
 use Rattle.pl_history.proofs.Targets.{IsFound, found_page}
 use Rattle.pl_engine.proofs.VisitAllowed.{grows}
 use Rattle.pl_history.proofs.VisitMade.{target_page, target_store}
-use Rattle.pl_history.proofs.VisitRows.{grown_store}
+use Rattle.pl_graft.proofs.Ready.{items_page}
 
 -- ---- slots
-
--- the page does not bear on the items
-same_items : (store : Store) (url : List ℕ) → (with_page_for store url).items ≡ store.items
-same_items store url = choose (is_none (find_page url store.pages))
-  where
-    choose : (b : Bool) → (if b then grown_store store url else store).items ≡ store.items
-    choose true = refl
-    choose false = refl
 
 live_after : (store : Store) (url name : List ℕ) (date : Micros)
     → live_slots (after_tag store url name date)
@@ -55,7 +47,7 @@ live_after : (store : Store) (url name : List ℕ) (date : Micros)
 live_after store url name date =
     live_tagged (page_for store url).id name date (with_page_for store url)
     ∙ ap (λ (items : List Item). live_slots (with_page_for store url) + 1 + folder_slots name items)
-    (same_items store url)
+    (items_page store url)
 
 -- the slots as they are reckoned are those of the step
 pub slots_tagged : (kept : Kept) (url name : List ℕ) (date : Micros) (slots : ℕ)
@@ -100,15 +92,6 @@ tagged_is kept url name (Known id) of =
     ap (λ (o : Option Page). is_tagged (store_of kept) o name) f.there
     ∙ ap (λ (p : PageId). is_some (tag_entry p name kept.items)) f.is
 tagged_is kept url name (New origin) of = ap (λ (o : Option Page). is_tagged (store_of kept) o name) of.0
-
-pub refused_tagged : (limit : ℕ) (kept : Kept) (url name : List ℕ) (target : Target) (slots : ℕ) (tagged : Bool)
-    → IsTargetOf kept url target → tagged ≡ has_tag target name kept.items → tagged ≡ true
-    → Some DupTag ≡ tag_refusal limit (store_of kept) url name slots
-refused_tagged limit kept url name target slots tagged of is some =
-    let room : Option Refusal =
-    tag_room limit (store_of kept) (is_none (find_page url (store_of kept).pages))
-    (is_none (tag_named name kept.items)) slots in
-    sym (ap (λ (b : Bool). if b then Some DupTag else room) (tagged_is kept url name target of ∙ sym is ∙ some))
 
 pub refused_room : (limit : ℕ) (kept : Kept) (url name : List ℕ) (target : Target) (slots told : ℕ)
     (tagged with_page with_folder : Bool) (room : Option Refusal)
@@ -224,7 +207,7 @@ module _ (limit : ℕ) (kept : Kept) (url name : List ℕ) (date : Micros) (targ
           let full : ℕ → Option Refusal =
           λ (n : ℕ). if nat_lt end_of_ids (n + new_items name kept.items) then Some (NoIds ItemIds) else None in
           ap (λ (items : List Item). tree.tag_refusal page name (record mid { items = items }))
-          (ap (λ (s : Store). s.items) (target_store kept mid url target page of with) ∙ same_items (store_of kept) url)
+          (ap (λ (s : Store). s.items) (target_store kept mid url target page of with) ∙ items_page (store_of kept) url)
           ∙ ap (λ (n : ℕ). if is_some (tag_entry page name kept.items) then Some DupTag else full n)
           (next_item kept mid url target page with)
           ∙ ap (λ (b : Bool). if b then Some DupTag else full kept.ids.item) (no_entry_yet good)

@@ -1,21 +1,17 @@
 -- What a title makes of the rows: the step's store, and marks that stay right.
 use Rattle.std.proofs.Common.{◌≡◌, ◌≢◌, ◌≤◌, ◌==◌, ◌++◌, ◌∙◌, if◌then◌else◌, ℕ, All, Bool, true, false, IsTrue}
-use Rattle.std.proofs.Common.{List, [], ◌∷◌, ap, arith, bytes_eq, eq-eqb, get_or, length, map, refl}
-use Rattle.std.proofs.Common.{leb, slice_index, subst, suc, sym, take, zero}
-use Rattle.std.specs.Fmt.{is_char_start}
-use Rattle.std.specs.Fmt.Cut.{floor_char_boundary}
+use Rattle.std.proofs.Common.{List, [], ◌∷◌, ap, arith, bytes_eq, eq-eqb, get_or, map, refl}
+use Rattle.std.proofs.Common.{subst, suc, sym}
 use Rattle.std.specs.Cmp.{both_ways}
 use Rattle.std.specs.List.{AllByRecursion, AllPairs, cons_option, filter_map}
 use Rattle.std.specs.Option.{option_map}
 use Rattle.std.proofs.lemmas.Bool.{cond_both}
-use Rattle.std.proofs.lemmas.Bool.Decides.{nat_tests}
-use Rattle.std.proofs.lemmas.List.{length-take}
 use Rattle.std.proofs.lemmas.List.Elements.{All-map, recursion_from_All}
 use Rattle.std.proofs.lemmas.Slice.Eq.{bytes_eq-Decides}
 use Rattle.pl_base.specs.declared.id.PageId.{PageId}
 use Rattle.pl_base.specs.Address.{origin_of_url}
 use Rattle.pl_base.specs.Frecency.{frecency_of}
-use Rattle.pl_base.specs.Good.{HasGoodItems, IsGood, longest_title}
+use Rattle.pl_base.specs.Good.{HasGoodItems, IsGood}
 use Rattle.pl_base.specs.Marks.{is_hidden, visit_count}
 use Rattle.pl_base.specs.Rows.{HaveSums, IsRight, IsSound, IsWellKept, Kept, KeptPage, store_of, titled, total_at}
 use Rattle.pl_base.specs.Rows.{with_title}
@@ -29,34 +25,9 @@ use Rattle.pl_step.specs.Step.{after_title, title_page}
 use Rattle.pl_history.specs.Target.{IsTargetOf}
 use Rattle.pl_history.proofs.GoodRows.{good_of, items_of, items_still, standing_of}
 use Rattle.pl_history.proofs.KnownPage.{IsKnown, known, only_known}
-use Rattle.pl_marks.proofs.PageWalk.{part}
 use Rattle.pl_base.proofs.ListLaws.{list_any-alike, list_any-map}
-use Rattle.pl_base.proofs.LookUps.{both}
+use Rattle.pl_base.proofs.LookUps.{both, part}
 use Rattle.pl_base.proofs.OriginSums.{sums_of_sound, totals_of_sums}
-
--- ---- a title that is cut
-
-floor-le : (text : List ℕ) (i : ℕ) → floor_char_boundary text i ≤ i
-unfolding floor_char_boundary
-floor-le text zero = omega arith
-floor-le text (suc i) = choose (is_char_start (slice_index text (suc i))) (floor-le text i)
-  where
-    choose : (b : Bool) → floor_char_boundary text i ≤ i → (if b then suc i else floor_char_boundary text i) ≤ suc i
-    choose true rest = omega arith
-    choose false rest = omega (arith, rest)
-
-pub cut_title-le : (text : List ℕ) → length (cut_title text) ≤ longest_title
-cut_title-le text = choose (leb (length text) longest_title) refl
-  where
-    choose : (b : Bool) → leb (length text) longest_title ≡ b
-        → length (if b then text else take (floor_char_boundary text longest_title) text) ≤ longest_title
-    choose true few = grind (arith, nat_tests)
-    choose false many =
-        omega (
-          arith,
-          length-take (floor_char_boundary text longest_title) text,
-          floor-le text longest_title,
-        )
 
 -- ---- the page that has the URL
 

@@ -13,7 +13,7 @@ use Rattle.pl_base.specs.Rows.{Kept, store_of}
 use Rattle.pl_base.specs.Store.{Page, Store}
 use Rattle.pl_base.specs.Visiting.{after_visit, find_page, new_page, page_for}
 use Rattle.pl_base.specs.Visiting.{visited_page, visited_store, with_page_for}
-use Rattle.pl_base.proofs.LookUps.{found_holds}
+use Rattle.pl_base.proofs.LookUps.{found_holds, part}
 use Rattle.pl_history.specs.declared.find.Target.{Target}
 use Rattle.pl_history.specs.declared.visiting.AddedVisit.{AddedVisit}
 use Rattle.pl_history.specs.Added.{AddsVisit}
@@ -24,7 +24,6 @@ use Rattle.pl_step.specs.declared.reply.Reply.TheVariants.{Visit as VisitReply}
 use Rattle.pl_step.specs.Step.{perform, unless_refused, visit_refusal, visit_reply}
 use Rattle.pl_history.proofs.VisitMade.{target_page, target_store}
 use Rattle.pl_history.proofs.VisitRows.{grown_store}
-use Rattle.pl_marks.proofs.PageWalk.{part}
 
 next_visit_same : (store : Store) (url : List ℕ) → (with_page_for store url).ids.visit ≡ store.ids.visit
 next_visit_same store url = choose (is_none (find_page url store.pages))

@@ -11,15 +11,11 @@ use Rattle.std.proofs.lemmas.Nat.{from_le_bytes-to_le_bytes_4, from_le_bytes-to_
 use Rattle.pl_base.specs.declared.id.Ids.{Ids}
 use Rattle.pl_base.specs.declared.id.PageId.{PageId}
 use Rattle.pl_base.specs.declared.id.VisitId.{VisitId}
-use Rattle.pl_base.specs.declared.item.ItemKind.{ItemKind}
-use Rattle.pl_base.specs.declared.item.ItemKind.TheVariants as kinds
-use Rattle.pl_base.specs.declared.transition.Transition.{Transition}
-use Rattle.pl_base.specs.declared.transition.Transition.TheVariants.{Link, Typed, Bookmark, Embed, RedirectPermanent}
-use Rattle.pl_base.specs.declared.transition.Transition.TheVariants.{RedirectTemporary, Download, FramedLink, Reload}
 use Rattle.pl_base.specs.Good.{IsTitle}
 use Rattle.pl_base.specs.ItemKind.{item_kind_at, item_kind_number}
 use Rattle.pl_base.specs.Store.{item_id}
 use Rattle.pl_base.specs.Transition.{transition_at, transition_number}
+use Rattle.pl_base.proofs.KindNumbers.{kind_again, transition_again}
 use Rattle.pl_form.specs.Form.{eight, filled_pages, four, in_pages, item_bytes, listed, page_or_zero}
 use Rattle.pl_form.specs.Form.{signed_eight, text_bytes, visit_or_zero}
 use Rattle.pl_form.specs.Reading.{IsAny}
@@ -153,32 +149,16 @@ listed_only form IsOne only xs ys r s ones others same =
 constant_only : (part : List ℕ) → IsOnly {A = Unit {0}} (λ _. part) IsAny
 constant_only part x y r s one other same = (refl, append_cancel_left part r s same)
 
-numbered : (t : Transition) → transition_at (transition_number t) ≡ Some t
-numbered Link = refl
-numbered Typed = refl
-numbered Bookmark = refl
-numbered Embed = refl
-numbered RedirectPermanent = refl
-numbered RedirectTemporary = refl
-numbered Download = refl
-numbered FramedLink = refl
-numbered Reload = refl
-
 transition_only : IsOnly transition_bytes IsAny
 transition_only x y r s one other same =
     let number : transition_number x ≡ transition_number y = cc in
-    let some : Some x ≡ Some y = sym (numbered x) ∙ ap transition_at number ∙ numbered y in
+    let some : Some x ≡ Some y = sym (transition_again x) ∙ ap transition_at number ∙ transition_again y in
     (cc, cc)
-
-kind_numbered : (k : ItemKind) → item_kind_at (item_kind_number k) ≡ Some k
-kind_numbered kinds.Bookmark = refl
-kind_numbered kinds.Folder = refl
-kind_numbered kinds.Separator = refl
 
 kind_only : IsOnly kind_bytes IsAny
 kind_only x y r s one other same =
     let number : item_kind_number x ≡ item_kind_number y = cc in
-    let some : Some x ≡ Some y = sym (kind_numbered x) ∙ ap item_kind_at number ∙ kind_numbered y in
+    let some : Some x ≡ Some y = sym (kind_again x) ∙ ap item_kind_at number ∙ kind_again y in
     (cc, cc)
 
 -- a form by the pieces that make it

@@ -7,6 +7,7 @@ use Rattle.pl_base.specs.Store.{Store}
 use Rattle.pl_base.specs.Touched.{bytes_before, page_size}
 use Rattle.pl_base.specs.declared.check_error.CheckError.{CheckError}
 use Rattle.pl_base.specs.declared.check_error.CheckError.TheVariants.{NoMemory, NotAStore}
+use Rattle.pl_base.proofs.ListLaws.{regroup_four}
 use Rattle.pl_form.specs.Form.{StandsFor, eight, filled_pages, form_bytes, four}
 use Rattle.pl_form.specs.Form.{header, in_pages, most_pages, plain_bytes, store_rows}
 use Rattle.pl_form.specs.Reading.{IsAny, Reads}
@@ -25,9 +26,6 @@ pub record IsHeaderOf (page : List ℕ) (store : Store) (pages : ℕ) : Type 0 w
 
 first_of_three : (a b c : List ℕ) → take (length a) (a ++ b ++ c) ≡ a
 first_of_three a b c = front_is (a ++ b ++ c) a (b ++ c) (length a) refl (append_assoc a b c)
-
-regroup : (a b c d : List ℕ) → ((a ++ b) ++ c) ++ d ≡ a ++ (b ++ (c ++ d))
-regroup a b c d = simp append_assoc
 
 header_first : (plain : List ℕ) → take page_size (in_pages plain) ≡ header (length plain)
 header_first plain = first_of_three (header (length plain)) plain (padding (length plain))
@@ -50,7 +48,7 @@ module _ (bytes page : List ℕ) (store : Store) (stands : StandsFor bytes store
         begins =
             sym is ∙ sym (take-take page_size (length (in_pages plain)) bytes (omega (arith, long)))
             ∙ ap (take page_size) stands.begins
-            ∙ header_first plain ∙ regroup (name tt) (four pages) (eight n) (blank tt);
+            ∙ header_first plain ∙ regroup_four (name tt) (four pages) (eight n) (blank tt);
       }
 
   -- ---- what is read of it

@@ -1,5 +1,5 @@
 -- Items at the beginning of bytes.
-use Rattle.std.proofs.Common.{◌≡◌, ℕ, List, [], ◌∷◌, ◌++◌, Option, Ok, Err, ap, refl, append_assoc}
+use Rattle.std.proofs.Common.{◌≡◌, ℕ, List, [], ◌∷◌, ◌++◌, Option, Ok, Err, ap, refl}
 use Rattle.pl_base.specs.declared.id.ItemId.{ItemId}
 use Rattle.pl_base.specs.declared.id.PageId.{PageId}
 use Rattle.pl_base.specs.declared.item.ItemKind.{ItemKind}
@@ -7,6 +7,7 @@ use Rattle.pl_base.specs.Good.{IsTitle}
 use Rattle.pl_base.specs.ItemKind.{item_kind_number}
 use Rattle.pl_base.specs.Store.{Item, item_id}
 use Rattle.pl_base.specs.declared.check_error.CheckError.{CheckError}
+use Rattle.pl_base.proofs.ListLaws.{regroup_seven}
 use Rattle.pl_form.specs.Form.{eight, four, item_bytes, page_or_zero, text_bytes}
 use Rattle.pl_form.specs.Reading.{IsAny, Reads}
 use Rattle.pl_stored.specs.Fits.{IsEight, IsFour, IsItemPage}
@@ -57,24 +58,10 @@ after_item_page i = kind_bytes i.kind ++ after_kind i
 abbrev pub after_item_id : Item → List ℕ
 after_item_id i = item_page_bytes i.page ++ after_item_page i
 
-regroup_seven : (a b c d e f g : List ℕ)
-    → (((((a ++ b) ++ c) ++ d) ++ e) ++ f) ++ g ≡ a ++ (b ++ (c ++ (d ++ (e ++ (f ++ g)))))
-regroup_seven a b c d e f g = simp append_assoc
-
 pub item_pieces : (i : Item) → IsStoredItem i → item_bytes i ≡ four i.id.0 ++ after_item_id i
 item_pieces i one =
     regroup_seven (four i.id.0) (item_page_bytes i.page) (kind_bytes i.kind) (eight i.added.0) (eight i.modified.0)
     (text_bytes i.title) (children_bytes i.children)
-
--- the item as far as its page
-paged_reached : (bytes b c : List ℕ) (id : ℕ) (page : Option PageId) → Reads four IsFour bytes (Ok id) b
-    → Reads item_page_bytes IsItemPage b (Ok page) c
-    → Reached item_bytes IsStoredItem bytes (four id ++ item_page_bytes page) c
-    (λ i. (Unit {0} × (id ≡ i.id.0)) × (page ≡ i.page)) after_item_page
-paged_reached bytes b c id page first second =
-    further item_page_bytes IsItemPage (λ i. i.page) after_item_page c page (λ i one. one.1)
-    (further four IsFour (λ i. i.id.0) after_item_id b id (λ i one. one.0)
-    (started item_bytes IsStoredItem bytes (λ i. four i.id.0 ++ after_item_id i) item_pieces) first) second
 
 -- the item as far as its first date
 added_reached : (bytes b c d e : List ℕ) (id added : ℕ) (page : Option PageId) (kind : ItemKind)

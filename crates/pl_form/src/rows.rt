@@ -1,5 +1,4 @@
 // The rows at the beginning of plain bytes.
-ghost use Rattle.std.specs.Prelude.{◌≡◌};
 ghost use Rattle.pl_form.specs.Form.{listed};
 ghost use Rattle.pl_form.specs.Reading.{Reads, items_of};
 ghost use Rattle.pl_stored.specs.Fits.{AreListed};

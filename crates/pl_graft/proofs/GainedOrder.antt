@@ -1,7 +1,7 @@
 -- The pages that gained an item, by ascending id: what an import tells is what the stores tell.
-use Rattle.std.proofs.Common.{◌≡◌, ◌∙◌, ◌<◌, ◌≤◌, ◌==◌, ◌&&◌, ◌||◌, ℕ, Bool, true, false, IsTrue, List, [], ◌∷◌}
-use Rattle.std.proofs.Common.{Option, Some, None, IfSome, ap, arith, eq-eqb, filter, if◌then◌else◌, map, nat_le}
-use Rattle.std.proofs.Common.{refl, subst}
+use Rattle.std.proofs.Common.{◌≡◌, ◌∙◌, ◌<◌, ◌≤◌, ◌==◌, ◌&&◌, ◌||◌, ℕ, Bool, true, false, List, [], ◌∷◌}
+use Rattle.std.proofs.Common.{ap, arith, eq-eqb, filter, if◌then◌else◌, map, nat_le}
+use Rattle.std.proofs.Common.{refl}
 use Rattle.std.proofs.Common.{suc, sym}
 use Rattle.std.specs.List.{AllByRecursion, AllPairs, list_any}
 use Rattle.std.specs.List.Sorted.{IsStrictlyIncreasing, IsStrictlySortedBy}
@@ -20,7 +20,8 @@ use Rattle.pl_base.specs.Store.{Item, Page, Store}
 use Rattle.pl_base.specs.Tree.{is_page}
 use Rattle.pl_base.proofs.IdsLaws.{same_page}
 use Rattle.pl_base.proofs.ListLaws.{All-from_map, all-filter, list_any-map, to_map}
-use Rattle.pl_marks.proofs.PageWalk.{Ascend, ascend}
+use Rattle.pl_base.proofs.PageLaws.{page_of_item}
+use Rattle.pl_base.proofs.PagesRun.{Ascend, ascend}
 use Rattle.pl_graft.specs.declared.grafting.Grafting.{Grafting}
 use Rattle.pl_graft.specs.Gained.{gained, has_new_item}
 use Rattle.pl_graft.specs.Standing.{HasGained}
@@ -174,12 +175,6 @@ filtered test (p ∷ pages) page =
         is ∙ ap (λ (c : Bool). any page pages && c) none ∙ both_false (any page pages) ∙ sym none
     choose false apart true passes rest is = ap (λ (c : Bool). c || any page rest) apart ∙ is
     choose false apart false fails rest is = is
-
-page_of_item : (store : Store) (page : PageId) (own : Option PageId) → is_page page own ≡ true
-    → IfSome own (λ id. IsTrue (has_page_at store id)) → has_page_at store page ≡ true
-page_of_item store page None is there = absurd (cc)
-page_of_item store page (Some id) is there =
-    subst (λ (i : PageId). has_page_at store i ≡ true) (same_page id page is) there
 
 page_there : (store : Store) (first : ℕ) (items : List Item) (page : PageId) → AllByRecursion (IsGoodItem store) items
     → has_new_item first items page ≡ true → has_page_at store page ≡ true

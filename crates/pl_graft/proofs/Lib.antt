@@ -1,4 +1,3 @@
-pub mod CutTitles
 mod GainedOrder
 mod GainedPages
 mod GoingOn

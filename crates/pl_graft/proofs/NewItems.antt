@@ -16,7 +16,7 @@ use Rattle.pl_base.proofs.ListLaws.{list_any-alike, list_any-map}
 use Rattle.pl_tree.specs.declared.place.Place.{Place}
 use Rattle.pl_tree.specs.declared.place.Place.TheVariants.{End}
 use Rattle.pl_tree.specs.Changes.{item_of, put, with_child, with_new}
-use Rattle.pl_tree.specs.Tagged.{new_entry, new_items, new_tag, tag_entry, tag_id, tag_named, tagged_items}
+use Rattle.pl_tree.specs.Tagged.{new_entry, new_items, new_tag, tag_entry, tag_id, tag_named}
 use Rattle.pl_tree.specs.Tagged as tagged
 use Rattle.pl_graft.specs.Gained.{has_new_item}
 use Rattle.pl_graft.specs.Import.{tagged_store, with_row, with_tag}

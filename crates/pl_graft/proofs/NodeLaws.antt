@@ -19,6 +19,7 @@ use Rattle.pl_base.specs.Good.{IsTitle, has_page_at}
 use Rattle.pl_base.specs.Store.{Item, Page, Store, item_id}
 use Rattle.pl_base.specs.Title.{cut_title}
 use Rattle.pl_base.specs.Visiting.{find_page, new_page, with_page_for}
+use Rattle.pl_base.proofs.ItemLookUps.{folder_kind}
 use Rattle.pl_nbread.specs.declared.tree.Node.{Node}
 use Rattle.pl_nbread.specs.WellFormed.{is_bookmark, is_date, is_folder, is_formed}
 use Rattle.pl_tree.specs.Refused.{parent_refusal}
@@ -88,7 +89,7 @@ pub takes_page_of : (url : Option (List ℕ)) (store : Store) (folder : ItemId) 
 takes_page_of url store folder takes =
     ap (λ (items : List Item). parent_refusal items folder) (items_page_of url store) ∙ takes
 
-item_page : (store : Store) (url : List ℕ) → (with_page_for store url).ids.item ≡ store.ids.item
+pub item_page : (store : Store) (url : List ℕ) → (with_page_for store url).ids.item ≡ store.ids.item
 item_page store url = choose (is_none (find_page url store.pages))
   where
     choose : (b : Bool) → (if b then record store {
@@ -98,11 +99,11 @@ item_page store url = choose (is_none (find_page url store.pages))
     choose true = refl
     choose false = refl
 
-item_page_of : (url : Option (List ℕ)) (store : Store) → (with_page_of url store).ids.item ≡ store.ids.item
+pub item_page_of : (url : Option (List ℕ)) (store : Store) → (with_page_of url store).ids.item ≡ store.ids.item
 item_page_of None store = refl
 item_page_of (Some url) store = item_page store url
 
-ready_page_of : (url : Option (List ℕ)) (store : Store) → IsReady store → IsReady (with_page_of url store)
+pub ready_page_of : (url : Option (List ℕ)) (store : Store) → IsReady store → IsReady (with_page_of url store)
 ready_page_of None store r = r
 ready_page_of (Some url) store r = ready_page store url r
 
@@ -116,22 +117,19 @@ pages_tag store id date name = choose (is_some (tag_entry id name store.items))
     choose true = refl
     choose false = refl
 
+pub pages_tags : (id : PageId) (date : Micros) (names : List (List ℕ)) (store : Store)
+    → (with_tags id date names store).pages ≡ store.pages
+pages_tags id date [] store = refl
+pages_tags id date (name ∷ names) store =
+    pages_tags id date names (with_tag id date name store) ∙ pages_tag store id date name
+
 -- the page is there behind a tag
-there_tag : (store : Store) (id : PageId) (date : Micros) (name : List ℕ) → IsTrue (has_page_at store id)
+pub there_tag : (store : Store) (id : PageId) (date : Micros) (name : List ℕ) → IsTrue (has_page_at store id)
     → IsTrue (has_page_at (with_tag id date name store) id)
 there_tag store id date name there =
     ap (list_any (λ (p : Page). p.id.0 == id.0)) (pages_tag store id date name) ∙ there
 
 module _ (id : PageId) (date : Micros) (is_date : IsDate date) where
-  ready_tags : (names : List (List ℕ)) (store : Store) → IsReady store → list_all is_tag_name names ≡ true
-      → IsTrue (has_page_at store id) → IsReady (with_tags id date names store)
-  ready_tags [] store r named there = r
-  ready_tags (name ∷ names) store r named there =
-      let parts = and_parts (is_tag_name name) (list_all is_tag_name names) named in
-      ready_tags names (with_tag id date name store)
-      (ready_tag store id date name r (named_by_test name parts.0) is_date there) parts.1
-      (there_tag store id date name there)
-
   takes_tags : (names : List (List ℕ)) (store : Store) → IsReady store → list_all is_tag_name names ≡ true
       → IsTrue (has_page_at store id) → (folder : ItemId) → Takes store folder
       → Takes (with_tags id date names store) folder
@@ -144,17 +142,7 @@ module _ (id : PageId) (date : Micros) (is_date : IsDate date) where
 
 -- ---- the node
 
-folder_kind : (kind : ItemKind) → is_folder kind ≡ true → kind ≡ Folder
-folder_kind Bookmark is = absurd (cc)
-folder_kind Folder is = refl
-folder_kind Separator is = absurd (cc)
-
 module _ (node : Node) (f : IsFormed node) (item : Store) (r : IsReady item) where
-  ready_tags_of : (page : Option PageId) → IfSome page (λ id. IsTrue (has_page_at item id))
-      → IsReady (with_tags_of page node item)
-  ready_tags_of None there = r
-  ready_tags_of (Some id) there = ready_tags id node.added f.added node.tags item r f.tags there
-
   takes_tags_of : (page : Option PageId) → IfSome page (λ id. IsTrue (has_page_at item id)) → (folder : ItemId)
       → Takes item folder → Takes (with_tags_of page node item) folder
   takes_tags_of None there folder takes = takes
@@ -180,12 +168,7 @@ module _ (store : Store) (parent : ItemId) (node : Node) (r : IsReady store) (ta
       subst (λ (n : ℕ). Takes (with_item_of parent node store) (item_id n)) (item_page_of node.url store)
       (takes_new (with_page_of node.url store) parent (node_row parent (page_of node.url store) node)
       (cut_title node.title) (ready_page_of node.url store r) (takes_page_of node.url store parent takes)
-      (folder_kind node.kind is))
-
-  pub ready_node : IsReady (with_node parent node store)
-  ready_node =
-      ready_tags_of node f (with_item_of parent node store) ready_item_of (page_of node.url store)
-      (page_there node.url store)
+      (folder_kind is_folder refl refl node.kind is))
 
   -- a folder that takes items goes on to
   pub takes_node : (folder : ItemId) → Takes store folder → Takes (with_node parent node store) folder

@@ -4,7 +4,7 @@ use Rattle.std.proofs.Common.{Option, Some, None, add-one, ap, arith, drop, eq-e
 use Rattle.std.proofs.Common.{length, map, option_to_list, refl}
 use Rattle.std.proofs.Common.{subst, sym, take}
 use Rattle.std.specs.List.{AllByRecursion, AllPairs, take-map}
-use Rattle.std.specs.Option.{IsSome, option_or}
+use Rattle.std.specs.Option.{IsSome}
 use Rattle.std.proofs.lemmas.Bool.{eqb-true, ne_eqb}
 use Rattle.std.proofs.lemmas.List.{append-nil, get_or_append_left, length-append, map-append, take-append-drop}
 use Rattle.std.proofs.lemmas.List.{take_all}
@@ -17,6 +17,7 @@ use Rattle.pl_base.specs.declared.item.ItemKind.{ItemKind}
 use Rattle.pl_base.specs.declared.item.ItemKind.TheVariants.{Bookmark, Folder, Separator}
 use Rattle.pl_base.specs.Store.{Item, Store, item_id}
 use Rattle.pl_base.specs.Tree.{children_of, item_at, last_item}
+use Rattle.pl_base.proofs.ItemLookUps.{last_push}
 use Rattle.pl_nbread.specs.declared.tree.Node.{Node}
 use Rattle.pl_nbread.specs.WellFormed.{is_folder}
 use Rattle.pl_tree.specs.declared.place.Place.TheVariants.{End}
@@ -131,13 +132,9 @@ taking_below store folder is takes =
 
 -- ---- the folders afterwards
 
-last_of_more : (ids : List ItemId) (id : ItemId) → last_item (ids ++ id ∷ []) ≡ Some id
-last_of_more [] id = refl
-last_of_more (c ∷ ids) id = ap (λ (o : Option ItemId). option_or o (Some c)) (last_of_more ids id)
-
 before_end : (ids : List ItemId) (id : ItemId) → before End (ids ++ id ∷ []) ≡ Some id
 before_end ids id =
-    ap last_item (take_all (length (ids ++ id ∷ [])) (ids ++ id ∷ []) (omega arith)) ∙ last_of_more ids id
+    ap last_item (take_all (length (ids ++ id ∷ [])) (ids ++ id ∷ []) (omega arith)) ∙ last_push ids id
 
 module _ (old new : Store) (top : Open) (kind : ItemKind) (id : ItemId) (is : IsReady old)
     (named : id ≡ item_id old.ids.item) (puts : Puts top.folder kind id old new) where

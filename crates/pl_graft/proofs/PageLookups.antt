@@ -20,12 +20,14 @@ use Rattle.pl_base.specs.Rows.{IsWellKept, Kept, KeptPage, url_of}
 use Rattle.pl_base.specs.Store.{Page}
 use Rattle.pl_base.specs.Visiting.{find_page}
 use Rattle.pl_base.proofs.ListLaws.{list_any_last, list_any_push}
+use Rattle.pl_base.proofs.LookUps.{part}
 use Rattle.pl_base.proofs.OriginLaws.{same_origin-by_texts}
+use Rattle.pl_base.proofs.PagesRun.{found_at, page_names}
+use Rattle.pl_base.proofs.Walk.{StandsAt}
 use Rattle.pl_link.proofs.OriginParts.{origin_by_parts}
 use Rattle.pl_link.specs.declared.parts.Parts.{Parts}
 use Rattle.pl_marks.specs.UrlParts.{HasParts}
-use Rattle.pl_marks.proofs.PageTurns.{IsPageHere}
-use Rattle.pl_marks.proofs.PageWalk.{found_at, none_found, part}
+use Rattle.pl_history.proofs.SearchedPages.{none_found}
 use Rattle.pl_graft.specs.KnownPages.{IsOriginPage, KnowsPages, is_key, kept_page}
 use Rattle.pl_graft.specs.contracts.pages.OriginOrd.TheImpl.{cmp-value}
 use Rattle.pl_graft.specs.declared.pages.Origin.{Origin}
@@ -240,17 +242,17 @@ not_in_front kept front p rest h whole =
 
 -- what holds of the pages in front holds of one more, once it is added
 pub knows_here : (kept : Kept) (known new : Pages) (id : PageId) (url : List ℕ) (page : ℕ) → IsWellKept kept
-    → (w : IsPageHere kept (KnowsRows known) id) → Some url ≡ url_of kept id → page ≡ id.0
+    → (w : StandsAt page_names kept.pages (KnowsRows known) id) → Some url ≡ url_of kept id → page ≡ id.0
     → ((all : List Page) (p : Page) → KnowsPages known all → find_page url all ≡ None → p.url ≡ url → p.id.0 ≡ page
     → KnowsPages new (all ++ p ∷ []))
-    → KnowsRows new (w.front ++ w.page ∷ [])
+    → KnowsRows new (w.front ++ w.element ∷ [])
 knows_here kept known new id url page h w told is adds =
-    let at : url_of kept id ≡ Some w.page.page.url =
-    ap (option_map (λ (q : KeptPage). q.page.url)) (found_at kept id w.front w.page w.rest h w.whole w.is) in
-    let some : Some url ≡ Some w.page.page.url = told ∙ at in
-    let same : w.page.page.url ≡ url = cc in
-    let number_is : w.page.page.id.0 ≡ page = ap (λ (i : PageId). i.0) w.is ∙ sym is in
-    subst (KnowsPages new) (sym (map-append (λ (q : KeptPage). q.page) w.front (w.page ∷ [])))
-    (adds (map (λ (q : KeptPage). q.page) w.front) w.page.page w.so_far
+    let at : url_of kept id ≡ Some w.element.page.url =
+    ap (option_map (λ (q : KeptPage). q.page.url)) (found_at kept id w.front w.element w.rest h w.whole w.is) in
+    let some : Some url ≡ Some w.element.page.url = told ∙ at in
+    let same : w.element.page.url ≡ url = cc in
+    let number_is : w.element.page.id.0 ≡ page = ap (λ (i : PageId). i.0) w.is ∙ sym is in
+    subst (KnowsPages new) (sym (map-append (λ (q : KeptPage). q.page) w.front (w.element ∷ [])))
+    (adds (map (λ (q : KeptPage). q.page) w.front) w.element.page w.so_far
     (ap (λ x. find_page x (map (λ (q : KeptPage). q.page) w.front)) (sym same)
-    ∙ not_in_front kept w.front w.page w.rest h w.whole) same number_is)
+    ∙ not_in_front kept w.front w.element w.rest h w.whole) same number_is)

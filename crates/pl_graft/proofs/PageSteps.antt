@@ -1,5 +1,6 @@
 -- A page more in an import.
-use Rattle.std.proofs.Common.{◌≡◌, ◌∙◌, ◌<◌, ◌++◌, ◌==◌, ◌&&◌, ◌||◌, ℕ, Bool, true, false, List, [], ◌∷◌, Option, Some}
+use Rattle.std.proofs.Common.{◌≡◌, ◌∙◌, ◌<◌, ◌++◌, ◌==◌, ◌&&◌, ◌||◌, ℕ, Bool, true, false, List, [], ◌∷◌, Option}
+use Rattle.std.proofs.Common.{Some}
 use Rattle.std.proofs.Common.{None, ap, arith, bytes_eq, eq-eqb, if◌then◌else◌, map, refl, subst, sym}
 use Rattle.std.specs.List.{AllByRecursion, list_any}
 use Rattle.std.specs.Option.{is_none, option_map}
@@ -12,12 +13,13 @@ use Rattle.pl_base.specs.Address.{same_origin}
 use Rattle.pl_base.specs.Rows.{HaveSums, IsOriginOf, IsWellKept, Kept, KeptOrigin, KeptPage, WithPageIn, has_page}
 use Rattle.pl_base.specs.Rows.{next_page, origin_of, page_at, store_of, with_new_page, with_origin}
 use Rattle.pl_base.specs.Store.{Page, Store}
-use Rattle.pl_base.specs.Visiting.{find_page, new_page, page_for, with_page_for}
+use Rattle.pl_base.specs.Visiting.{find_page, new_page, with_page_for}
 use Rattle.pl_base.proofs.ListLaws.{All-from_map, list_any-map}
+use Rattle.pl_base.proofs.LookUps.{part}
 use Rattle.pl_base.proofs.OriginSums.{sums_with_page}
+use Rattle.pl_base.proofs.PagesRun.{found_at, given, there}
 use Rattle.pl_history.proofs.ReadyPage.{own_url}
 use Rattle.pl_history.proofs.VisitRows.{grown_store, store_with_page}
-use Rattle.pl_marks.proofs.PageWalk.{found_at, given, part, there}
 use Rattle.pl_graft.specs.declared.grafting.Grafting.{Grafting}
 use Rattle.pl_graft.specs.Gained.{Grows, IsBlank}
 use Rattle.pl_graft.specs.KnownPages.{IsOriginPage, KnowsPages}
@@ -238,7 +240,3 @@ page_standing old url before after well standing none knows tags made =
       tags = rw (items_page store url, tags) standing.tags;
       made = rw (grown_is store url none, made) standing.made;
     }
-
-pub new_page_is : (store : Store) (url : List ℕ) → find_page url store.pages ≡ None
-    → page_for store url ≡ new_page store url
-new_page_is store url none = rw none refl

@@ -23,7 +23,7 @@ use Rattle.pl_base.specs.declared.id.PageId.{PageId}
 use Rattle.pl_base.specs.Fold.{folded}
 use Rattle.pl_base.specs.Tree.{is_page}
 use Rattle.pl_base.proofs.ListLaws.{AllPairs-map, find-map, list_any-alike, list_any-map}
-use Rattle.pl_base.proofs.LookUps.{found_holds, found_passes}
+use Rattle.pl_base.proofs.LookUps.{find-alike, found_any, found_holds, found_passes}
 use Rattle.pl_graft.specs.declared.tags.TagFolder.{TagFolder}
 use Rattle.pl_graft.specs.declared.tags.Tags.{Tags}
 use Rattle.pl_graft.specs.KnownTags.{AreBelow, HasPairs, IsFolderOf, KnowsTags, has_pair, last_of, pair_cmp, stands_in}
@@ -52,24 +52,6 @@ pub last_push : {X : Type 0} (xs : List X) (x : X) → last_of (xs ++ x ∷ []) 
 last_push [] x = refl
 last_push (y ∷ []) x = refl
 last_push (y ∷ z ∷ ys) x = last_push (z ∷ ys) x
-
-find-alike : {X : Type 0} (p q : X → Bool) (xs : List X) → ((x : X) → p x ≡ q x) → find p xs ≡ find q xs
-find-alike p q [] alike = refl
-find-alike p q (x ∷ xs) alike = rw (alike x, find-alike p q xs alike) refl
-
--- what is found passes another test
-found_any : {X : Type 0} (p q : X → Bool) (xs : List X) (x : X) → find p xs ≡ Some x → q x ≡ true
-    → list_any q xs ≡ true
-found_any p q [] x found passes = absurd (cc)
-found_any {X} p q (y ∷ ys) x found passes = choose (p y) (q y) refl found (λ h. found_any p q ys x h passes)
-  where
-    choose : (b d : Bool) → q y ≡ d → (if b then Some y else find p ys) ≡ Some x
-        → (find p ys ≡ Some x → list_any q ys ≡ true) → (d || list_any q ys) ≡ true
-    choose b true is here rest = refl
-    choose true false is here rest =
-        let same : y ≡ x = cc in
-        absurd (true≢false (sym passes ∙ ap q (sym same) ∙ is))
-    choose false false is here rest = rest here
 
 or_false : (b : Bool) → (b || false) ≡ b
 or_false true = refl

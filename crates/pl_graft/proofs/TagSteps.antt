@@ -1,6 +1,6 @@
 -- A tag more in an import: where it goes, and what the rows make of it.
 use Rattle.std.proofs.Common.{◌≡◌, ◌∙◌, ◌<◌, ◌≤◌, ◌+◌, ℕ, All, Bool, true, false, List, [], ◌∷◌, Option, Some, None}
-use Rattle.std.proofs.Common.{ap, arith, find, if◌then◌else◌, refl, subst, sym, unwrap_or}
+use Rattle.std.proofs.Common.{ap, arith, if◌then◌else◌, refl, subst, sym, unwrap_or}
 use Rattle.std.specs.Prelude.{nat_lt}
 use Rattle.std.specs.List.{AllByRecursion}
 use Rattle.std.specs.Option.{IsSomeAnd, MatchOption, is_some, option_map}
@@ -18,6 +18,7 @@ use Rattle.pl_base.specs.Rows.{Kept, store_of}
 use Rattle.pl_base.specs.Store.{Item, Store, item_id}
 use Rattle.pl_base.specs.Tags.{tags_root}
 use Rattle.pl_base.specs.Tree.{children_of}
+use Rattle.pl_base.proofs.LookUps.{found_holds}
 use Rattle.pl_tree.specs.declared.place.Place.TheVariants.{End}
 use Rattle.pl_tree.specs.Places.{before}
 use Rattle.pl_tree.specs.Refused.{tag_refusal}
@@ -33,15 +34,6 @@ use Rattle.pl_graft.proofs.GoingOn.{grows_same}
 use Rattle.pl_graft.proofs.Ready.{IsReady, below_rows, held, last_entry, last_tag, named}
 
 -- ---- ids
-
-pub found_holds : {X : Type 0} (P : X → Type 0) (test : X → Bool) (xs : List X) (x : X) → AllByRecursion P xs
-    → find test xs ≡ Some x → P x
-found_holds P test [] x all found = absurd (cc)
-found_holds P test (y ∷ ys) x all found = choose (test y) found (found_holds P test ys x all.1)
-  where
-    choose : (b : Bool) → (if b then Some y else find test ys) ≡ Some x → (find test ys ≡ Some x → P x) → P x
-    choose true here later = let same : y ≡ x = cc in subst P same all.0
-    choose false here later = later here
 
 last_holds : {X : Type 0} (P : X → Type 0) (xs : List X) (x : X) → AllByRecursion P xs → last_of xs ≡ Some x → P x
 last_holds P [] x all last = absurd (cc)

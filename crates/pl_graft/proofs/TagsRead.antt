@@ -17,15 +17,17 @@ use Rattle.pl_base.specs.Fold.{folded}
 use Rattle.pl_base.specs.Good.{HasGoodItems, IsTagFolder, IsTree}
 use Rattle.pl_base.specs.Store.{Item, Store}
 use Rattle.pl_base.specs.Tags.{tags_of, tags_root}
-use Rattle.pl_base.specs.Tree.{children_of, has_item, item_at, item_title, is_page}
+use Rattle.pl_base.specs.Tree.{children_of, has_item, item_at, is_page}
 use Rattle.pl_base.proofs.ListLaws.{found_in, to_map}
-use Rattle.pl_base.proofs.LookUps.{both, found_passes}
-use Rattle.pl_base.proofs.OneParent.{same_item}
+use Rattle.pl_base.proofs.LookUps.{both, found_passes, part}
+use Rattle.pl_base.proofs.ItemLookUps.{same_item}
+use Rattle.pl_base.proofs.ChildrenRun.{child_here, child_names}
+use Rattle.pl_base.proofs.Walk.{StandsAt}
 use Rattle.pl_graft.specs.declared.tags.TagFolder.{TagFolder}
 use Rattle.pl_graft.specs.declared.tags.Tags.{Tags}
 use Rattle.pl_graft.specs.KnownTags.{HasPairs, IsOther, KnowsTags, has_entry, has_pair, last_id, last_of}
 use Rattle.pl_graft.specs.TagRows.{TagEntry, TagRow, entries_of, entry_row, row_with, tag_row}
-use Rattle.pl_tree.proofs.ChildWalk.{IsHere, children_known, part}
+use Rattle.pl_tree.proofs.CountedChildren.{children_known}
 use Rattle.pl_graft.proofs.TagLookups.{Apart, FoldersPut, apart, knows_push, last_push}
 
 -- ---- items that are there
@@ -43,10 +45,11 @@ its_id items id i at = same_item i.id id (found_passes (λ (j : Item). j.id.0 ==
 
 -- a child that a walk stands at is an item
 pub child_there : (items : List Item) (parent : ItemId) (P : List ItemId → Type 0) (id : ItemId) → IsTree items
-    → IsHere (children_of items parent) P id → has_item items id ≡ true
+    → StandsAt child_names (children_of items parent) P id → has_item items id ≡ true
 child_there items parent P id tree w =
     part (λ (c : ItemId). has_item items c ≡ true) w.front id w.rest
-    (subst (AllByRecursion (λ (c : ItemId). has_item items c ≡ true)) w.whole (children_known items parent tree))
+    (subst (AllByRecursion (λ (c : ItemId). has_item items c ≡ true)) (child_here items parent P id w)
+    (children_known items parent tree))
 
 filter_map_push : (items : List Item) (front : List ItemId) (id : ItemId) (i : Item) → item_at items id ≡ Some i
     → filter_map (item_at items) (front ++ id ∷ []) ≡ filter_map (item_at items) front ++ i ∷ []
@@ -278,7 +281,7 @@ KnowsFront items known front = KnowsTags known (rows_by items front)
 
 -- one tag folder more than those in front of it
 pub folder_step : (store : Store) (old new : Tags) (id : ItemId) → HasGoodItems store
-    → (w : IsHere (children_of store.items tags_root) (KnowsFront store.items old) id)
+    → (w : StandsAt child_names (children_of store.items tags_root) (KnowsFront store.items old) id)
     → ((before : List TagRow) (t : Item) → KnowsTags old before → item_at store.items id ≡ Some t
     → IsOther (tag_row store.items t) before → KnowsTags new (before ++ tag_row store.items t ∷ []))
     → KnowsFront store.items new (w.front ++ id ∷ [])
@@ -287,10 +290,5 @@ folder_step store old new id good w more =
     (child_there store.items tags_root (KnowsFront store.items old) id good.tree w) in
     subst (KnowsTags new) (sym (rows_push store.items w.front id found.0 found.1))
     (more (rows_by store.items w.front) found.0 w.so_far found.1
-    (other_row store w.front id w.rest found.0 good w.whole found.1))
-
--- the title of an item that is there
-pub title_is : (items : List Item) (id : ItemId) (t : Item) (title : List ℕ) → item_at items id ≡ Some t
-    → Some title ≡ item_title items id → title ≡ t.title
-title_is items id t title at told =
-    same_Some title t.title (told ∙ ap (option_map (λ (i : Item). i.title)) at)
+    (other_row store w.front id w.rest found.0 good
+    (child_here store.items tags_root (KnowsFront store.items old) id w) found.1))

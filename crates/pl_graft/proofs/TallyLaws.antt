@@ -30,7 +30,7 @@ use Rattle.pl_graft.specs.KnownTags.{AreBelow, IsEntering, KnowsTags}
 use Rattle.pl_graft.specs.Ready.{IsReady, Takes}
 use Rattle.pl_graft.specs.TagRows.{TagRow, entered, holds_in, row_with, tag_rows}
 use Rattle.pl_graft.specs.Tally.{IsTallyOf}
-use Rattle.pl_graft.proofs.NodeLaws.{IsFormed, kind_fits, page_there, pages_tag, takes_page_of}
+use Rattle.pl_graft.proofs.NodeLaws.{IsFormed, kind_fits, page_there, pages_tag, pages_tags, takes_page_of}
 use Rattle.pl_graft.proofs.Ready.{below_rows, has_page_for, held, items_page, named, ready_page, ready_row}
 use Rattle.pl_graft.proofs.Ready.{ready_tag, tags_row, tags_tag}
 use Rattle.pl_graft.proofs.Slots.{live_page, live_row, live_tagged}
@@ -203,12 +203,6 @@ with_tags-push : (id : PageId) (date : Micros) (names : List (List ℕ)) (name :
     → with_tags id date (names ++ name ∷ []) store ≡ with_tag id date name (with_tags id date names store)
 with_tags-push id date [] name store = refl
 with_tags-push id date (n ∷ names) name store = with_tags-push id date names name (with_tag id date n store)
-
-pages_tags : (id : PageId) (date : Micros) (names : List (List ℕ)) (store : Store)
-    → (with_tags id date names store).pages ≡ store.pages
-pages_tags id date [] store = refl
-pages_tags id date (name ∷ names) store =
-    pages_tags id date names (with_tag id date name store) ∙ pages_tag store id date name
 
 -- the page is there behind tags
 pub there_tags : (id : PageId) (date : Micros) (names : List (List ℕ)) (store : Store) → IsTrue (has_page_at store id)

@@ -28,9 +28,10 @@ use Rattle.pl_base.proofs.IdsLaws.{few_ids, same_page}
 use Rattle.pl_base.proofs.ListLaws.{find-map, map-map, sum_by-agree, sum_by-map}
 use Rattle.pl_base.proofs.LookUps.{both, found_holds}
 use Rattle.pl_base.proofs.OriginSums.{totals_of_sums}
+use Rattle.pl_base.proofs.PagesRun.{Ascend, above, ascend, first_behind, first_page, following, found_at}
+use Rattle.pl_base.proofs.PagesRun.{next_behind, page_names, pages_run, there}
+use Rattle.pl_base.proofs.Walk.{Walk, left, nears, stands}
 use Rattle.pl_marks.specs.Refreshed.{HaveCounts, Refreshes}
-use Rattle.pl_marks.proofs.PageWalk.{Ascend, above, ascend, first_behind, first_page, found_at, left}
-use Rattle.pl_marks.proofs.PageWalk.{next_behind, there, walk_nears}
 use Rattle.pl_history.specs.Fresh.{fresh, is_moved, with_fresh}
 use Rattle.pl_history.specs.Sound.{AreStanding}
 use Rattle.pl_history.proofs.GoodRows.{good_of, items_of, items_still, standing_of}
@@ -350,16 +351,15 @@ module _ (day : Day) (old now : Kept) (id : PageId) (count : ℕ) (h : IsWellKep
               ∙ sym (sum_by_push (λ (p : KeptPage). if is_moved store p then 1 else 0) s.front s.page);
         }
 
-passed : (front : List KeptPage) → AllByRecursion (λ (p : KeptPage). false ≡ false) front
-passed [] = tt
-passed (p ∷ front) = (refl, passed front)
-
 pub nearer : (day : Day) (old now new : Kept) (id : PageId) (at next : Option PageId) (count more : ℕ)
     → IsWellKept old → WalkedTo day old now at count → WalkedTo day old new next more → at ≡ Some id
-    → next ≡ page_behind new (Some id) → left next < left at
+    → next ≡ page_behind new (Some id)
+    → left (following old) (length old.pages) next < left (following old) (length old.pages) at
 nearer day old now new id at next count more h w v is behind =
-    walk_nears (λ _. false) old at id next h
-    (record { front = w.front; rest = w.rest; whole = w.whole; here = w.here; failed = passed w.front }) is
+    let walk : Walk page_names old.pages (λ _. Unit {0}) at =
+    record { front = w.front; rest = w.rest; whole = w.whole; here = w.here; so_far = tt } in
+    nears page_names (following old) old.pages (λ _. Unit {0}) at next id (pages_run old h)
+    (stands page_names old.pages (λ _. Unit {0}) at id walk is) is
     (behind ∙ behind_alike day old new id (store_walked day old new next more v))
 
 -- ---- its end

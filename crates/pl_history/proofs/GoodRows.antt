@@ -11,7 +11,7 @@ use Rattle.pl_base.specs.Redirects.{visit_by_id}
 use Rattle.pl_base.specs.Rows.{IsWellKept, Kept, KeptPage, has_page as is_kept, has_visit, store_of}
 use Rattle.pl_base.specs.Store.{Item, Page, Store, Visit}
 use Rattle.pl_base.specs.Tags.{tags_of}
-use Rattle.pl_base.proofs.OriginLaws.{canon-store_url}
+use Rattle.pl_base.proofs.OriginLaws.{store_url_own}
 use Rattle.pl_history.specs.Sound.{AreStanding}
 use Rattle.pl_base.proofs.ListLaws.{All-from_map, AllPairs-map, list_any-map, map-map}
 use Rattle.pl_base.proofs.LookUps.{found_where}
@@ -96,7 +96,7 @@ good_of kept h items standing =
       pages =
           All-map (IsGoodPage store) page_of kept.pages
           (λ k d within. record {
-            url = canon-store_url (get_or kept.pages k d).page.url (h.urls k d within);
+            url = store_url_own (get_or kept.pages k d).page.url (h.urls k d within);
             title = h.titles k d within;
             typed = standing.typed k d within;
             kept = standing.by_row k d within;

@@ -13,7 +13,8 @@ use Rattle.pl_history.specs.declared.find.Target.TheVariants.{Known}
 use Rattle.pl_base.specs.Visiting.{find_page}
 use Rattle.pl_history.specs.Target.{IsTargetOf}
 use Rattle.pl_base.proofs.ListLaws.{weaker}
-use Rattle.pl_marks.proofs.PageWalk.{Ascend, ascend, part, there}
+use Rattle.pl_base.proofs.LookUps.{part}
+use Rattle.pl_base.proofs.PagesRun.{Ascend, ascend, there}
 use Rattle.pl_history.proofs.Targets.{IsFound, found_page}
 
 record Split (test : Page → Bool) (ps : List KeptPage) (found : Page) : Type 0 where

@@ -12,11 +12,13 @@ pub mod PageCounts
 pub mod PageOrder
 pub mod PagesTold
 pub mod ReadyPage
+pub mod RedirectPages
 pub mod RemovedRows
 pub mod RemovedVisits
 pub mod RightAfter
 pub mod RightRemoved
 pub mod SameVisits
+pub mod SearchedPages
 pub mod Settled
 pub mod SmallTotals
 pub mod SourcePage
@@ -25,7 +27,6 @@ pub mod StalePages
 pub mod StaleSort
 pub mod StandingPages
 pub mod TakenVisits
-pub mod TargetWalk
 pub mod Targets
 pub mod TrimmedPages
 pub mod VisitMade

@@ -1,6 +1,6 @@
 -- How many slots a store takes once a page is visited.
 use Rattle.std.proofs.Common.{◌≡◌, ◌+◌, ◌==◌, ◌++◌, ◌∙◌, if◌then◌else◌, ℕ, Bool, true, false}
-use Rattle.std.proofs.Common.{List, [], ◌∷◌, Option, Some, None, ap, arith, get_or, map, refl, sym}
+use Rattle.std.proofs.Common.{List, [], ◌∷◌, Option, Some, None, ap, arith, get_or, map, refl}
 use Rattle.std.specs.List.{list_any, sum_by}
 use Rattle.std.proofs.lemmas.List.{length-map, length_push, map_push}
 use Rattle.std.proofs.lemmas.List.Sums.{sum_by_push}
@@ -15,6 +15,7 @@ use Rattle.pl_base.specs.Store.{Page, Store, Visit}
 use Rattle.pl_base.proofs.OriginLaws.{new_origins-append, same_origin-sym}
 use Rattle.pl_base.specs.Visiting.{after_visit, find_page, new_page, visit_page, visited_page, visited_store, new_visit}
 use Rattle.pl_base.proofs.ListLaws.{list_any-alike, list_any-map, sum_by-agree, sum_by-map}
+use Rattle.pl_base.proofs.Truths.{same_tests}
 use Rattle.pl_history.proofs.VisitRows.{store-with_page, visited_at, grown_store}
 
 -- ---- a visit
@@ -63,13 +64,8 @@ live_visited id transition date source store =
 
 -- ---- a page
 
-same_either : (a b : Bool) → (a ≡ true → b ≡ true) → (b ≡ true → a ≡ true) → a ≡ b
-same_either true b there back = sym (there refl)
-same_either false true there back = back refl
-same_either false false there back = refl
-
 same_origin-swap : (a b : List ℕ) → same_origin a b ≡ same_origin b a
-same_origin-swap a b = same_either (same_origin a b) (same_origin b a) (same_origin-sym a b) (same_origin-sym b a)
+same_origin-swap a b = same_tests (same_origin a b) (same_origin b a) (same_origin-sym a b) (same_origin-sym b a)
 
 -- the slot of the URL's origin, unless a page has that origin
 origin_new : (url : List ℕ) (pages : List Page)

@@ -1,16 +1,16 @@
 -- How many visits the pages have together.
 use Rattle.std.proofs.Common.{◌≡◌, ◌≢◌, ◌∙◌, ◌+◌, ◌≤◌, ◌==◌, ◌||◌, ℕ, Bool, true, false}
 use Rattle.std.proofs.Common.{List, [], ◌∷◌}
-use Rattle.std.proofs.Common.{ap, arith, count_by, get_or, if◌then◌else◌, length, map, refl, sym}
+use Rattle.std.proofs.Common.{ap, arith, count_by, get_or, if◌then◌else◌, length, refl, sym}
 use Rattle.std.specs.List.{AllByRecursion, list_any, sum_by}
 use Rattle.std.proofs.lemmas.Bool.{eqb-false, eqb-true, false≢true, ne_eqb}
-use Rattle.std.proofs.lemmas.List.Kept.{AllPairs-from_increasing}
 use Rattle.std.proofs.lemmas.List.Sums.{sum_by-cons}
 use Rattle.pl_base.specs.Marks.{is_counted, visit_count}
 use Rattle.pl_base.specs.Rows.{IsWellKept, Kept, KeptPage, store_of}
 use Rattle.pl_base.specs.Store.{Visit}
-use Rattle.pl_base.proofs.ListLaws.{count_by-and-le, sum_by-agree, weaker}
-use Rattle.pl_base.proofs.LookUps.{Apart, apart_ascending}
+use Rattle.pl_base.proofs.ListLaws.{count_by-and-le, sum_by-agree, sum_by-le, weaker}
+use Rattle.pl_base.proofs.LookUps.{Apart}
+use Rattle.pl_base.proofs.PageLaws.{pages_apart}
 
 -- ---- sums
 
@@ -32,11 +32,6 @@ sum_plus f g (x ∷ xs) =
       sum_by-cons g x xs,
       sum_plus f g xs,
     )
-
-pub sum_le : {X : Type 0} (f g : X → ℕ) (xs : List X) → ((x : X) → f x ≤ g x) → sum_by f xs ≤ sum_by g xs
-sum_le f g [] each = omega arith
-sum_le f g (x ∷ xs) each =
-    omega (arith, sum_by-cons f x xs, sum_by-cons g x xs, each x, sum_le f g xs each)
 
 -- pairs are counted row by row or column by column
 pub counts_swap : {X Y : Type 0} (r : X → Y → Bool) (xs : List X) (ys : List Y)
@@ -87,11 +82,6 @@ count_once {X} key n (x ∷ xs) apart there =
 
 -- ---- the visits of the pages
 
-pages_apart : (kept : Kept) → IsWellKept kept → Apart (λ (p : KeptPage). p.page.id.0) kept.pages
-pages_apart kept h =
-    apart_ascending (λ (p : KeptPage). p.page.id.0) kept.pages
-    (AllPairs-from_increasing (map (λ (p : KeptPage). p.page.id.0) kept.pages) h.page_ids.ascending)
-
 -- each visit is one of one page
 counted_once : (kept : Kept) → IsWellKept kept
     → sum_by (λ (p : KeptPage). count_by (λ (v : Visit). v.page.0 == p.page.id.0) kept.visits) kept.pages
@@ -110,7 +100,7 @@ pub counts_of_pages : (kept : Kept) → IsWellKept kept
 counts_of_pages kept h =
     omega (
       arith,
-      sum_le (λ (p : KeptPage). visit_count (store_of kept) p.page.id)
+      sum_by-le (λ (p : KeptPage). visit_count (store_of kept) p.page.id)
           (λ (p : KeptPage). count_by (λ (v : Visit). v.page.0 == p.page.id.0) kept.visits) kept.pages
           (λ p. count_by-and-le (λ (v : Visit). v.page.0 == p.page.id.0) (λ (v : Visit). is_counted v.transition)
           kept.visits),

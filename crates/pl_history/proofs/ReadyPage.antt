@@ -23,9 +23,11 @@ use Rattle.pl_history.specs.Ready.{IsReady}
 use Rattle.pl_history.specs.Target.{IsTargetOf, WithTarget}
 use Rattle.pl_history.proofs.GoodRows.{items_of, items_still, standing_of}
 use Rattle.pl_history.proofs.KnownPage.{IsKnown, has_known, known, only_known}
-use Rattle.pl_base.proofs.ListLaws.{All-from_map, list_any-map, list_any_last, list_any_push}
+use Rattle.pl_base.proofs.ListLaws.{list_any-map, list_any_last, list_any_push}
+use Rattle.pl_base.proofs.LookUps.{part}
 use Rattle.pl_base.proofs.OriginSums.{sums_of_sound, sums_with_page}
-use Rattle.pl_marks.proofs.PageWalk.{not_equal, part}
+use Rattle.pl_base.proofs.PageLaws.{ids_below}
+use Rattle.pl_base.proofs.PagesRun.{not_equal}
 
 -- ---- a page that is known
 
@@ -56,11 +58,6 @@ ready_known kept url page is_place h sound target place =
     }
 
 -- ---- a new page
-
-pub ids_below : (kept : Kept) → IsWellKept kept → All (λ (p : KeptPage). p.page.id.0 < kept.ids.page) kept.pages
-ids_below kept h k d within =
-    (All-from_map (λ n. (0 < n) × (n < kept.ids.page)) (λ (p : KeptPage). p.page.id.0) kept.pages h.page_ids.given k d
-    within).1
 
 pub id_below : (ps : List KeptPage) (n m : ℕ) → AllByRecursion (λ (p : KeptPage). p.page.id.0 < n) ps
     → list_any (λ (p : KeptPage). p.page.id.0 == m) ps ≡ true → m < n

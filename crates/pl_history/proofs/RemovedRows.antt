@@ -1,7 +1,7 @@
 -- What holds of the rows once a visit went, and the pages that it bears on joined the others.
 use Rattle.std.proofs.Common.{◌≡◌, ◌∙◌, ◌+◌, ◌≤◌, ◌==◌, ◌&&◌, ◌||◌, ◌++◌, ℕ, All, Bool, true, false, IsTrue, List}
 use Rattle.std.proofs.Common.{[], ◌∷◌}
-use Rattle.std.proofs.Common.{Option, Some, None, ap, arith, eq-eqb, eqb-true, filter, get_or, if◌then◌else◌, map, refl}
+use Rattle.std.proofs.Common.{Option, Some, None, ap, arith, eq-eqb, eqb-true, get_or, if◌then◌else◌, map, refl}
 use Rattle.std.proofs.Common.{option_to_list, subst, sym}
 use Rattle.std.specs.List.{AllByRecursion, list_any}
 use Rattle.std.specs.Option.{option_and_then, option_map}
@@ -9,7 +9,6 @@ use Rattle.std.proofs.lemmas.Bool.{false≢true, or_parts}
 use Rattle.std.proofs.lemmas.List.Elements.{All-append, All-filter, All-from_recursion, All-map, All-weaker}
 use Rattle.std.proofs.lemmas.List.Elements.{recursion_from_All}
 use Rattle.std.proofs.lemmas.List.Folds.{list_any-append}
-use Rattle.std.proofs.lemmas.List.Kept.{AllPairs-from_increasing}
 use Rattle.std.proofs.lemmas.List.Sorted.{All-permutation, IsPermutation-sym, list_any-IsPermutation}
 use Rattle.pl_base.specs.declared.id.PageId.{PageId}
 use Rattle.pl_base.specs.declared.id.VisitId.{VisitId}
@@ -26,8 +25,8 @@ use Rattle.pl_base.specs.Store.{Page, Visit}
 use Rattle.pl_base.specs.Totals.{most_share, share}
 use Rattle.pl_base.proofs.IdsLaws.{same_page}
 use Rattle.pl_base.proofs.ListLaws.{list_any-alike, list_any-map, weaker}
-use Rattle.pl_base.proofs.VisitsLaws.{Differ, Differ-ascending}
-use Rattle.pl_base.proofs.LookUps.{found_holds, none_pass}
+use Rattle.pl_base.proofs.LookUps.{found_holds, none_pass, where_passed}
+use Rattle.pl_base.proofs.TargetsRun.{differ_all}
 use Rattle.pl_marks.specs.Refreshed.{HaveCounts, IsRightPage, source_page, unvisited_mark}
 use Rattle.pl_history.specs.Borne.{WithRedirectPages}
 use Rattle.pl_history.specs.Settled.{AreOthersSettled}
@@ -41,23 +40,6 @@ use Rattle.pl_history.proofs.VisitRows.{store_same}
 use Rattle.pl_history.proofs.VisitsLeft.{all_left, count_one_fewer}
 
 -- ---- lists
-
--- what holds of those that pass a test
-passing : {X : Type 0} (P : X → Type 0) (test : X → Bool) (xs : List X) → AllByRecursion P (filter test xs)
-    → AllByRecursion (λ x. test x ≡ true → P x) xs
-passing P test [] all = tt
-passing P test (x ∷ xs) all = choose (test x) all (passing P test xs)
-  where
-    choose : (b : Bool) → AllByRecursion P (if b then x ∷ filter test xs else filter test xs)
-        → (AllByRecursion P (filter test xs) → AllByRecursion (λ y. test y ≡ true → P y) xs)
-        → (b ≡ true → P x) × AllByRecursion (λ y. test y ≡ true → P y) xs
-    choose true all rest = (λ _. all.0, rest all.1)
-    choose false all rest = (λ passes. absurd (false≢true passes), rest all)
-
-pub differ_visits : (kept : Kept) → IsWellKept kept → Differ kept.visits
-differ_visits kept h =
-    Differ-ascending kept.visits
-    (AllPairs-from_increasing (map (λ (v : Visit). v.id.0) kept.visits) h.visit_ids.ascending)
 
 -- ---- the visit
 
@@ -116,7 +98,7 @@ module _ (old : Kept) (id : VisitId) (gone : Visit) (mark : Mark) (h : IsWellKep
   own_count counted is =
       let q : Visit → Bool = λ (v : Visit). (v.page.0 == gone.page.0) && is_counted v.transition in
       count_at old gone.page mark counts (mark_at old gone.page mark marks)
-      ∙ count_one_fewer id q q old.visits gone (differ_visits old h) at (λ v. refl)
+      ∙ count_one_fewer id q q old.visits gone (differ_all old h) at (λ v. refl)
       ∙ ap (λ (b : Bool). visit_count (store_of (without_visit id old)) gone.page
       + (if b && is_counted gone.transition then 1 else 0)) (eq-eqb gone.page.0 gone.page.0 refl)
       ∙ ap (λ (n : ℕ). visit_count (store_of (without_visit id old)) gone.page + n) (sym is)
@@ -169,7 +151,7 @@ module _ (old : Kept) (id : VisitId) (gone : Visit) (mark : Mark) (h : IsWellKep
                 weaker (λ (v : Visit). from v ≡ true → (page.0 == v.page.0) ≡ false)
                 (λ (v : Visit). from v ≡ true → (v.page.0 == page.0) ≡ false) old.visits
                 (λ v holds passes. other_way page v.page (holds passes))
-                (passing (λ (v : Visit). (page.0 == v.page.0) ≡ false) from old.visits
+                (where_passed (λ (v : Visit). (page.0 == v.page.0) ≡ false) from old.visits
                 (none_pass (λ (v : Visit). page.0 == v.page.0) (redirects_from (store_of old) id) none));
           },
           first.0,

@@ -18,10 +18,10 @@ use Rattle.pl_base.proofs.IdsLaws.{same_page}
 use Rattle.pl_base.proofs.ListLaws.{All-from_map, AllPairs-from_map}
 use Rattle.pl_base.proofs.OriginSums.{sums_of_sound}
 use Rattle.pl_base.proofs.PageOrder.{numbers}
+use Rattle.pl_base.proofs.TargetsRun.{differ_all}
 use Rattle.pl_history.specs.Settled.{AreOthersSettled, AreSettledBut}
 use Rattle.pl_history.proofs.GoodRows.{items_of}
 use Rattle.pl_history.proofs.PageOrder.{is_one}
-use Rattle.pl_history.proofs.RemovedRows.{differ_visits}
 use Rattle.pl_history.proofs.VisitsLeft.{Keeps, any_left, left_none, left_twice, one_fewer}
 
 -- ---- before the first
@@ -101,7 +101,7 @@ next_fewer old now new ids k d h there so_far more =
     omega (
       arith,
       ap (λ (s : Store). length s.visits) more,
-      one_fewer (get_or ids k d) now.visits (differ_visits now h) there,
+      one_fewer (get_or ids k d) now.visits (differ_all now h) there,
       so_far,
     )
 

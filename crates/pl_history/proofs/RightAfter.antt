@@ -27,9 +27,11 @@ use Rattle.pl_base.specs.Visits.{latest_first, sample_of, visits_of}
 use Rattle.pl_marks.specs.Refreshed.{AreRightBut, HaveCounts, IsRightPage, Refreshes, is_passing, source_page}
 use Rattle.pl_base.proofs.IdsLaws.{same_page}
 use Rattle.pl_base.proofs.ListLaws.{sum_by-agree, weaker}
+use Rattle.pl_base.proofs.VisitLists.{each_visit_found}
 use Rattle.pl_base.proofs.VisitsLaws.{all-latest_first}
 use Rattle.pl_base.proofs.LookUps.{both, find_push, front, where_passes}
-use Rattle.pl_marks.proofs.VisitWalk.{hidden_by, visits_found}
+use Rattle.pl_base.proofs.Walk.{stands}
+use Rattle.pl_marks.proofs.SeenVisits.{hidden_by}
 
 -- ---- what a visit leaves of another
 
@@ -106,7 +108,8 @@ visits_alike old row page h made e =
           (led_apart now (is_redirect row.transition) row.source page w e.led found of);
     })
     (recursion_from_All (HasSource old) old.visits h.sources)
-    (front (λ (w : Visit). visit_at now w.id ≡ Some w) old.visits (next_visit row old ∷ []) (visits_found now made)))
+    (front (λ (w : Visit). visit_at now w.id ≡ Some w) old.visits (next_visit row old ∷ [])
+    (each_visit_found now made)))
 
 visits_same : (old : Kept) (row : VisitRow) (page : PageId) → IsElsewhere row old page
     → visits_of (store_of (with_visit row old)) page ≡ visits_of (store_of old) page

@@ -23,9 +23,11 @@ use Rattle.pl_base.specs.Tables.{bonus_of}
 use Rattle.pl_base.specs.Visits.{latest_first, sample_of, visits_of}
 use Rattle.pl_marks.specs.Refreshed.{is_passing, source_page}
 use Rattle.pl_base.proofs.ListLaws.{sum_by-agree, sum_by-map, weaker}
+use Rattle.pl_base.proofs.VisitLists.{each_visit_found}
 use Rattle.pl_base.proofs.VisitsLaws.{all-latest_first}
 use Rattle.pl_base.proofs.LookUps.{apart_ascending, both, found_one, where_passes}
-use Rattle.pl_marks.proofs.VisitWalk.{hidden_by, visits_found}
+use Rattle.pl_base.proofs.Walk.{left}
+use Rattle.pl_marks.proofs.SeenVisits.{hidden_by}
 use Rattle.pl_history.proofs.RightAfter.{led_apart}
 use Rattle.pl_history.proofs.VisitsLeft.{Keeps, among_is, among_one, any_left, count_left, filter_left, find_left}
 use Rattle.pl_history.proofs.VisitsLeft.{order_left}
@@ -175,7 +177,7 @@ module _ (old : Kept) (id : VisitId) (gone : Visit) (h : IsWellKept old) (at : v
         led = led_left page e w known.1 known.0 of;
       })
       (both One Found (λ (v : Visit). One v × Found v) old.visits (λ v one found. (one, found)) gone_is
-      (visits_found old h))
+      (each_visit_found old h))
       e.redirects)
 
   -- ---- what is computed of another page

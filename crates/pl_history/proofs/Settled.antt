@@ -1,7 +1,7 @@
 -- What holds of the rows once a page is refreshed that lost an item, and once all such are settled.
 use Rattle.std.proofs.Common.{◌≡◌, ◌∙◌, ◌+◌, ◌<◌, ◌≤◌, ◌==◌, ◌||◌, ℕ, ℤ, All, Bool, true, false, IsTrue, List, [], ◌∷◌}
-use Rattle.std.proofs.Common.{Some, ap, arith, drop, filter, get_or, if◌then◌else◌, length, refl, subst, suc, sym}
-use Rattle.std.specs.List.{AllByRecursion, list_any}
+use Rattle.std.proofs.Common.{Some, ap, arith, drop, get_or, if◌then◌else◌, length, refl, subst, suc, sym}
+use Rattle.std.specs.List.{list_any}
 use Rattle.std.specs.Option.{option_map}
 use Rattle.std.proofs.lemmas.List.{drop_all, drop_more}
 use Rattle.std.proofs.lemmas.List.Elements.{All-map, recursion_from_All}
@@ -14,7 +14,7 @@ use Rattle.pl_base.specs.Rows.{HaveSums, IsRight, IsSound, IsWellKept, Kept, Kep
 use Rattle.pl_base.specs.Rows.{store_of, url_of}
 use Rattle.pl_base.specs.Store.{Page, Store, Visit}
 use Rattle.pl_base.proofs.IdsLaws.{same_page}
-use Rattle.pl_base.proofs.ListLaws.{list_any-map}
+use Rattle.pl_base.proofs.ListLaws.{all_stay, list_any-map}
 use Rattle.pl_base.proofs.OriginSums.{totals_of_sums}
 use Rattle.pl_marks.specs.Refreshed.{Refreshes}
 use Rattle.pl_base.specs.Removal.{is_standing}
@@ -104,10 +104,6 @@ settled_sound kept h s =
       right = right;
       totals = totals_of_sums kept right s.sums;
     }
-
-all_stay : {X : Type 0} (test : X → Bool) (xs : List X) → AllByRecursion (λ x. test x ≡ true) xs → filter test xs ≡ xs
-all_stay test [] all = refl
-all_stay test (x ∷ xs) all = rw (all.0, all_stay test xs all.1) refl
 
 -- no page goes any more
 pub settled_store : (kept : Kept) → AreSettledBut [] kept → without_idle_pages (store_of kept) ≡ store_of kept

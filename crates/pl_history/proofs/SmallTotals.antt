@@ -11,9 +11,9 @@ use Rattle.pl_base.specs.Marks.{visit_count}
 use Rattle.pl_base.specs.Rows.{IsWellKept, Kept, KeptPage, store_of}
 use Rattle.pl_base.specs.Store.{Page, Store}
 use Rattle.pl_base.specs.Totals.{Origin, Scored, scored_pages, share}
-use Rattle.pl_base.proofs.ListLaws.{sum_by-map}
+use Rattle.pl_base.proofs.ListLaws.{sum_by-le, sum_by-map}
 use Rattle.pl_base.proofs.SmallFrecencies.{page-le}
-use Rattle.pl_history.proofs.PageCounts.{counts_of_pages, sum_le}
+use Rattle.pl_history.proofs.PageCounts.{counts_of_pages}
 
 linear : {X : Type 0} (f : X → ℕ) (xs : List X)
     → sum_by (λ x. f x * 2_075 + 340) xs ≡ sum_by f xs * 2_075 + length xs * 340
@@ -28,7 +28,7 @@ few_shares kept h =
     let live = h.live in
     omega (
       arith,
-      sum_le (λ (p : KeptPage). share (frecency_of (store_of kept) p.page))
+      sum_by-le (λ (p : KeptPage). share (frecency_of (store_of kept) p.page))
           (λ (p : KeptPage). visit_count (store_of kept) p.page.id * 2_075 + 340) kept.pages
           (λ p. page-le (store_of kept) p.page),
       linear (λ (p : KeptPage). visit_count (store_of kept) p.page.id) kept.pages,

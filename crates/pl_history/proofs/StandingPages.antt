@@ -11,17 +11,10 @@ use Rattle.pl_base.specs.Marks.{is_referenced}
 use Rattle.pl_base.specs.Rows.{Kept, first_id, page_visits, store_of}
 use Rattle.pl_base.specs.Store.{Visit}
 use Rattle.pl_base.specs.Tree.{first_item, references}
-use Rattle.pl_base.specs.Visits.{in_place, is_later, latest_first}
+use Rattle.pl_base.specs.Visits.{latest_first}
 use Rattle.pl_base.specs.Removal.{is_standing}
+use Rattle.pl_base.proofs.VisitLists.{one_in_place}
 use Rattle.pl_marks.proofs.PageScore.{referenced_by_first}
-
-one_in_place : (v : Visit) (vs : List Visit) → is_some (first_id (in_place v vs)) ≡ true
-one_in_place v [] = refl
-one_in_place v (w ∷ vs) = choose (is_later v w)
-  where
-    choose : (b : Bool) → is_some (first_id (if b then v ∷ w ∷ vs else w ∷ in_place v vs)) ≡ true
-    choose true = refl
-    choose false = refl
 
 first_of : (test : Visit → Bool) (vs : List Visit)
     → is_some (first_id (latest_first (filter test vs))) ≡ list_any test vs

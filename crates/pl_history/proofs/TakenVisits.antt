@@ -16,11 +16,14 @@ use Rattle.pl_base.specs.Removal.{is_among, without_visits}
 use Rattle.pl_base.specs.Date.{IsDate}
 use Rattle.pl_base.specs.Rows.{IsWellKept, Kept, KeptPage, has_page, has_visit, page_visits, store_of, visit_at}
 use Rattle.pl_base.specs.Store.{Store, Visit}
-use Rattle.pl_base.specs.Visits.{in_place, is_later, latest_first, visits_of}
+use Rattle.pl_base.specs.Visits.{visits_of}
 use Rattle.pl_base.proofs.ListLaws.{AllPairs-map, all-filter, list_any-alike, list_any-map, to_map, weaker}
+use Rattle.pl_base.proofs.ListLaws.{all_append, any-and, any-or, any-where, everyone}
+use Rattle.pl_base.proofs.VisitLists.{any-latest_first}
 use Rattle.pl_base.proofs.VisitsLaws.{Differ, Differ-filter}
 use Rattle.pl_base.proofs.LookUps.{Apart, apart_ascending, found_some}
-use Rattle.pl_marks.proofs.VisitWalk.{IsVisitOf, differ, visits_stand}
+use Rattle.pl_base.proofs.VisitsRun.{IsVisitOf, differ, visits_stand}
+use Rattle.pl_base.proofs.TargetsRun.{differ_append}
 use Rattle.pl_history.specs.Taken.{AreThese, ids_of}
 use Rattle.pl_history.proofs.SameVisits.{without_same}
 
@@ -33,19 +36,6 @@ taken test kept pages = flat_map (of_page test kept) pages
 
 -- ---- lists
 
-pub all-append : {X : Type 0} (P : X → Type 0) (xs ys : List X) → AllByRecursion P xs → AllByRecursion P ys
-    → AllByRecursion P (xs ++ ys)
-all-append P [] ys all rest = rest
-all-append P (x ∷ xs) ys all rest = (all.0, all-append P xs ys all.1 rest)
-
-Differ-append : (xs ys : List Visit) → Differ xs → Differ ys
-    → AllByRecursion (λ (x : Visit). AllByRecursion (λ (y : Visit). y.id.0 ≢ x.id.0) ys) xs → Differ (xs ++ ys)
-Differ-append [] ys front back apart = back
-Differ-append (x ∷ xs) ys front back apart = (
-  all-append (λ (y : Visit). y.id.0 ≢ x.id.0) xs ys front.0 apart.0,
-  Differ-append xs ys front.1 back apart.1,
-)
-
 pairs : (vs : List Visit) → Differ vs → AllPairs (λ (v w : Visit). v.id.0 ≢ w.id.0) vs
 pairs [] different = λ i j d before within. absurd (omega arith)
 pairs (v ∷ vs) different =
@@ -56,26 +46,6 @@ pairs (v ∷ vs) different =
     (pairs vs different.1)
 
 -- ---- tests over lists
-
-any-in_place : (p : Visit → Bool) (v : Visit) (ws : List Visit) → list_any p (in_place v ws) ≡ (p v || list_any p ws)
-any-in_place p v [] = refl
-any-in_place p v (w ∷ ws) = choose (is_later v w) (any-in_place p v ws)
-  where
-    swap : (a b c : Bool) → (a || (b || c)) ≡ (b || (a || c))
-    swap true true c = refl
-    swap true false c = refl
-    swap false true c = refl
-    swap false false c = refl
-
-    choose : (b : Bool) → list_any p (in_place v ws) ≡ (p v || list_any p ws)
-        → list_any p (if b then v ∷ w ∷ ws else w ∷ in_place v ws) ≡ (p v || (p w || list_any p ws))
-    choose true rest = refl
-    choose false rest = ap (λ (b : Bool). p w || b) rest ∙ swap (p w) (p v) (list_any p ws)
-
-pub any-latest_first : (p : Visit → Bool) (vs : List Visit) → list_any p (latest_first vs) ≡ list_any p vs
-any-latest_first p [] = refl
-any-latest_first p (v ∷ vs) =
-    any-in_place p v (latest_first vs) ∙ ap (λ (b : Bool). p v || b) (any-latest_first p vs)
 
 pub any-filter : {X : Type 0} (p q : X → Bool) (xs : List X) → list_any p (filter q xs) ≡ list_any (λ x. q x && p x) xs
 any-filter p q [] = refl
@@ -96,18 +66,6 @@ any-none : {X : Type 0} (xs : List X) → list_any (λ _. false) xs ≡ false
 any-none [] = refl
 any-none (x ∷ xs) = any-none xs
 
-any-or : {X : Type 0} (p q : X → Bool) (xs : List X)
-    → list_any (λ x. p x || q x) xs ≡ (list_any p xs || list_any q xs)
-any-or p q [] = refl
-any-or p q (x ∷ xs) =
-    ap (λ (b : Bool). (p x || q x) || b) (any-or p q xs) ∙ mix (p x) (q x) (list_any p xs) (list_any q xs)
-  where
-    mix : (a b c d : Bool) → ((a || b) || (c || d)) ≡ ((a || c) || (b || d))
-    mix true b c d = refl
-    mix false true true d = refl
-    mix false true false d = refl
-    mix false false c d = refl
-
 any-swap : {X Y : Type 0} (r : X → Y → Bool) (xs : List X) (ys : List Y)
     → list_any (λ x. list_any (r x) ys) xs ≡ list_any (λ y. list_any (λ x. r x y) xs) ys
 any-swap r [] ys = sym (any-none ys)
@@ -115,28 +73,13 @@ any-swap r (x ∷ xs) ys =
     ap (λ (b : Bool). list_any (r x) ys || b) (any-swap r xs ys)
     ∙ sym (any-or (r x) (λ y. list_any (λ z. r z y) xs) ys)
 
-any-and : {X : Type 0} (p : X → Bool) (b : Bool) (xs : List X) → list_any (λ x. p x && b) xs ≡ (list_any p xs && b)
-any-and p b [] = refl
-any-and p b (x ∷ xs) = ap (λ (c : Bool). (p x && b) || c) (any-and p b xs) ∙ join (p x) b (list_any p xs)
-  where
-    join : (a b c : Bool) → ((a && b) || (c && b)) ≡ ((a || c) && b)
-    join true true c = refl
-    join true false true = refl
-    join true false false = refl
-    join false b c = refl
-
-any-where : {X : Type 0} (p q : X → Bool) (xs : List X) → AllByRecursion (λ x. p x ≡ q x) xs
-    → list_any p xs ≡ list_any q xs
-any-where p q [] alike = refl
-any-where p q (x ∷ xs) alike = rw (alike.0, any-where p q xs alike.1)
-
 -- ---- each is there, and once
 
 found : (test : Visit → Bool) (kept : Kept) (pages : List PageId) → IsWellKept kept
     → AllByRecursion (λ (v : Visit). visit_at kept v.id ≡ Some v) (taken test kept pages)
 found test kept [] h = tt
 found test kept (p ∷ ps) h =
-    all-append (λ (v : Visit). visit_at kept v.id ≡ Some v) (of_page test kept p) (taken test kept ps)
+    all_append (λ (v : Visit). visit_at kept v.id ≡ Some v) (of_page test kept p) (taken test kept ps)
     (weaker (IsVisitOf kept p) (λ (v : Visit). visit_at kept v.id ≡ Some v) (of_page test kept p) (λ v both. both.0)
     (all-filter (IsVisitOf kept p) test (page_visits kept p) (visits_stand kept p h)))
     (found test kept ps h)
@@ -147,7 +90,7 @@ elsewhere : (test : Visit → Bool) (kept : Kept) (page : PageId) (pages : List 
     → AllByRecursion (λ (v : Visit). (visit_at kept v.id ≡ Some v) × (v.page.0 ≢ page.0)) (taken test kept pages)
 elsewhere test kept page [] h others = tt
 elsewhere test kept page (q ∷ qs) h others =
-    all-append (λ (v : Visit). (visit_at kept v.id ≡ Some v) × (v.page.0 ≢ page.0)) (of_page test kept q)
+    all_append (λ (v : Visit). (visit_at kept v.id ≡ Some v) × (v.page.0 ≢ page.0)) (of_page test kept q)
     (taken test kept qs)
     (weaker (IsVisitOf kept q) (λ (v : Visit). (visit_at kept v.id ≡ Some v) × (v.page.0 ≢ page.0))
     (of_page test kept q)
@@ -167,7 +110,7 @@ differ_taken : (test : Visit → Bool) (kept : Kept) (pages : List PageId) → I
     → Apart (λ (p : PageId). p.0) pages → Differ (taken test kept pages)
 differ_taken test kept [] h apart = tt
 differ_taken test kept (p ∷ ps) h apart =
-    Differ-append (of_page test kept p) (taken test kept ps)
+    differ_append (of_page test kept p) (taken test kept ps)
     (Differ-filter test (page_visits kept p) (differ kept p h)) (differ_taken test kept ps h apart.1)
     (weaker (IsVisitOf kept p) (λ (x : Visit). AllByRecursion (λ (y : Visit). y.id.0 ≢ x.id.0) (taken test kept ps))
     (of_page test kept p)
@@ -334,10 +277,6 @@ all_these test kept ids h are =
     are
 
 -- ---- visits to one page
-
-pub everyone : {X : Type 0} (P : X → Type 0) (xs : List X) → ((x : X) → P x) → AllByRecursion P xs
-everyone P [] all = tt
-everyone P (x ∷ xs) all = (all x, everyone P xs all)
 
 alone : (b : Bool) → ((b || false) && true) ≡ b
 alone true = refl

@@ -11,7 +11,7 @@ use Rattle.pl_base.specs.Expiration.{is_staler, stale_pages, trimmed_pages, visi
 use Rattle.pl_base.specs.Marks.{is_referenced}
 use Rattle.pl_base.specs.Rows.{IsWellKept, Kept, KeptPage, store_of}
 use Rattle.pl_base.specs.Store.{Page, Store, Visit}
-use Rattle.pl_base.proofs.ListLaws.{AllPairs-map, list_any-alike, list_any-map, to_map, weaker}
+use Rattle.pl_base.proofs.ListLaws.{AllPairs-map, everyone, list_any-alike, list_any-map, to_map, weaker}
 use Rattle.pl_base.proofs.SortLaws.{apart_sorted}
 use Rattle.pl_base.proofs.LookUps.{Apart}
 use Rattle.pl_history.specs.declared.trimming.StalePage.{StalePage}
@@ -20,7 +20,7 @@ use Rattle.pl_history.specs.Taken.{AreThese, ids_of}
 use Rattle.pl_history.proofs.SameVisits.{filter-alike}
 use Rattle.pl_history.proofs.StalePages.{stale_ids}
 use Rattle.pl_history.proofs.StaleSort.{AreApart, pages_apart}
-use Rattle.pl_history.proofs.TakenVisits.{are_these, eqb-sym, everyone, taken, to_pages}
+use Rattle.pl_history.proofs.TakenVisits.{are_these, eqb-sym, taken, to_pages}
 
 -- ---- parts of a list
 

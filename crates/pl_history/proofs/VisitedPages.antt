@@ -19,6 +19,7 @@ use Rattle.pl_history.specs.Sound.{AreStanding}
 use Rattle.pl_base.specs.Removal.{is_standing}
 use Rattle.pl_history.proofs.RightAfter.{each_marked, other_way}
 use Rattle.pl_base.proofs.ListLaws.{All-from_map, list_any_last, list_any_push}
+use Rattle.pl_base.proofs.Truths.{or_more}
 
 pub typed_by : (t : Transition) (b : Bool) → t ≡ Typed → (b || is_typed t) ≡ true
 typed_by t true is = refl
@@ -34,11 +35,6 @@ IsTypedBy visits p = All (λ (v : Visit). v.page ≡ p.page.id → v.transition 
 -- a visit is to the page
 abbrev visited_in : List Visit → PageId → Bool
 visited_in visits id = list_any (λ (w : Visit). w.page.0 == id.0) visits
-
-or_more : (a b c : Bool) → (a ≡ true → b ≡ true) → (a || c) ≡ true → (b || c) ≡ true
-or_more true b c more some = or_left b c (more refl)
-or_more false true c more some = refl
-or_more false false c more some = some
 
 pub standing_after : (old : Kept) (row : VisitRow) (mark : Mark) → (row.transition ≡ Typed → IsTrue mark.typed)
     → All (λ (p : KeptPage). (p.page.id.0 == row.page.0) ≡ true → IsTrue p.page.typed → IsTrue mark.typed) old.pages

@@ -13,10 +13,11 @@ use Rattle.pl_base.specs.declared.item.ItemRow.{ItemRow}
 use Rattle.pl_base.specs.Store.{Item}
 use Rattle.pl_base.specs.Tree.{adopted, adopting, first_item, has_item, inserted, last_item, new_item, parent_of}
 use Rattle.pl_base.specs.Tree.{put_behind}
+use Rattle.pl_base.proofs.ItemLookUps.{same_item}
 use Rattle.pl_base.proofs.ListLaws.{map-alike, map-map, weaker}
 use Rattle.pl_items.specs.declared.node.Node.{Node}
 use Rattle.pl_items.specs.Nodes.{AreNodes, by_id, child_nodes, is_parent, item_of, items_of, place_behind, put_node}
-use Rattle.pl_items.proofs.IdOrder.{Differs, Distinct, Lacks, has_other, same_id}
+use Rattle.pl_items.proofs.IdOrder.{Differs, Distinct, Lacks, has_other}
 use Rattle.pl_items.proofs.Children.{distinct_nodes}
 use Rattle.pl_items.proofs.Changes.{greatest_of, inserted_are, inserted_items, inserted_where, lacks_greatest, new_node}
 use Rattle.pl_items.proofs.Moves.{StandsAt}
@@ -138,9 +139,9 @@ adopting-ended parent id ns distinct lacks m = choose (m.id.0 == parent.0) refl
         → cond b (with_children (put_behind (Some id) id (child_nodes ns m.id))) (item_of ns m)
         ≡ cond b (with_children (put_behind (last_among ns (Some parent)) id (child_nodes ns m.id))) (item_of ns m)
     choose true is =
-        ap with_children (ap (λ p. put_behind (Some id) id (child_nodes ns p)) (same_id m.id parent is)
+        ap with_children (ap (λ p. put_behind (Some id) id (child_nodes ns p)) (same_item m.id parent is)
         ∙ sym (children-ended parent id ns distinct lacks)
-        ∙ ap (λ p. put_behind (last_among ns (Some parent)) id (child_nodes ns p)) (sym (same_id m.id parent is)))
+        ∙ ap (λ p. put_behind (last_among ns (Some parent)) id (child_nodes ns p)) (sym (same_item m.id parent is)))
     choose false is = refl
 
 adopted-ended : (parent : Option ItemId) (id : ItemId) (ns : List Node) → Distinct ns → Lacks id ns
@@ -167,7 +168,7 @@ same_or_other (Some a) None = inr (λ same. absurd (cc))
 same_or_other (Some a) (Some b) = choose (a.0 == b.0) refl
   where
     choose : (c : Bool) → (a.0 == b.0) ≡ c → (Some a ≡ Some b) ⊎ (Some a ≢ Some b)
-    choose true is = inl (ap (λ (i : ItemId). Some i) (same_id a b is))
+    choose true is = inl (ap (λ (i : ItemId). Some i) (same_item a b is))
     choose false is =
         inr (λ same.
         let at : a ≡ b = cc in

@@ -13,13 +13,15 @@ use Rattle.pl_base.specs.declared.item.ItemRow.{ItemRow}
 use Rattle.pl_base.specs.Store.{Item}
 use Rattle.pl_base.specs.Tree.{adopted, adopting, children_of, has_item, inserted, leaving, moved, new_item, parent_of}
 use Rattle.pl_base.specs.Tree.{redated, removed, retitled, with_changed}
+use Rattle.pl_base.proofs.ItemLookUps.{same_item}
 use Rattle.pl_base.proofs.ListLaws.{all-filter, from_map, list_any-alike, list_any-map, map-alike, map-map, weaker}
+use Rattle.pl_base.proofs.LookUps.{found_passes}
 use Rattle.pl_items.specs.declared.node.Node.{Node}
 use Rattle.pl_items.specs.Nodes.{AreNodes, by_id, child_nodes, has_node, in_id_order, is_parent, item_of, items_of}
 use Rattle.pl_items.specs.Nodes.{put_node}
 use Rattle.pl_items.proofs.IdOrder.{Differs, Distinct, IsGreatest, Lacks, Lacks-without, all-by_id, by_id-map}
-use Rattle.pl_items.proofs.IdOrder.{by_id-without, found_passes, greatest-last, has_id, has_other_id, in_id_order-map}
-use Rattle.pl_items.proofs.IdOrder.{put_back, same_id, without}
+use Rattle.pl_items.proofs.IdOrder.{by_id-without, greatest-last, has_id, has_other_id, in_id_order-map}
+use Rattle.pl_items.proofs.IdOrder.{put_back, without}
 use Rattle.pl_items.proofs.Children.{Parented, are_nodes, children_is, distinct_nodes, has_item_is, no_children}
 use Rattle.pl_items.proofs.Children.{node_there, parent_is, parented_nodes}
 use Rattle.pl_items.proofs.Moves.{StandsAt, adopting_is, all-put, any-put, by_id-put, children-put_elsewhere}
@@ -325,7 +327,7 @@ inserted_where id row title after ns ms are new there behind is =
       where
         choose : (b : Bool) → (p.0 == id.0) ≡ b → (p.0 == id.0) ≡ false
         choose true same =
-            let none : has_node ns p ≡ false = ap (has_node ns) (same_id p id same) ∙ lacks_none id ns lacks in
+            let none : has_node ns p ≡ false = ap (has_node ns) (same_item p id same) ∙ lacks_none id ns lacks in
             absurd (cc)
         choose false other = other
 
@@ -345,7 +347,7 @@ abbrev pub moving : ItemId → Node → Node
 moving parent n = record n { parent = Some parent }
 
 lacks_moved : (id : ItemId) (n : Node) (ns : List Node) → has_id id n ≡ true → Lacks n.id (without id ns)
-lacks_moved id n ns same = subst (λ i. Lacks i (without id ns)) (sym (same_id n.id id same)) (Lacks-without id ns)
+lacks_moved id n ns same = subst (λ i. Lacks i (without id ns)) (sym (same_item n.id id same)) (Lacks-without id ns)
 
 moved_stays : (id parent : ItemId) (after : Option ItemId) (n : Node) (ns : List Node) → has_id id n ≡ true
     → (other : ItemId) → has_node ns other ≡ true
@@ -404,16 +406,16 @@ moved_items id parent after n ns ms are found behind is =
     ∙ map-alike (λ m. item_of new (changed id (moving parent) m))
     (λ m. adopting parent after id (leaving id (item_of ns m))) (by_id ns)
     (λ m. adopting_is after parent (moving parent n) rest refl stands (changed id (moving parent) m)
-    ∙ ap (λ i. adopting parent after i (item_of rest (changed id (moving parent) m))) (same_id n.id id same)
-    ∙ ap (adopting parent after id) (same_item m ∙ leaving_is id ns m))
+    ∙ ap (λ i. adopting parent after i (item_of rest (changed id (moving parent) m))) (same_item n.id id same)
+    ∙ ap (adopting parent after id) (same_as m ∙ leaving_is id ns m))
     ∙ sym (map-map (adopting parent after id) (λ m. leaving id (item_of ns m)) (by_id ns)
     ) ∙ ap (map (adopting parent after id)) (sym (map-map (leaving id) (item_of ns) (by_id ns)))
   where
     keeps_id : (m : Node) → (changed id (moving parent) m).id ≡ m.id
     keeps_id m = elim (has_id id m) as (λ b. (cond b (moving parent m) m).id ≡ m.id) [ true ↦ refl | false ↦ refl ]
 
-    same_item : (m : Node) → item_of (without id ns) (changed id (moving parent) m) ≡ item_of (without id ns) m
-    same_item m =
+    same_as : (m : Node) → item_of (without id ns) (changed id (moving parent) m) ≡ item_of (without id ns) m
+    same_as m =
         elim (has_id id m) as (λ b. item_of (without id ns) (cond b (moving parent m) m) ≡ item_of (without id ns) m)
         [ true ↦ refl | false ↦ refl ]
 

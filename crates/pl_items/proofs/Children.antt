@@ -11,10 +11,12 @@ use Rattle.pl_base.specs.declared.id.ItemId.{ItemId}
 use Rattle.pl_base.specs.declared.item.ItemRow.{ItemRow}
 use Rattle.pl_base.specs.Store.{Item}
 use Rattle.pl_base.specs.Tree.{children_of, has_child, has_item, item_at, item_row, item_title, parent_of}
-use Rattle.pl_base.proofs.ListLaws.{list_any-map, weaker}
+use Rattle.pl_base.proofs.ItemLookUps.{same_item}
+use Rattle.pl_base.proofs.ListLaws.{find-map, list_any-map, weaker}
+use Rattle.pl_base.proofs.LookUps.{find-alike, found_holds, found_passes}
 use Rattle.pl_items.specs.declared.node.Node.{Node}
 use Rattle.pl_items.specs.Nodes.{AreNodes, by_id, child_nodes, has_node, in_id_order, is_parent, item_of, items_of}
-use Rattle.pl_items.proofs.IdOrder.{Differs, Distinct, Lacks, find-by_id, found_passes, has_id, same_id}
+use Rattle.pl_items.proofs.IdOrder.{Differs, Distinct, Lacks, find-by_id, has_id}
 
 -- ---- what holds of nodes, by recursion
 
@@ -50,29 +52,7 @@ pub are_nodes : (ns : List Node) → Distinct ns → AllByRecursion (Parented ns
 are_nodes ns distinct parented =
     record { distinct = pairs_from ns distinct; parents = All-from_recursion (Parented ns) ns parented }
 
-pub all_found : {X : Type 0} (P : X → Type 0) (p : X → Bool) (xs : List X) (x : X) → AllByRecursion P xs
-    → find p xs ≡ Some x → P x
-all_found P p [] x all found = absurd (cc)
-all_found P p (y ∷ ys) x all found = choose (p y) found (all_found P p ys x all.1)
-  where
-    choose : (b : Bool) → cond b (Some y) (find p ys) ≡ Some x → (find p ys ≡ Some x → P x) → P x
-    choose true is rest =
-        let at : y ≡ x = cc in
-        subst P at all.0
-    choose false is rest = rest is
-
 -- ---- items by their ids
-
-pub find-map : {A B : Type 0} (p : B → Bool) (f : A → B) (xs : List A)
-    → find p (map f xs) ≡ option_map f (find (λ x. p (f x)) xs)
-find-map p f [] = refl
-find-map p f (x ∷ xs) =
-    elim (p (f x)) as (λ b. cond b (Some (f x)) (find p (map f xs))
-    ≡ option_map f (cond b (Some x) (find (λ y. p (f y)) xs))) [ true ↦ refl | false ↦ find-map p f xs ]
-
-pub find-alike : {X : Type 0} (p q : X → Bool) (xs : List X) → ((x : X) → p x ≡ q x) → find p xs ≡ find q xs
-find-alike p q [] alike = refl
-find-alike p q (x ∷ xs) alike = rw (alike x, find-alike p q xs alike) refl
 
 pub node_there : (id : ItemId) (ns : List Node) → has_node ns id ≡ true → find (has_id id) ns ≢ None
 node_there id [] there none = absurd (cc)
@@ -149,7 +129,7 @@ children_is ns id are = choose (find (has_id id) ns) refl (item_at_is ns id are)
     choose : (found : Option Node) → find (has_id id) ns ≡ found
         → item_at (items_of ns) id ≡ option_map (item_of ns) found
         → children_of (items_of ns) id ≡ child_nodes ns id
-    choose (Some n) is at = rw at (ap (child_nodes ns) (same_id n.id id (found_passes (has_id id) ns n is)))
+    choose (Some n) is at = rw at (ap (child_nodes ns) (same_item n.id id (found_passes (has_id id) ns n is)))
     choose None is at =
         rw at (sym (no_children ns id ns (none (has_node ns id) refl is) (parented_nodes ns are)))
 
@@ -177,7 +157,7 @@ child_among (n ∷ ns) p id distinct =
     choose true true child here rest = rw (here, child) refl
     choose true false child here rest = rw here rest
     choose false true child here rest =
-        let lacks : Lacks id ns = subst (λ i. Lacks i ns) (same_id n.id id here) distinct.0 in
+        let lacks : Lacks id ns = subst (λ i. Lacks i ns) (same_item n.id id here) distinct.0 in
         rest ∙ ap (λ found. is_parent p (option_and_then (λ (m : Node). m.parent) found)) (none_found id ns lacks)
         ∙ sym child
     choose false false child here rest = rest
@@ -196,13 +176,13 @@ parent_is ns id are =
     found_id : (p : ItemId) (found : Option Node) → find (has_id p) ns ≡ found → has_node ns p ≡ true
         → option_map (λ (i : Item). i.id) (option_map (item_of ns) found) ≡ Some p
     found_id p None is there = absurd (node_there p ns there is)
-    found_id p (Some n) is there = ap (λ (i : ItemId). Some i) (same_id n.id p (found_passes (has_id p) ns n is))
+    found_id p (Some n) is there = ap (λ (i : ItemId). Some i) (same_item n.id p (found_passes (has_id p) ns n is))
 
     is_node : (p : ItemId) (found : Option Node) → find (has_id id) ns ≡ found
         → option_and_then (λ (n : Node). n.parent) found ≡ Some p → has_node ns p ≡ true
     is_node p None is at = absurd (cc)
     is_node p (Some n) is at =
-        let parented : Parented ns n = all_found (Parented ns) (has_id id) ns n (parented_nodes ns are) is in
+        let parented : Parented ns n = found_holds (Parented ns) (has_id id) ns n (parented_nodes ns are) is in
         let known : IfSome (Some p) (λ i. has_node ns i ≡ true) =
         subst (λ parent. IfSome parent (λ i. has_node ns i ≡ true)) at parented in
         known
@@ -237,5 +217,5 @@ row_is ns id are =
         → option_map (item_row (items_of ns)) (option_map (item_of ns) found) ≡ option_map row_of found
     choose None is = refl
     choose (Some n) is = ap (λ parent. Some (with_parent n parent))
-        (ap (parent_of (items_of ns)) (same_id n.id id (found_passes (has_id id) ns n is)) ∙ parent_is ns id are
+        (ap (parent_of (items_of ns)) (same_item n.id id (found_passes (has_id id) ns n is)) ∙ parent_is ns id are
         ∙ ap (option_and_then (λ (m : Node). m.parent)) is)

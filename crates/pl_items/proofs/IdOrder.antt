@@ -1,11 +1,13 @@
 -- Nodes by ascending id: what changes of the nodes do to `by_id`.
-use Rattle.std.proofs.Common.{◌≡◌, ◌≢◌, ◌+◌, ◌<◌, ◌≤◌, ◌==◌, ◌∙◌, ◌++◌, ℕ, Bool, true, false, cond, List, [], ◌∷◌}
+use Rattle.std.proofs.Common.{◌≡◌, ◌≢◌, ◌+◌, ◌<◌, ◌≤◌, ◌==◌, ◌∙◌, ◌++◌, Bool, true, false, cond, List, [], ◌∷◌}
 use Rattle.std.proofs.Common.{not, Some, ap, arith, filter, find, length, map, nat_lt, refl, sym, subst}
 use Rattle.std.specs.List.{AllByRecursion}
 use Rattle.std.proofs.lemmas.Bool.{eqb-true, le-ltb, ltb-false, ltb-true, ne_eqb}
 use Rattle.std.proofs.lemmas.Bool.Decides.{nat_tests}
 use Rattle.pl_base.specs.declared.id.ItemId.{ItemId}
+use Rattle.pl_base.proofs.ItemLookUps.{same_item}
 use Rattle.pl_base.proofs.ListLaws.{weaker}
+use Rattle.pl_base.proofs.LookUps.{found_passes}
 use Rattle.pl_items.specs.declared.node.Node.{Node}
 use Rattle.pl_items.specs.Nodes.{by_id, in_id_order}
 
@@ -28,20 +30,6 @@ has_id id n = n.id.0 == id.0
 
 abbrev pub has_other_id : ItemId → Node → Bool
 has_other_id id n = not (n.id.0 == id.0)
-
-pub same_id : (a b : ItemId) → (a.0 == b.0) ≡ true → a ≡ b
-same_id a b same = ap (λ (n : ℕ). record { 0 = n }) (eqb-true a.0 b.0 same)
-
-pub found_passes : {X : Type 0} (p : X → Bool) (xs : List X) (x : X) → find p xs ≡ Some x → p x ≡ true
-found_passes p [] x found = absurd (cc)
-found_passes p (y ∷ ys) x found = choose (p y) refl found (found_passes p ys x)
-  where
-    choose : (b : Bool) → p y ≡ b → cond b (Some y) (find p ys) ≡ Some x → (find p ys ≡ Some x → p x ≡ true)
-        → p x ≡ true
-    choose true here is rest =
-        let at : y ≡ x = cc in
-        subst (λ z. p z ≡ true) at here
-    choose false other is rest = rest is
 
 pub has_other : (id : ItemId) (n : Node) → Differs id n → has_id id n ≡ false
 has_other id n other = ne_eqb n.id.0 id.0 other
@@ -206,7 +194,7 @@ put_back id n (m ∷ ms) distinct found =
         → in_id_order m (by_id ms) ≡ in_id_order n (by_id (cond (not b) (m ∷ without id ms) (without id ms)))
     choose true here is rest =
         let at : m ≡ n = cc in
-        let none : Lacks id ms = subst (λ i. Lacks i ms) (same_id m.id id here) distinct.0 in
+        let none : Lacks id ms = subst (λ i. Lacks i ms) (same_item m.id id here) distinct.0 in
         rw (without-none id ms none) (ap (λ x. in_id_order x (by_id ms)) at)
     choose false other is rest =
         let same : has_id id n ≡ true = found_passes (has_id id) ms n is in

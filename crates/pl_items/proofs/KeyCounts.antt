@@ -1,12 +1,12 @@
 -- How often a key stands in a list, and in the lists that lists make.
 use Rattle.std.proofs.Common.{◌≡◌, ◌≢◌, ◌+◌, ◌<◌, ◌≤◌, ◌++◌, ◌∙◌, inl, inr, ℕ, List, [], ◌∷◌}
-use Rattle.std.proofs.Common.{ap, sym, subst, arith, refl, count_by, eqb}
-use Rattle.std.specs.List.{AllByRecursion, AllPairs, flat_map, sum_by}
+use Rattle.std.proofs.Common.{ap, sym, subst, arith, refl}
+use Rattle.std.specs.List.{AllPairs, flat_map, sum_by}
 use Rattle.std.proofs.lemmas.List.Elements.{All-from_recursion}
 use Rattle.std.proofs.lemmas.List.Kept.{AllPairs-cons}
 use Rattle.std.proofs.lemmas.List.Sums.{sum_by-append, sum_by-cons}
-use Rattle.pl_base.proofs.Among.{In, all_from_in, at_in, in_back, in_either, in_front}
-use Rattle.pl_items.proofs.Ascending.{Ascends, Once, count-cons, counted, tick, tick_same}
+use Rattle.pl_base.proofs.Among.{In, at_in, in_back, in_either, in_front}
+use Rattle.pl_base.proofs.KeyCounts.{Ascends, count, count-append}
 use Rattle.pl_items.proofs.Members.{pairs_head, pairs_tail}
 
 -- ---- sums over a part of a list
@@ -49,33 +49,16 @@ module _ {X : Type 0} where
 -- ---- keys
 
 module _ {X : Type 0} (key : X → ℕ) where
-  abbrev pub count : ℕ → List X → ℕ
-  count k xs = count_by (λ x. eqb (key x) k) xs
-
-  pub count-append : (k : ℕ) (xs ys : List X) → count k (xs ++ ys) ≡ count k xs + count k ys
-  count-append k xs ys = sum_by-append (λ x. tick (eqb (key x) k)) xs ys
-
   pub count-flat_map : {Y : Type 0} (k : ℕ) (f : Y → List X) (ys : List Y)
-      → count k (flat_map f ys) ≡ sum_by (λ y. count k (f y)) ys
+      → count key k (flat_map f ys) ≡ sum_by (λ y. count key k (f y)) ys
   count-flat_map k f [] = refl
   count-flat_map k f (y ∷ ys) =
       omega (
         arith,
-        count-append k (f y) (flat_map f ys),
+        count-append key k (f y) (flat_map f ys),
         count-flat_map k f ys,
-        sum_by-cons (λ z. count k (f z)) y ys,
+        sum_by-cons (λ z. count key k (f z)) y ys,
       )
-
-  pub pairs_from_once : (xs : List X) → Once key xs → AllPairs (λ x y. key x ≢ key y) xs
-  pairs_from_once [] once = λ i j d before within. absurd (omega arith)
-  pairs_from_once (x ∷ xs) once =
-      let apart : AllByRecursion (λ y. key x ≢ key y) xs =
-      all_from_in (λ y. key x ≢ key y) xs (λ z h e.
-      let here : tick (eqb (key x) (key z)) ≡ 1 = tick_same (key x) (key z) e in
-      omega (arith, counted key (key z) xs z h refl, count-cons key (key z) x xs, once (key z)))
-      in
-      AllPairs-cons (λ y z. key y ≢ key z) x xs (All-from_recursion (λ y. key x ≢ key y) xs apart)
-      (pairs_from_once xs (λ k. omega (arith, count-cons key k x xs, once k)))
 
   pub pairs_from_ascent : (xs : List X) → Ascends key xs → AllPairs (λ x y. key x < key y) xs
   pairs_from_ascent [] up = λ i j d before within. absurd (omega arith)

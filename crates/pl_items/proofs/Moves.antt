@@ -8,11 +8,12 @@ use Rattle.std.proofs.lemmas.Bool.Decides.{nat_tests}
 use Rattle.pl_base.specs.declared.id.ItemId.{ItemId}
 use Rattle.pl_base.specs.Store.{Item}
 use Rattle.pl_base.specs.Tree.{adopting, leaving, put_behind, without_id}
+use Rattle.pl_base.proofs.ItemLookUps.{same_item}
 use Rattle.pl_base.proofs.ListLaws.{all-filter, weaker}
 use Rattle.pl_items.specs.declared.node.Node.{Node}
 use Rattle.pl_items.specs.Nodes.{by_id, child_nodes, has_node, in_id_order, is_parent, item_of, put_node}
 use Rattle.pl_items.proofs.IdOrder.{Differs, Distinct, Lacks, has_id, has_other_id, in_id_order-twice}
-use Rattle.pl_items.proofs.IdOrder.{same_id, without}
+use Rattle.pl_items.proofs.IdOrder.{without}
 use Rattle.pl_items.proofs.Children.{parent_in}
 
 -- ---- one node more
@@ -156,7 +157,7 @@ stands_at a parent (n ∷ ns) distinct at = choose (has_id a n) refl at (stands_
         → (parent_in ns a ≡ Some parent → AllByRecursion (StandsAt (Some a) parent) ns)
         → AllByRecursion (StandsAt (Some a) parent) (n ∷ ns)
     choose true here is rest =
-        let lacks : Lacks a ns = subst (λ i. Lacks i ns) (same_id n.id a here) distinct.0 in
+        let lacks : Lacks a ns = subst (λ i. Lacks i ns) (same_item n.id a here) distinct.0 in
         ((λ same. is), weaker (Differs a) (StandsAt (Some a) parent) ns (λ m other same. absurd (other same)) lacks)
     choose false other is rest = ((λ same. absurd (grind (arith, nat_tests, same, other))), rest is)
 

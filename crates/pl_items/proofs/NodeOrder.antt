@@ -8,9 +8,10 @@ use Rattle.std.proofs.lemmas.List.Sorted.{IsPermutation-refl, IsPermutation-tran
 use Rattle.std.proofs.lemmas.List.Sorted.{IsPermutation-middle}
 use Rattle.std.proofs.lemmas.List.Sorted.{IsPermutation-sym}
 use Rattle.pl_base.specs.declared.id.ItemId.{ItemId}
+use Rattle.pl_base.proofs.KeyCounts.{Ascends}
 use Rattle.pl_items.specs.Nodes.{by_id, in_id_order}
 use Rattle.pl_items.specs.declared.node.Node.{Node}
-use Rattle.pl_items.proofs.Ascending.{Ascends, ascends_sorted, only_ascending}
+use Rattle.pl_items.proofs.Ascending.{ascends_sorted, only_ascending}
 use Rattle.pl_items.proofs.Members.{pairs_head, pairs_tail}
 
 abbrev pub node_key : Node → ℕ

@@ -6,9 +6,10 @@ use Rattle.std.specs.List.{insert, position, position_or_len, remove}
 use Rattle.std.proofs.lemmas.Bool.{ltb-false, ltb-true}
 use Rattle.std.proofs.lemmas.Bool.Decides.{nat_tests}
 use Rattle.pl_base.specs.declared.id.ItemId.{ItemId}
+use Rattle.pl_base.proofs.ItemLookUps.{same_item}
 use Rattle.pl_items.specs.declared.node.Node.{Node}
 use Rattle.pl_items.specs.Nodes.{place_behind, place_then, put_node}
-use Rattle.pl_items.proofs.IdOrder.{Distinct, Lacks, has_id, same_id, without, without-none}
+use Rattle.pl_items.proofs.IdOrder.{Distinct, Lacks, has_id, without, without-none}
 use Rattle.pl_items.proofs.Lookups.{at_place}
 use Rattle.pl_items.proofs.Turns.{remove-set}
 use Rattle.std.proofs.lemmas.List.{get_or-set_same}
@@ -40,7 +41,7 @@ set_here id f (n ∷ ns) d distinct within =
         (f (get_or (n ∷ ns) (cond (not b) (1 + position_or_len (has_id id) ns) 0) d))
         ≡ cond b (f n) n ∷ map (changed id f) ns
     choose true here inside rest =
-        let lacks : Lacks id ns = subst (λ i. Lacks i ns) (same_id n.id id here) distinct.0 in
+        let lacks : Lacks id ns = subst (λ i. Lacks i ns) (same_item n.id id here) distinct.0 in
         ap (λ xs. f n ∷ xs) (sym (changed-none id f ns lacks))
     choose false other inside rest =
         let next : 1 + position_or_len (has_id id) ns ≡ suc (position_or_len (has_id id) ns) = omega arith in
@@ -64,7 +65,7 @@ remove_here id (n ∷ ns) distinct = choose (has_id id n) refl (remove_here id n
         → remove (n ∷ ns) (cond (not b) (1 + position_or_len (has_id id) ns) 0)
         ≡ cond (not b) (n ∷ without id ns) (without id ns)
     choose true here rest =
-        let lacks : Lacks id ns = subst (λ i. Lacks i ns) (same_id n.id id here) distinct.0 in
+        let lacks : Lacks id ns = subst (λ i. Lacks i ns) (same_item n.id id here) distinct.0 in
         sym (without-none id ns lacks)
     choose false other rest =
         let next : 1 + position_or_len (has_id id) ns ≡ suc (position_or_len (has_id id) ns) = omega arith in
@@ -119,7 +120,7 @@ shifts id a (n ∷ ns) distinct other within =
         (place_behind (Some a) (cond (not b) (n ∷ without id ns) (without id ns)))
     choose true true here there inside rest = absurd (grind (arith, nat_tests, here, there, other))
     choose true false here there inside rest =
-        let lacks : Lacks id ns = subst (λ i. Lacks i ns) (same_id n.id id here) distinct.0 in
+        let lacks : Lacks id ns = subst (λ i. Lacks i ns) (same_item n.id id here) distinct.0 in
         rw (without-none id ns lacks) ((λ before. omega arith), (λ past. absurd (omega arith)))
     choose false true here there inside rest =
         rw there ((λ before. absurd (omega arith)), (λ past. omega arith))

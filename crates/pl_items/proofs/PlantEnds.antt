@@ -16,22 +16,26 @@ use Rattle.pl_base.specs.declared.id.ItemId.{ItemId}
 use Rattle.pl_base.specs.Good.{IsTree, child_ids}
 use Rattle.pl_base.specs.Store.{Item, item_id}
 use Rattle.pl_base.specs.Tree.{has_item}
+use Rattle.pl_base.proofs.ItemLookUps.{has_in, same_item_number}
+use Rattle.pl_base.proofs.KeyCounts.{Ascends, Once, ascends_from_pairs, count, count-cons, counted, tick}
+use Rattle.pl_base.proofs.KeyCounts.{once_from_pairs, pairs_from_once, tick_same}
 use Rattle.pl_base.proofs.ListLaws.{AllPairs-from_map, AllPairs-map, list_any-map, map-map, sum_by-map}
 use Rattle.pl_base.proofs.Among.{In, all_from_in, at_in, from_flat_map, from_map, in_flat_map, in_map}
+use Rattle.pl_base.proofs.ListLaws.{to_map}
+use Rattle.pl_base.proofs.Truths.{is_none_at}
 use Rattle.pl_items.specs.Nodes.{AreNodes, by_id, child_nodes, has_node, ids_under, item_of, items_of}
 use Rattle.pl_items.specs.TakenOut.{IsPlanted, Plants, item_waiting, node_of, waiting_ids, waiting_row}
 use Rattle.pl_items.specs.declared.by_id.Child.{Child}
 use Rattle.pl_items.specs.declared.node.Node.{Node}
 use Rattle.pl_items.specs.declared.plant.Waiting.{Waiting}
-use Rattle.pl_items.proofs.Ascending.{Ascends, Once, ascends_from_pairs, count-cons, counted, once_from_pairs}
-use Rattle.pl_items.proofs.Ascending.{only, tick, tick_same}
-use Rattle.pl_items.proofs.KeyCounts.{count, count-flat_map, pairs_from_ascent, pairs_from_once, same_key, sum_of_part}
+use Rattle.pl_items.proofs.Ascending.{only}
+use Rattle.pl_items.proofs.KeyCounts.{count-flat_map, pairs_from_ascent, same_key, sum_of_part}
 use Rattle.pl_items.proofs.Members.{in_permutation, in_place}
 use Rattle.pl_items.proofs.NodeOrder.{by_id-ascends, by_id-moves, node_key}
 use Rattle.pl_items.proofs.PlantSteps.{Apart, IsPlanting, IsReachedId, child_id, children_ids, item_id_of}
 use Rattle.pl_items.proofs.PlantSteps.{nodes_of, parents, row_parent}
 use Rattle.pl_items.proofs.RowsUnder.{root_under, row_ids, under_taken}
-use Rattle.pl_items.proofs.TakenItems.{empty_place, has_in, in_has, place_of, same_id, unwaited}
+use Rattle.pl_items.proofs.TakenItems.{empty_place, in_has, place_of, unwaited}
 use Rattle.pl_items.proofs.WaitingRows.{waiting_key}
 
 abbrev pub item_key : Item → ℕ
@@ -64,15 +68,10 @@ parents_all Q [] ts all = tt
 parents_all Q (p ∷ ps) [] all = tt
 parents_all Q (p ∷ ps) (t ∷ ts) all = (all.0, parents_all Q ps ts all.1)
 
-all_map : {X Y : Type 0} (P : Y → Type 0) (f : X → Y) (xs : List X) → AllByRecursion (λ x. P (f x)) xs
-    → AllByRecursion P (map f xs)
-all_map P f [] all = tt
-all_map P f (x ∷ xs) all = (all.0, all_map P f xs all.1)
-
 ascends_map : {X Y : Type 0} (key : Y → ℕ) (f : X → Y) (xs : List X) → Ascends (λ x. key (f x)) xs
     → Ascends key (map f xs)
 ascends_map key f [] up = tt
-ascends_map key f (x ∷ xs) up = (all_map (λ y. key (f x) < key y) f xs up.0, ascends_map key f xs up.1)
+ascends_map key f (x ∷ xs) up = (to_map (λ y. key (f x) < key y) f xs up.0, ascends_map key f xs up.1)
 
 module _ {items : List Item} {waiting : List Waiting} {nodes : List Node} {pending : List Child} {next : ℕ}
     (s : IsPlanting items waiting nodes pending next) where
@@ -206,7 +205,7 @@ module _ {items : List Item} {waiting : List Waiting} {nodes : List Node} {pendi
       child_known c h =
           let r = in_has s.taken c (id_known c (inr (child_taken c h))) in
           let t : Item = r.0 in
-          subst (λ k. has_item items k ≡ true) (same_id t.id c r.2) (has_in items t (known_in t r.1))
+          subst (λ k. has_item items k ≡ true) (same_item_number t.id c r.2) (has_in items t (known_in t r.1))
 
       items_apart : AllPairs (λ (a b : Item). a ≢ b) items
       items_apart i j d before within e =
@@ -290,7 +289,7 @@ module _ {items : List Item} {waiting : List Waiting} {nodes : List Node} {pendi
       let row_count : List Child → ℕ = count (λ (d : Child). d.id.0) k in
       let g : Item → ℕ = λ i. count id_key k i.children in
       let tree_once = once_from_pairs id_key (item_id 1 ∷ child_ids items)
-      (λ i j d first within e. tree.once i j d first within (same_id _ _ e)) k
+      (λ i j d first within e. tree.once i j d first within (same_item_number _ _ e)) k
       in
       let here : tick (eqb (get_or pending next c).id.0 k) ≡ 1 =
       tick_same (get_or pending next c).id.0 k (ap (λ (d : Child). d.id.0) (sym at_next))
@@ -328,20 +327,16 @@ no_root items none =
 
 -- ---- as the calls say it
 
-none_is : {X : Type 0} (o : Option X) → is_some o ≡ false → o ≡ None
-none_is None none = refl
-none_is (Some x) none = absurd (both_ways true none refl)
-
 pub begins_not : (items : List Item) (w : List Waiting) → w ≡ map waiting_row items
     → is_some (item_waiting w (item_id 1)) ≡ false → has_item items (item_id 1) ≡ false
 begins_not items w start none =
     no_root items
-    (sym (ap (λ rows. item_waiting rows (item_id 1)) start) ∙ none_is (item_waiting w (item_id 1)) none)
+    (sym (ap (λ rows. item_waiting rows (item_id 1)) start) ∙ is_none_at (item_waiting w (item_id 1)) none)
 
 pub continues_not : (items : List Item) (w : List Waiting) (n : List Node) (p : List Child) (k : ℕ) (c : Child)
     → IsPlanting items w n p k → k < length p → c ≡ get_or p k c → is_some (item_waiting w c.id) ≡ false
     → IsTree items → ⊥
-continues_not items w n p k c s more at_next none = no_tree s c more at_next (none_is (item_waiting w c.id) none)
+continues_not items w n p k c s more at_next none = no_tree s c more at_next (is_none_at (item_waiting w c.id) none)
 
 empties : (w : List Waiting) → list_all gone w ≡ true
     → AllByRecursion IsEmpty w

@@ -13,12 +13,14 @@ use Rattle.pl_base.specs.declared.id.ItemId.{ItemId}
 use Rattle.pl_base.specs.Store.{Item, item_id}
 use Rattle.pl_base.specs.Tree.{has_item}
 use Rattle.pl_base.proofs.Among.{In, at_in, from_flat_map, from_map}
+use Rattle.pl_base.proofs.ItemLookUps.{has_in, same_item_number}
+use Rattle.pl_base.proofs.ListLaws.{all_push}
 use Rattle.pl_items.specs.TakenOut.{children_rows, item_waiting, node_of, taken_out, waiting_row}
 use Rattle.pl_items.specs.declared.by_id.Child.{Child}
 use Rattle.pl_items.specs.declared.node.Node.{Node}
 use Rattle.pl_items.specs.declared.plant.Waiting.{Waiting}
 use Rattle.pl_items.proofs.Members.{in_place}
-use Rattle.pl_items.proofs.TakenItems.{IsWaiting, has_in, place_of, same_id, taken_out_is, waited_is}
+use Rattle.pl_items.proofs.TakenItems.{IsWaiting, place_of, taken_out_is, waited_is}
 
 -- two items have different ids
 abbrev pub Apart : Item → Item → Type 0
@@ -73,7 +75,7 @@ pub starts : (items : List Item) (t : Item) → item_waiting (map waiting_row it
     → IsPlanting items (taken_out (item_id 1) (map waiting_row items)) (node_of None t ∷ []) (children_rows t) 0
 starts items t found =
     let w : IsWaiting [] items (item_id 1) t = waited_is [] items (item_id 1) t found in
-    let one : t.id ≡ item_id 1 = same_id t.id (item_id 1) w.1 in
+    let one : t.id ≡ item_id 1 = same_item_number t.id (item_id 1) w.1 in
     record {
       taken = t ∷ [];
       waits = taken_out_is [] items t (item_id 1) w.1;
@@ -101,12 +103,7 @@ apart_push taken t apart new =
     all_pairs_push Apart taken t apart (λ k d lt e.
     let u = get_or taken k d in
     let has = has_in taken u (in_place taken k d lt) in
-    both_ways (has_item taken t.id) new (subst (λ id. has_item taken id ≡ true) (same_id u.id t.id e) has))
-
-pub all_push : {X : Type 0} (P : X → Type 0) (xs : List X) (x : X) → AllByRecursion P xs → P x
-    → AllByRecursion P (xs ++ x ∷ [])
-all_push P [] x all one = (one, tt)
-all_push P (y ∷ ys) x all one = (all.0, all_push P ys x all.1 one)
+    both_ways (has_item taken t.id) new (subst (λ id. has_item taken id ≡ true) (same_item_number u.id t.id e) has))
 
 -- the item whose child a row is
 pub row_parent : (taken : List Item) (c : Child) → In c (flat_map children_rows taken)
@@ -145,7 +142,7 @@ goes_on items waiting nodes pending next c t s more at_next found =
     let w : IsWaiting s.taken items c.id t =
     waited_is s.taken items c.id t (sym (ap (λ rows. item_waiting rows c.id) s.waits) ∙ found)
     in
-    let same : t.id ≡ c.id = same_id t.id c.id w.1 in
+    let same : t.id ≡ c.id = same_item_number t.id c.id w.1 in
     let after : List Child = pending ++ children_rows t in
     let front : take (next + 1) after ≡ take next pending ++ c ∷ [] =
     take-append-le (next + 1) pending (children_rows t) (omega arith) ∙ take_more pending next c more

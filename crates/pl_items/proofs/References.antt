@@ -9,11 +9,12 @@ use Rattle.pl_base.specs.declared.id.ItemId.{ItemId}
 use Rattle.pl_base.specs.declared.id.PageId.{PageId}
 use Rattle.pl_base.specs.Store.{Item}
 use Rattle.pl_base.specs.Tree.{first_item, is_page, item_behind, reference_behind, references}
+use Rattle.pl_base.proofs.LookUps.{found_holds, found_passes}
 use Rattle.pl_items.specs.declared.node.Node.{Node}
 use Rattle.pl_items.specs.Nodes.{AreNodes, by_id, in_id_order, item_of, items_of}
 use Rattle.pl_items.proofs.IdOrder.{Ascends, Distinct, by_id-ascends, find-by_id}
-use Rattle.pl_items.proofs.IdOrder.{found_passes, has_id}
-use Rattle.pl_items.proofs.Children.{all_found, distinct_nodes, item_at_is}
+use Rattle.pl_items.proofs.IdOrder.{has_id}
+use Rattle.pl_items.proofs.Children.{distinct_nodes, item_at_is}
 use Rattle.pl_items.proofs.Lookups.{first_filtered}
 
 -- the node has the page
@@ -51,7 +52,7 @@ none_below p n ms above = choose (find p ms) refl
     choose : (found : Option Node) → find p ms ≡ found → least_with n.id.0 (option_map id_number found) ≡ n.id.0
     choose None is = refl
     choose (Some m) is =
-        let le : n.id.0 ≤ m.id.0 = all_found (λ (x : Node). n.id.0 ≤ x.id.0) p ms m above is in
+        let le : n.id.0 ≤ m.id.0 = found_holds (λ (x : Node). n.id.0 ≤ x.id.0) p ms m above is in
         omega arith
 
 above_all : (n m : Node) (ms : List Node) → n.id.0 < m.id.0 → Ascends (m ∷ ms)
@@ -182,7 +183,7 @@ behind_in page id n (m ∷ ms) ascends found passes =
         let has : has_page page m ≡ true = ap (has_page page) at ∙ passes in
         absurd (cc)
     choose false q true here there above is rest =
-        let before : m.id.0 < n.id.0 = all_found (λ (x : Node). m.id.0 < x.id.0) (has_id id) ms n ascends.0 is in
+        let before : m.id.0 < n.id.0 = found_holds (λ (x : Node). m.id.0 < x.id.0) (has_id id) ms n ascends.0 is in
         let same : has_id id n ≡ true = found_passes (has_id id) ms n is in
         absurd (grind (arith, nat_tests, above, same, before))
     choose false true false here there above is rest = rw here (rest is)

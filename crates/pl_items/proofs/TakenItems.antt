@@ -1,8 +1,8 @@
 -- The items of a list, some of which were taken out.
-use Rattle.std.proofs.Common.{◌≡◌, ◌==◌, ◌||◌, ◌++◌, ◌∙◌, inl, inr, ℕ, Bool, true, false, List, [], ◌∷◌, map}
+use Rattle.std.proofs.Common.{◌≡◌, ◌==◌, ◌||◌, ◌++◌, ◌∙◌, inl, inr, Bool, true, false, List, [], ◌∷◌, map}
 use Rattle.std.proofs.Common.{Some, None, ap, sym, subst, refl, if◌then◌else◌}
 use Rattle.std.specs.List.{list_any}
-use Rattle.std.proofs.lemmas.Bool.{cases_Bool, eqb-true, eqb-false, eq-eqb, ne_eqb, both_ways, or_left}
+use Rattle.std.proofs.lemmas.Bool.{cases_Bool, eqb-true, eqb-false, eq-eqb, ne_eqb, both_ways}
 use Rattle.std.proofs.lemmas.List.Folds.{list_any-append}
 use Rattle.std.proofs.lemmas.Option.{none-some, same_Some}
 use Rattle.pl_base.specs.declared.id.ItemId.{ItemId}
@@ -15,17 +15,6 @@ use Rattle.pl_items.specs.declared.plant.Waiting.{Waiting}
 
 -- ---- the ids of items
 
-pub has_in : (items : List Item) (i : Item) → In i items → has_item items i.id ≡ true
-has_in [] i h = absurd h
-has_in (j ∷ js) i (inl e) =
-    or_left (j.id.0 == i.id.0) (has_item js i.id)
-    (eq-eqb j.id.0 i.id.0 (ap (λ (k : Item). k.id.0) (sym e)))
-has_in (j ∷ js) i (inr h) = at_test (j.id.0 == i.id.0) (has_in js i h)
-  where
-    at_test : (b : Bool) → has_item js i.id ≡ true → (b || has_item js i.id) ≡ true
-    at_test true rest = refl
-    at_test false rest = rest
-
 pub in_has : (items : List Item) (id : ItemId) → has_item items id ≡ true → (i : Item) × In i items × (i.id.0 ≡ id.0)
 in_has [] id has = absurd (both_ways false refl has)
 in_has (j ∷ js) id has = at_test (j.id.0 == id.0) refl (in_has js id) has
@@ -34,9 +23,6 @@ in_has (j ∷ js) id has = at_test (j.id.0 == id.0) refl (in_has js id) has
         → (b || has_item js id) ≡ true → (i : Item) × In i (j ∷ js) × (i.id.0 ≡ id.0)
     at_test true test rest some = (j, inl refl, eqb-true j.id.0 id.0 test)
     at_test false test rest some = let r = rest some in (r.0, inr r.1, r.2)
-
-pub same_id : (a b : ItemId) → a.0 ≡ b.0 → a ≡ b
-same_id a b e = let id : ℕ → ItemId = λ k. record { 0 = k } in ap id e
 
 -- ---- their places
 

@@ -16,12 +16,12 @@ use Rattle.std.proofs.lemmas.List.Sorted.{searchable_from_sorted}
 use Rattle.std.proofs.lemmas.List.Sums.{sum_by-cons}
 use Rattle.pl_base.specs.declared.id.ItemId.{ItemId}
 use Rattle.pl_base.specs.Store.{Item}
+use Rattle.pl_base.proofs.KeyCounts.{Ascends, ascends_from_pairs, tick}
 use Rattle.pl_base.proofs.ListLaws.{AllPairs-from_map}
 use Rattle.pl_base.proofs.Among.{at_in}
 use Rattle.pl_items.specs.TakenOut.{item_waiting, taken_out, waiting_ids}
 use Rattle.pl_items.specs.declared.plant.Waiting.{Waiting}
 use Rattle.pl_items.proofs.Members.{in_place}
-use Rattle.pl_items.proofs.Ascending.{Ascends, ascends_from_pairs, tick}
 
 abbrev pub waiting_key : Waiting → ℕ
 waiting_key w = w.id.0

@@ -1,4 +1,4 @@
-ghost use Rattle.std.specs.Prelude.{◌≡◌, ◌≢◌, ◌==◌, ◌<◌, ◌≤◌, ◌++◌, ◌∷◌, []};
+ghost use Rattle.std.specs.Prelude.{◌≡◌, ◌≢◌, ◌==◌, ◌<◌, ◌++◌, ◌∷◌, []};
 ghost use Rattle.std.specs.Prelude.{length, map, IfOk, OnOk};
 ghost use Rattle.std.specs.List.{filter, filter_map, slice_index_or, AllPairs};
 ghost use Rattle.std.specs.List.Sorted.{IsNonDecreasingBy};

@@ -25,6 +25,7 @@ use Rattle.pl_base.specs.Visiting.{after_visit, find_page, new_page, new_visit, 
 use Rattle.pl_base.specs.Visiting.{visited_store, with_page_for}
 use Rattle.pl_base.proofs.ListLaws.{list_any_last, list_any_push}
 use Rattle.pl_base.proofs.LookUps.{found_holds, found_passes}
+use Rattle.pl_base.proofs.Truths.{or_more}
 use Rattle.pl_tree.specs.declared.new_item.NewItem.{NewItem}
 use Rattle.pl_tree.specs.declared.place.Place.{Place}
 use Rattle.pl_tree.specs.declared.tree_change.TreeChange.TheVariants.{Insert}
@@ -110,11 +111,6 @@ fresh_entry store page name l late = choose (tag_named name store.items)
     choose (Some t) = found t (entry_in store.items page t) refl
 
 -- ---- the changes
-
-or_more : (a b c : Bool) → (a ≡ true → b ≡ true) → (a || c) ≡ true → (b || c) ≡ true
-or_more true b c more some = or_left b c (more refl)
-or_more false true c more some = refl
-or_more false false c more some = some
 
 module _ (store : Store) (good : IsGood store) where
   l : IsLoose store

@@ -5,14 +5,10 @@ use Rattle.std.specs.Fmt.{is_char_start}
 use Rattle.std.specs.Fmt.Cut.{floor_char_boundary}
 use Rattle.std.specs.Str.{IsCharBoundary, IsUtf8}
 use Rattle.std.proofs.lemmas.Bool.{leb-false}
-use Rattle.std.proofs.lemmas.Bool.Decides.{nat_tests}
 use Rattle.std.proofs.lemmas.Str.{IsCharBoundary-start, IsUtf8-take}
 use Rattle.pl_base.specs.Good.{IsTitle, longest_title}
 use Rattle.pl_base.specs.Title.{cut_title}
-use Rattle.pl_graft.proofs.CutTitles.{cut_title-le}
-
-begins : (b : ℕ) → is_char_start b ≡ true → 128 ≤ b → 192 ≤ b
-begins b is high = grind (arith, nat_tests)
+use Rattle.pl_base.proofs.TitleCuts.{cut_title-le, starts}
 
 floor_boundary : (text : List ℕ) (i : ℕ) → IsUtf8 text → i ≤ length text
     → IsCharBoundary text (floor_char_boundary text i)
@@ -24,7 +20,7 @@ floor_boundary text (suc i) utf8 within =
     choose : (b : Bool) → is_char_start (slice_index text (suc i)) ≡ b
         → IsCharBoundary text (floor_char_boundary text i)
         → IsCharBoundary text (if b then suc i else floor_char_boundary text i)
-    choose true is rest = (within, λ inside high. begins (slice_index text (suc i)) is high)
+    choose true is rest = (within, λ inside high. starts (slice_index text (suc i)) is high)
     choose false is rest = rest
 
 cut_utf8 : (text : List ℕ) → IsUtf8 text → IsUtf8 (cut_title text)

@@ -17,15 +17,14 @@ use Rattle.pl_base.specs.Tags.{is_tag_entry}
 use Rattle.pl_base.specs.Tree.{has_item, is_page, item_at, item_row, item_title, reference_behind}
 use Rattle.pl_base.specs.View.{bookmarks_of, fresher_of, freshest, is_fresher, mark_title}
 use Rattle.pl_base.proofs.ListLaws.{AllPairs-from_map, all-filter}
-use Rattle.pl_base.proofs.LookUps.{found_passes, found_some}
-use Rattle.pl_base.proofs.OneParent.{same_item}
+use Rattle.pl_base.proofs.LookUps.{found_passes, found_some, part}
+use Rattle.pl_base.proofs.ItemLookUps.{same_item}
+use Rattle.pl_base.proofs.ReferencesRun.{having, item_here, item_names, items_found, references_run}
+use Rattle.pl_base.proofs.Walk.{StandsAt, Walk, ends, goes_on, stands}
 use Rattle.pl_marks.specs.declared.bookmarks.Dated.{Dated}
 use Rattle.pl_marks.specs.Freshest.{dated, dated_bookmark, later}
 use Rattle.pl_marks.specs.TagFolders.{tag_folder}
-use Rattle.pl_marks.proofs.ItemWalk.{IsItemHere, ItemWalk, at_here, having, item_here, items_found, walk_ends}
-use Rattle.pl_marks.proofs.ItemWalk.{walk_goes_on}
 use Rattle.pl_marks.proofs.PageTags.{is_outside, outside_is}
-use Rattle.pl_marks.proofs.PageWalk.{part}
 
 -- ---- one item more
 
@@ -114,9 +113,10 @@ below (w ∷ front) i rest pairs = (
 )
 
 below_here : (kept : Kept) (page : PageId) (P : List Item → Type 0) (id : ItemId) → IsWellKept kept
-    → (w : IsItemHere kept page P id) → AllByRecursion (λ (i : Item). i.id.0 < w.item.id.0) w.front
+    → (w : StandsAt item_names (having kept.items page) P id) → AllByRecursion (λ (i : Item). i.id.0 < w.element.id.0)
+    w.front
 below_here kept page P id h w =
-    below w.front w.item w.rest
+    below w.front w.element w.rest
     (subst (AllPairs (λ (a b : Item). a.id.0 < b.id.0)) w.whole
     (AllPairs-filter (λ (a b : Item). a.id.0 < b.id.0) (λ (i : Item). is_page page i.page) kept.items
     (AllPairs-from_map (λ m n. m < n) (λ (i : Item). i.id.0) kept.items
@@ -133,12 +133,12 @@ dated_newer (Some y) x = choose (ltb x.modified.0 y.modified.0)
     choose false = refl
 
 freshest_here : (kept : Kept) (page : PageId) (id : ItemId) (found : Option Dated) → IsWellKept kept
-    → (w : IsItemHere kept page (HasFreshest kept.items found) id)
-    → HasFreshest kept.items (later found (dated_bookmark kept.items w.item)) (w.front ++ w.item ∷ [])
+    → (w : StandsAt item_names (having kept.items page) (HasFreshest kept.items found) id)
+    → HasFreshest kept.items (later found (dated_bookmark kept.items w.element)) (w.front ++ w.element ∷ [])
 freshest_here kept page id found h w =
-    ap (λ (o : Option Dated). later o (dated_bookmark kept.items w.item)) w.so_far
-    ∙ choose (is_outside kept.items w.item)
-    ∙ ap (λ (is : List Item). option_map dated (freshest is)) (sym (filter-append outside w.front (w.item ∷ [])))
+    ap (λ (o : Option Dated). later o (dated_bookmark kept.items w.element)) w.so_far
+    ∙ choose (is_outside kept.items w.element)
+    ∙ ap (λ (is : List Item). option_map dated (freshest is)) (sym (filter-append outside w.front (w.element ∷ [])))
   where
     outside : Item → Bool
     outside i = is_outside kept.items i
@@ -147,26 +147,27 @@ freshest_here kept page id found h w =
     so_far = filter outside w.front
 
     choose : (b : Bool)
-        → later (option_map dated (freshest so_far)) (if b then Some (dated w.item) else None)
-        ≡ option_map dated (freshest (so_far ++ (if b then w.item ∷ [] else [])))
+        → later (option_map dated (freshest so_far)) (if b then Some (dated w.element) else None)
+        ≡ option_map dated (freshest (so_far ++ (if b then w.element ∷ [] else [])))
     choose true =
-        dated_newer (freshest so_far) w.item
-        ∙ ap (option_map dated) (sym (freshest_more so_far w.item
-        (all-filter (λ (i : Item). i.id.0 < w.item.id.0) outside w.front
+        dated_newer (freshest so_far) w.element
+        ∙ ap (option_map dated) (sym (freshest_more so_far w.element
+        (all-filter (λ (i : Item). i.id.0 < w.element.id.0) outside w.front
         (below_here kept page (HasFreshest kept.items found) id h w))))
     choose false = ap (λ (is : List Item). option_map dated (freshest is)) (sym (append-nil so_far))
 
 pub freshest_goes_on : (kept : Kept) (page : PageId) (now next : Option ItemId) (id : ItemId)
-    (found here new : Option Dated) → IsWellKept kept → ItemWalk kept page (HasFreshest kept.items found) now
+    (found here new : Option Dated) → IsWellKept kept → Walk item_names (having kept.items page)
+    (HasFreshest kept.items found) now
     → now ≡ Some id → next ≡ reference_behind kept.items id
     → ((i : Item) → item_at kept.items id ≡ Some i → here ≡ dated_bookmark kept.items i) → new ≡ later found here
-    → ItemWalk kept page (HasFreshest kept.items new) next
+    → Walk item_names (having kept.items page) (HasFreshest kept.items new) next
 freshest_goes_on kept page now next id found here new h walk at is told new_is =
-    let w : IsItemHere kept page (HasFreshest kept.items found) id =
-    item_here kept page (HasFreshest kept.items found) now id walk at in
-    walk_goes_on kept page (HasFreshest kept.items found) (HasFreshest kept.items new) id next h w is
-    (new_is
-    ∙ ap (later found) (told w.item (at_here kept page (HasFreshest kept.items found) id h w))
+    let w : StandsAt item_names (having kept.items page) (HasFreshest kept.items found) id =
+    stands item_names (having kept.items page) (HasFreshest kept.items found) now id walk at in
+    goes_on item_names (reference_behind kept.items) (having kept.items page) (HasFreshest kept.items found)
+    (HasFreshest kept.items new) id next (references_run kept page h) w is (new_is
+    ∙ ap (later found) (told w.element (item_here kept page (HasFreshest kept.items found) id h w))
     ∙ freshest_here kept page id found h w)
 
 -- what is known of an item, by its row and by whether it is in a tag folder
@@ -204,10 +205,10 @@ dated_by_row items id i row at is =
 
 -- at its end the walk has the freshest of the page's bookmarks
 pub freshest_at_end : (kept : Kept) (page : PageId) (next : Option ItemId) (found : Option Dated)
-    → ItemWalk kept page (HasFreshest kept.items found) next → ((id : ItemId) → next ≢ Some id)
+    → Walk item_names (having kept.items page) (HasFreshest kept.items found) next → ((id : ItemId) → next ≢ Some id)
     → found ≡ option_map dated (freshest (bookmarks_of (store_of kept) page))
 freshest_at_end kept page next found w none =
-    walk_ends kept page (HasFreshest kept.items found) next w none
+    ends item_names (having kept.items page) (HasFreshest kept.items found) next w none
     ∙ ap (λ (is : List Item). option_map dated (freshest is))
     (sym (bookmarks_are (store_of kept) page kept.items))
 

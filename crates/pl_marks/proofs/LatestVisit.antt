@@ -10,7 +10,7 @@ use Rattle.pl_base.specs.declared.row.VisitRow.{VisitRow}
 use Rattle.pl_base.specs.Marks.{last_date_of}
 use Rattle.pl_base.specs.Rows.{IsWellKept, Kept, first_id, page_visits, row_of, store_of, visit_at}
 use Rattle.pl_base.specs.Store.{Visit}
-use Rattle.pl_marks.proofs.VisitWalk.{IsVisitOf, row_is, visits_stand}
+use Rattle.pl_base.proofs.VisitsRun.{IsVisitOf, row_is, visits_stand}
 
 -- as `last_date_of` has it
 abbrev first_date : List Visit → Option Micros

@@ -14,12 +14,14 @@ use Rattle.pl_base.specs.Fold.{folded}
 use Rattle.pl_base.specs.Good.{IsGood}
 use Rattle.pl_base.specs.Rows.{IsWellKept, Kept, store_of}
 use Rattle.pl_base.specs.Store.{Item, Store}
-use Rattle.pl_base.specs.Tags.{comma_joined, has_tag, is_bookmarked, is_tag_entry, is_tags_root, page_tags, tags_of, tags_root}
+use Rattle.pl_base.specs.Tags.{comma_joined, has_tag, is_bookmarked, is_tag_entry, is_tags_root, page_tags, tags_of}
+use Rattle.pl_base.specs.Tags.{tags_root}
 use Rattle.pl_base.specs.Tree.{is_page, parent_of}
 use Rattle.pl_base.proofs.ListLaws.{weaker}
+use Rattle.pl_base.proofs.PagesRun.{there}
+use Rattle.pl_base.proofs.ReferencesRun.{IsItemOf, having, item_names, items_stand}
+use Rattle.pl_base.proofs.Walk.{StandsAt, Walk, ends, holds_here}
 use Rattle.pl_marks.specs.TagFolders.{tag_folder, tag_title, where_tag, with_tag}
-use Rattle.pl_marks.proofs.ItemWalk.{IsItemHere, ItemWalk, having, stands, walk_ends}
-use Rattle.pl_marks.proofs.PageWalk.{there}
 use Rattle.pl_marks.proofs.TagEntries.{AreOfTags, Ascending, ascending_insert, differ_filter, differ_named}
 use Rattle.pl_marks.proofs.TagEntries.{entries_are}
 use Rattle.pl_marks.proofs.TagEntries.{look}
@@ -80,19 +82,20 @@ none_more items front i none inside =
     (or_from (is_outside items i) false inside refl)
 
 pub outside_here : (kept : Kept) (page : PageId) (id : ItemId) (P : List Item → Type 0)
-    → (w : IsItemHere kept page P id) → is_none (tag_folder kept.items id) ≡ true
+    → (w : StandsAt item_names (having kept.items page) P id) → is_none (tag_folder kept.items id) ≡ true
     → true ≡ is_bookmarked (store_of kept) page
 outside_here kept page id P w outside =
     sym (bookmarked_if (store_of kept) page
     ∙ ap (list_any (is_outside kept.items)) w.whole
-    ∙ there (is_outside kept.items) w.front w.item w.rest
+    ∙ there (is_outside kept.items) w.front w.element w.rest
     (ap (λ (i : ItemId). is_none (tag_folder kept.items i)) w.is ∙ outside))
 
 pub none_outside : (kept : Kept) (page : PageId) (next : Option ItemId)
-    → ItemWalk kept page (NoneOutside kept.items) next → ((id : ItemId) → next ≢ Some id)
+    → Walk item_names (having kept.items page) (NoneOutside kept.items) next → ((id : ItemId) → next ≢ Some id)
     → false ≡ is_bookmarked (store_of kept) page
 none_outside kept page next w none =
-    sym (bookmarked_if (store_of kept) page ∙ walk_ends kept page (NoneOutside kept.items) next w none)
+    sym (bookmarked_if (store_of kept) page ∙ ends item_names (having kept.items page) (NoneOutside kept.items) next w
+    none)
 
 -- ---- texts joined
 
@@ -143,19 +146,21 @@ ascending_with None es ordered = ordered
 ascending_with (Some title) es ordered = ascending_insert (folded title) title es ordered
 
 pub of_tags_with : (kept : Kept) (page : PageId) (P : List Item → Type 0) (id : ItemId)
-    (es : List (List ℕ × List ℕ)) → IsWellKept kept → IsGood (store_of kept) → IsItemHere kept page P id
+    (es : List (List ℕ × List ℕ)) → IsWellKept kept → IsGood (store_of kept) → StandsAt item_names
+    (having kept.items page) P id
     → AreOfTags (tags_with kept page) es
     → AreOfTags (tags_with kept page) (with_tag (tag_title kept.items id) es)
 of_tags_with kept page P id es h good w of =
     subst (λ (i : ItemId). AreOfTags (tags_with kept page) (with_tag (tag_title kept.items i) es)) w.is
-    (choose (tag_title kept.items w.item.id) refl)
+    (choose (tag_title kept.items w.element.id) refl)
   where
-    choose : (o : Option (List ℕ)) → tag_title kept.items w.item.id ≡ o
+    choose : (o : Option (List ℕ)) → tag_title kept.items w.element.id ≡ o
         → AreOfTags (tags_with kept page) (with_tag o es)
     choose None is = of
     choose (Some title) is =
         of_tags_insert (tags_with kept page) es title of
-        (tag_is_one kept page w.item title h good (stands kept page P id h w) is)
+        (tag_is_one kept page w.element title h good (holds_here item_names (having kept.items page) P
+        (IsItemOf kept page) id (items_stand kept page h) w) is)
 
 still_there : (items : List Item) (o : Option (List ℕ)) (es : List (List ℕ × List ℕ)) (front : List Item)
     → HaveTags items es front → HaveTags items (with_tag o es) front
@@ -182,12 +187,12 @@ push P [] i all here = (here, tt)
 push P (j ∷ front) i all here = (all.0, push P front i all.1 here)
 
 pub have_more : (kept : Kept) (page : PageId) (id : ItemId) (es : List (List ℕ × List ℕ))
-    → (w : IsItemHere kept page (HaveTags kept.items es) id)
-    → HaveTags kept.items (with_tag (tag_title kept.items id) es) (w.front ++ w.item ∷ [])
+    → (w : StandsAt item_names (having kept.items page) (HaveTags kept.items es) id)
+    → HaveTags kept.items (with_tag (tag_title kept.items id) es) (w.front ++ w.element ∷ [])
 have_more kept page id es w =
     let items : List Item = kept.items in
     let now : List (List ℕ × List ℕ) = with_tag (tag_title items id) es in
-    push (λ (i : Item). IfSome (tag_title items i.id) (λ t. is_some (look (folded t) now) ≡ true)) w.front w.item
+    push (λ (i : Item). IfSome (tag_title items i.id) (λ t. is_some (look (folded t) now) ≡ true)) w.front w.element
     (still_there items (tag_title items id) es w.front w.so_far)
     (subst (λ (i : ItemId). IfSome (tag_title items i) (λ t. is_some (look (folded t) now) ≡ true)) (sym w.is)
     (new_there (tag_title items id) es))
@@ -195,7 +200,7 @@ have_more kept page id es w =
 -- the titles are the page's tags
 pub tags_told : (kept : Kept) (page : PageId) (next : Option ItemId) (es : List (List ℕ × List ℕ)) → IsWellKept kept
     → IsGood (store_of kept) → Ascending es → AreOfTags (tags_with kept page) es
-    → ItemWalk kept page (HaveTags kept.items es) next → ((id : ItemId) → next ≢ Some id)
+    → Walk item_names (having kept.items page) (HaveTags kept.items es) next → ((id : ItemId) → next ≢ Some id)
     → values_of es ≡ page_tags (store_of kept) page
 tags_told kept page next es h good ordered of w none =
     titles_are (tags_with kept page) es
@@ -203,4 +208,4 @@ tags_told kept page next es h good ordered of w none =
     (differ_filter (has_tag (store_of kept) page) (tags_of (store_of kept))
     (differ_named (tags_of (store_of kept)) good.tags.names))
     ordered of
-    (tags_there kept page es h good (walk_ends kept page (HaveTags kept.items es) next w none)))
+    (tags_there kept page es h good (ends item_names (having kept.items page) (HaveTags kept.items es) next w none)))

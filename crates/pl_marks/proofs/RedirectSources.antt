@@ -4,14 +4,15 @@ use Rattle.std.proofs.Common.{Some, None, ap, arith, filter, if◌then◌else◌
 use Rattle.std.specs.List.{list_any}
 use Rattle.std.specs.Option.{IsSome, option_map}
 use Rattle.std.proofs.lemmas.Bool.{and_parts}
-use Rattle.std.proofs.lemmas.List.Elements.{All-filter, All-from_recursion, All-head, filter_passes}
+use Rattle.std.proofs.lemmas.List.Elements.{All-filter, All-head, filter_passes}
 use Rattle.std.proofs.lemmas.List.Sorted.{All-permutation, IsPermutation-sym, length_permutation}
 use Rattle.pl_base.specs.declared.id.VisitId.{VisitId}
 use Rattle.pl_base.specs.declared.row.VisitRow.{VisitRow}
 use Rattle.pl_base.specs.Redirects.{is_redirect, is_redirect_source, is_source, others_from, redirects_from}
 use Rattle.pl_base.specs.Rows.{AreTargets, IsWellKept, Kept, first_id, row_of, store_of, visit_at}
 use Rattle.pl_base.specs.Store.{Visit}
-use Rattle.pl_marks.proofs.VisitWalk.{visits_found}
+use Rattle.pl_base.proofs.Truths.{negated}
+use Rattle.pl_base.proofs.VisitLists.{visits_found}
 
 -- ---- lists that are not empty
 
@@ -40,19 +41,11 @@ some-alike (v ∷ vs) (w ∷ ws) same = refl
 abbrev IsFound : Kept → Bool → Visit → Type 0
 IsFound kept redirect v = (visit_at kept v.id ≡ Some v) × (is_redirect v.transition ≡ redirect)
 
-negated : (a b : Bool) → (not a && b) ≡ true → a ≡ false
-negated true b is = sym is
-negated false b is = refl
-
-all_found : (kept : Kept) → IsWellKept kept → All (λ (v : Visit). visit_at kept v.id ≡ Some v) kept.visits
-all_found kept h =
-    All-from_recursion (λ (v : Visit). visit_at kept v.id ≡ Some v) kept.visits (visits_found kept h)
-
 redirects_found : (kept : Kept) (id : VisitId) → IsWellKept kept
     → All (IsFound kept true) (redirects_from (store_of kept) id)
 redirects_found kept id h k d within = (
   All-filter (λ (w : Visit). is_redirect w.transition && is_source id w.source)
-      (λ (v : Visit). visit_at kept v.id ≡ Some v) kept.visits (all_found kept h) k d within,
+      (λ (v : Visit). visit_at kept v.id ≡ Some v) kept.visits (visits_found kept h) k d within,
   (and_parts _ _ (filter_passes (λ (w : Visit). is_redirect w.transition && is_source id w.source) kept.visits k d
       within)).0,
 )
@@ -61,7 +54,7 @@ others_found : (kept : Kept) (id : VisitId) → IsWellKept kept
     → All (IsFound kept false) (others_from (store_of kept) id)
 others_found kept id h k d within = (
   All-filter (λ (w : Visit). not (is_redirect w.transition) && is_source id w.source)
-      (λ (v : Visit). visit_at kept v.id ≡ Some v) kept.visits (all_found kept h) k d within,
+      (λ (v : Visit). visit_at kept v.id ≡ Some v) kept.visits (visits_found kept h) k d within,
   negated _ _ (filter_passes (λ (w : Visit). not (is_redirect w.transition) && is_source id w.source) kept.visits k d
       within),
 )

@@ -1,6 +1,6 @@
 -- The tags of a page are names of tags.
-use Rattle.std.proofs.Common.{◌≡◌, ◌∙◌, ◌++◌, ◌∷◌, [], List, ℕ, ap, append_assoc, filter, map, subst, sym}
-use Rattle.std.specs.List.{All, AllByRecursion}
+use Rattle.std.proofs.Common.{filter}
+use Rattle.std.specs.List.{All}
 use Rattle.std.proofs.lemmas.List.Elements.{All-from_recursion, All-map, recursion_from_All}
 use Rattle.pl_base.specs.declared.id.PageId.{PageId}
 use Rattle.pl_base.specs.Good.{HasTags, IsTagFolder, IsTagName}
@@ -17,20 +17,3 @@ names_of_tags store page tags =
     (all-filter (λ (t : Item). IsTagName t.title) (has_tag store page) (tags_of store)
     (weaker (IsTagFolder store) (λ (t : Item). IsTagName t.title) (tags_of store) (λ t is. is.name)
     (recursion_from_All (IsTagFolder store) (tags_of store) tags.folders)))))
-
--- ---- a walk over names
-
--- the next of them
-pub name_here : (front rest names : List (List ℕ)) (name : List ℕ) → front ++ name ∷ rest ≡ names
-    → All IsTagName names → IsTagName name
-name_here front rest names name whole all =
-    at front (recursion_from_All IsTagName (front ++ name ∷ rest) (subst (All IsTagName) (sym whole) all))
-  where
-    at : (front : List (List ℕ)) → AllByRecursion IsTagName (front ++ name ∷ rest) → IsTagName name
-    at [] all = all.0
-    at (n ∷ front) all = at front all.1
-
-pub name_behind : (front left rest names : List (List ℕ)) (name : List ℕ) → front ++ left ≡ names
-    → left ≡ name ∷ rest → (front ++ name ∷ []) ++ rest ≡ names
-name_behind front left rest names name whole next =
-    append_assoc front (name ∷ []) rest ∙ ap (λ (ns : List (List ℕ)). front ++ ns) (sym next) ∙ whole

@@ -7,32 +7,22 @@ use Rattle.std.specs.Option.{option_and_then, option_map}
 use Rattle.std.proofs.lemmas.Bool.{false≢true}
 use Rattle.pl_base.specs.declared.id.ItemId.{ItemId}
 use Rattle.pl_base.specs.declared.id.PageId.{PageId}
-use Rattle.pl_base.specs.declared.item.ItemRow.{ItemRow}
 use Rattle.pl_base.specs.Fold.{folded}
 use Rattle.pl_base.specs.Good.{IsGood}
 use Rattle.pl_base.specs.Rows.{IsWellKept, Kept, store_of}
 use Rattle.pl_base.specs.Store.{Item}
 use Rattle.pl_base.specs.Tags.{has_tag, is_tags_root, tags_of, tags_root}
-use Rattle.pl_base.specs.Tree.{has_child, has_item, is_page, item_at, item_row, item_title, parent_of}
+use Rattle.pl_base.specs.Tree.{has_child, has_item, is_page, item_at, item_title, parent_of}
 use Rattle.pl_base.proofs.ListLaws.{weaker}
 use Rattle.pl_base.proofs.LookUps.{found_holds, found_passes, found_some, none_pass, where_passes}
-use Rattle.pl_base.proofs.OneParent.{IsParent, is_among, parents, same_item}
+use Rattle.pl_base.proofs.ItemLookUps.{hold_all, same_item}
+use Rattle.pl_base.proofs.LookUps.{where_passed}
+use Rattle.pl_base.proofs.OneParent.{IsParent, is_among, parents}
+use Rattle.pl_base.proofs.ReferencesRun.{IsItemOf, having, items_found}
 use Rattle.pl_marks.specs.TagFolders.{tag_folder, tag_title, where_tag}
-use Rattle.pl_marks.proofs.ItemWalk.{IsItemOf, having, items_found}
 use Rattle.pl_marks.proofs.TagEntries.{differ_filter, differ_named, look, tag_entry, tags_found}
 
 -- ---- lists that are looked up one by one
-
-where_passed : {X : Type 0} (P : X → Type 0) (test : X → Bool) (xs : List X) → AllByRecursion P (filter test xs)
-    → AllByRecursion (λ x. test x ≡ true → P x) xs
-where_passed P test [] all = tt
-where_passed P test (x ∷ xs) all = choose (test x) refl all (where_passed P test xs)
-  where
-    choose : (b : Bool) → test x ≡ b → AllByRecursion P (if b then x ∷ filter test xs else filter test xs)
-        → (AllByRecursion P (filter test xs) → AllByRecursion (λ y. test y ≡ true → P y) xs)
-        → AllByRecursion (λ y. test y ≡ true → P y) (x ∷ xs)
-    choose true is each rest = (λ _. each.0, rest each.1)
-    choose false is each rest = (λ passes. absurd (false≢true (sym is ∙ passes)), rest each)
 
 among_push : (a b : Bool) → b ≡ true → (a || b) ≡ true
 among_push true b is = refl
@@ -67,17 +57,6 @@ held_at P at (c ∷ cs) id i all some is =
         → (AllByRecursion P (filter_map at cs) → is_among id cs ≡ true → P i) → P i
     choose true same some later = first (at c) refl (ap at (same_item c id same) ∙ is)
     choose false other some later = later (rest (at c) refl) some
-
--- what holds of each that is looked up holds of all
-pub hold_all : (P : Item → Type 0) (at : ItemId → Option Item) (ids : List ItemId)
-    → AllByRecursion (λ (id : ItemId). (i : Item) → at id ≡ Some i → P i) ids → AllByRecursion P (filter_map at ids)
-hold_all P at [] all = tt
-hold_all P at (c ∷ cs) all = choose (at c) refl (hold_all P at cs all.1)
-  where
-    choose : (o : Option Item) → at c ≡ o → AllByRecursion P (filter_map at cs)
-        → AllByRecursion P (filter_map at (c ∷ cs))
-    choose None here rest = rw here rest
-    choose (Some i) here rest = rw here (all.0 i here, rest)
 
 some_at : (test : Item → Bool) (at : ItemId → Option Item) (ids : List ItemId) (id : ItemId) (i : Item)
     → is_among id ids ≡ true → at id ≡ Some i → test i ≡ true → list_any test (filter_map at ids) ≡ true
@@ -171,19 +150,6 @@ found_itself : (kept : Kept) → IsWellKept kept → (test : Item → Bool) (i :
     → item_at kept.items i.id ≡ Some i
 found_itself kept h test i is =
     found_holds (λ (j : Item). item_at kept.items j.id ≡ Some j) test kept.items i (items_found kept h) is
-
--- what the rows tell of an item's parent
-pub parent_told : (items : List Item) (id : ItemId) (row : ItemRow)
-    → Some row ≡ option_map (item_row items) (item_at items id) → row.parent ≡ parent_of items id
-parent_told items id row is = choose (item_at items id) refl is
-  where
-    choose : (o : Option Item) → item_at items id ≡ o → Some row ≡ option_map (item_row items) o
-        → row.parent ≡ parent_of items id
-    choose None at is = absurd (cc)
-    choose (Some i) at is =
-        let same : row ≡ item_row items i = cc in
-        ap (λ (r : ItemRow). r.parent) same
-        ∙ ap (parent_of items) (same_item i.id id (found_passes (λ (j : Item). j.id.0 == id.0) items i at))
 
 -- a parent is an item
 pub has_parent : (kept : Kept) (id parent : ItemId) → IsWellKept kept → parent_of kept.items id ≡ Some parent
@@ -289,7 +255,8 @@ tags_there kept page es h good have =
         let child_id : i.id ≡ child =
         same_item i.id child (found_passes (λ (j : Item). j.id.0 == child.0) items i child_at) in
         let below : find (has_child tag.id) items ≡ Some root =
-        found_holds (IsParent items) (λ (j : Item). j.id.0 == tags_root.0) items root (parents items good.tree) root_at tag.id
+        found_holds (IsParent items) (λ (j : Item). j.id.0 == tags_root.0) items root (parents items good.tree) root_at
+        tag.id
         (ap (λ (c : ItemId). has_child c root) tag_id ∙ has) in
         let in_it : find (has_child i.id) items ≡ Some tag =
         found_holds (IsParent items) (λ (j : Item). j.id.0 == id.0) items tag (parents items good.tree) tag_at i.id

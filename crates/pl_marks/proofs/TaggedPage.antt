@@ -11,10 +11,11 @@ use Rattle.pl_base.specs.Rows.{Kept, store_of}
 use Rattle.pl_base.specs.Store.{Item, Store}
 use Rattle.pl_base.specs.Tags.{is_tag_entry, is_tagged}
 use Rattle.pl_base.specs.Tree.{is_page}
+use Rattle.pl_base.proofs.PagesRun.{there}
+use Rattle.pl_base.proofs.ReferencesRun.{having, item_names}
+use Rattle.pl_base.proofs.Walk.{StandsAt, Walk, ends}
 use Rattle.pl_marks.specs.TagFolders.{tag_folder}
-use Rattle.pl_marks.proofs.ItemWalk.{IsItemHere, ItemWalk, having, walk_ends}
 use Rattle.pl_marks.proofs.PageTags.{any_filter, outside_is}
-use Rattle.pl_marks.proofs.PageWalk.{there}
 
 -- the item is in a tag folder
 abbrev pub is_inside : List Item → Item → Bool
@@ -50,16 +51,16 @@ none_inside_more items front i none outside =
     (or_from (is_inside items i) false outside refl)
 
 pub inside_here : (kept : Kept) (page : PageId) (id : ItemId) (P : List Item → Type 0)
-    → (w : IsItemHere kept page P id) → is_some (tag_folder kept.items id) ≡ true
+    → (w : StandsAt item_names (having kept.items page) P id) → is_some (tag_folder kept.items id) ≡ true
     → true ≡ is_tagged (store_of kept) page
 inside_here kept page id P w inside =
     sym (tagged_if (store_of kept) page
     ∙ ap (list_any (is_inside kept.items)) w.whole
-    ∙ there (is_inside kept.items) w.front w.item w.rest
+    ∙ there (is_inside kept.items) w.front w.element w.rest
     (ap (λ (i : ItemId). is_some (tag_folder kept.items i)) w.is ∙ inside))
 
 pub none_inside : (kept : Kept) (page : PageId) (next : Option ItemId)
-    → ItemWalk kept page (NoneInside kept.items) next → ((id : ItemId) → next ≢ Some id)
+    → Walk item_names (having kept.items page) (NoneInside kept.items) next → ((id : ItemId) → next ≢ Some id)
     → false ≡ is_tagged (store_of kept) page
 none_inside kept page next w none =
-    sym (tagged_if (store_of kept) page ∙ walk_ends kept page (NoneInside kept.items) next w none)
+    sym (tagged_if (store_of kept) page ∙ ends item_names (having kept.items page) (NoneInside kept.items) next w none)

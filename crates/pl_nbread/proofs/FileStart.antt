@@ -4,7 +4,7 @@ use Rattle.std.proofs.Common.{Some, None, MatchOption, ap, arith, drop, get_or, 
 use Rattle.std.proofs.Common.{sym, take}
 use lib.Utf8.{encode}
 use Rattle.std.specs.Borrow.{Bor}
-use Rattle.std.specs.Char.{is_ascii_whitespace, to_ascii_lowercase}
+use Rattle.std.specs.Char.{to_ascii_lowercase}
 use Rattle.std.specs.List.{prefix_len, starts_with}
 use Rattle.std.specs.Option.{unwrap_or}
 use Rattle.std.specs.Prelude.{nat_eq}
@@ -17,15 +17,12 @@ use Rattle.std.proofs.lemmas.Slice.Eq.{bytes_eq-Decides}
 use Rattle.std.proofs.lemmas.Str.{IsCharBoundary-after_ascii, IsUtf8-from_is_utf8, is_utf8-from_IsUtf8}
 use Rattle.std.proofs.lemmas.Str.Ascii.{trim_ascii_start_is}
 use Rattle.std.proofs.lemmas.Str.Pattern.{starts_text}
-use Rattle.pl_base.specs.Good.{is_blank}
 use Rattle.pl_words.specs.TagName.{trimmed_front}
+use Rattle.pl_words.proofs.TagNames.{same_blank}
 use Rattle.pl_nbread.specs.BookmarkFile.{behind_mark, byte_order_mark, doctype, from_doctype, has_doctype, lowered}
 use Rattle.pl_nbread.specs.BookmarkFile.{offset}
 
 -- ---- blanks
-
-same_blank : (b : ℕ) → is_ascii_whitespace b ≡ is_blank b
-same_blank b = grind (arith, nat_tests)
 
 -- what std drops in front are the blanks
 trims : (text rest : List ℕ) → IsTrimAsciiStart text rest → rest ≡ trimmed_front text

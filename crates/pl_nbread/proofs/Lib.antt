@@ -5,7 +5,7 @@ mod BuildingSteps
 mod FileStart
 pub mod NestedLaws
 mod ReaderSteps
-mod ReferenceSteps
+pub mod ReferenceSteps
 mod ScanParts
 mod ScanSteps
 pub mod TokenLaws

@@ -21,7 +21,7 @@ use Rattle.pl_nbread.specs.References.{reference_at}
 
 -- ---- without a reference
 
-none_at : (b : ℕ) (text : List ℕ) → eqb 38 b ≡ false → reference_at (b ∷ text) ≡ None
+pub none_at : (b : ℕ) (text : List ℕ) → eqb 38 b ≡ false → reference_at (b ∷ text) ≡ None
 none_at b text other = simp other
 
 -- what belongs to the last reference is passed over

@@ -167,9 +167,6 @@ value_behind_rest text = choose (starts_with nat_eq (trimmed_front text) (61 ∷
         (rest_of_rest _ _ text (dropped _ (drop 1 front)) (rest_of_rest _ _ text (dropped 1 front) (dropped _ text))))
     choose false is = rw is (all_left text)
 
-pub attribute_rest : (text : List ℕ) → IsRest (attribute_at text).behind text
-attribute_rest text = rest_of_rest _ _ text (value_behind_rest (from_first ends_name text)) (dropped _ text)
-
 -- where the first byte does not end it, what is read takes that byte
 from_first_shorter : (test : ℕ → Bool) (b : ℕ) (text : List ℕ) → test b ≡ false
     → IsRest (from_first test (b ∷ text)) text

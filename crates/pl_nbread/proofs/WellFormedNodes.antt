@@ -18,7 +18,7 @@ use Rattle.pl_nbread.specs.BookmarkTree.{Content, Nothing, Then, Inner, Made, Ch
 use Rattle.pl_nbread.specs.BookmarkTree.{added, added_seconds, bookmark, bookmark_if, folder}
 use Rattle.pl_nbread.specs.BookmarkTree.{folder_unless, if_date, inside, is_same_root, made}
 use Rattle.pl_nbread.specs.BookmarkTree.{made_of_all, menu, micros, modified, nodes_in, root_at}
-use Rattle.pl_nbread.specs.BookmarkTree.{seconds_limit, separator, tags_in, title}
+use Rattle.pl_nbread.specs.BookmarkTree.{seconds_limit, tags_in, title}
 use Rattle.pl_nbread.specs.BookmarkTree.{url, value}
 use Rattle.pl_nbread.specs.Parts.{Heading, Link, ListStart, ListEnd, Rule, TitleEnd, Words, Other}
 use Rattle.pl_nbread.specs.Tokens.{Attribute}
@@ -97,9 +97,6 @@ bookmark_formed : (here : OpenList) (url : List ℕ) (a : List Attribute) (title
 bookmark_formed here url a title =
     and_from _ _ (and_from _ _ (and_from _ _ (added_dated a) (modified_dated a))
     (tags_named (value _ a))) (tags_once (value _ a))
-
-separator_formed : (here : OpenList) → is_formed (separator here) ≡ true
-separator_formed here = refl
 
 abbrev is_made_formed : Made → Bool
 is_made_formed Skipped = true

@@ -1,5 +1,5 @@
 // The attributes of a tag.
-ghost use Rattle.std.specs.Prelude.{◌≡◌, ◌++◌, ◌<◌, ℕ, IsTrue, List, [], ◌∷◌, length, nat_lt};
+ghost use Rattle.std.specs.Prelude.{◌≡◌, ◌++◌, ◌<◌, IsTrue, List, [], ◌∷◌, nat_lt};
 ghost use Rattle.std.specs.Char.{char_set_contains};
 ghost use Rattle.std.specs.List.{before_first, list_all};
 ghost use Rattle.pl_nbread.specs.BookmarkFile.{lowered};

@@ -1,5 +1,5 @@
 // The tree, built as the parts of a file come.
-ghost use Rattle.std.specs.Prelude.{◌≡◌, ◌≤◌, ◌+◌, ℕ, List, [], ◌∷◌, IfOk, OnOk};
+ghost use Rattle.std.specs.Prelude.{◌≡◌, ◌+◌, ℕ, List, [], ◌∷◌, IfOk, OnOk};
 ghost use Rattle.pl_nbread.specs.BookmarkTree.{made_of, tree_with};
 ghost use Rattle.pl_nbread.specs.Building.{Adds, Closes, IsWithin, most_parts, yields};
 ghost use Rattle.pl_nbread.specs.Parts as parts;

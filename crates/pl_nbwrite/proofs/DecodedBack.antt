@@ -1,6 +1,6 @@
 -- What was escaped is decoded again.
 use Rattle.std.proofs.Common.{◌≡◌, ◌≢◌, ◌∙◌, ◌-◌, ◌<◌, ◌≤◌, ◌+◌, ◌==◌, ◌&&◌, ℕ, Bool, true, false, not, List, [], ◌∷◌}
-use Rattle.std.proofs.Common.{◌++◌, None, ⊎_elim, ap, append-nil, arith, cond, drop, eqb, length, refl}
+use Rattle.std.proofs.Common.{◌++◌, ⊎_elim, ap, append-nil, arith, cond, drop, length, refl}
 use Rattle.std.proofs.Common.{slice_index, subst, sym}
 use Rattle.std.specs.Prelude.{codes}
 use Rattle.std.specs.Char.{is_ascii_digit}
@@ -13,7 +13,8 @@ use Rattle.std.proofs.lemmas.List.Sums.{suffix_len_is}
 use lib.Utf8.{encode}
 use Rattle.pl_base.specs.Good.{is_blank}
 use Rattle.pl_words.specs.TagName.{trimmed, trimmed_back, trimmed_front}
-use Rattle.pl_nbread.specs.References.{decoded, reference_at}
+use Rattle.pl_nbread.specs.References.{decoded}
+use Rattle.pl_nbread.proofs.ReferenceSteps.{none_at}
 use Rattle.pl_nbwrite.specs.BookmarkText.{edge, escape, escaped, title_end, title_text}
 use Rattle.pl_nbwrite.proofs.EscapeSteps.{escape-plain}
 
@@ -53,9 +54,6 @@ each_byte Q amp less greater quote apostrophe tab line page back other b =
     (cases_eq b 60)) (cases_eq b 38)
 
 -- ---- decoded
-
-none_at : (b : ℕ) (text : List ℕ) → eqb 38 b ≡ false → reference_at (b ∷ text) ≡ None
-none_at b text other = simp other
 
 pub decoded-plain : (b : ℕ) (text : List ℕ) → b ≢ 38 → decoded (b ∷ text) ≡ b ∷ decoded text
 decoded-plain b text other = rw (none_at b text (ne_eqb 38 b (λ is. other (sym is)))) refl

@@ -7,6 +7,6 @@ mod ListSteps
 mod ListsBack
 pub mod ReadsBack
 mod TextKept
-mod TextRows
+pub mod TextRows
 mod TokenSteps
 mod ValuesBack

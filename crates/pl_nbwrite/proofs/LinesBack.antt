@@ -9,6 +9,7 @@ use Rattle.pl_base.specs.declared.date.Micros.{Micros}
 use Rattle.pl_base.specs.declared.item.ItemKind.TheVariants.{Bookmark, Folder, Separator}
 use Rattle.pl_base.specs.Address.{canon}
 use Rattle.pl_base.specs.Tags.{comma_joined}
+use Rattle.pl_base.proofs.ListLaws.{regroup_four, regroup_seven}
 use Rattle.pl_words.specs.TagLists.{each_once, is_same_tag}
 use Rattle.pl_words.specs.TagName.{is_tag_name}
 use Rattle.pl_nbread.specs.declared.tree.Node.{Node}
@@ -29,13 +30,6 @@ use Rattle.pl_nbwrite.proofs.TokenSteps.{Place, ahead_run, attribute-step, lacks
 use Rattle.pl_nbwrite.proofs.ValuesBack.{date_back, no_less, no_quote, no_quote_date, seconds_back, tags_back, tags_said}
 
 -- ---- texts, grouped from the back
-
-three : (a b c x : List ℕ) → ((a ++ b) ++ c) ++ x ≡ a ++ (b ++ (c ++ x))
-three a b c x = simp append_assoc
-
-six : (a b c d e f x : List ℕ)
-    → (((((a ++ b) ++ c) ++ d) ++ e) ++ f) ++ x ≡ a ++ (b ++ (c ++ (d ++ (e ++ (f ++ x)))))
-six a b c d e f x = simp append_assoc
 
 seven : (a b c d e f g x : List ℕ)
     → ((((((a ++ b) ++ c) ++ d) ++ e) ++ f) ++ g) ++ x ≡ a ++ (b ++ (c ++ (d ++ (e ++ (f ++ (g ++ x))))))
@@ -133,7 +127,7 @@ module _ (here : Place) (outer : List Place) (pending : Option Place) where
   within_line : (level : ℕ) (own rest : List ℕ)
       → made (parts_of (line level own ++ rest)) ≡ made (parts_of (own ++ 10 ∷ rest))
   within_line level own rest =
-      ap (λ (l : List ℕ). made (parts_of l)) (three (replicate (4 * level) 32) own (codes "\n") rest)
+      ap (λ (l : List ℕ). made (parts_of l)) (regroup_four (replicate (4 * level) 32) own (codes "\n") rest)
       ∙ skip_run here outer pending (replicate (4 * level) 32) (own ++ 10 ∷ rest) (spaces_only (4 * level))
 
 -- ---- the nodes that are made
@@ -298,7 +292,8 @@ module _ (here : Place) (outer : List Place) where
       (append_assoc (line level (heading added modified more title)) (list_start level) rest)
       ∙ within_line here outer None level (heading added modified more title) start
       ∙ ap (λ (l : List ℕ). made_within here outer None (parts_of l))
-      (six (codes "<DT><H3") (dates added modified) more (codes ">") (title_text title) (codes "</H3>") (10 ∷ start))
+      (regroup_seven (codes "<DT><H3") (dates added modified) more (codes ">") (title_text title) (codes "</H3>")
+      (10 ∷ start))
       ∙ ap (made_within here outer None) (dt (codes "<H3" ++ bytes))
       ∙ ap (λ (all : List Token). made_within here outer None (map part_of all)) tag
       ∙ ap (λ (t : List ℕ). makes t ++ made_within here outer (Some (inside here said)) (parts_of behind))

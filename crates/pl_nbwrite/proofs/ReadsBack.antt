@@ -6,6 +6,7 @@ use Rattle.std.specs.List.{All, cons_option}
 use Rattle.std.specs.Str.{is_utf8}
 use Rattle.std.proofs.lemmas.Bool.{cond-true}
 use Rattle.pl_base.specs.declared.date.Micros.{Micros}
+use Rattle.pl_base.proofs.ListLaws.{regroup_four}
 use Rattle.pl_nbread.specs.declared.tree.Node.{Node}
 use Rattle.pl_nbread.specs.declared.tree.Tree.{Tree}
 use Rattle.pl_nbread.specs.BookmarkFile.{body, offset}
@@ -110,9 +111,6 @@ unfiled = unwrap_or (root_named (root_said (codes "UNFILED_BOOKMARKS_FOLDER"))) 
 abbrev mobile : Root
 mobile = unwrap_or (root_named (root_said (codes "MOBILE_BOOKMARKS_FOLDER"))) menu.root
 
-four : (h n e x : List ℕ) → ((h ++ n) ++ e) ++ x ≡ h ++ (n ++ (e ++ x))
-four h n e x = simp append_assoc
-
 root_made : (root : Root) (b : ℕ) (name own : List ℕ) (nodes : List Node) (rest : List ℕ)
     → is_greater b ≡ false → is_stray b ≡ false → lacks ends_name (b ∷ name) ≡ true
     → root_at menu (root_said (b ∷ name)) ≡ Some root → IsListed nodes → All IsKept nodes
@@ -126,7 +124,7 @@ root_made root b name own (node ∷ nodes) rest greater stray ends is listed kep
     let around : List Place = menu ∷ menu ∷ [] in
     let behind : List ℕ = inner ++ (list_end 1 ++ rest) in
     ap (λ (l : List ℕ). made_within menu (menu ∷ []) None (parts_of l))
-    (four (line 1 (heading no_date no_date more own) ++ list_start 1) inner (list_end 1) rest)
+    (regroup_four (line 1 (heading no_date no_date more own) ++ list_start 1) inner (list_end 1) rest)
     ∙ heading_made menu (menu ∷ []) 1 no_date no_date more (named (b ∷ name) (codes "true") ∷ []) own behind refl refl
     (λ bytes. attribute-step b name (codes "true") (62 ∷ bytes) greater stray ends refl
     ∙ ap (with_attribute (named (b ∷ name) (codes "true"))) (attributes-end 62 bytes refl))

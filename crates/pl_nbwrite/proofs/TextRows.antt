@@ -11,7 +11,7 @@ titles : map title_text (codes "" ∷ codes " " ∷ codes "  " ∷ codes " a b "
     codes "" ∷ codes "&#32;" ∷ codes "&#32;&#32;" ∷ codes "&#32;a b&#32;" ∷ codes "&#9;&lt;&amp;&gt;&#39;&quot;&#10;" ∷ []
 titles = refl
 
-bookmark : ℕ → List ℕ → List ℕ → ℕ → List (List ℕ) → Node
+abbrev pub bookmark : ℕ → List ℕ → List ℕ → ℕ → List (List ℕ) → Node
 bookmark depth url title added tags = record {
   depth = depth;
   kind = Bookmark;
@@ -22,7 +22,7 @@ bookmark depth url title added tags = record {
   tags = tags;
 }
 
-folder : ℕ → List ℕ → ℕ → ℕ → Node
+abbrev pub folder : ℕ → List ℕ → ℕ → ℕ → Node
 folder depth title added modified = record {
   depth = depth;
   kind = Folder;

@@ -1,23 +1,21 @@
 -- What attributes say, as they are written.
-use Rattle.std.proofs.Common.{◌≡◌, ◌≢◌, ◌∙◌, ◌*◌, ◌/◌, ◌<◌, ◌≤◌, ◌^◌, ◌==◌, ℕ, zero, suc, Bool, true}
-use Rattle.std.proofs.Common.{false, not, List, [], ◌∷◌, All, Some, Option, ap, arith, cond, decimal, get_or}
+use Rattle.std.proofs.Common.{◌≡◌, ◌∙◌, ◌*◌, ◌/◌, ◌<◌, ◌≤◌, ◌^◌, ◌==◌, ℕ, Bool, true}
+use Rattle.std.proofs.Common.{false, not, List, [], ◌∷◌, All, Some, Option, ap, arith, cond, decimal}
 use Rattle.std.proofs.Common.{nat_eq, refl, sym}
 use Rattle.std.specs.Prelude.{codes, unwrap_or}
 use Rattle.std.specs.Char.{is_ascii_digit}
 use Rattle.std.specs.List.{filter, filter_map, list_all, list_any, slice_split, cons_option}
 use Rattle.std.specs.Option.{option_and_then}
-use Rattle.std.specs.Str.Parse.{AllDigits, IsNumeral, digits_value}
-use Rattle.std.proofs.lemmas.Bool.{and_from, and_parts, cond-false, cond-true, eqb-true, leb-true, lt-ltb, ne_eqb, not-true}
+use Rattle.std.proofs.lemmas.Bool.{and_from, and_parts, cond-true, eqb-true, leb-true, lt-ltb, ne_eqb, not-true}
 use Rattle.std.proofs.lemmas.Bool.{or_parts}
 use Rattle.std.proofs.lemmas.Bool.Decides.{nat_tests}
-use Rattle.std.proofs.lemmas.Fmt.{decimal_digit, decimal_is_IsNumeral, first_decimal}
+use Rattle.std.proofs.lemmas.Fmt.{decimal_is_IsNumeral}
 use Rattle.std.proofs.lemmas.List.Splits.{slice_split_at, slice_split_none}
 use Rattle.std.proofs.lemmas.Str.{IsUtf8-nil, is_utf8-from_IsUtf8}
-use Rattle.std.proofs.lemmas.Str.Parse.{digit_from_value}
 use Rattle.pl_base.specs.declared.date.Micros.{Micros}
 use Rattle.pl_base.specs.Good.{IsTagName}
-use Rattle.pl_base.specs.NumberText.{is_numeral, number_of}
 use Rattle.pl_base.specs.Tags.{comma_joined}
+use Rattle.pl_base.proofs.Numerals.{all_digits, number_back}
 use Rattle.pl_words.specs.TagLists.{each_once, firsts, is_same_tag}
 use Rattle.pl_words.specs.TagName.{is_tag_name, tag_named}
 use Rattle.pl_words.proofs.TagNames.{name_trimmed}
@@ -55,31 +53,6 @@ pub no_less : (text : List ℕ) → list_all is_calm text ≡ true → lacks is_
 no_less text calm = weaker is_calm (λ b. not (is_less b)) (λ b own. (and_parts _ _ own).0) text calm
 
 -- ---- numbers
-
-all_digits : (text : List ℕ) → AllDigits 10 text → list_all is_ascii_digit text ≡ true
-all_digits [] digits = refl
-all_digits (b ∷ text) digits =
-    let digit = digit_from_value b digits.0 in
-    and_from (is_ascii_digit b) (list_all is_ascii_digit text) (grind (arith, nat_tests)) (all_digits text digits.1)
-
--- a text of digits whose first is not `0`
-digits_numeral : (text : List ℕ) → IsNumeral 10 text → 48 < get_or text 0 0 → is_numeral text ≡ true
-digits_numeral [] digits first = absurd (omega arith)
-digits_numeral (b ∷ text) digits first =
-    let other : b ≢ 48 = (λ is. omega arith) in
-    cond-false (b == 48) _ _ (ne_eqb b 48 other) ∙ all_digits (b ∷ text) digits.1
-
-decimal_numeral : (n : ℕ) → n < 2 ^ 64 → is_numeral (decimal n) ≡ true
-decimal_numeral zero fits = ap is_numeral (decimal_digit 0 (omega arith))
-decimal_numeral (suc n) fits =
-    digits_numeral (decimal (suc n)) (decimal_is_IsNumeral (suc n) fits).0 (first_decimal (suc n) (omega arith) fits)
-
-number_back : (n : ℕ) → n < 2 ^ 64 → number_of (decimal n) ≡ Some n
-number_back n fits =
-    let value : digits_value 10 (decimal n) ≡ n = (decimal_is_IsNumeral n fits).1 in
-    cond-true _ _ _
-    (and_from _ _ (decimal_numeral n fits) (lt-ltb (digits_value 10 (decimal n)) (2 ^ 64) (omega arith)))
-    ∙ ap Some value
 
 decimal_digits : (n : ℕ) → n < 2 ^ 64 → list_all is_ascii_digit (decimal n) ≡ true
 decimal_digits n fits = all_digits (decimal n) (decimal_is_IsNumeral n fits).0.1

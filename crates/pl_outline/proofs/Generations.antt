@@ -7,9 +7,9 @@ use Rattle.pl_base.specs.Good.{IsTree}
 use Rattle.pl_base.specs.Store.{Item}
 use Rattle.pl_base.specs.Tree.{ancestors, children_of, item_at, parent_of}
 use Rattle.pl_base.proofs.LookUps.{found_passes}
-use Rattle.pl_base.proofs.OneParent.{same_item}
+use Rattle.pl_base.proofs.ItemLookUps.{same_item}
+use Rattle.pl_base.proofs.ChildrenRun.{parent_here}
 use Rattle.pl_tree.proofs.AncestorLaws.{climbed, left_above}
-use Rattle.pl_tree.proofs.ChildWalk.{parent_here}
 use Rattle.pl_outline.specs.Outline.{preorder}
 
 -- ---- how many are above

@@ -1,6 +1,4 @@
 mod Appended
-mod AsciiHosts
-mod AsciiUrls
 mod Bare
 pub mod Generations
 mod ImportedBare

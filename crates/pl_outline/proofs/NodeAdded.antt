@@ -1,25 +1,22 @@
 -- One node more at the end of an open folder.
 use Rattle.std.proofs.Common.{◌≡◌, ◌≢◌, ◌∙◌, ◌<◌, ◌≤◌, ◌+◌, ◌++◌, ◌==◌, ℕ, Bool, true, false, List, [], ◌∷◌}
-use Rattle.std.proofs.Common.{Option, Some, None, ap, arith, if◌then◌else◌, length, map, refl, subst, suc, sym, take}
+use Rattle.std.proofs.Common.{Option, Some, ap, arith, if◌then◌else◌, length, map, refl, subst, suc, sym, take}
 use Rattle.std.proofs.Common.{zero}
 use Rattle.std.specs.List.{All, AllByRecursion, AllPairs}
 use Rattle.std.specs.List.Sorted.{IsStrictlyIncreasing}
-use Rattle.std.specs.Option.{is_none}
 use Rattle.std.proofs.Math.Seq.{take-nil}
 use Rattle.std.proofs.lemmas.List.{append-nil, length-take}
 use Rattle.std.proofs.lemmas.List.Elements.{recursion_from_All}
 use Rattle.std.proofs.lemmas.Str.{IsUtf8-from_is_utf8}
 use Rattle.pl_base.specs.declared.id.ItemId.{ItemId}
-use Rattle.pl_base.specs.declared.item.ItemKind.{ItemKind}
-use Rattle.pl_base.specs.declared.item.ItemKind.TheVariants.{Bookmark, Folder, Separator}
 use Rattle.pl_base.specs.declared.item.ItemRow.{ItemRow}
 use Rattle.pl_base.specs.Good.{IsGoodItem, IsTitle, longest_title}
 use Rattle.pl_base.specs.Store.{Item, Page, Store, item_id}
 use Rattle.pl_base.specs.Title.{cut_title}
 use Rattle.pl_base.specs.Tree.{children_of, item_at, new_item}
-use Rattle.pl_base.specs.Visiting.{find_page, new_page, with_page_for}
 use Rattle.pl_base.proofs.ListLaws.{weaker}
 use Rattle.pl_base.proofs.LookUps.{found_holds}
+use Rattle.pl_base.proofs.ItemLookUps.{folder_kind}
 use Rattle.pl_nbread.specs.declared.tree.Node.{Node}
 use Rattle.pl_nbread.specs.WellFormed.{is_folder}
 use Rattle.pl_nbwrite.specs.Plain.{IsKept}
@@ -27,9 +24,9 @@ use Rattle.pl_graft.specs.Import.{folders_behind, innermost, node_row, page_of, 
 use Rattle.pl_graft.specs.Import.{with_page_of, with_row}
 use Rattle.pl_graft.specs.Ready.{IsReady, Takes}
 use Rattle.pl_graft.proofs.ItemsKept.{items_page_of}
-use Rattle.pl_graft.proofs.NodeLaws.{IsFormed, behind_take, folder_takes, page_there, ready_item_of}
-use Rattle.pl_graft.proofs.NodeLaws.{takes_page_of}
-use Rattle.pl_graft.proofs.Ready.{ready_page, takes_new, takes_root, takes_row}
+use Rattle.pl_graft.proofs.NodeLaws.{IsFormed, behind_take, folder_takes, item_page_of, page_there, ready_item_of}
+use Rattle.pl_graft.proofs.NodeLaws.{ready_page_of, takes_page_of}
+use Rattle.pl_graft.proofs.Ready.{takes_new, takes_root, takes_row}
 use Rattle.pl_outline.specs.Outline.{preorder}
 use Rattle.pl_outline.proofs.Bare.{HasPages, bare}
 use Rattle.pl_outline.proofs.OneMore.{children_here, children_other, one_behind, same_below}
@@ -61,24 +58,6 @@ has_pages_as old new same next h =
     }
 
 -- ---- a page more
-
-next_page : (store : Store) (url : List ℕ) → (with_page_for store url).ids.item ≡ store.ids.item
-next_page store url = choose (is_none (find_page url store.pages))
-  where
-    choose : (b : Bool) → (if b then record store {
-      pages = store.pages ++ new_page store url ∷ [];
-      ids = record store.ids { page = store.ids.page + 1 };
-    } else store).ids.item ≡ store.ids.item
-    choose true = refl
-    choose false = refl
-
-next_page_of : (url : Option (List ℕ)) (store : Store) → (with_page_of url store).ids.item ≡ store.ids.item
-next_page_of None store = refl
-next_page_of (Some u) store = next_page store u
-
-ready_page_of : (url : Option (List ℕ)) (store : Store) → IsReady store → IsReady (with_page_of url store)
-ready_page_of None store r = r
-ready_page_of (Some u) store r = ready_page store u r
 
 page_below : (url : Option (List ℕ)) (store : Store) → IsReady store → (c : ItemId)
     → below_of (with_page_of url store) c ≡ below_of store c
@@ -231,11 +210,6 @@ take_first P k [] all = rw take-nil tt
 take_first P zero (c ∷ cs) all = tt
 take_first P (suc k) (c ∷ cs) all = (all.0, take_first P k cs all.1)
 
-folder_kind : (kind : ItemKind) → is_folder kind ≡ true → kind ≡ Folder
-folder_kind Bookmark is = absurd (cc)
-folder_kind Folder is = refl
-folder_kind Separator is = absurd (cc)
-
 -- what a store is with a node more
 pub record IsAdded (store new : Store) (n : ℕ) (folders : List ItemId) (node : Node) : Type 0 where
   pub goes_on : GoesOn new n (folders_behind folders node (item_id store.ids.item))
@@ -298,7 +272,8 @@ module _ (store : Store) (n : ℕ) (is : IsRootNumber n) (folders : List ItemId)
     behind_take page item folders node made
         (weaker (Takes store) (Takes page) folders (takes_page_of node.url store) g.takes.1)
         (takes_row page last line (cut_title node.title) paged.ready last_taking)
-        (λ b. takes_new page last line (cut_title node.title) paged.ready last_taking (folder_kind node.kind b)),
+        (λ b. takes_new page last line (cut_title node.title) paged.ready last_taking
+        (folder_kind is_folder refl refl node.kind b)),
   )
 
   item_spine : Spine item.items top (folders_behind folders node made)
@@ -320,7 +295,7 @@ module _ (store : Store) (n : ℕ) (is : IsRootNumber n) (folders : List ItemId)
   node_added =
       record {
         goes_on =
-            subst (λ (k : ℕ). GoesOn whole n (folders_behind folders node (item_id k))) (next_page_of node.url store)
+            subst (λ (k : ℕ). GoesOn whole n (folders_behind folders node (item_id k))) (item_page_of node.url store)
             whole_goes_on;
         below =
             stays.below top item_takes.0

@@ -4,7 +4,6 @@ use Rattle.std.proofs.Common.{Option, Some, None, ap, append_assoc, arith, eq-eq
 use Rattle.std.proofs.Common.{refl, subst, suc, sym, zero}
 use Rattle.std.specs.List.{AllByRecursion, filter_map, flat_map}
 use Rattle.std.specs.Option.{option_map}
-use Rattle.std.proofs.Math.Seq.{drop-length, take-length}
 use Rattle.std.proofs.lemmas.Bool.{ne_eqb}
 use Rattle.std.proofs.lemmas.List.{append-nil}
 use Rattle.std.proofs.lemmas.List.Concat.{flat_map-append}
@@ -13,6 +12,7 @@ use Rattle.pl_base.specs.declared.id.ItemId.{ItemId}
 use Rattle.pl_base.specs.Store.{Item}
 use Rattle.pl_base.specs.Tree.{children_of, item_at}
 use Rattle.pl_base.proofs.ListLaws.{weaker}
+use Rattle.pl_tree.proofs.InsertedChildren.{put_end}
 use Rattle.pl_tree.specs.declared.place.Place.TheVariants.{End}
 use Rattle.pl_tree.specs.Changes.{put, with_child}
 use Rattle.pl_graft.specs.Import.{innermost}
@@ -55,9 +55,6 @@ found_changed g same (i ∷ items) c =
         ≡ option_map g (if b then Some i else item_at items c)
     choose true rest = refl
     choose false rest = rest
-
-put_end : (id : ItemId) (ids : List ItemId) → put End id ids ≡ ids ++ id ∷ []
-put_end id ids = rw (take-length ids, drop-length ids) refl
 
 -- an item with this child more, if it is the folder
 abbrev pub grown : ItemId → ItemId → Item → Item

@@ -1,5 +1,5 @@
 -- What stands in the tree of a store: each node has the tags of its URL, and an import may take it.
-use Rattle.std.proofs.Common.{◌≡◌, ◌≢◌, ◌∙◌, ◌+◌, ◌++◌, ◌==◌, ◌||◌, ℕ, All, Bool, true, false}
+use Rattle.std.proofs.Common.{◌≡◌, ◌≢◌, ◌∙◌, ◌+◌, ◌==◌, ◌||◌, ℕ, All, Bool, true, false}
 use Rattle.std.proofs.Common.{List, [], ◌∷◌, Option, Some, None, IfSome, IsSome, IsTrue, ap, arith, filter, find}
 use Rattle.std.proofs.Common.{if◌then◌else◌, is_some, length, map, not, refl, subst, suc, sym, zero}
 use Rattle.std.specs.List.{AllByRecursion, flat_map, list_all, list_any}
@@ -20,7 +20,7 @@ use Rattle.pl_base.specs.Store.{Item, Page, Store, item_id, page_url}
 use Rattle.pl_base.specs.Tags.{by_fold, has_tag, is_before, page_tags, tags_of}
 use Rattle.pl_base.specs.Title.{cut_title}
 use Rattle.pl_base.specs.Tree.{child_items, children_of}
-use Rattle.pl_base.proofs.ListLaws.{all-filter, to_map, weaker}
+use Rattle.pl_base.proofs.ListLaws.{all-filter, all_append, to_map, weaker}
 use Rattle.pl_base.proofs.SortLaws.{all_sorted}
 use Rattle.pl_marks.proofs.TagEntries.{differ_named, look, tag_entry, tags_found}
 use Rattle.pl_marks.proofs.TagNames.{names_of_tags}
@@ -35,11 +35,6 @@ use Rattle.pl_outline.proofs.PagesMore.{of_looked_up, own_page}
 use Rattle.pl_outline.proofs.TagsMade.{MayCome}
 
 -- ---- what holds of each node in preorder
-
-all_append : {X : Type 0} (P : X → Type 0) (xs ys : List X) → AllByRecursion P xs → AllByRecursion P ys
-    → AllByRecursion P (xs ++ ys)
-all_append P [] ys one two = two
-all_append P (x ∷ xs) ys one two = (one.0, all_append P xs ys one.1 two)
 
 all_flat : {X Y : Type 0} (P : Y → Type 0) (f : X → List Y) (xs : List X)
     → AllByRecursion (λ x. AllByRecursion P (f x)) xs → AllByRecursion P (flat_map f xs)

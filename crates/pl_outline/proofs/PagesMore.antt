@@ -1,13 +1,13 @@
 -- Pages by their URLs, where a store gets one more.
-use Rattle.std.proofs.Common.{◌≡◌, ◌≢◌, ◌∙◌, ◌<◌, ◌≤◌, ◌+◌, ◌++◌, ◌==◌, ◌&&◌, ◌||◌, inl, inr, ℕ, All, Bool, true, false}
+use Rattle.std.proofs.Common.{◌≡◌, ◌≢◌, ◌∙◌, ◌<◌, ◌≤◌, ◌+◌, ◌++◌, ◌==◌, ◌&&◌, ◌||◌, ℕ, All, Bool, true, false}
 use Rattle.std.proofs.Common.{List, [], ◌∷◌, Option, Some, None, IfSome, ap, arith, bytes_eq, eq-eqb, find}
-use Rattle.std.proofs.Common.{if◌then◌else◌, length, map, refl, subst, suc, sym}
+use Rattle.std.proofs.Common.{if◌then◌else◌, map, refl, subst, suc, sym}
 use Rattle.std.specs.Prelude.{IsTrue, is_none, unwrap_or}
 use Rattle.std.specs.List.{AllByRecursion, AllPairs, filter_map, list_any}
 use Rattle.std.specs.List.Sorted.{IsStrictlyIncreasing}
 use Rattle.std.specs.Option.{option_or}
-use Rattle.std.proofs.lemmas.Bool.{cases_lt, eqb-true, false_from_ne_true, ne_eqb, true≢false}
-use Rattle.std.proofs.lemmas.List.{get_or_append_left, get_or_push, length_push, map_push}
+use Rattle.std.proofs.lemmas.Bool.{eqb-true, false_from_ne_true, ne_eqb, true≢false}
+use Rattle.std.proofs.lemmas.List.{map_push}
 use Rattle.std.proofs.lemmas.List.Elements.{All-from_recursion, All-map, All-push, All-weaker, recursion_from_All}
 use Rattle.std.proofs.lemmas.List.Folds.{find-append}
 use Rattle.std.proofs.lemmas.List.Kept.{AllPairs-from_increasing}
@@ -24,18 +24,14 @@ use Rattle.pl_base.specs.Visiting.{find_page, new_page, page_for, with_page_for}
 use Rattle.pl_base.proofs.IdsLaws.{same_page}
 use Rattle.pl_base.proofs.ListLaws.{list_any-map, weaker}
 use Rattle.pl_base.proofs.LookUps.{Apart, apart_ascending, both, found_holds, found_passes}
+use Rattle.pl_base.proofs.Truths.{same_tests}
+use Rattle.pl_tree.proofs.GoodStores.{ascends_push}
 use Rattle.pl_graft.specs.Ready.{IsReady}
 use Rattle.pl_graft.specs.TagRows.{TagEntry, TagRow, entry_row, holds, tag_row, tag_rows}
 use Rattle.pl_outline.proofs.Bare.{HasPages}
 use Rattle.pl_outline.proofs.TagMarks.{marks}
 
 -- ---- tests
-
--- two tests agree where each tells the other
-pub same_tests : (a b : Bool) → (a ≡ true → b ≡ true) → (b ≡ true → a ≡ true) → a ≡ b
-same_tests true b there back = sym (there refl)
-same_tests false true there back = back refl
-same_tests false false there back = refl
 
 none_of : {X : Type 0} (test : X → Bool) (xs : List X) → AllByRecursion (λ x. test x ≡ false) xs
     → list_any test xs ≡ false
@@ -159,20 +155,6 @@ has_pages_same a b pages next h =
     }
 
 -- ---- a page more
-
-ascends_push : (ns : List ℕ) (n : ℕ) → IsStrictlyIncreasing ns → All (λ m. m < n) ns
-    → IsStrictlyIncreasing (ns ++ n ∷ [])
-ascends_push ns n ascending below k within =
-    let whole : k + 1 < length ns + 1 = rw (length_push ns n) at within in
-    let first : k < length ns = omega arith in
-    elim (cases_lt (k + 1) (length ns)) [
-      | inl inside ↦
-          rw (get_or_append_left ns (n ∷ []) 0 k first, get_or_append_left ns (n ∷ []) 0 (k + 1) inside)
-          (ascending k inside)
-      | inr past ↦
-          let last : length ns ≡ k + 1 = omega arith in
-          rw (get_or_append_left ns (n ∷ []) 0 k first, get_or_push ns n 0 (k + 1) last) (below k 0 first)
-    ]
 
 module _ (store : Store) (url : List ℕ) where
   abbrev pages_more : List Page

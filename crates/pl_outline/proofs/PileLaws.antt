@@ -9,10 +9,11 @@ use Rattle.pl_base.specs.Good.{IsTree}
 use Rattle.pl_base.specs.Rows.{IsWellKept, Kept}
 use Rattle.pl_base.specs.Store.{Item}
 use Rattle.pl_base.specs.Tree.{children_of, first_item, has_item, item_at, parent_of, sibling_behind}
+use Rattle.pl_base.proofs.LookUps.{part}
 use Rattle.pl_base.proofs.OneParent.{Once}
+use Rattle.pl_base.proofs.ChildrenRun.{apart_numbers, children_once, parent_here, sibling_here}
 use Rattle.pl_tree.proofs.AncestorLaws.{left_above}
-use Rattle.pl_tree.proofs.ChildWalk.{apart_numbers, children_known, children_once, few_items, parent_here, part}
-use Rattle.pl_tree.proofs.ChildWalk.{sibling_here}
+use Rattle.pl_tree.proofs.CountedChildren.{children_known, few_items}
 use Rattle.pl_outline.specs.declared.outline.Place.{Place}
 use Rattle.pl_outline.specs.Outline.{all_below}
 use Rattle.pl_outline.specs.Pile.{placed}

@@ -1,54 +1,42 @@
 -- A node of a good store is well formed, and a file and a store keep it as it is.
 use Rattle.std.proofs.Common.{◌≡◌, ◌≤◌, ◌==◌, ◌∙◌, ◌⊎◌, inl, inr, ℕ, Bool, true, false, not, List, [], ◌∷◌}
-use Rattle.std.proofs.Common.{IfSome, IsTrue, Option, Some, None, Ok, Err, ap, arith, eq-eqb, find}
+use Rattle.std.proofs.Common.{IfSome, IsTrue, Option, Some, None, ap, arith, eq-eqb, find}
 use Rattle.std.proofs.Common.{if◌then◌else◌, is_some}
-use Rattle.std.proofs.Common.{le-leb, length, refl, subst, sym, nat_le, IsAscii}
-use Rattle.std.specs.Prelude.{IfOk}
+use Rattle.std.proofs.Common.{le-leb, length, refl, subst, sym}
 use Rattle.std.specs.List.{list_all}
 use Rattle.std.specs.Option.{IsSome, option_and_then, option_map}
 use Rattle.std.specs.Str.{is_utf8}
-use Rattle.std.proofs.lemmas.Bool.{and_from, and_parts, true≢false}
+use Rattle.std.proofs.lemmas.Bool.{and_from, true≢false}
 use Rattle.std.proofs.lemmas.List.Elements.{recursion_from_All}
-use Rattle.std.proofs.lemmas.Slice.Eq.{bytes_eq-Decides}
 use Rattle.std.proofs.lemmas.Str.{IsUtf8-from_ascii, IsUtf8-nil, is_utf8-from_IsUtf8}
-use Rattle.url.specs.Parser.{Parsed}
-use Rattle.url.specs.Parts.{Parts, serialize}
 use Rattle.pl_base.specs.declared.date.Micros.{Micros}
 use Rattle.pl_base.specs.declared.id.ItemId.{ItemId}
 use Rattle.pl_base.specs.declared.id.PageId.{PageId}
 use Rattle.pl_base.specs.declared.item.ItemKind.{ItemKind}
 use Rattle.pl_base.specs.declared.item.ItemKind.TheVariants.{Bookmark, Folder, Separator}
-use Rattle.pl_base.specs.Address.{canon, is_text, longest_url, record_of, serialized}
+use Rattle.pl_base.specs.Address.{canon}
 use Rattle.pl_base.specs.Date.{IsDate}
 use Rattle.pl_base.specs.Good.{IsGood, IsGoodItem, IsGoodPage, has_page_at, longest_title}
 use Rattle.pl_base.specs.Store.{Item, Page, Store, page_url}
 use Rattle.pl_base.proofs.ListLaws.{found_in}
 use Rattle.pl_base.proofs.OriginLaws.{store_url-from_canon}
 use Rattle.pl_base.proofs.LookUps.{found_holds}
+use Rattle.pl_link.proofs.UrlTexts.{store_url_ascii}
 use Rattle.pl_nbread.specs.declared.tree.Node.{Node}
 use Rattle.pl_nbread.specs.WellFormed.{is_bookmark, is_date, is_folder, is_formed}
 use Rattle.pl_nbwrite.specs.Plain.{IsKept, IsOwn, is_bare, is_whole}
 use Rattle.pl_words.specs.TagLists.{each_once, is_same_tag}
 use Rattle.pl_words.specs.TagName.{is_tag_name}
 use Rattle.pl_outline.specs.Outline.{node_of, separator_node, tags_at, titled_node, whole_seconds}
-use Rattle.pl_outline.proofs.AsciiUrls.{url_ascii}
 use Rattle.pl_outline.proofs.TagsOnce.{tags_named, tags_once}
 
 -- ---- URLs
 
-own_text : (url : List ℕ) (r : Parsed Parts) → IfOk r (λ found. IsAscii (serialize found))
-    → is_text url (serialized r) ≡ true → is_utf8 url ≡ true
-own_text url (Ok found) ascii own =
-    let same : serialize found ≡ url = (bytes_eq-Decides (serialize found) url).0 own in
-    is_utf8-from_IsUtf8 url (IsUtf8-from_ascii url (subst IsAscii same ascii))
-own_text url (Err e) ascii own = absurd (cc)
-
 -- a URL that names itself is a text
 pub url_utf8 : (url : List ℕ) → canon url ≡ Some url → is_utf8 url ≡ true
 url_utf8 url own =
-    own_text url (record_of url) (url_ascii url)
-    (and_parts (is_text url (serialized (record_of url))) (nat_le (length url) longest_url)
-    (store_url-from_canon url url own)).0
+    is_utf8-from_IsUtf8 url
+    (IsUtf8-from_ascii url (store_url_ascii url (store_url-from_canon url url own)))
 
 module _ (store : Store) (good : IsGood store) where
   own_url : (o : Option Page) → IfSome o (IsGoodPage store) → IsOwn (option_map (λ (p : Page). p.url) o)

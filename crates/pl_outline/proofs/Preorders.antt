@@ -8,16 +8,13 @@ use Rattle.pl_base.specs.Good.{IsTree}
 use Rattle.pl_base.specs.Store.{Item}
 use Rattle.pl_base.specs.Tree.{child_items, children_of, item_at, parent_of}
 use Rattle.pl_base.proofs.LookUps.{found_passes}
-use Rattle.pl_base.proofs.OneParent.{same_item}
-use Rattle.pl_tree.proofs.ChildWalk.{parent_here}
+use Rattle.pl_base.proofs.ItemLookUps.{same_item}
+use Rattle.pl_base.proofs.ListLaws.{everyone}
+use Rattle.pl_base.proofs.ChildrenRun.{parent_here}
 use Rattle.pl_outline.specs.Outline.{preorder}
 use Rattle.pl_outline.proofs.Generations.{enough_generations}
 
 -- ---- lists
-
-pub each_of : {X : Type 0} (P : X → Type 0) (xs : List X) → ((x : X) → P x) → AllByRecursion P xs
-each_of P [] holds = tt
-each_of P (x ∷ xs) holds = (holds x, each_of P xs holds)
 
 -- what holds of each id wherever it stands
 pub each_place : (P : ItemId → Type 0) (whole front ids : List ItemId) → whole ≡ front ++ ids
@@ -44,17 +41,6 @@ pub found_alike : (f g : ItemId → Option Item) (ids : List ItemId) → AllByRe
 found_alike f g [] all = refl
 found_alike f g (c ∷ cs) all = rw (all.0, found_alike f g cs all.1) refl
 
--- what holds of each item that is found
-pub all_found : (P : Item → Type 0) (at : ItemId → Option Item) (ids : List ItemId)
-    → AllByRecursion (λ (c : ItemId). (i : Item) → at c ≡ Some i → P i) ids → AllByRecursion P (filter_map at ids)
-all_found P at [] all = tt
-all_found P at (c ∷ cs) all = choose (at c) refl (all_found P at cs all.1)
-  where
-    choose : (o : Option Item) → at c ≡ o → AllByRecursion P (filter_map at cs)
-        → AllByRecursion P (filter_map at (c ∷ cs))
-    choose None is rest = rw is rest
-    choose (Some i) is rest = rw is (all.0 i is, rest)
-
 module _ {N : Type 0} where
   -- what two functions give alike of each item that is found
   pub flat_found : (g h : Item → List N) (at : ItemId → Option Item) (ids : List ItemId)
@@ -77,7 +63,7 @@ module _ {N : Type 0} where
   shown_alike a b items alike (suc many) d c =
       flat_found (λ (i : Item). a d i ∷ preorder a many items (d + 1) i.id)
       (λ (i : Item). b d i ∷ preorder b many items (d + 1) i.id) (item_at items) (children_of items c)
-      (each_of (λ (x : ItemId). (i : Item) → item_at items x ≡ Some i
+      (everyone (λ (x : ItemId). (i : Item) → item_at items x ≡ Some i
       → (a d i ∷ preorder a many items (d + 1) i.id) ≡ (b d i ∷ preorder b many items (d + 1) i.id))
       (children_of items c) (λ x i is.
       ap (λ (n : N). n ∷ preorder a many items (d + 1) i.id) (alike x i is d)

@@ -21,6 +21,7 @@ use Rattle.pl_base.specs.Tree.{new_item}
 use Rattle.pl_base.specs.Visiting.{find_page, new_page, page_for, with_page_for}
 use Rattle.pl_base.proofs.ListLaws.{AllPairs-from_map}
 use Rattle.pl_base.proofs.LookUps.{found_holds, found_passes}
+use Rattle.pl_base.proofs.Truths.{no_length}
 use Rattle.pl_nbread.specs.declared.tree.Node.{Node}
 use Rattle.pl_nbwrite.specs.Plain.{IsKept, is_bare, is_whole}
 use Rattle.pl_graft.specs.Import.{node_row, page_of, with_page_of}
@@ -230,10 +231,6 @@ short_title title short = rw (le-leb (length title) longest_title short) refl
 whole_date : (date : Micros) → is_whole date ≡ true → whole_seconds date ≡ date
 whole_date date is =
     ap (λ (n : ℕ). let m : Micros = record { 0 = n } in m) (eqb-true (date.0 / 1_000_000 * 1_000_000) date.0 is)
-
-no_length : {X : Type 0} (xs : List X) → (length xs == 0) ≡ true → xs ≡ []
-no_length [] is = refl
-no_length (x ∷ xs) is = absurd (omega (arith, eqb-true (suc (length xs)) 0 is))
 
 pub shown_new : (store : Store) (parent id : ItemId) (node : Node) → HasPages store → IsFormed node → IsKept node
     → length node.title ≤ longest_title

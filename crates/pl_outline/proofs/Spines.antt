@@ -16,16 +16,14 @@ use Rattle.pl_base.specs.Tags.{tags_root}
 use Rattle.pl_base.specs.Tree.{child_items, children_of, first_item, item_at, parent_of, sibling_behind}
 use Rattle.pl_base.proofs.LookUps.{found_holds}
 use Rattle.pl_base.proofs.OneParent.{root_alone}
+use Rattle.pl_base.proofs.ItemLookUps.{same_item_number}
+use Rattle.pl_base.proofs.ChildrenRun.{parent_here, sibling_here}
 use Rattle.pl_tree.specs.Refused.{folder_refusal, is_closed, is_tag, parent_refusal}
-use Rattle.pl_tree.proofs.ChildWalk.{parent_here, sibling_here}
 use Rattle.pl_tree.proofs.GoodStores as stores
 use Rattle.pl_graft.specs.Import.{innermost}
 use Rattle.pl_graft.specs.Ready.{IsReady, Takes}
 use Rattle.pl_outline.proofs.OneMore.{WayDown, children_in}
 use Rattle.pl_outline.proofs.Preorders.{have_parent, own_id}
-
-pub same_number : (a b : ItemId) → a.0 ≡ b.0 → a ≡ b
-same_number a b e = let id : ℕ → ItemId = λ k. record { 0 = k } in ap id e
 
 -- ---- folders that take items
 
@@ -115,7 +113,7 @@ module _ (items : List Item) (tree : IsTree items) where
   off_spine root [] spine x c parent off = tt
   off_spine root (f ∷ fs) spine x c parent off = (
     λ same.
-        let one : x ≡ f = same_number x f same in
+        let one : x ≡ f = same_item_number x f same in
         let above : c ≡ root =
         same_Some c root (sym parent ∙ ap (parent_of items) one ∙ last_parent root f spine.0) in
         off.0 (ap (λ (z : ItemId). z.0) above),
@@ -128,7 +126,7 @@ module _ (items : List Item) (tree : IsTree items) where
   off_inner root [] spine x parent = tt
   off_inner root (f ∷ fs) spine x parent = (
     λ same.
-        let one : x ≡ f = same_number x f same in
+        let one : x ≡ f = same_item_number x f same in
         let above : innermost f fs ≡ root =
         same_Some (innermost f fs) root (sym parent ∙ ap (parent_of items) one ∙ last_parent root f spine.0) in
         omega (
@@ -147,7 +145,7 @@ module _ (items : List Item) (tree : IsTree items) where
   off_last root (f ∷ fs) spine x behind = (
     λ same.
         behind
-        (ap (sibling_behind items) (same_number x f same)
+        (ap (sibling_behind items) (same_item_number x f same)
         ∙ sibling_here items root spine.0.front f [] tree spine.0.is),
     off_last f fs spine.1 x behind,
   )
@@ -210,7 +208,8 @@ module _ (store : Store) (r : IsReady store) where
 
   pub no_first : (x c : ItemId) → parent_of items x ≡ Some c → x.0 ≢ 1
   no_first x c parent same =
-      none-some c (sym (root_alone items tree) ∙ ap (parent_of items) (sym (same_number x (item_id 1) same)) ∙ parent)
+      none-some c
+      (sym (root_alone items tree) ∙ ap (parent_of items) (sym (same_item_number x (item_id 1) same)) ∙ parent)
 
   first_children : children_of items (item_id 1) ≡ top_folders
   first_children = ap children_in r.good.roots.root
@@ -244,7 +243,7 @@ module _ (store : Store) (r : IsReady store) where
       other
       (ap (λ (z : ItemId). z.0)
       (same_Some c (item_id 1)
-      (sym parent ∙ ap (parent_of items) (same_number x (item_id n) same) ∙ top_parent n is)))
+      (sym parent ∙ ap (parent_of items) (same_item_number x (item_id n) same) ∙ top_parent n is)))
 
   -- ---- with the spine of a root
 

@@ -2,7 +2,7 @@
 use Rattle.std.proofs.Common.{◌≡◌, ◌≢◌, ◌∙◌, ◌++◌, ◌==◌, ◌&&◌, ◌||◌, ℕ, Bool, true, false, List, [], ◌∷◌}
 use Rattle.std.proofs.Common.{Option, Some, None, ap, bytes_eq, eq-eqb, find, if◌then◌else◌, map, refl, subst, sym}
 use Rattle.std.specs.List.{AllByRecursion, list_any}
-use Rattle.std.proofs.lemmas.Bool.{and_from, and_parts, eqb-true, or_left, or_right}
+use Rattle.std.proofs.lemmas.Bool.{and_from, and_parts, eqb-true}
 use Rattle.std.proofs.lemmas.List.Folds.{list_any-append}
 use Rattle.std.proofs.lemmas.Option.{same_Some}
 use Rattle.std.proofs.lemmas.Slice.Eq.{bytes_eq-Decides}
@@ -13,11 +13,11 @@ use Rattle.pl_base.specs.Store.{Item, Store}
 use Rattle.pl_base.specs.Tags.{tags_of, tags_root}
 use Rattle.pl_base.specs.Tree.{is_page}
 use Rattle.pl_base.proofs.IdsLaws.{same_page}
-use Rattle.pl_base.proofs.ListLaws.{from_map, list_any-alike, list_any-map, to_map, weaker}
-use Rattle.pl_base.proofs.LookUps.{Apart, found_holds, found_passes}
+use Rattle.pl_base.proofs.ListLaws.{any-and, any-or, any-where, from_map, list_any-alike, list_any-map, to_map, weaker}
+use Rattle.pl_base.proofs.ListLaws.{all_push}
+use Rattle.pl_base.proofs.LookUps.{Apart, found_any, found_holds, found_passes}
 use Rattle.pl_base.proofs.OneParent.{Once}
-use Rattle.pl_marks.proofs.PageWalk.{push}
-use Rattle.pl_tree.proofs.ChildWalk.{children_once}
+use Rattle.pl_base.proofs.ChildrenRun.{children_once}
 use Rattle.pl_tree.proofs.GoodStores as stores
 use Rattle.pl_graft.specs.Ready.{IsReady}
 use Rattle.pl_graft.specs.TagRows.{TagEntry, TagRow, entered, holds, holds_in, new_row, row_with, tag_row, tag_rows}
@@ -49,52 +49,10 @@ spread true true p = refl
 spread true false true = refl
 spread true false false = refl
 
-turned : (a b c d : Bool) → ((a || b) || (c || d)) ≡ ((a || c) || (b || d))
-turned true b c d = refl
-turned false true true d = refl
-turned false true false d = refl
-turned false false c d = refl
-
-pub shared : (a b c : Bool) → ((a && c) || (b && c)) ≡ ((a || b) && c)
-shared true b true = refl
-shared true true false = refl
-shared true false false = refl
-shared false b c = refl
-
 last_test : (a p : Bool) → ((a && (p || false)) || false) ≡ (a && p)
 last_test false p = refl
 last_test true true = refl
 last_test true false = refl
-
--- ---- tests of lists
-
-pub any_or : {X : Type 0} (p q : X → Bool) (xs : List X)
-    → list_any (λ x. p x || q x) xs ≡ (list_any p xs || list_any q xs)
-any_or p q [] = refl
-any_or p q (x ∷ xs) =
-    ap (λ (b : Bool). (p x || q x) || b) (any_or p q xs) ∙ turned (p x) (q x) (list_any p xs) (list_any q xs)
-
-pub any_and : {X : Type 0} (q : X → Bool) (c : Bool) (xs : List X)
-    → list_any (λ x. q x && c) xs ≡ (list_any q xs && c)
-any_and q c [] = refl
-any_and q c (x ∷ xs) = ap (λ (b : Bool). (q x && c) || b) (any_and q c xs) ∙ shared (q x) (list_any q xs) c
-
-pub any_agree : {X : Type 0} (p q : X → Bool) (xs : List X) → AllByRecursion (λ x. p x ≡ q x) xs
-    → list_any p xs ≡ list_any q xs
-any_agree p q [] all = refl
-any_agree p q (x ∷ xs) all =
-    ap (λ (b : Bool). b || list_any p xs) all.0 ∙ ap (λ (b : Bool). q x || b) (any_agree p q xs all.1)
-
--- what is found passes another test
-pub any_found : {X : Type 0} (p q : X → Bool) (xs : List X) (x : X) → find p xs ≡ Some x → q x ≡ true
-    → list_any q xs ≡ true
-any_found p q [] x found passes = absurd (cc)
-any_found {X} p q (y ∷ ys) x found passes = choose (p y) found (λ h. any_found p q ys x h passes)
-  where
-    choose : (b : Bool) → (if b then Some y else find p ys) ≡ Some x
-        → (find p ys ≡ Some x → list_any q ys ≡ true) → (q y || list_any q ys) ≡ true
-    choose true here rest = or_left (q y) (list_any q ys) (ap q (same_Some y x here) ∙ passes)
-    choose false here rest = or_right (q y) (list_any q ys) (rest here)
 
 -- ---- ids
 
@@ -185,18 +143,18 @@ module _ (page : PageId) (name : List ℕ) (next : ℕ) (other : PageId) (title 
       (bytes_eq r.title title && holds other r)
       || ((r.id == row.id) && (bytes_eq r.title title && (page.0 == other.0))))
       rows (gains row.id)
-      ∙ any_or (λ (r : TagRow). bytes_eq r.title title && holds other r)
+      ∙ any-or (λ (r : TagRow). bytes_eq r.title title && holds other r)
       (λ (r : TagRow). (r.id == row.id) && (bytes_eq r.title title && (page.0 == other.0))) rows
       ∙ ap (λ (b : Bool). marks other title rows || b)
-      (any_agree (λ (r : TagRow). (r.id == row.id) && (bytes_eq r.title title && (page.0 == other.0)))
+      (any-where (λ (r : TagRow). (r.id == row.id) && (bytes_eq r.title title && (page.0 == other.0)))
       (λ (r : TagRow). (r.id == row.id) && gets) rows
       (weaker (λ (r : TagRow). (r.id == row.id) ≡ true → r.title ≡ row.title)
       (λ (r : TagRow). ((r.id == row.id) && (bytes_eq r.title title && (page.0 == other.0)))
       ≡ ((r.id == row.id) && gets)) rows (λ r same. agree r (r.id == row.id) refl same)
       (title_at (λ (r : TagRow). bytes_eq (folded r.title) (folded name)) rows row apart found))
-      ∙ any_and (λ (r : TagRow). r.id == row.id) gets rows
+      ∙ any-and (λ (r : TagRow). r.id == row.id) gets rows
       ∙ ap (λ (b : Bool). b && gets)
-      (any_found (λ (r : TagRow). bytes_eq (folded r.title) (folded name)) (λ (r : TagRow). r.id == row.id) rows row
+      (found_any (λ (r : TagRow). bytes_eq (folded r.title) (folded name)) (λ (r : TagRow). r.id == row.id) rows row
       found (eq-eqb row.id row.id refl)))
     where
       agree : (r : TagRow) (b : Bool) → (r.id == row.id) ≡ b → ((r.id == row.id) ≡ true → r.title ≡ row.title)
@@ -216,7 +174,7 @@ module _ (page : PageId) (name : List ℕ) (next : ℕ) (other : PageId) (title 
   marks_had rows row found named has =
       absorbed (marks other title rows) gets (λ is.
       let parts = and_parts (bytes_eq name title) (page.0 == other.0) is in
-      any_found (λ (r : TagRow). bytes_eq (folded r.title) (folded name))
+      found_any (λ (r : TagRow). bytes_eq (folded r.title) (folded name))
       (λ (r : TagRow). bytes_eq r.title title && holds other r) rows row found
       (and_from (bytes_eq row.title title) (holds other row)
       (ap (λ (t : List ℕ). bytes_eq t title) named ∙ parts.0)
@@ -276,7 +234,7 @@ module _ (Known : List ℕ → Type 0) (one : (a b : List ℕ) → Known a → K
       choose : (b : Bool) (o : Option TagRow)
           → AreKnown Known (if b then rows else with_entry_in o page name next rows)
       choose true o = all
-      choose false None = push (λ (r : TagRow). Known r.title) rows (new_row page name next) all known
+      choose false None = all_push (λ (r : TagRow). Known r.title) rows (new_row page name next) all known
       choose false (Some row) =
           to_map (λ (r : TagRow). Known r.title) (with_entry row.id page next) rows
           (weaker (λ (r : TagRow). Known r.title) (λ (r : TagRow). Known (with_entry row.id page next r).title) rows

@@ -15,7 +15,7 @@ use Rattle.pl_base.specs.Store.{Item, Page, Store, item_id, opening, roots}
 use Rattle.pl_base.specs.Tags.{by_fold, has_tag, is_before, page_tags, tags_of}
 use Rattle.pl_base.specs.Tree.{child_items, is_page}
 use Rattle.pl_base.specs.Visiting.{page_for}
-use Rattle.pl_base.proofs.ListLaws.{All-from_map, list_any-map, map-map, weaker}
+use Rattle.pl_base.proofs.ListLaws.{All-from_map, any-and, list_any-map, map-map, weaker}
 use Rattle.pl_base.proofs.RootsLaws.{has_roots, no_tags, roots_are_good, roots_are_tree, roots_ascend}
 use Rattle.pl_base.proofs.SortLaws.{sorted_moves}
 use Rattle.pl_base.proofs.LookUps.{both}
@@ -29,8 +29,14 @@ use Rattle.pl_graft.proofs.Ready.{takes_root}
 use Rattle.pl_outline.specs.Outline.{bookmarks, listed}
 use Rattle.pl_outline.proofs.Bare.{HasPages, bare, retagged, url_tags}
 use Rattle.pl_outline.proofs.OwnTags.{HasOwn, IsKnown, listed_retagged, may_come, own_listed}
-use Rattle.pl_outline.proofs.TagMarks.{any_and, has_text, marks, shared}
+use Rattle.pl_outline.proofs.TagMarks.{has_text, marks}
 use Rattle.pl_outline.proofs.TagsMade.{Behind, Stands, is_url, nodes_behind, told, url_marks}
+
+shared : (a b c : Bool) → ((a && c) || (b && c)) ≡ ((a || b) && c)
+shared true b true = refl
+shared true true false = refl
+shared true false false = refl
+shared false b c = refl
 
 -- ---- the tags of a page in order are known by which they are
 
@@ -182,7 +188,7 @@ module _ (store : Store) where
       → told url title nodes ≡ (has_url url nodes && has_text title (url_tags store (Some url)))
   told_own url title nodes all =
       each nodes all
-      ∙ any_and (λ (n : Node). is_url url n.url) (has_text title (url_tags store (Some url))) nodes
+      ∙ any-and (λ (n : Node). is_url url n.url) (has_text title (url_tags store (Some url))) nodes
     where
       turn : (a b : Bool) → (a && b) ≡ (b && a)
       turn true true = refl

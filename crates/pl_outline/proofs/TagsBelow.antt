@@ -17,6 +17,7 @@ use Rattle.pl_base.specs.Tags.{is_tags_root, tags_root}
 use Rattle.pl_base.specs.Tree.{child_items, children_of, item_at, parent_of}
 use Rattle.pl_base.proofs.ListLaws.{weaker}
 use Rattle.pl_base.proofs.LookUps.{found_holds}
+use Rattle.pl_base.proofs.ItemLookUps.{hold_all, same_item_number}
 use Rattle.pl_nbread.specs.declared.tree.Node.{Node}
 use Rattle.pl_tree.specs.declared.place.Place.TheVariants.{End}
 use Rattle.pl_tree.specs.Changes.{item_of, with_new}
@@ -30,9 +31,9 @@ use Rattle.pl_graft.proofs.NodeLaws.{IsFormed, pages_tag}
 use Rattle.pl_graft.proofs.Ready.{children_tag, ready_tag, takes_tag}
 use Rattle.pl_outline.specs.Outline.{preorder}
 use Rattle.pl_outline.proofs.OneMore.{children_other, same_below}
-use Rattle.pl_outline.proofs.Preorders.{all_found, enough, have_parent, own_id}
+use Rattle.pl_outline.proofs.Preorders.{enough, have_parent, own_id}
 use Rattle.pl_outline.proofs.ShownNodes.{shown}
-use Rattle.pl_outline.proofs.Spines.{child_below, found_below, no_first, no_top, same_number, taking}
+use Rattle.pl_outline.proofs.Spines.{child_below, found_below, no_first, no_top, taking}
 
 -- what is shown below a folder, without tags
 abbrev pub below_of : Store → ItemId → List Node
@@ -114,14 +115,14 @@ module _ (store : Store) (r : IsReady store) (page : PageId) (date : Micros) (na
       let parent : parent_of items t.id ≡ Some tags_root =
       found_holds (λ (i : Item). parent_of items i.id ≡ Some tags_root)
       (λ (i : Item). bytes_eq (folded i.title) (folded name)) (child_items items tags_root) t
-      (all_found (λ (i : Item). parent_of items i.id ≡ Some tags_root) (item_at items) (children_of items tags_root)
+      (hold_all (λ (i : Item). parent_of items i.id ≡ Some tags_root) (item_at items) (children_of items tags_root)
       (weaker (λ (x : ItemId). parent_of items x ≡ Some tags_root)
       (λ (x : ItemId). (i : Item) → item_at items x ≡ Some i → parent_of items i.id ≡ Some tags_root)
       (children_of items tags_root) (λ x above i is. ap (parent_of items) (own_id items x i is) ∙ above)
       (have_parent items tags_root tree)))
       found in
       let tag : is_tag items t.id ≡ true = ap is_tags_root parent in
-      both_ways (is_tag items c) clear.2 (ap (is_tag items) (same_number c t.id same) ∙ tag)
+      both_ways (is_tag items c) clear.2 (ap (is_tag items) (same_item_number c t.id same) ∙ tag)
 
   -- as `tagged_items` has it
   abbrev tagged_by : Option Item → List Item

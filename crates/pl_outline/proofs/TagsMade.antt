@@ -23,9 +23,9 @@ use Rattle.pl_graft.specs.Import.{with_nodes, with_page_of, with_tag, with_tags,
 use Rattle.pl_graft.specs.Ready.{IsReady, Takes}
 use Rattle.pl_graft.specs.TagRows.{TagRow, tag_rows}
 use Rattle.pl_graft.proofs.ItemsKept.{items_page_of}
-use Rattle.pl_graft.proofs.NodeLaws.{IsFormed, behind_take, folder_takes, node_takes, page_there, pages_tag}
-use Rattle.pl_graft.proofs.NodeLaws.{ready_item_of, takes_node, takes_page_of}
-use Rattle.pl_graft.proofs.Ready.{ready_page, ready_tag, tags_row, tags_tag}
+use Rattle.pl_graft.proofs.NodeLaws.{IsFormed, behind_take, folder_takes, node_takes, page_there, pages_tag, there_tag}
+use Rattle.pl_graft.proofs.NodeLaws.{pages_tags, ready_item_of, ready_page_of, takes_node, takes_page_of}
+use Rattle.pl_graft.proofs.Ready.{ready_tag, tags_row, tags_tag}
 use Rattle.pl_outline.proofs.Bare.{HasPages}
 use Rattle.pl_outline.proofs.PagesMore.{found_for, has_pages_for, has_pages_same, marks_page, page_for_same}
 use Rattle.pl_outline.proofs.PagesMore.{page_of_url}
@@ -68,12 +68,6 @@ next_tag store id date name = choose (is_some (tag_entry id name store.items))
     choose true = refl
     choose false = refl
 
-pages_tags : (id : PageId) (date : Micros) (names : List (List ℕ)) (store : Store)
-    → (with_tags id date names store).pages ≡ store.pages
-pages_tags id date [] store = refl
-pages_tags id date (name ∷ names) store =
-    pages_tags id date names (with_tag id date name store) ∙ pages_tag store id date name
-
 next_tags : (id : PageId) (date : Micros) (names : List (List ℕ)) (store : Store)
     → (with_tags id date names store).ids.page ≡ store.ids.page
 next_tags id date [] store = refl
@@ -90,16 +84,7 @@ next_tags_of : (page : Option PageId) (node : Node) (store : Store)
 next_tags_of None node store = refl
 next_tags_of (Some id) node store = next_tags id node.added node.tags store
 
-there_tag : (store : Store) (id : PageId) (date : Micros) (name : List ℕ) → IsTrue (has_page_at store id)
-    → IsTrue (has_page_at (with_tag id date name store) id)
-there_tag store id date name there =
-    ap (list_any (λ (p : Page). p.id.0 == id.0)) (pages_tag store id date name) ∙ there
-
 -- ---- the page of a node
-
-ready_page_of : (url : Option (List ℕ)) (store : Store) → IsReady store → IsReady (with_page_of url store)
-ready_page_of None store r = r
-ready_page_of (Some url) store r = ready_page store url r
 
 -- the page of a node is that of a URL where the URLs are one
 page_is : (url : Option (List ℕ)) (store : Store) (other : List ℕ) → HasPages store

@@ -14,6 +14,7 @@ use Rattle.pl_base.specs.Sorting.{put_in_place, sorted_by}
 use Rattle.pl_base.specs.Store.{Item, Store}
 use Rattle.pl_base.specs.Tags.{by_fold, has_tag, is_before, page_tags, tags_of}
 use Rattle.pl_base.proofs.ListLaws.{list_any-map}
+use Rattle.pl_words.proofs.TagListLaws.{once_less}
 use Rattle.pl_marks.proofs.TagNames.{names_of_tags}
 use Rattle.pl_words.specs.TagLists.{each_once, is_same_tag}
 use Rattle.pl_words.specs.TagName.{is_tag_name}
@@ -28,28 +29,6 @@ module _ {A : Type 0} (same : A → A → Bool) where
       and_from (not (list_any (same x) xs)) (each_once same xs)
       (ap not (list_any_none (same x) xs (λ k d within. apart 0 (suc k) d (omega arith) (omega arith))))
       (once_apart xs (λ i j d before within. apart (suc i) (suc j) d (omega arith) (omega arith)))
-
-  none_left : (p q : A → Bool) (xs : List A) → list_any p xs ≡ false → list_any p (filter q xs) ≡ false
-  none_left p q [] none = refl
-  none_left p q (x ∷ xs) none =
-      let parts = or_parts (p x) (list_any p xs) none in choose (q x) parts.0 (none_left p q xs parts.1)
-    where
-      choose : (b : Bool) → p x ≡ false → list_any p (filter q xs) ≡ false
-          → list_any p (if b then x ∷ filter q xs else filter q xs) ≡ false
-      choose true here rest = or_from (p x) (list_any p (filter q xs)) here rest
-      choose false here rest = rest
-
-  once_left : (q : A → Bool) (xs : List A) → each_once same xs ≡ true → each_once same (filter q xs) ≡ true
-  once_left q [] once = refl
-  once_left q (x ∷ xs) once =
-      let parts = and_parts (not (list_any (same x) xs)) (each_once same xs) once in
-      choose (q x) (none_left (same x) q xs (not-true (list_any (same x) xs) parts.0)) (once_left q xs parts.1)
-    where
-      choose : (b : Bool) → list_any (same x) (filter q xs) ≡ false → each_once same (filter q xs) ≡ true
-          → each_once same (if b then x ∷ filter q xs else filter q xs) ≡ true
-      choose true none rest =
-          and_from (not (list_any (same x) (filter q xs))) (each_once same (filter q xs)) (ap not none) rest
-      choose false none rest = rest
 
   none_placed : (p : A → Bool) (before : A → A → Bool) (x : A) (ys : List A) → p x ≡ false → list_any p ys ≡ false
       → list_any p (put_in_place before x ys) ≡ false
@@ -123,7 +102,7 @@ module _ (store : Store) (page : PageId) (tags : HasTags store) where
       let own : List Item = filter (has_tag store page) (tags_of store) in
       once_map is_same_tag (λ (t : Item). t.title) (by_fold own)
       ∙ once_sorted alike (λ a b. turned_tags a.title b.title) is_before own
-      (once_left alike (has_tag store page) (tags_of store)
+      (once_less alike (has_tag store page) (tags_of store)
       (once_apart alike (tags_of store)
       (λ i j d before within. differ _ _ (tags.names i j d before within))))
 

@@ -1,5 +1,5 @@
 -- Worked rows of canonical texts.
-use Rattle.std.proofs.Common.{◌≡◌, false, true, [], ◌∷◌, None, Some, neg_ℤ, pos, refl}
+use Rattle.std.proofs.Common.{◌≡◌, false, true, [], ◌∷◌, None, Some, pos, refl}
 use Rattle.std.specs.Prelude.{codes, negsuc}
 use Rattle.std.specs.Fmt.{digits}
 use Rattle.percent_encoding.proofs.OnLiterals.{percent_encoding_on_literals}
@@ -7,7 +7,7 @@ use Rattle.pl_base.specs.declared.transition.Transition.TheVariants.{Link, Typed
 use Rattle.pl_base.specs.Store.{item_id}
 use Rattle.pl_place.specs.declared.kinds.QueryType.TheVariants.{Bookmarks, History}
 use Rattle.pl_place.specs.declared.kinds.ResultType.TheVariants.{Pages, Visits}
-use Rattle.pl_place.specs.declared.kinds.TimeRef.TheVariants.{Epoch, Now, Today}
+use Rattle.pl_place.specs.declared.kinds.TimeRef.TheVariants.{Epoch, Today}
 use Rattle.pl_place.specs.declared.query.Query.{Query}
 use Rattle.pl_place.specs.declared.sort.Direction.TheVariants.{Descending}
 use Rattle.pl_place.specs.declared.sort.Sort.TheVariants.{By, Unsorted}

@@ -1,23 +1,21 @@
 -- What a text reads as keeps the form of a query: its numbers and texts are read back as they are.
-use Rattle.std.proofs.Common.{◌≡◌, ◌∙◌, ◌<◌, ◌^◌, ◌==◌, not, ℕ, ℤ, pos, negsuc, Bool}
-use Rattle.std.proofs.Common.{List, [], ◌∷◌, None, Option, Some, Ok, Err, IsAscii, ap, arith, decimal, drop, length}
+use Rattle.std.proofs.Common.{◌≡◌, ◌<◌, ◌^◌, ◌==◌, not, ℕ, ℤ, pos, negsuc, Bool}
+use Rattle.std.proofs.Common.{List, [], ◌∷◌, None, Option, Some, arith, decimal, drop, length}
 use Rattle.std.proofs.Common.{map, nat_lt, nat_le, refl, subst, sym, suc, zero, unwrap_or, true, false, FitsSigned, w64}
 use Rattle.std.specs.Prelude.{IfSome, is_some, if◌then◌else◌, bytes_eq}
 use Rattle.std.specs.Char.{to_ascii_lowercase}
 use Rattle.std.specs.List.{AllByRecursion as ByRecursion, cons_option, filter, filter_map, find}
 use Rattle.std.specs.Option.{option_and_then, option_map}
 use Rattle.std.specs.Str.{IsUtf8, is_utf8}
-use Rattle.std.proofs.lemmas.Bool.{and_parts, cond-true, leb-true, lt-ltb, ltb-true}
+use Rattle.std.proofs.lemmas.Bool.{leb-true, ltb-true}
 use Rattle.std.proofs.lemmas.Option.{cond_some, none-some, same_Some}
-use Rattle.std.proofs.lemmas.Slice.Eq.{bytes_eq-Decides}
 use Rattle.std.proofs.lemmas.Str.{IsUtf8-from_ascii, IsUtf8-from_is_utf8}
-use Rattle.url.specs.Parser.{Parsed, parse_url}
-use Rattle.url.specs.Parts.{Parts, serialize}
 use Rattle.pl_base.specs.declared.id.ItemId.{ItemId}
-use Rattle.pl_base.specs.Address.{canon, if_store_url, is_store_url, is_text, longest_url, record_of, serialized}
-use Rattle.pl_base.specs.Address.{text_limit}
+use Rattle.pl_base.specs.Address.{canon}
 use Rattle.pl_base.specs.NumberText.{if_32_bits, number_32_of, number_of}
 use Rattle.pl_base.specs.Store.{item_id}
+use Rattle.pl_base.proofs.OriginLaws.{store_url-from_canon, store_url_own}
+use Rattle.pl_link.proofs.UrlTexts.{store_url_ascii}
 use Rattle.pl_words.specs.TagLists.{firsts, is_same_tag}
 use Rattle.pl_words.specs.TagName.{is_tag_name, tag_named, trimmed}
 use Rattle.pl_words.proofs.TagTests.{named_by_test}
@@ -33,7 +31,6 @@ use Rattle.pl_place.proofs.CanonicalReads.{canonical_reads}
 use Rattle.pl_place.proofs.FineSaid.{IsReadBack}
 use Rattle.pl_place.proofs.LowerCase.{lowered}
 use Rattle.pl_place.proofs.ReadBack.{number_32_back, tag_back, text_back, time_back, uri_back}
-use Rattle.pl_place.proofs.UrlTexts.{serialized_ascii}
 
 -- ---- what is told by a form
 
@@ -206,41 +203,10 @@ tag_kept value name is =
 
 -- ---- addresses
 
--- a URL that is written is ASCII
-record_ascii : (r : Parsed Parts) (input url : List ℕ) → parse_url None input ≡ r → is_text url (serialized r) ≡ true
-    → IsAscii url
-record_ascii (Err e) input url parsed is = cc
-record_ascii (Ok found) input url parsed is =
-    subst IsAscii ((bytes_eq-Decides (serialize found) url).0 is) (serialized_ascii input found parsed)
-
-own_text : (r : Option (List ℕ)) (url : List ℕ) → is_text url r ≡ true → r ≡ Some url
-own_text None url is = cc
-own_text (Some other) url is = ap Some ((bytes_eq-Decides other url).0 is)
-
--- a URL of the store names itself
-store_url_own : (url : List ℕ) → is_store_url url ≡ true → canon url ≡ Some url
-store_url_own url is =
-    let both = and_parts (is_text url (serialized (record_of url))) (nat_le (length url) longest_url) is in
-    let long = leb-true (length url) longest_url both.1 in
-    cond-true (nat_lt (length url) text_limit) _ None (lt-ltb (length url) text_limit (omega (arith, long)))
-    ∙ ap if_store_url (own_text (serialized (record_of url)) url both.0) ∙ cond-true (is_store_url url) _ None is
-
-store_url_given : (r : Option (List ℕ)) (url : List ℕ) → if_store_url r ≡ Some url → is_store_url url ≡ true
-store_url_given None url is = absurd (none-some url is)
-store_url_given (Some other) url is =
-    let some = cond_some (is_store_url other) other url is in
-    subst (λ u. is_store_url u ≡ true) some.1 some.0
-
 url_kept : (text url : List ℕ) → canon text ≡ Some url → ReadsBack uri_of itself url
-url_kept text url is = choose (nat_lt (length text) text_limit) is
-  where
-    choose : (v : Bool) → (if v then if_store_url (serialized (record_of text)) else None) ≡ Some url
-        → ReadsBack uri_of itself url
-    choose true is =
-        let own = store_url_given (serialized (record_of text)) url is in
-        let both = and_parts (is_text url (serialized (record_of url))) (nat_le (length url) longest_url) own in
-        uri_back url (IsUtf8-from_ascii url (record_ascii (record_of url) url url refl both.0)) (store_url_own url own)
-    choose false is = absurd (none-some url is)
+url_kept text url is =
+    let own = store_url-from_canon text url is in
+    uri_back url (IsUtf8-from_ascii url (store_url_ascii url own)) (store_url_own url own)
 
 uri_then : (r : Option (List ℕ)) (url : List ℕ) → option_and_then canon r ≡ Some url → ReadsBack uri_of itself url
 uri_then None url is = absurd (none-some url is)

@@ -16,7 +16,4 @@ mod ReadOnce
 mod ReadPieces
 mod SaidPairs
 mod ToldBack
-mod UrlHosts
-mod UrlPaths
-mod UrlTexts
 mod ValueLemmas

@@ -1,6 +1,6 @@
 -- Values that are read back from their texts.
 use Rattle.std.proofs.Common.{◌≡◌, ◌≢◌, ◌∙◌, ◌-◌, ◌<◌, ◌^◌, ◌==◌, ◌&&◌, ℕ, ℤ, pos, negsuc, true, false}
-use Rattle.std.proofs.Common.{List, [], ◌∷◌, ◌++◌, None, Option, Some, ap, arith, decimal, get_or, length, nat_lt}
+use Rattle.std.proofs.Common.{List, [], ◌∷◌, ◌++◌, None, Option, Some, ap, arith, decimal, length, nat_lt}
 use Rattle.std.specs.Prelude.{if◌then◌else◌, is_some}
 use Rattle.pl_base.specs.Store.{item_id}
 use Rattle.std.proofs.Common.{refl, subst, suc, sym, zero, ⊎_elim, FitsSigned, w64}
@@ -9,13 +9,11 @@ use Rattle.std.specs.List.{AllByRecursion as ByRecursion, list_all}
 use Rattle.std.specs.Option.{option_and_then, option_map}
 use Rattle.std.specs.Prelude.{encode_utf8_all}
 use Rattle.std.specs.Str.{IsUtf8, is_utf8}
-use Rattle.std.specs.Str.Parse.{AllDigits, IsNumeral, digits_value}
-use Rattle.std.proofs.lemmas.Bool.{and_from, and_left, eqb-true, true≢false, and_parts, cases_Bool, cond-false}
+use Rattle.std.specs.Str.Parse.{digits_value}
+use Rattle.std.proofs.lemmas.Bool.{and_left, eqb-true, true≢false, and_parts, cases_Bool, cond-false}
 use Rattle.std.proofs.lemmas.Bool.{cond-true, cond_both, le-leb, lt-ltb, ltb-true, ne_eqb}
 use Rattle.std.proofs.lemmas.Bool.Decides.{nat_tests}
-use Rattle.std.proofs.lemmas.Fmt.{decimal_digit, decimal_is_IsNumeral, first_decimal}
 use Rattle.std.proofs.lemmas.Str.{is_utf8-from_IsUtf8}
-use Rattle.std.proofs.lemmas.Str.Parse.{digit_from_value}
 use Rattle.std.proofs.lemmas.Option.{none-some}
 use Rattle.pl_base.specs.Address.{canon}
 use Rattle.pl_base.specs.Good.{IsTagName}
@@ -29,6 +27,7 @@ use Rattle.std.proofs.lemmas.Str.{IsUtf8-from_is_utf8}
 use Rattle.pl_base.specs.Transition.{transition_at, transition_number}
 use Rattle.pl_base.specs.declared.transition.Transition.{Transition}
 use Rattle.pl_base.specs.declared.transition.Transition.TheVariants.{Link}
+use Rattle.pl_base.proofs.Numerals.{decimal_numeral, number_back}
 use Rattle.pl_place.specs.declared.kinds.QueryType.{QueryType}
 use Rattle.pl_place.specs.declared.kinds.QueryType.TheVariants.{History}
 use Rattle.pl_place.specs.declared.kinds.ResultType.{ResultType}
@@ -48,31 +47,6 @@ use Rattle.pl_place.specs.Canonical.{ReadsBack, ReadsId, ReadsTime, id_text, its
 use Rattle.pl_place.specs.Values.{negative, parent_of, positive, root_named, signed_of, text_of, uri_of}
 
 -- ---- numbers
-
-all_digits : (text : List ℕ) → AllDigits 10 text → list_all is_ascii_digit text ≡ true
-all_digits [] digits = refl
-all_digits (b ∷ text) digits =
-    let digit = digit_from_value b digits.0 in
-    and_from (is_ascii_digit b) (list_all is_ascii_digit text) (grind (arith, nat_tests)) (all_digits text digits.1)
-
--- a text of digits whose first is not `0`
-digits_numeral : (text : List ℕ) → IsNumeral 10 text → 48 < get_or text 0 0 → is_numeral text ≡ true
-digits_numeral [] digits first = absurd (omega arith)
-digits_numeral (b ∷ text) digits first =
-    let other : b ≢ 48 = (λ is. omega arith) in
-    cond-false (b == 48) _ _ (ne_eqb b 48 other) ∙ all_digits (b ∷ text) digits.1
-
-decimal_numeral : (n : ℕ) → n < 2 ^ 64 → is_numeral (decimal n) ≡ true
-decimal_numeral zero fits = ap is_numeral (decimal_digit 0 (omega arith))
-decimal_numeral (suc n) fits =
-    digits_numeral (decimal (suc n)) (decimal_is_IsNumeral (suc n) fits).0 (first_decimal (suc n) (omega arith) fits)
-
-pub number_back : (n : ℕ) → n < 2 ^ 64 → number_of (decimal n) ≡ Some n
-number_back n fits =
-    let value : digits_value 10 (decimal n) ≡ n = (decimal_is_IsNumeral n fits).1 in
-    cond-true _ _ _
-    (and_from _ _ (decimal_numeral n fits) (lt-ltb (digits_value 10 (decimal n)) (2 ^ 64) (omega arith)))
-    ∙ ap Some value
 
 pub number_32_back : (n : ℕ) → n < 2 ^ 32 → ReadsBack number_32_of decimal n
 number_32_back n fits =

@@ -1,5 +1,5 @@
 -- The query that a text reads as is the one that the function gives.
-use Rattle.std.proofs.Common.{◌≡◌, ◌∙◌, ap, refl, sym, ℕ, List, Some, None, Ok, Err}
+use Rattle.std.proofs.Common.{◌≡◌, ◌∙◌, ap, refl, ℕ, List, None, Ok}
 use Rattle.pl_place.specs.declared.query.Query.{Query}
 use Rattle.pl_place.specs.PlaceText.{Reads, pieces_of, refused_piece}
 use Rattle.pl_place.specs.ReadQuery.{query_of, query_unless, read_as}
@@ -36,6 +36,3 @@ pub read_once : (text : List ℕ) (q : Query) → Reads text q → read_as text 
 read_once text q reads =
     ap (λ refused. query_unless refused (pieces_of text)) reads.taken
     ∙ ap Ok ((reads_alone q text reads (query_of (pieces_of text))).0 (given text reads.taken))
-
-pub refused_once : (text : List ℕ) (piece : ℕ) → refused_piece text ≡ Some piece → read_as text ≡ Err piece
-refused_once text piece refused = ap (λ r. query_unless r (pieces_of text)) refused

@@ -1,13 +1,12 @@
 -- What is read of values.
 use Rattle.std.proofs.Common.{◌≡◌, ◌∙◌, ◌+◌, ◌-◌, ◌<◌, ◌≤◌, ℕ, Bool, true, false, suc, zero, List, [], ◌∷◌, Result}
 use Rattle.std.proofs.Common.{Ok, Err}
-use Rattle.std.proofs.Common.{Option, Some, None, MatchResult, arith, ap, drop, get_or, length, map, not, refl}
+use Rattle.std.proofs.Common.{Some, None, MatchResult, arith, ap, drop, get_or, length, refl}
 use Rattle.std.proofs.Common.{reverse, subst, sym, take}
 use lib.Utf8.{encode}
 use Rattle.std.specs.Borrow.{Bor}
-use Rattle.std.specs.Char.{is_ascii_uppercase, to_ascii_lowercase}
-use Rattle.std.specs.List.{list_any, prefix_len, suffix_len}
-use Rattle.std.specs.Option.{option_and_then, option_map}
+use Rattle.std.specs.List.{prefix_len, suffix_len}
+use Rattle.std.specs.Option.{option_map}
 use Rattle.std.specs.Prelude.{bytes_eq, codes, nat_lt}
 use Rattle.std.specs.Result.{result_ok}
 use Rattle.std.specs.Str.{IsAscii, IsUtf8, is_utf8}
@@ -18,12 +17,10 @@ use Rattle.std.proofs.lemmas.List.Sums.{prefix_len_passes, suffix_len-le-length}
 use Rattle.std.proofs.lemmas.Slice.Eq.{bytes_eq-Decides}
 use Rattle.std.proofs.lemmas.Str.{IsUtf8-append, IsUtf8-from_ascii, IsUtf8-from_is_utf8, is_utf8-from_IsUtf8}
 use Rattle.pl_base.specs.Good.{is_blank}
+use Rattle.pl_base.proofs.Truths.{no_test}
 use Rattle.pl_words.specs.TagName.{is_tag_name, tag_named, trimmed, trimmed_back, trimmed_front}
-use Rattle.pl_place.specs.declared.key.Key.{Key}
-use Rattle.pl_place.specs.PlaceText.{Piece, last_text, told, values}
-use Rattle.pl_place.specs.QueryForm.{is_domain}
-use Rattle.pl_place.specs.Values.{domain_of, root_named, text_of}
-use Rattle.pl_place.proofs.KeyNames.{no_test}
+use Rattle.pl_place.specs.PlaceText.{values}
+use Rattle.pl_place.specs.Values.{root_named, text_of}
 
 -- the bytes that are read as text are the text, and no others are one
 pub text_read : {E : Type 0} (r : Result (Bor (List ℕ)) E) (bytes : List ℕ) (P : E → Type 0)
@@ -144,5 +141,3 @@ no_root bytes none =
       other bytes none (codes "unfiled_____") (codes "unfiled_____", (refl, refl)),
       other bytes none (codes "mobile______") (codes "mobile______", (refl, refl)),
     )
-
--- ---- domains

@@ -1,14 +1,14 @@
 -- Laws: what a text says has the form that every query has.
-use Rattle.std.proofs.Common.{◌≡◌, ◌∙◌, ◌==◌, ◌≤◌, ℕ, ℤ, pos, Bool, true, false, not, List, [], ◌∷◌}
-use Rattle.std.proofs.Common.{◌&&◌, ◌||◌, ap, cond, refl, sym}
+use Rattle.std.proofs.Common.{◌≡◌, ◌==◌, ℕ, ℤ, pos, Bool, true, false, not, List, [], ◌∷◌}
+use Rattle.std.proofs.Common.{◌&&◌, ◌||◌, ap, refl}
 use Rattle.std.proofs.Common.{Option, Some, None, if◌then◌else◌, length, map, nat_le, nat_lt, neg_ℤ}
-use Rattle.std.proofs.Common.{arith, zero, suc, ◌^◌, ◌-◌}
+use Rattle.std.proofs.Common.{arith, zero, suc, ◌^◌}
 use Rattle.std.specs.Char.{is_ascii_uppercase, to_ascii_lowercase}
 use Rattle.std.specs.List.{filter, list_all, list_any}
 use Rattle.std.specs.Option.{is_some, option_and_then, option_map}
 use Rattle.std.specs.Str.{is_utf8}
 use Rattle.std.proofs.lemmas.Bool.Decides.{nat_tests}
-use Rattle.std.proofs.lemmas.Bool.{and_from, and_parts, le-leb, ltb-true, not-true, true≢false}
+use Rattle.std.proofs.lemmas.Bool.{and_from, and_parts, le-leb, ltb-true}
 use Rattle.pl_base.specs.declared.transition.Transition.{Transition}
 use Rattle.pl_base.specs.NumberText.{number_of}
 use Rattle.pl_base.specs.Transition.{transition_number, transitions}
@@ -17,7 +17,6 @@ use Rattle.pl_place.specs.PlaceText.{by_number, is_among, with_time}
 use Rattle.pl_place.specs.QueryForm.{are_terms, ascend, has_domain, has_tags, has_time}
 use Rattle.pl_place.specs.QueryForm.{is_count, is_domain}
 use Rattle.pl_place.specs.Values.{count_asked, count_of, domain_of, negative, positive, terms_asked}
-use Rattle.pl_place.specs.Values.{text_of}
 
 -- a reference has its time
 pub timed : (time : Option ℤ) (reference : Option TimeRef)

@@ -1,6 +1,6 @@
 -- What holds of the parts of every query.
 use Rattle.std.specs.Prelude.{ℕ, ℤ, ◌==◌, ◌&&◌, ◌||◌, not, Bool, true, false, List}
-use Rattle.std.specs.Prelude.{[], ◌∷◌, bytes_eq, length, nat_le, Option, Some, None, is_some}
+use Rattle.std.specs.Prelude.{[], ◌∷◌, length, nat_le, Option, Some, None, is_some}
 use Rattle.std.specs.Char.{is_ascii_uppercase}
 use Rattle.std.specs.List.{list_all, list_any}
 use Rattle.std.specs.Prelude.{nat_lt}

@@ -14,19 +14,18 @@ use Rattle.std.proofs.lemmas.List.Quantifiers.{all_pairs_push}
 use Rattle.std.proofs.lemmas.List.Sums.{sum_by_push}
 use Rattle.std.proofs.lemmas.Option.{IfSome_then}
 use Rattle.std.proofs.lemmas.Str.{IsUtf8-nil}
-use Rattle.pl_base.specs.declared.date.Day.{Day}
 use Rattle.pl_base.specs.declared.id.PageId.{PageId}
 use Rattle.pl_base.specs.declared.id.Slot.{Slot}
 use Rattle.pl_base.specs.declared.id.VisitId.{VisitId}
 use Rattle.pl_base.specs.declared.row.Mark.{Mark}
 use Rattle.pl_base.specs.declared.row.VisitRow.{VisitRow}
 use Rattle.pl_base.specs.Address.{is_store_url, same_origin}
-use Rattle.pl_base.specs.Date.{IsDate, IsDay}
+use Rattle.pl_base.specs.Date.{IsDate}
 use Rattle.pl_base.specs.Good.{IsTitle, end_of_ids}
 use Rattle.pl_base.specs.Live.{chunks, live_slots, new_origins, origin_count, slot_limit}
 use Rattle.pl_base.specs.Rows.{HasSource, Kept, KeptOrigin, KeptPage, has_page, has_visit, live_with_page, mark_of}
 use Rattle.pl_base.specs.Rows.{marked, page_at, store_of, titled, with_title, AreAlike, next_page}
-use Rattle.pl_base.specs.Rows.{next_visit, with_day, with_mark, with_new_page, with_visit}
+use Rattle.pl_base.specs.Rows.{next_visit, with_mark, with_new_page, with_visit}
 use Rattle.pl_base.specs.Store.{Item, Page, Visit}
 use Rattle.pl_base.proofs.ListLaws.{All-from_map, AllPairs-map, list_any-map, list_any_last, list_any_push, map-map}
 use Rattle.pl_base.proofs.ListLaws.{sum_by-map}
@@ -37,29 +36,6 @@ use Rattle.pl_base.proofs.ListLaws.{map-alike}
 use Rattle.pl_plain.proofs.Lists.{AreIds_push}
 use Rattle.pl_base.proofs.Searches.{rises}
 use Rattle.pl_base.proofs.OneChanged.{sum_changed}
-
-pub IsFlat-with_day : (day : Day) (kept : Kept) (origins live : ℕ) → IsDay day → IsFlat kept origins live
-    → IsFlat (with_day day kept) origins live
-IsFlat-with_day day kept origins live in_range h =
-    record {
-      day = in_range;
-      page_ids = h.page_ids;
-      visit_ids = h.visit_ids;
-      item_ids = h.item_ids;
-      item_titles = h.item_titles;
-      urls = h.urls;
-      texts = h.texts;
-      distinct_urls = h.distinct_urls;
-      titles = h.titles;
-      visits = h.visits;
-      sources = h.sources;
-      named = h.named;
-      used = h.used;
-      same = h.same;
-      counted = h.counted;
-      filled = h.filled;
-      few = h.few;
-    }
 
 -- ---- other marks and titles
 

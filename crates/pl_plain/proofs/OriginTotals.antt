@@ -5,7 +5,7 @@ use Rattle.std.proofs.Common.{replicate, set, suc, sym}
 use Rattle.std.specs.List.{enumerate_from, list_any, swap_remove}
 use Rattle.std.specs.Option.{option_map}
 use Rattle.std.proofs.lemmas.Bool.{eqb-true, true≢false}
-use Rattle.std.proofs.lemmas.List.{append-nil, get_or-map, get_or-set_other, get_or-set_same, get_or-take}
+use Rattle.std.proofs.lemmas.List.{get_or-map, get_or-set_other, get_or-set_same, get_or-take}
 use Rattle.std.proofs.lemmas.List.{length-append, length-map, length-replicate, length-set, length-take, same_lists}
 use Rattle.std.proofs.lemmas.List.Folds.{Any-from_list_any}
 use Rattle.pl_base.specs.declared.id.Slot.{Slot}
@@ -114,11 +114,6 @@ origins_pushed totals =
     let one : length totals + 1 - length totals ≡ 1 = omega arith in
     ap (λ n. origins_from (totals ++ replicate n 0)) one ∙ pushed_from 1 totals 0
     ∙ ap (λ n. origins_from totals ++ origin_with (n, 0) ∷ []) (omega arith)
-
-pub none_grown : (totals : List ℕ) → grown totals (length totals) ≡ totals
-none_grown totals =
-    let none : length totals - length totals ≡ 0 = omega arith in
-    ap (λ n. totals ++ replicate n 0) none ∙ append-nil totals
 
 pub length-grown : (totals : List ℕ) (origins : ℕ) → length totals ≤ origins
     → length (grown totals origins) ≡ origins

@@ -7,6 +7,7 @@ use Rattle.std.proofs.lemmas.List.Folds.{Any-from_list_any, list_any-append, lis
 use Rattle.pl_base.specs.Address.{same_origin}
 use Rattle.pl_base.specs.Live.{new_origins, origin_count}
 use Rattle.pl_base.proofs.OriginLaws.{new_origins-append, same_origin-sym, same_origin-trans}
+use Rattle.pl_base.proofs.Truths.{same_tests}
 
 -- two lists have the same origins
 abbrev SameOrigins : List (List ℕ) → List (List ℕ) → Type 0
@@ -23,22 +24,16 @@ new_by_origins s t [] same = refl
 new_by_origins s t (u ∷ urls) same =
     rw (same u, new_by_origins (s ++ u ∷ []) (t ++ u ∷ []) urls (one_more s t u same)) refl
 
-pub true_both : (a b : Bool) → (a ≡ true → b ≡ true) → (b ≡ true → a ≡ true) → a ≡ b
-true_both true true f g = refl
-true_both false false f g = refl
-true_both true false f g = absurd (false≢true (f refl))
-true_both false true f g = absurd (false≢true (g refl))
-
 -- URLs of one origin have the same as any other
 alike : (a b url : List ℕ) → same_origin a b ≡ true → same_origin url a ≡ same_origin url b
 alike a b url same =
-    true_both (same_origin url a) (same_origin url b)
+    same_tests (same_origin url a) (same_origin url b)
     (λ to_a. same_origin-trans url a b to_a same)
     (λ to_b. same_origin-trans url b a to_b (same_origin-sym a b same))
 
 alike_first : (a b url : List ℕ) → same_origin a b ≡ true → same_origin a url ≡ same_origin b url
 alike_first a b url same =
-    true_both (same_origin a url) (same_origin b url)
+    same_tests (same_origin a url) (same_origin b url)
     (λ to. same_origin-trans b a url (same_origin-sym a b same) to)
     (λ to. same_origin-trans a b url same to)
 

@@ -18,16 +18,18 @@ use Rattle.pl_base.specs.Rows.{store_of, total_at, totals_of, unnamed}
 use Rattle.pl_base.specs.Store.{Visit}
 use Rattle.pl_base.proofs.ItemLaws.{map-filter}
 use Rattle.pl_base.proofs.ListLaws.{AllPairs-map, list_any-map, map-map, sum_by-map}
+use Rattle.pl_base.proofs.LookUps.{found_passes, none_at}
 use Rattle.pl_base.proofs.OriginLaws.{same_origin-self}
+use Rattle.pl_base.proofs.Truths.{same_tests}
 use Rattle.pl_plain.specs.declared.flat.row.FlatPage.{FlatPage}
 use Rattle.pl_plain.specs.FlatRows.{IsFlat, has_name, name_left, origins_from, page_of, renamed_row, totals_left}
 use Rattle.pl_plain.proofs.FlatChanges.{one_page, slots_of}
 use Rattle.pl_plain.proofs.OriginTotals.{length-swap_remove, swapped_here, swapped_other, total_named}
-use Rattle.pl_plain.proofs.OriginsLeft.{is_new, true_both}
+use Rattle.pl_plain.proofs.OriginsLeft.{is_new}
 use Rattle.pl_plain.proofs.PagesButOne.{AreWithin, IsFree}
 use Rattle.pl_plain.proofs.PagesButOne.{IsSplit, split, any_split, length_split, sum_split, urls}
 use Rattle.pl_plain.proofs.PagesButOne.{count_split, names_left, renamed, in_use, left_within, same_slot, left_apart, free, any_where}
-use Rattle.pl_plain.proofs.PagesButOne.{found_holds, found_passes, none_at}
+use Rattle.pl_plain.proofs.PagesButOne.{found_holds}
 
 -- ---- what is left
 
@@ -200,7 +202,7 @@ used_where kept origins live id p h found =
     let all : All (AreAlike p) rest =
     All-filter (λ (q : KeptPage). not (q.page.id.0 == id.0)) (AreAlike p) kept.pages
     (holds_of (λ (q : KeptPage). All (AreAlike q) kept.pages) kept id p found h.same) in
-    true_both (in_use p.origin rest)
+    same_tests (in_use p.origin rest)
     (list_any (λ (q : KeptPage). same_origin p.page.url q.page.url) rest)
     (any_where (λ (q : KeptPage). q.origin.0 == p.origin.0)
     (λ (q : KeptPage). same_origin p.page.url q.page.url) rest

@@ -3,7 +3,7 @@ use Rattle.std.proofs.Common.{◌≡◌, ◌≢◌, ◌+◌, ◌-◌, ◌<◌, �
 use Rattle.std.proofs.Common.{List, [], ◌∷◌, Some, ap, arith, eq-eqb, filter, find, get_or}
 use Rattle.std.proofs.Common.{if◌then◌else◌, length, map, not, refl, subst, suc, sym}
 use Rattle.std.specs.List.{AllPairs, list_any, sum_by}
-use Rattle.std.proofs.lemmas.Bool.{eqb-true, false≢true, false_from_ne_true}
+use Rattle.std.proofs.lemmas.Bool.{eqb-true, false≢true}
 use Rattle.std.proofs.lemmas.List.{length-append, map-append}
 use Rattle.std.proofs.lemmas.List.Elements.{All-head, All-tail}
 use Rattle.std.proofs.lemmas.List.Folds.{Any-from_list_any, list_any-append, list_any-from_Any, list_any_at}
@@ -197,17 +197,3 @@ found_holds t P (y ∷ ys) x found all =
     choose : (b : Bool) → (if b then Some y else find t ys) ≡ Some x → (find t ys ≡ Some x → P x) → P x
     choose true here rest = let same : y ≡ x = cc in subst P same (All-head P y ys all)
     choose false here rest = rest here
-
-pub found_passes : {X : Type 0} (t : X → Bool) (xs : List X) (x : X) → find t xs ≡ Some x → t x ≡ true
-found_passes t [] x found = absurd (cc)
-found_passes t (y ∷ ys) x found = choose (t y) refl found (found_passes t ys x)
-  where
-    choose : (b : Bool) → t y ≡ b → (if b then Some y else find t ys) ≡ Some x → (find t ys ≡ Some x → t x ≡ true)
-        → t x ≡ true
-    choose true is here rest = let same : y ≡ x = cc in ap t (sym same) ∙ is
-    choose false is here rest = rest here
-
-pub none_at : {X : Type 0} (t : X → Bool) (xs : List X) → list_any t xs ≡ false → All (λ x. t x ≡ false) xs
-none_at t xs none k d within =
-    false_from_ne_true (t (get_or xs k d))
-    (λ passes. false≢true (sym none ∙ list_any_at t xs k d within passes))

@@ -4,7 +4,7 @@ use Rattle.std.proofs.Common.{Some, None, ap, append_assoc, arith, drop, eq-eqb,
 use Rattle.std.proofs.Common.{drop-cons, if◌then◌else◌, length, map, refl, suc, sym, take}
 use Rattle.std.specs.List.{All, AllByRecursion, position}
 use Rattle.std.specs.List.Sorted.{IsStrictlyIncreasing}
-use Rattle.std.specs.Option.{option_map, option_or}
+use Rattle.std.specs.Option.{option_map}
 use Rattle.std.proofs.lemmas.Bool.{eqb-true, ne_eqb}
 use Rattle.std.proofs.lemmas.List.{get_or-drop, get_or-take, get_or_default, length-drop, length-take-le, map-append}
 use Rattle.std.proofs.lemmas.List.{take-append-drop}
@@ -33,10 +33,6 @@ first_id-find q (row ∷ rows) =
     else filter q (map visit_of rows)) ≡ option_map (λ (v : StoredVisit). v.id)
     (if b then Some row else find (λ (v : StoredVisit). q (visit_of v)) rows))
     [ true ↦ refl | false ↦ first_id-find q rows ]
-
-pub first_id-append : (vs ws : List Visit) → first_id (vs ++ ws) ≡ option_or (first_id vs) (first_id ws)
-first_id-append [] ws = refl
-first_id-append (v ∷ vs) ws = refl
 
 -- ---- the one behind
 

@@ -20,11 +20,11 @@ use Rattle.pl_base.specs.Store.{Visit}
 use Rattle.pl_base.proofs.ItemLaws.{map-filter}
 use Rattle.pl_base.proofs.ListLaws.{list_any-map, map-map}
 use Rattle.pl_base.proofs.Searches.{rises}
+use Rattle.pl_base.proofs.Truths.{same_tests}
 use Rattle.pl_stored.specs.Stored.{visit_of}
 use Rattle.pl_stored.specs.declared.stored.StoredVisit.{StoredVisit}
 use Rattle.pl_plain.specs.FlatRows.{IsFlat, left_by}
 use Rattle.pl_plain.proofs.FlatChanges.{slots_of}
-use Rattle.pl_plain.proofs.OriginsLeft.{true_both}
 use Rattle.pl_plain.proofs.PagesButOne.{all_pass}
 
 -- ---- the visits but one
@@ -37,7 +37,7 @@ others id vs = filter (λ (v : Visit). not (v.id.0 == id.0)) vs
 among : (id other : VisitId) → is_among (id ∷ []) other ≡ (other.0 == id.0)
 among id other =
     or-false (id.0 == other.0)
-    ∙ true_both (id.0 == other.0) (other.0 == id.0)
+    ∙ same_tests (id.0 == other.0) (other.0 == id.0)
     (λ same. eq-eqb other.0 id.0 (sym (eqb-true id.0 other.0 same)))
     (λ same. eq-eqb id.0 other.0 (sym (eqb-true other.0 id.0 same)))
 

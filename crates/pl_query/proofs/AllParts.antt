@@ -20,8 +20,9 @@ use Rattle.pl_base.specs.Visits.{is_later, visits_of}
 use Rattle.pl_base.proofs.IdsLaws.{same_page}
 use Rattle.pl_base.proofs.ListLaws.{all-filter, to_map, weaker}
 use Rattle.pl_base.proofs.LookUps.{Apart, apart_ascending, found_self, where_passes}
-use Rattle.pl_marks.proofs.ItemWalk.{having, items_found}
-use Rattle.pl_marks.proofs.VisitWalk.{IsVisitOf, visits_stand}
+use Rattle.pl_base.proofs.PageLaws.{pages_apart}
+use Rattle.pl_base.proofs.ReferencesRun.{having, items_found}
+use Rattle.pl_base.proofs.VisitsRun.{IsVisitOf, visits_stand}
 use Rattle.pl_place.specs.declared.kinds.QueryType.{QueryType}
 use Rattle.pl_place.specs.declared.kinds.QueryType.TheVariants.{History, Bookmarks}
 use Rattle.pl_place.specs.declared.kinds.ResultType.{ResultType}
@@ -39,7 +40,8 @@ use Rattle.pl_query.specs.QueryAnswer.{history_row, marked_page}
 use Rattle.pl_query.specs.QueryAnswer.{page_rows, page_with, rows_of, visit_row_of, visit_rows}
 use Rattle.pl_query.specs.Subjects.{row_at, row_of_mark, row_of_page, row_of_visit}
 use Rattle.pl_query.proofs.PageParts.{mark_row_at, page_row_at, same_order, visit_row_at}
-use Rattle.pl_query.proofs.PartLists.{AreExclusive, all_flat, apart_map, apart_pairs, apart_there, flat_is, flat_moves}
+use Rattle.pl_query.proofs.PartLists.{AreExclusive, all_flat, apart_map, apart_pairs, apart_there, flat_is}
+use Rattle.pl_query.proofs.PartLists.{flat_moves}
 use Rattle.pl_query.proofs.PartLists.{flat_sorted, grouped, passing, same_moves, where_holds}
 
 -- the rows of the pages in front were collected
@@ -67,14 +69,9 @@ parts_more kept q now new front p so_far added =
 
 -- ---- the pages
 
-apart_pages : (kept : Kept) → IsWellKept kept → Apart (λ (p : KeptPage). p.page.id.0) kept.pages
-apart_pages kept h =
-    apart_ascending (λ (p : KeptPage). p.page.id.0) kept.pages
-    (AllPairs-from_increasing (map (λ (p : KeptPage). p.page.id.0) kept.pages) h.page_ids.ascending)
-
 pages_found : (kept : Kept) → IsWellKept kept
     → AllByRecursion (λ (p : KeptPage). page_at kept p.page.id ≡ Some p) kept.pages
-pages_found kept h = found_self (λ (p : KeptPage). p.page.id.0) kept.pages (apart_pages kept h)
+pages_found kept h = found_self (λ (p : KeptPage). p.page.id.0) kept.pages (pages_apart kept h)
 
 found_with : (n : ℕ) (ps : List KeptPage) → find (λ (p : Page). p.id.0 == n) (map (λ (k : KeptPage). k.page) ps)
     ≡ option_map (λ (k : KeptPage). k.page) (find (λ (k : KeptPage). k.page.id.0 == n) ps)
@@ -223,7 +220,7 @@ visits_moved kept q h =
     kept.pages)
     (flat_map (visits_part kept q) kept.pages)
     (grouped there (λ (p : KeptPage) (v : Visit). v.page.0 == p.page.id.0) kept.pages kept.visits
-    (exclusive (λ (v : Visit). Some v.page) kept.pages (apart_pages kept h)))
+    (exclusive (λ (v : Visit). Some v.page) kept.pages (pages_apart kept h)))
     (flat_moves
     (λ (p : KeptPage). flat_map there (filter (λ (v : Visit). v.page.0 == p.page.id.0) kept.visits))
     (visits_part kept q) kept.pages
@@ -312,7 +309,7 @@ marks_moved kept q h =
     (flat_map (λ (p : KeptPage). flat_map there (having kept.items p.page.id)) kept.pages)
     (flat_map (marks_part kept q) kept.pages)
     (grouped there (λ (p : KeptPage) (i : Item). is_page p.page.id i.page) kept.pages kept.items
-    (exclusive (λ (i : Item). i.page) kept.pages (apart_pages kept h)))
+    (exclusive (λ (i : Item). i.page) kept.pages (pages_apart kept h)))
     (flat_moves (λ (p : KeptPage). flat_map there (having kept.items p.page.id)) (marks_part kept q) kept.pages
     (weaker (λ (p : KeptPage). page_at kept p.page.id ≡ Some p)
     (λ (p : KeptPage).
@@ -385,7 +382,7 @@ rows_apart History Pages kept q h =
     apart_map (λ (p : Page). history_row (store_of kept) p.id.0 p (last_date_of (store_of kept) p.id))
     (λ (p : Page). p.id.0) (λ (r : Row). r.id) (λ p. refl)
     (λ (p : Page). has_visit_in_times (store_of kept) q p.id && history_holds (store_of kept) q p)
-    (store_of kept).pages (store_pages_apart kept.pages (apart_pages kept h))
+    (store_of kept).pages (store_pages_apart kept.pages (pages_apart kept h))
 rows_apart History Visits kept q h =
     apart_there (visit_there kept q) (λ (v : Visit). v.id.0) (λ (r : Row). r.id) (visit_id kept q) kept.visits
     (apart_by (λ (v : Visit). v.id.0) kept.visits h.visit_ids.ascending)

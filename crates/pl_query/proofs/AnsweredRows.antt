@@ -39,7 +39,7 @@ limited_map {X = X} {Y = Y} f most xs = choose (most == 0)
     choose true = refl
     choose false = take-map f most xs
 
-all_take : {X : Type 0} (P : X → Type 0) (n : ℕ) (xs : List X) → AllByRecursion P xs → AllByRecursion P (take n xs)
+pub all_take : {X : Type 0} (P : X → Type 0) (n : ℕ) (xs : List X) → AllByRecursion P xs → AllByRecursion P (take n xs)
 all_take P n xs all = recursion_from_All P (take n xs) (All-take P n xs (All-from_recursion P xs all))
 
 all_limited : {X : Type 0} (P : X → Type 0) (most : ℕ) (xs : List X) → AllByRecursion P xs

@@ -13,9 +13,9 @@ use Rattle.pl_base.specs.Store.{Item, Store}
 use Rattle.pl_base.specs.Tags.{is_tag_entry}
 use Rattle.pl_base.specs.Tree.{is_page, item_at}
 use Rattle.pl_base.proofs.LookUps.{found_passes}
-use Rattle.pl_base.proofs.OneParent.{same_item}
+use Rattle.pl_base.proofs.ItemLookUps.{same_item}
+use Rattle.pl_base.proofs.ReferencesRun.{having}
 use Rattle.pl_marks.specs.TagFolders.{tag_folder}
-use Rattle.pl_marks.proofs.ItemWalk.{having}
 use Rattle.pl_marks.proofs.PageTags.{outside_is}
 use Rattle.pl_query.specs.declared.mark_dates.MarkDates.{MarkDates}
 use Rattle.pl_query.specs.MarkDates.{later_of, with_item}

@@ -19,9 +19,10 @@ use Rattle.pl_base.specs.Tree.{item_at}
 use Rattle.pl_base.specs.Visits.{in_place, is_later, latest_first, visits_of}
 use Rattle.pl_base.proofs.SortLaws.{sorted_moves}
 use Rattle.pl_base.proofs.LookUps.{found_passes}
-use Rattle.pl_base.proofs.OneParent.{same_item}
-use Rattle.pl_marks.proofs.ItemWalk.{having}
-use Rattle.pl_marks.proofs.VisitWalk.{visit_is}
+use Rattle.pl_base.proofs.ItemLookUps.{same_item}
+use Rattle.pl_base.proofs.PageLaws.{id_at}
+use Rattle.pl_base.proofs.ReferencesRun.{having}
+use Rattle.pl_base.proofs.VisitsRun.{visit_is}
 use Rattle.pl_place.specs.declared.query.Query.{Query}
 use Rattle.pl_place.specs.declared.sort.Sort.{Sort}
 use Rattle.pl_query.specs.declared.ordering.Candidate.{Candidate}
@@ -33,7 +34,7 @@ use Rattle.pl_conditions.specs.Conditions.{history_holds, in_times, is_in_parent
 use Rattle.pl_query.specs.Order.{Row}
 use Rattle.pl_query.specs.QueryAnswer.{has_visit_in_times}
 use Rattle.pl_query.specs.Subjects.{row_at, row_of_mark, row_of_page, row_of_visit}
-use Rattle.pl_query.proofs.RowsShown.{IsPageRow, id_is, page_row, page_subject_there, row_there}
+use Rattle.pl_query.proofs.RowsShown.{IsPageRow, page_row, page_subject_there, row_there}
 
 -- ---- lists
 
@@ -103,7 +104,7 @@ page_row_at kept page p at = rw at refl
 
 pub page_subject_is : (kept : Kept) (page : PageId) (p : KeptPage) → page_at kept page ≡ Some p
     → OfPage page ≡ page_subject (row_of_page kept p)
-page_subject_is kept page p at = ap OfPage (sym (id_is kept page p at))
+page_subject_is kept page p at = ap OfPage (sym (id_at kept page p at))
 
 pub page_listed : (kept : Kept) (q : Query) (p : KeptPage) (listed : Bool)
     → listed ≡ (has_visit_in_times (store_of kept) q p.page.id && history_holds (store_of kept) q p.page)
@@ -122,7 +123,7 @@ pub visit_subject_is : (kept : Kept) (visit : VisitId) (page : PageId) (v : Visi
     → OfVisit visit page ≡ visit_subject (row_of_visit kept v p)
 visit_subject_is kept visit page v p visit_at_it page_at_it =
     ap (λ (id : VisitId). OfVisit id page) (sym (visit_is kept visit v visit_at_it))
-    ∙ ap (λ (id : PageId). OfVisit v.id id) (sym (id_is kept page p page_at_it))
+    ∙ ap (λ (id : PageId). OfVisit v.id id) (sym (id_at kept page p page_at_it))
 
 pub one_visit : (kept : Kept) (q : Query) (p : KeptPage) (v : Visit) (within : Bool)
     → within ≡ in_times (store_of kept) q v.date
@@ -173,14 +174,14 @@ pub not_listed : (kept : Kept) (q : Query) (page : PageId) (p : KeptPage) → pa
     → false ≡ (has_visit_in_times (store_of kept) q p.page.id && history_holds (store_of kept) q p.page)
 not_listed kept q page p at none =
     sym (and_left (has_visit_in_times (store_of kept) q p.page.id) (history_holds (store_of kept) q p.page)
-    (ap (has_visit_in_times (store_of kept) q) (id_is kept page p at) ∙ none))
+    (ap (has_visit_in_times (store_of kept) q) (id_at kept page p at) ∙ none))
 
 pub listed_if : (kept : Kept) (q : Query) (page : PageId) (p : KeptPage) (holds : Bool) → page_at kept page ≡ Some p
     → has_visit_in_times (store_of kept) q page ≡ true → holds ≡ history_holds (store_of kept) q p.page
     → holds ≡ (has_visit_in_times (store_of kept) q p.page.id && history_holds (store_of kept) q p.page)
 listed_if kept q page p holds at some is =
     is ∙ ap (λ (b : Bool). b && history_holds (store_of kept) q p.page)
-    (sym (ap (has_visit_in_times (store_of kept) q) (id_is kept page p at) ∙ some))
+    (sym (ap (has_visit_in_times (store_of kept) q) (id_at kept page p at) ∙ some))
 
 -- the rows of a page's visits, which are none where it is not listed
 pub visits_listed : (kept : Kept) (q : Query) (page : PageId) (p : KeptPage) → page_at kept page ≡ Some p
@@ -193,7 +194,7 @@ visits_listed kept q page p at =
     choose : (holds some : Bool) → has_visit_in_times (store_of kept) q p.page.id ≡ some
         → (if holds then visits_in_times kept q p (page_visits kept p.page.id) else [])
         ≡ (if some && holds then visits_in_times kept q p (page_visits kept page) else [])
-    choose true true is = ap (λ (id : PageId). visits_in_times kept q p (page_visits kept id)) (id_is kept page p at)
+    choose true true is = ap (λ (id : PageId). visits_in_times kept q p (page_visits kept id)) (id_at kept page p at)
     choose false true is = refl
     choose true false is =
         ap (map (λ (v : Visit). row_of_visit kept v p))
@@ -208,9 +209,6 @@ abbrev pub HasVisits : Kept → Query → PageId → List Candidate → List Can
 HasVisits kept q page old now front =
     (p : KeptPage) → page_at kept page ≡ Some p
     → HasAdded visit_subject (store_of kept) q.sort old now (visits_in_times kept q p front)
-
-pub visits_none : (kept : Kept) (q : Query) (page : PageId) (old : List Candidate) → HasVisits kept q page old old []
-visits_none kept q page old p at = added_none visit_subject (store_of kept) q.sort old [] refl
 
 pub visits_more : (kept : Kept) (q : Query) (page : PageId) (old now new : List Candidate) (front : List Visit)
     (v : Visit) → HasVisits kept q page old now front
@@ -256,7 +254,7 @@ pub mark_subject_is : (kept : Kept) (item : ItemId) (page : PageId) (i : Item) (
 mark_subject_is kept item page i p item_at_it page_at_it =
     ap (λ (id : ItemId). Bookmark id page)
     (sym (same_item i.id item (found_passes (λ (j : Item). j.id.0 == item.0) kept.items i item_at_it)))
-    ∙ ap (λ (id : PageId). Bookmark i.id id) (sym (id_is kept page p page_at_it))
+    ∙ ap (λ (id : PageId). Bookmark i.id id) (sym (id_at kept page p page_at_it))
 
 pub mark_subject_there : (kept : Kept) (page : PageId) (item : ItemId) (i : Item) → has_page kept page ≡ true
     → item_at kept.items item ≡ Some i → is_some (row_at kept (Bookmark item page)) ≡ true
@@ -301,9 +299,6 @@ HasMarks kept q page old now front =
     (p : KeptPage) → page_at kept page ≡ Some p
     → HasAdded mark_subject (store_of kept) q.sort old now (wanted_marks kept q p front)
 
-pub marks_none : (kept : Kept) (q : Query) (page : PageId) (old : List Candidate) → HasMarks kept q page old old []
-marks_none kept q page old p at = added_none mark_subject (store_of kept) q.sort old [] refl
-
 pub marks_more : (kept : Kept) (q : Query) (page : PageId) (old now new : List Candidate) (front : List Item)
     (i : Item) → HasMarks kept q page old now front
     → ((p : KeptPage) → page_at kept page ≡ Some p
@@ -324,7 +319,7 @@ marks_unwanted kept q page p at none = choose (page_holds (store_of kept) q p.pa
     choose true =
         ap (map (λ (i : Item). row_of_mark kept i p))
         (none_kept (is_wanted (store_of kept) q) (having kept.items p.page.id)
-        (ap (λ (id : PageId). list_any (is_wanted (store_of kept) q) (having kept.items id)) (id_is kept page p at)
+        (ap (λ (id : PageId). list_any (is_wanted (store_of kept) q) (having kept.items id)) (id_at kept page p at)
         ∙ none))
     choose false = refl
 
@@ -333,7 +328,7 @@ pub marks_if : (kept : Kept) (q : Query) (page : PageId) (p : KeptPage) (holds :
     → marks_part kept q p ≡ (if holds then wanted_marks kept q p (having kept.items page) else [])
 marks_if kept q page p holds at is =
     ap (λ (b : Bool). if b then wanted_marks kept q p (having kept.items p.page.id) else []) (sym is)
-    ∙ ap (λ (id : PageId). if holds then wanted_marks kept q p (having kept.items id) else []) (id_is kept page p at)
+    ∙ ap (λ (id : PageId). if holds then wanted_marks kept q p (having kept.items id) else []) (id_at kept page p at)
 
 -- whether an item is wanted, by what is asked of it in turn
 pub entry_unwanted : (store : Store) (q : Query) (i : Item) → is_tag_entry store i.id ≡ true

@@ -1,5 +1,5 @@
 -- What a row shows, by what it is of.
-use Rattle.std.proofs.Common.{◌≡◌, ◌∙◌, ◌==◌, ◌||◌, ℕ, Bool, true, false, List, [], ◌∷◌, Option, Some, None, ap}
+use Rattle.std.proofs.Common.{◌≡◌, ◌∙◌, ◌==◌, ◌||◌, Bool, true, false, List, [], ◌∷◌, Option, Some, None, ap}
 use Rattle.std.proofs.Common.{find, if◌then◌else◌, is_some, refl, sym}
 use Rattle.std.specs.List.{list_any}
 use Rattle.std.proofs.lemmas.Bool.{eqb-true}
@@ -9,15 +9,14 @@ use Rattle.pl_base.specs.declared.id.ItemId.{ItemId}
 use Rattle.pl_base.specs.declared.id.PageId.{PageId}
 use Rattle.pl_base.specs.declared.id.VisitId.{VisitId}
 use Rattle.pl_base.specs.declared.item.ItemRow.{ItemRow}
-use Rattle.pl_base.specs.declared.row.Mark.{Mark}
 use Rattle.pl_base.specs.Marks.{last_date_of}
-use Rattle.pl_base.specs.Rows.{Kept, KeptPage, has_page, has_visit, mark_of, page_at, store_of, title_of}
-use Rattle.pl_base.specs.Rows.{url_of, visit_at}
+use Rattle.pl_base.specs.Rows.{Kept, KeptPage, has_page, has_visit, page_at, store_of}
+use Rattle.pl_base.specs.Rows.{visit_at}
 use Rattle.pl_base.specs.Store.{Item, Page, Visit}
-use Rattle.pl_base.specs.Tree.{has_item, item_at, item_row, item_title}
-use Rattle.pl_base.proofs.IdsLaws.{same_page}
+use Rattle.pl_base.specs.Tree.{has_item, item_at, item_row}
 use Rattle.pl_base.proofs.LookUps.{found_passes, found_some}
-use Rattle.pl_marks.proofs.VisitWalk.{visit_is}
+use Rattle.pl_base.proofs.PageLaws.{id_at}
+use Rattle.pl_base.proofs.VisitsRun.{visit_is}
 use Rattle.pl_query.specs.declared.shown.Subject.{Subject}
 use Rattle.pl_query.specs.declared.shown.Subject.TheVariants.{Page as OfPage, Visit as OfVisit, Bookmark}
 use Rattle.pl_query.specs.Order.{Row}
@@ -127,31 +126,11 @@ item_there kept item page there =
     let r : IsMarkRow kept item page row.0 = mark_row kept item page row.0 row.1 in
     found_some (λ (i : Item). i.id.0 == item.0) kept.items r.i r.item_is
 
--- ---- titles
-
--- the title of the page, and of the bookmark, as the rows tell it
-pub page_title : (kept : Kept) (page : PageId) (p : KeptPage) (title : List ℕ) → page_at kept page ≡ Some p
-    → Some title ≡ title_of kept page → title ≡ p.page.title
-page_title kept page p title at is =
-    let same : Some title ≡ Some p.page.title = is ∙ ap (option_map (λ (q : KeptPage). q.page.title)) at in
-    cc
-
-pub mark_title : (items : List Item) (item : ItemId) (i : Item) (title : List ℕ) → item_at items item ≡ Some i
-    → Some title ≡ item_title items item → title ≡ i.title
-mark_title items item i title at is =
-    let same : Some title ≡ Some i.title = is ∙ ap (option_map (λ (j : Item). j.title)) at in
-    cc
-
 -- ---- dates
-
--- the page that is found has the id
-pub id_is : (kept : Kept) (page : PageId) (p : KeptPage) → page_at kept page ≡ Some p → p.page.id ≡ page
-id_is kept page p at =
-    same_page p.page.id page (found_passes (λ (q : KeptPage). q.page.id.0 == page.0) kept.pages p at)
 
 pub page_date : (kept : Kept) (page : PageId) (p : KeptPage) (date : Option Micros) → page_at kept page ≡ Some p
     → date ≡ last_date_of (store_of kept) page → date ≡ last_date_of (store_of kept) p.page.id
-page_date kept page p date at is = is ∙ ap (last_date_of (store_of kept)) (sym (id_is kept page p at))
+page_date kept page p date at is = is ∙ ap (last_date_of (store_of kept)) (sym (id_at kept page p at))
 
 -- the row of an item
 pub item_is : (items : List Item) (item : ItemId) (i : Item) (row : ItemRow) → item_at items item ≡ Some i
@@ -160,19 +139,12 @@ item_is items item i row at is =
     let same : Some row ≡ Some (item_row items i) = is ∙ ap (option_map (item_row items)) at in
     cc
 
--- what is kept of the page
-pub mark_is : (kept : Kept) (page : PageId) (p : KeptPage) (mark : Mark) → page_at kept page ≡ Some p
-    → Some mark ≡ option_map mark_of (page_at kept page) → mark ≡ mark_of p
-mark_is kept page p mark at is =
-    let same : Some mark ≡ Some (mark_of p) = is ∙ ap (option_map mark_of) at in
-    cc
-
 -- the id of the page that the row shows
 pub shown_id : (kept : Kept) (subject : Subject) (row : Row) → row_at kept subject ≡ Some row
     → subject_page subject ≡ row.page.id
 shown_id kept subject row at =
     let s : ShowsPage kept subject row = shows_page kept subject row at in
-    sym (ap (λ (p : Page). p.id) s.is ∙ id_is kept (subject_page subject) s.p s.page_is)
+    sym (ap (λ (p : Page). p.id) s.is ∙ id_at kept (subject_page subject) s.p s.page_is)
 
 -- a page that is there has a row
 pub page_subject_there : (kept : Kept) (page : PageId) → has_page kept page ≡ true
@@ -197,7 +169,7 @@ pub shown_row_id : (kept : Kept) (subject : Subject) (row : Row) → row_at kept
     → subject_id subject ≡ row.id
 shown_row_id kept (OfPage page) row at =
     let r : IsPageRow kept page row = page_row kept page row at in
-    sym (ap (λ (w : Row). w.id) r.is ∙ ap (λ (id : PageId). id.0) (id_is kept page r.p r.page_is))
+    sym (ap (λ (w : Row). w.id) r.is ∙ ap (λ (id : PageId). id.0) (id_at kept page r.p r.page_is))
 shown_row_id kept (OfVisit visit page) row at =
     let r : IsVisitRow kept visit page row = visit_row kept visit page row at in
     sym (ap (λ (w : Row). w.id) r.is ∙ ap (λ (id : VisitId). id.0) (visit_is kept visit r.v r.visit_is))
@@ -205,9 +177,3 @@ shown_row_id kept (Bookmark item page) row at =
     let r : IsMarkRow kept item page row = mark_row kept item page row at in
     sym (ap (λ (w : Row). w.id) r.is
     ∙ eqb-true r.i.id.0 item.0 (found_passes (λ (j : Item). j.id.0 == item.0) kept.items r.i r.item_is))
-
-pub page_url : (kept : Kept) (page : PageId) (p : KeptPage) (url : List ℕ) → page_at kept page ≡ Some p
-    → Some url ≡ url_of kept page → url ≡ p.page.url
-page_url kept page p url at is =
-    let same : Some url ≡ Some p.page.url = is ∙ ap (option_map (λ (q : KeptPage). q.page.url)) at in
-    cc

@@ -1,5 +1,5 @@
 ghost use Rattle.std.specs.Prelude.{◌≡◌, ◌+◌, ◌*◌, ◌/◌, ◌^◌, ◌<◌, ◌≤◌, true, false, not};
-ghost use Rattle.std.specs.Prelude.{length, map, replicate, IfOk, IfSome, OnOk};
+ghost use Rattle.std.specs.Prelude.{length, map, replicate, IfOk, OnOk};
 ghost use Rattle.pl_sheets.specs.Marks.{is_empty, has_bit, IsFirst, IsNext, IsNextInWord};
 ghost use Rattle.pl_sheets.specs.Marks.{IsWithBit, HasMoreRoom, AreSummed};
 

@@ -1,5 +1,5 @@
 -- One step of the machine: what a command answers and what it leaves of the store.
-use Rattle.std.specs.Prelude.{◌≡◌, ℕ, ◌+◌, ◌-◌, ◌==◌, ◌&&◌, not, Bool, true, false, List}
+use Rattle.std.specs.Prelude.{ℕ, ◌+◌, ◌-◌, ◌==◌, ◌&&◌, not, Bool, false, List}
 use Rattle.std.specs.Prelude.{[], ◌∷◌, length, map, nat_lt, bytes_eq}
 use Rattle.std.specs.Prelude.{is_none, Option, Some, None, Ok, Err, if◌then◌else◌}
 use Rattle.std.specs.List.{count_by}
@@ -19,7 +19,6 @@ use Rattle.pl_base.specs.declared.refusal.Refusal.TheVariants.{TooMany}
 use Rattle.pl_base.specs.declared.transition.Transition.{Transition}
 use Rattle.pl_base.specs.Address.{host_and_port, is_unrecorded_url, prefix, record_of}
 use Rattle.pl_base.specs.Address.{reversed_host}
-use Rattle.pl_base.specs.Date.{IsDate, IsDay}
 use Rattle.pl_base.specs.Days.{on_day, pages_moved}
 use Rattle.pl_base.specs.Expiration.{expired, trimmed}
 use Rattle.pl_base.specs.Frecency.{frecency_of}
@@ -48,7 +47,6 @@ use Rattle.pl_bar.specs.AddressBar.{offered}
 use Rattle.pl_bar.specs.Filled.{filled}
 use Rattle.pl_graft.specs.Import.{imported, most_rows, row_count, tagged_store, tags_made}
 use Rattle.pl_nbread.specs.declared.tree.Tree.{Tree}
-use Rattle.pl_nbread.specs.WellFormed.{AreWellFormed}
 use Rattle.pl_place.specs.declared.query.Query.{Query}
 use Rattle.pl_place.specs.Canonical.{canonical}
 use Rattle.pl_query.specs.QueryAnswer.{answer, told_row}

@@ -11,12 +11,12 @@ use Rattle.pl_base.specs.Good.{IsGood, child_ids}
 use Rattle.pl_base.specs.Rows.{Kept, store_of}
 use Rattle.pl_base.specs.Store.{Item, Store, page_url}
 use Rattle.pl_base.specs.Tree.{children_of, has_item, item_at, item_row, item_title}
-use Rattle.pl_base.proofs.LookUps.{found_holds, found_passes, front as in_front}
-use Rattle.pl_base.proofs.OneParent.{same_item}
+use Rattle.pl_base.proofs.LookUps.{found_holds, found_passes, front as in_front, part, rest_of}
+use Rattle.pl_base.proofs.ItemLookUps.{same_item}
+use Rattle.pl_base.proofs.ChildrenRun.{child_here, child_names}
+use Rattle.pl_base.proofs.Walk.{StandsAt}
 use Rattle.pl_step.specs.declared.reply.ListRow.{ListRow}
 use Rattle.pl_step.specs.Step.{list_row}
-use Rattle.pl_tree.proofs.ChildWalk.{IsHere}
-use Rattle.pl_marks.proofs.PageWalk.{part}
 
 -- what is listed of the items with these ids
 abbrev pub AreListed : Store → List ListRow → List ItemId → Type 0
@@ -29,16 +29,12 @@ abbrev children_in : Option Item → List ItemId
 children_in None = []
 children_in (Some i) = i.children
 
-in_rest : {X : Type 0} (P : X → Type 0) (xs ys : List X) → AllByRecursion P (xs ++ ys) → AllByRecursion P ys
-in_rest P [] ys all = all
-in_rest P (x ∷ xs) ys all = in_rest P xs ys all.1
-
 -- what holds of all children holds of those of each
 each_child : (P : ItemId → Type 0) (items : List Item) → AllByRecursion P (child_ids items)
     → AllByRecursion (λ (i : Item). AllByRecursion P i.children) items
 each_child P [] all = tt
 each_child P (i ∷ items) all =
-    (in_front P i.children (child_ids items) all, each_child P items (in_rest P i.children (child_ids items) all))
+    (in_front P i.children (child_ids items) all, each_child P items (rest_of P i.children (child_ids items) all))
 
 of_found : (P : List ItemId → Type 0) (items : List Item) (id : ItemId)
     → AllByRecursion (λ (i : Item). P i.children) items → P [] → P (children_of items id)
@@ -50,11 +46,11 @@ of_found P items id all none = choose (item_at items id) refl
 
 -- each child is an item
 pub child_there : (kept : Kept) (P : List ItemId → Type 0) (id child : ItemId) → IsGood (store_of kept)
-    → IsHere (children_of kept.items id) P child → has_item kept.items child ≡ true
+    → StandsAt child_names (children_of kept.items id) P child → has_item kept.items child ≡ true
 child_there kept P id child good w =
     let There : ItemId → Type 0 = λ c. IsTrue (has_item kept.items c) in
     part There w.front child w.rest
-    (subst (AllByRecursion There) w.whole
+    (subst (AllByRecursion There) (child_here kept.items id P child w)
     (of_found (AllByRecursion There) kept.items id
     (each_child There kept.items (recursion_from_All There (child_ids kept.items) good.tree.known)) tt))
 

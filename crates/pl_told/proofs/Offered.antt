@@ -1,10 +1,9 @@
 -- The pages that the address bar offers, and what is told of them.
 use Rattle.std.proofs.Common.{◌≡◌, ◌∙◌, ◌&&◌, ◌++◌, ◌==◌, ℕ, ℤ, Bool, true, false, List, [], ◌∷◌, Option, Some, None}
-use Rattle.std.proofs.Common.{ap, map, not, refl, subst, suc, sym, take, zero}
+use Rattle.std.proofs.Common.{ap, map, not, refl, subst, sym}
 use Rattle.std.specs.List.{AllByRecursion, filter_map}
 use Rattle.std.specs.Option.{IsSome, option_map}
 use Rattle.std.proofs.lemmas.List.Elements.{filter_map-append}
-use Rattle.std.proofs.lemmas.List.Kept.{AllPairs-from_increasing}
 use Rattle.pl_bar.specs.AddressBar.{all_match, candidates, first_tier, is_candidate, offered, ranks_before}
 use Rattle.pl_bar.specs.AddressBar.{second_tier, tiers}
 use Rattle.pl_base.specs.declared.id.PageId.{PageId}
@@ -16,9 +15,11 @@ use Rattle.pl_base.specs.Rows.{title_of, url_of}
 use Rattle.pl_base.specs.Sorting.{sorted_by}
 use Rattle.pl_base.specs.Store.{Page, Store}
 use Rattle.pl_base.proofs.IdsLaws.{same_page}
-use Rattle.pl_base.proofs.ListLaws.{all-filter, found_in, some_in, to_map, weaker}
+use Rattle.pl_base.proofs.ListLaws.{all-filter, all_append, found_in, some_in, to_map, weaker}
 use Rattle.pl_base.proofs.SortLaws.{all_sorted}
-use Rattle.pl_base.proofs.LookUps.{apart_ascending, found_passes, found_self}
+use Rattle.pl_base.proofs.LookUps.{found_passes, found_self}
+use Rattle.pl_base.proofs.PageLaws.{pages_apart}
+use Rattle.pl_query.proofs.AnsweredRows.{all_take}
 use Rattle.pl_marks.proofs.PageRows.{AreTold, right_mark, told_at}
 use Rattle.pl_words.specs.Bar.{marks_of, words_of}
 use Rattle.pl_words.specs.declared.bar_text.Marks.{Marks}
@@ -58,19 +59,7 @@ all_found kept h =
     to_map (IsFound kept) (λ (q : KeptPage). q.page) kept.pages
     (weaker (λ (q : KeptPage). page_at kept q.page.id ≡ Some q) (λ (q : KeptPage). IsFound kept q.page) kept.pages
     (λ q at. ap (option_map (λ (r : KeptPage). r.page)) at)
-    (found_self (λ (q : KeptPage). q.page.id.0) kept.pages
-    (apart_ascending (λ (q : KeptPage). q.page.id.0) kept.pages
-    (AllPairs-from_increasing (map (λ (q : KeptPage). q.page.id.0) kept.pages) h.page_ids.ascending))))
-
-joined : {X : Type 0} (P : X → Type 0) (xs ys : List X) → AllByRecursion P xs → AllByRecursion P ys
-    → AllByRecursion P (xs ++ ys)
-joined P [] ys first second = second
-joined P (x ∷ xs) ys first second = (first.0, joined P xs ys first.1 second)
-
-taken : {X : Type 0} (P : X → Type 0) (n : ℕ) (xs : List X) → AllByRecursion P xs → AllByRecursion P (take n xs)
-taken P zero xs all = tt
-taken P (suc n) [] all = tt
-taken P (suc n) (x ∷ xs) all = (all.0, taken P n xs all.1)
+    (found_self (λ (q : KeptPage). q.page.id.0) kept.pages (pages_apart kept h)))
 
 pub offered_found : (kept : Kept) (text : List ℕ) (most : ℕ) → IsWellKept kept
     → AllByRecursion (IsFound kept) (offered (store_of kept) text most)
@@ -83,8 +72,8 @@ offered_found kept text most h =
     let second : List Page = second_tier store marks words in
     let all : AllByRecursion (IsFound kept) (candidates store marks) =
     all-filter (IsFound kept) (is_candidate store marks) store.pages (all_found kept h) in
-    taken (IsFound kept) most (tiers store marks words)
-    (joined (IsFound kept) (sorted_by before first) (sorted_by before second)
+    all_take (IsFound kept) most (tiers store marks words)
+    (all_append (IsFound kept) (sorted_by before first) (sorted_by before second)
     (all_sorted before (IsFound kept) first
     (all-filter (IsFound kept) (all_match store marks words true) (candidates store marks) all))
     (all_sorted before (IsFound kept) second

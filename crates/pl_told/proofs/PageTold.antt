@@ -13,11 +13,11 @@ use Rattle.pl_history.specs.declared.find.Target.TheVariants.{Known}
 use Rattle.pl_step.specs.declared.reply.Reply.{Reply}
 use Rattle.pl_step.specs.declared.reply.Reply.TheVariants.{Page as PageReply}
 use Rattle.pl_base.specs.Visiting.{find_page}
+use Rattle.pl_base.proofs.PagesRun.{found_at}
 use Rattle.pl_step.specs.Step.{told_page}
 use Rattle.pl_history.specs.Target.{IsTargetOf}
 use Rattle.pl_history.proofs.KnownPage.{IsKnown, known}
 use Rattle.pl_marks.proofs.PageRows.{AreTold, right_mark, told_at}
-use Rattle.pl_marks.proofs.PageWalk.{found_at}
 
 -- what is told of a page, with its mark as the store has it
 abbrev told_with : Store → Page → PageId → Option Micros → Bool → List ℕ → List ℕ → List ℕ → Reply

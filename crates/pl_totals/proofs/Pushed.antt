@@ -10,6 +10,7 @@ use Rattle.std.proofs.lemmas.Slice.Eq.{bytes_eq-Decides}
 use Rattle.std.proofs.lemmas.Bool.Decides.{nat_tests}
 use Rattle.pl_base.specs.Totals.{Origin, Scored, distinct, group_total, is_in_group, is_origin, origins_of}
 use Rattle.pl_base.specs.Totals.{origins_with_total, share, sum_of_totals, total_of}
+use Rattle.pl_base.proofs.ListLaws.{sum_by-le}
 
 -- ---- sums
 
@@ -24,16 +25,6 @@ sum_by-filter {X} p f (x ∷ xs) =
         ≡ (if b then f x else 0) + sum_by (λ y. if p y then f y else 0) xs
     choose true rest = sum_by-cons f x (filter p xs) ∙ ap (λ n. f x + n) rest
     choose false rest = omega (arith, rest)
-
-sum_by-alike : {X : Type 0} (f g : X → ℕ) (xs : List X) → ((x : X) → f x ≡ g x) → sum_by f xs ≡ sum_by g xs
-sum_by-alike f g [] alike = refl
-sum_by-alike f g (x ∷ xs) alike =
-    omega (arith, sum_by-cons f x xs, sum_by-cons g x xs, alike x, sum_by-alike f g xs alike)
-
-sum_by-le : {X : Type 0} (f g : X → ℕ) (xs : List X) → ((x : X) → f x ≤ g x) → sum_by f xs ≤ sum_by g xs
-sum_by-le f g [] below = omega arith
-sum_by-le f g (x ∷ xs) below =
-    omega (arith, sum_by-cons f x xs, sum_by-cons g x xs, below x, sum_by-le f g xs below)
 
 -- ---- origins
 

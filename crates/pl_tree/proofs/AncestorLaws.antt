@@ -16,7 +16,8 @@ use Rattle.pl_base.specs.Store.{Item}
 use Rattle.pl_base.specs.Tree.{ancestors, has_child, has_item, lies_in, parent_of}
 use Rattle.pl_base.proofs.ListLaws.{weaker}
 use Rattle.pl_base.proofs.LookUps.{both, found_some}
-use Rattle.pl_base.proofs.OneParent.{IsParent, any_child, is_among, parents, root_alone, same_item}
+use Rattle.pl_base.proofs.ItemLookUps.{same_item}
+use Rattle.pl_base.proofs.OneParent.{IsParent, any_child, is_among, parents, root_alone}
 
 -- ---- counts of two tests, the first of which passes no more than the second
 

@@ -15,8 +15,8 @@ use Rattle.pl_base.proofs.ItemLaws.{bare}
 use Rattle.pl_base.proofs.Among.{In, from_filter, in_back, in_drop, in_either, in_filter, in_front, in_take}
 use Rattle.pl_tree.specs.declared.place.Place.{Place}
 use Rattle.pl_tree.specs.Changes.{position, put, put_at}
-use Rattle.pl_tree.proofs.KeyCounts.{Ascends, count, count-append, count-cons}
-use Rattle.pl_tree.proofs.KeyCounts.{not_counted, tick}
+use Rattle.pl_base.proofs.KeyCounts.{Ascends, count, count-append, count-cons}
+use Rattle.pl_base.proofs.KeyCounts.{not_counted, tick}
 use Rattle.pl_tree.proofs.LookedUp.{id_key, item_key}
 use Rattle.pl_tree.proofs.MappedItems.{changed_at, changed_here, changed_other}
 

@@ -11,14 +11,15 @@ use Rattle.pl_base.specs.Tags.{tags_root}
 use Rattle.pl_base.specs.Tree.{child_items, children_of, has_item, item_at, parent_of, removed}
 use Rattle.pl_base.proofs.ItemLaws.{bare}
 use Rattle.pl_base.proofs.Among.{In, in_map}
-use Rattle.pl_tree.proofs.KeyCounts.{Ascends}
+use Rattle.pl_base.proofs.ItemLookUps.{same_item_number}
+use Rattle.pl_base.proofs.KeyCounts.{Ascends}
 use Rattle.pl_tree.proofs.ChildLists.{left_other, without_other}
 use Rattle.pl_tree.proofs.GoodEntered.{no_tags_root}
 use Rattle.pl_tree.proofs.GoodRows.{HasGoodRows, good_rows, with_tags}
 use Rattle.pl_tree.proofs.Insides.{LiesLaws}
 use Rattle.pl_tree.proofs.KeptItems.{good_item}
 use Rattle.pl_tree.proofs.LookedUp.{at_id, child_of, children_in, found_at, has_parent, id_key}
-use Rattle.pl_tree.proofs.LookedUp.{in_child_ids, item_key, one_parent, parent_of_child, same_id}
+use Rattle.pl_tree.proofs.LookedUp.{in_child_ids, item_key, one_parent, parent_of_child}
 use Rattle.pl_tree.proofs.RemovedChildren.{ascends_left, children_left, from_left}
 use Rattle.pl_tree.proofs.RemovedRows.{removed_rows}
 use Rattle.pl_tree.proofs.RootItems.{IsNoRoot, no_root_below, no_tags}
@@ -48,7 +49,7 @@ leaf_removed old item up good there no_root leaf =
               λ c p is within.
               let r = has_parent old.items c p is in
               let none : (r.0).children ≡ [] =
-              leaf r.0 r.1 (r.2 ∙ same_id p item (eqb-true p.0 item.0 within))
+              leaf r.0 r.1 (r.2 ∙ same_item_number p item (eqb-true p.0 item.0 within))
               in
               absurd (subst (In c) none r.3);
           parent = λ c within other. absurd (both_ways (c.0 == item.0) other within);
@@ -132,7 +133,7 @@ module _ (old : Store) (up : Ascends item_key old.items) (good : HasGoodItems ol
       elim (cases_eq j.id.0 tag.id.0) as (λ _. j.children ≢ []) [
         | inl e ↦
             let at : item_at mid.items tag.id ≡ Some j =
-            ap (item_at mid.items) (sym (same_id j.id tag.id e)) ∙ (child_at mid.items tags_root j h).1
+            ap (item_at mid.items) (sym (same_item_number j.id tag.id e)) ∙ (child_at mid.items tags_root j h).1
             in
             let all : c ∷ cs ≡ j.children = sym is ∙ ap children_in at in
             not_empty j.children c (subst (In c) all (inl refl))
@@ -151,7 +152,7 @@ module _ (old : Store) (up : Ascends item_key old.items) (good : HasGoodItems ol
       (ap id_key
       (same_Some tag.id tags_root
       (sym (parent_of_child items tag.id entry.id (child_once items good.tree) entry_child)
-      ∙ ap (parent_of items) (sym (same_id tag.id entry.id same))
+      ∙ ap (parent_of items) (sym (same_item_number tag.id entry.id same))
       ∙ parent_of_child items tags_root tag.id (child_once items good.tree) tag_child)))
       in
       subst (In tag.id)

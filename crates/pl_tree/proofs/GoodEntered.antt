@@ -14,15 +14,16 @@ use Rattle.pl_base.specs.Tags.{tags_root}
 use Rattle.pl_base.specs.Tree.{child_items, children_of, item_at}
 use Rattle.pl_base.proofs.ItemLaws.{bare}
 use Rattle.pl_base.proofs.Among.{In, in_map}
+use Rattle.pl_base.proofs.ItemLookUps.{same_item_number}
 use Rattle.pl_tree.specs.declared.place.Place.TheVariants.{End}
 use Rattle.pl_tree.specs.Changes.{item_of, put, with_new}
 use Rattle.pl_tree.specs.Tagged.{new_entry}
-use Rattle.pl_tree.proofs.KeyCounts.{Ascends}
+use Rattle.pl_base.proofs.KeyCounts.{Ascends}
 use Rattle.pl_tree.proofs.ChildLists.{grown, grown_new}
 use Rattle.pl_tree.proofs.GoodRows.{HasGoodRows, with_tags}
 use Rattle.pl_tree.proofs.InsertedChildren.{from_children}
 use Rattle.pl_tree.proofs.InsertedRows.{IsFolderAt, inserted_rows}
-use Rattle.pl_tree.proofs.LookedUp.{item_key, same_id}
+use Rattle.pl_tree.proofs.LookedUp.{item_key}
 use Rattle.pl_tree.proofs.MappedItems.{changed_other}
 use Rattle.pl_tree.proofs.PutPlaces.{row_of_new}
 use Rattle.pl_tree.proofs.RootItems.{no_root_below, no_tags, top_folder}
@@ -86,7 +87,8 @@ module _ (old : Store) (ids : Ids) (id : ItemId) (page : PageId) (date : Micros)
       some i g =
           elim (cases_eq i.id.0 tag.id.0) as (λ _. (grown tag.id End id i).children ≢ []) [
             | inl e ↦
-                not_empty (grown tag.id End id i).children id (grown_new tag.id End id i (same_id i.id tag.id e))
+                not_empty (grown tag.id End id i).children id
+                (grown_new tag.id End id i (same_item_number i.id tag.id e))
             | inr other ↦
                 subst (λ (k : Item). k.children ≢ [])
                 (sym (changed_other tag.id (λ (k : Item). record k { children = put End id k.children }) i

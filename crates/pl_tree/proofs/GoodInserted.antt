@@ -13,7 +13,7 @@ use Rattle.pl_base.specs.Tree.{new_item}
 use Rattle.pl_base.proofs.Among.{In}
 use Rattle.pl_tree.specs.declared.place.Place.{Place}
 use Rattle.pl_tree.specs.Changes.{with_child}
-use Rattle.pl_tree.proofs.KeyCounts.{Ascends}
+use Rattle.pl_base.proofs.KeyCounts.{Ascends}
 use Rattle.pl_tree.proofs.Causes.{Takes}
 use Rattle.pl_tree.proofs.GoodRows.{HasGoodRows, good_rows, with_tags}
 use Rattle.pl_tree.proofs.InsertedRows.{IsFolderAt, found_as_before, inserted_rows}

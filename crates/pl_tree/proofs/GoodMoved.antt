@@ -10,11 +10,12 @@ use Rattle.pl_base.specs.Good.{HasGoodItems, HasRoots, HasTags, IsGoodItem, IsTr
 use Rattle.pl_base.specs.Store.{Item, Store, item_id}
 use Rattle.pl_base.specs.Tree.{has_item, leaving, lies_in, without_id}
 use Rattle.pl_base.proofs.ItemLaws.{bare}
+use Rattle.pl_base.proofs.ItemLookUps.{same_item_number}
 use Rattle.pl_base.proofs.ListLaws.{map-map}
 use Rattle.pl_base.proofs.Among.{In, from_map, in_map}
 use Rattle.pl_tree.specs.declared.place.Place.{Place}
 use Rattle.pl_tree.specs.Changes.{put, with_moved}
-use Rattle.pl_tree.proofs.KeyCounts.{Ascends, Once, count}
+use Rattle.pl_base.proofs.KeyCounts.{Ascends, Once, count}
 use Rattle.pl_tree.proofs.Causes.{MayChange, Takes}
 use Rattle.pl_tree.proofs.ChildLists.{bare_grown, count_grown, count_left, from_grown, from_without, grown, grown_id}
 use Rattle.pl_tree.proofs.ChildLists.{grown_new, grown_old, left_other, none_left, without_other}
@@ -23,7 +24,7 @@ use Rattle.pl_tree.proofs.KeptItems.{all_good, good_again, good_item}
 use Rattle.pl_tree.proofs.KeptRoots.{kept_roots, top_range}
 use Rattle.pl_tree.proofs.KeptTags.{is_of_tags, kept_tags}
 use Rattle.pl_tree.proofs.LookedUp.{found_at, from_child_ids, id_key, in_child_ids, item_key, one_of_id}
-use Rattle.pl_tree.proofs.LookedUp.{parent_is, same_id}
+use Rattle.pl_tree.proofs.LookedUp.{parent_is}
 use Rattle.pl_tree.proofs.MappedItems.{ascends_map, bare_at, changed_at, changed_id, changed_other, child_ids_map}
 use Rattle.pl_tree.proofs.MappedItems.{has_map, same_at}
 use Rattle.pl_tree.proofs.RootItems.{no_child_of_root, no_root_above}
@@ -190,7 +191,7 @@ module _ (old : Store) (item parent : ItemId) (place : Place) (date : Micros) (u
               elim (cases_eq c.0 item.0) as (λ _. (lies_in items item c || holds c) ≡ true) [
                 | inl e ↦
                     or_left (lies_in items item c) (holds c)
-                    (ap (lies_in items item) (same_id c item e) ∙ lies.itself may.there)
+                    (ap (lies_in items item) (same_item_number c item e) ∙ lies.itself may.there)
                 | inr other ↦
                     or_right (lies_in items item c) (holds c) (closed_old i h held c g other)
               ]
@@ -222,7 +223,7 @@ module _ (old : Store) (item parent : ItemId) (place : Place) (date : Micros) (u
           | inl within ↦
               or_right (not (lies_in items item c)) (holds c)
               (elim (cases_eq c.0 item.0) as (λ _. holds c ≡ true) [
-                | inl e ↦ ap holds (same_id c item e) ∙ item_held
+                | inl e ↦ ap holds (same_item_number c item e) ∙ item_held
                 | inr other ↦
                     let p =
                     parent_inside items item c i.id lies within other
@@ -271,7 +272,8 @@ module _ (old : Store) (item parent : ItemId) (place : Place) (date : Micros) (u
           → IsGoodItem store (if b then record (left i) { children = put place item (left i).children } else left i)
       choose_grow true is first =
           let found = found_at items parent t.folder t.there in
-          let at_parent : i.id ≡ t.folder.id = same_id i.id parent (eqb-true i.id.0 parent.0 is) ∙ sym found.1 in
+          let at_parent : i.id ≡ t.folder.id =
+          same_item_number i.id parent (eqb-true i.id.0 parent.0 is) ∙ sym found.1 in
           let same : i ≡ t.folder = one_of_id items i t.folder up h found.0 at_parent in
           good_again store store (left i) i.title i.modified (put place item (left i).children) refl first first.title
           first.modified (λ _. ap (λ (k : Item). k.kind) same ∙ t.kind)

@@ -7,15 +7,16 @@ use Rattle.pl_base.specs.Good.{HasGoodItems, HasTags}
 use Rattle.pl_base.specs.Store.{Item, Store}
 use Rattle.pl_base.specs.Tags.{tags_root}
 use Rattle.pl_base.specs.Tree.{lies_in}
+use Rattle.pl_base.proofs.ItemLookUps.{same_item_number}
 use Rattle.pl_tree.specs.Changes.{with_removed}
 use Rattle.pl_tree.specs.Refused.{is_entry, is_tag}
-use Rattle.pl_tree.proofs.KeyCounts.{Ascends}
+use Rattle.pl_base.proofs.KeyCounts.{Ascends}
 use Rattle.pl_tree.proofs.Causes.{MayChange}
 use Rattle.pl_tree.proofs.GoodRows.{HasGoodRows, good_rows, with_tags}
 use Rattle.pl_tree.proofs.Insides.{LiesLaws, parent_inside}
 use Rattle.pl_tree.proofs.KeptTags.{is_of_tags, kept_tags}
 use Rattle.pl_tree.proofs.LookedUp.{id_key, item_key}
-use Rattle.pl_tree.proofs.LookedUp.{parent_is, same_id}
+use Rattle.pl_tree.proofs.LookedUp.{parent_is}
 use Rattle.pl_tree.proofs.RootItems.{IsNoRoot, no_root_above}
 use Rattle.pl_tree.proofs.RemovedRows.{found_as_before, removed_rows, top_outside}
 use Rattle.pl_tree.proofs.TagItems.{a_tag, an_entry, change_apart, no_child_of_tags, of_tags}
@@ -40,7 +41,7 @@ module _ (old : Store) (item : ItemId) (up : Ascends item_key old.items) (good :
 
   root_outside : (x : ItemId) → x.0 ≡ 4 → inside x ≡ false
   root_outside x e =
-      ap inside (same_id x tags_root e)
+      ap inside (same_item_number x tags_root e)
       ∙ top_outside old item up rows inside may.there no_root lies 4 (inr (inr (inl refl)))
 
   tag_outside : (x : ItemId) → is_tag items x ≡ true → x.0 ≢ item.0 → inside x ≡ false
@@ -55,7 +56,8 @@ module _ (old : Store) (item : ItemId) (up : Ascends item_key old.items) (good :
   entry_outside x entry other =
       let e = an_entry items x entry in
       let tag_not_item : e.folder.id.0 ≢ item.0 = λ same.
-      both_ways (is_tag items item) may.no_tag (ap (is_tag items) (sym (same_id e.folder.id item same)) ∙ e.tag)
+      both_ways (is_tag items item) may.no_tag
+      (ap (is_tag items) (sym (same_item_number e.folder.id item same)) ∙ e.tag)
       in
       false_from_ne_true (inside x) (λ within.
       both_ways (inside e.folder.id) (tag_outside e.folder.id e.tag tag_not_item)

@@ -11,7 +11,7 @@ use Rattle.pl_base.specs.Store.{Item, Store, item_id}
 use Rattle.pl_base.specs.Tree.{item_at, retitled}
 use Rattle.pl_base.proofs.ItemLaws.{bare}
 use Rattle.pl_base.proofs.Among.{In, from_map, in_map}
-use Rattle.pl_tree.proofs.KeyCounts.{Once}
+use Rattle.pl_base.proofs.KeyCounts.{Once}
 use Rattle.pl_tree.proofs.Causes.{MayChange}
 use Rattle.pl_tree.proofs.KeptItems.{all_good, good_again, good_item, good_still}
 use Rattle.pl_tree.proofs.KeptRoots.{kept_roots, top_range}

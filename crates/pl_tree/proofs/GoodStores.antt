@@ -22,11 +22,12 @@ use Rattle.pl_base.specs.Store.{Item, Store, item_id}
 use Rattle.pl_base.specs.Tags.{is_tags_root, tags_root}
 use Rattle.pl_base.specs.Tree.{child_items, children_of, has_item, item_at, new_item}
 use Rattle.pl_base.proofs.Among.{In, all_from_in, at_in}
+use Rattle.pl_base.proofs.ItemLookUps.{same_item_number}
 use Rattle.pl_tree.specs.declared.place.Place.TheVariants.{End}
 use Rattle.pl_tree.specs.Changes.{item_of, with_child}
 use Rattle.pl_tree.specs.Refused.{is_tag, parent_refusal}
 use Rattle.pl_tree.specs.Tagged.{new_entry, new_items, new_tag, tag_entry, tag_named, tagged_items}
-use Rattle.pl_tree.proofs.KeyCounts.{Ascends, Once}
+use Rattle.pl_base.proofs.KeyCounts.{Ascends, Once}
 use Rattle.pl_tree.proofs.Causes.{Takes, not_refused, takes}
 use Rattle.pl_tree.proofs.ChildLists.{grown}
 use Rattle.pl_tree.proofs.GoodInserted.{inserted_good}
@@ -35,7 +36,7 @@ use Rattle.pl_tree.proofs.InsertedChildren.{ascends_new, ids_new, ids_other, ids
 use Rattle.pl_tree.proofs.KeptRoots.{tops}
 use Rattle.pl_tree.proofs.KeptTags.{tag_is}
 use Rattle.pl_tree.proofs.LookedUp.{at_id, child_of, children_in, found_at, id_key, in_child_ids, in_has}
-use Rattle.pl_tree.proofs.LookedUp.{item_key, same_id}
+use Rattle.pl_tree.proofs.LookedUp.{item_key}
 use Rattle.pl_tree.proofs.MoreItems.{found_more, fresh_more, ids_more, kind_more}
 use Rattle.pl_tree.proofs.MoreTags.{each_tag, known_children, known_fresh, known_ids, known_lists, known_takes}
 use Rattle.pl_tree.proofs.MoreTags.{new_children, new_fresh, new_ids, new_lists, new_takes_still, tag_among}
@@ -48,7 +49,7 @@ pub use Rattle.pl_tree.proofs.MoreItems.{tag_lists, with_entry}
 
 -- ---- ids
 
-ascends_push : (ns : List ℕ) (n : ℕ) → IsStrictlyIncreasing ns → All (λ m. m < n) ns
+pub ascends_push : (ns : List ℕ) (n : ℕ) → IsStrictlyIncreasing ns → All (λ m. m < n) ns
     → IsStrictlyIncreasing (ns ++ n ∷ [])
 ascends_push ns n ascending below k within =
     let whole : k + 1 < length ns + 1 = rw (length_push ns n) at within in
@@ -206,7 +207,7 @@ module _ (old : Store) (next : ℕ) (good : HasGoodItems old)
         as (λ _. children_of (with_last next parent row title items) folder
         ≡ (if folder.0 == parent.0 then children_of items folder ++ id ∷ [] else children_of items folder)) [
           | inl same ↦
-              let e : folder ≡ parent = same_id folder parent same in
+              let e : folder ≡ parent = same_item_number folder parent same in
               let here : parent.0 < next = subst (λ (c : ItemId). c.0 < next) e within in
               rw (eq-eqb folder.0 parent.0 same)
               (ap (children_of (with_last next parent row title items)) e
@@ -224,7 +225,8 @@ module _ (old : Store) (next : ℕ) (good : HasGoodItems old)
     put_lists =
         lists_other items id parent new refl refl up fresh known (omega arith) not_tags (λ k h same.
         both_ways (is_tag items parent) t.no_tag
-        (ap (is_tag items) (sym (same_id k.id parent same)) ∙ tag_is items once k.id (row_child items tags_root k h)))
+        (ap (is_tag items) (sym (same_item_number k.id parent same))
+        ∙ tag_is items once k.id (row_child items tags_root k h)))
 
   -- ---- a tag more for a page
 

@@ -21,12 +21,13 @@ use Rattle.pl_base.specs.Tags.{tags_root}
 use Rattle.pl_base.specs.Tree.{child_items, children_of, is_page, item_at, removed}
 use Rattle.pl_base.proofs.ItemLaws.{bare}
 use Rattle.pl_base.proofs.Among.{In, from_map, in_back, in_either, in_front, in_map}
+use Rattle.pl_base.proofs.Truths.{is_none_at}
 use Rattle.pl_tree.specs.declared.place.Place.TheVariants.{End}
 use Rattle.pl_tree.specs.Changes.{item_of, put, with_new}
 use Rattle.pl_tree.specs.Refused.{tag_refusal, untag_refusal}
 use Rattle.pl_tree.specs.Tagged.{entry_in, new_entry, new_items, new_tag, tag_entry, tag_named, untagged_items}
 use Rattle.pl_tree.specs.Tagged.{with_tagged}
-use Rattle.pl_tree.proofs.KeyCounts.{Ascends}
+use Rattle.pl_base.proofs.KeyCounts.{Ascends}
 use Rattle.pl_tree.proofs.Causes.{if_none}
 use Rattle.pl_tree.proofs.ChildLists.{grown, grown_id, grown_new}
 use Rattle.pl_tree.proofs.EntryRemoved.{if_none_left, unused_good}
@@ -50,10 +51,6 @@ is_title name named = (named.text, omega (arith, named.few))
 first_none : {A : Type 0} (b : Bool) (x : A) (rest : Option A) → (if b then Some x else rest) ≡ None → b ≡ false
 first_none true x rest none = absurd (cc)
 first_none false x rest none = refl
-
-is_none_at : {A : Type 0} (o : Option A) → is_some o ≡ false → o ≡ None
-is_none_at None is = refl
-is_none_at (Some x) is = absurd (cc)
 
 -- no child has the page where no entry has it
 no_page : (items : List Item) (page : PageId) (tag : Item) → entry_in items page tag ≡ None

@@ -15,7 +15,7 @@ use Rattle.pl_base.proofs.ItemLaws.{bare}
 use Rattle.pl_base.proofs.Among.{In, from_map, in_either}
 use Rattle.pl_tree.specs.declared.place.Place.TheVariants.{End}
 use Rattle.pl_tree.specs.Changes.{put}
-use Rattle.pl_tree.proofs.KeyCounts.{Ascends}
+use Rattle.pl_base.proofs.KeyCounts.{Ascends}
 use Rattle.pl_tree.proofs.ChildLists.{bare_grown, from_grown, grown, grown_id}
 use Rattle.pl_tree.proofs.LookedUp.{child_of, children_in, filter_map-alike, found_at, from_filter_map, id_key}
 use Rattle.pl_tree.proofs.LookedUp.{in_child_ids, item_key}
@@ -60,7 +60,7 @@ ascends_push (i ∷ items) row up above =
     further [] all = (above i (inl refl), tt)
     further (j ∷ js) all = (all.0, further js all.1)
 
-put_end : (id : ItemId) (ids : List ItemId) → put End id ids ≡ ids ++ id ∷ []
+pub put_end : (id : ItemId) (ids : List ItemId) → put End id ids ≡ ids ++ id ∷ []
 put_end id ids = rw (take-length ids, drop-length ids) refl
 
 -- ---- a new item at the end

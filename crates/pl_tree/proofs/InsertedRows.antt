@@ -13,17 +13,18 @@ use Rattle.pl_base.specs.Good.{HasRoots, IsGoodItem, IsTitle, IsTree, child_ids,
 use Rattle.pl_base.specs.Store.{Item, Store, item_id}
 use Rattle.pl_base.specs.Tree.{has_item, item_at, new_item}
 use Rattle.pl_base.proofs.ItemLaws.{bare}
+use Rattle.pl_base.proofs.ItemLookUps.{has_in}
 use Rattle.pl_base.proofs.ListLaws.{list_any_push}
 use Rattle.pl_base.proofs.Among.{In, from_map, in_back, in_either, in_front, in_map}
 use Rattle.pl_tree.specs.declared.place.Place.{Place}
 use Rattle.pl_tree.specs.Changes.{put, with_child}
-use Rattle.pl_tree.proofs.KeyCounts.{Ascends, Once, count, count-append}
-use Rattle.pl_tree.proofs.KeyCounts.{not_counted}
+use Rattle.pl_base.proofs.KeyCounts.{Ascends, Once, count, count-append}
+use Rattle.pl_base.proofs.KeyCounts.{not_counted}
 use Rattle.pl_tree.proofs.ChildLists.{bare_grown, count_grown, from_grown, grown, grown_id, grown_new, grown_old}
 use Rattle.pl_tree.proofs.GoodRows.{HasGoodRows}
 use Rattle.pl_tree.proofs.KeptItems.{all_good, good_children, good_item, good_still}
 use Rattle.pl_tree.proofs.KeptRoots.{kept_roots, top_range}
-use Rattle.pl_tree.proofs.LookedUp.{found_at, from_child_ids, has_in, id_key, in_child_ids}
+use Rattle.pl_tree.proofs.LookedUp.{found_at, from_child_ids, id_key, in_child_ids}
 use Rattle.pl_tree.proofs.LookedUp.{item_key, one_of_id}
 use Rattle.pl_tree.proofs.MappedItems.{at_push, bare_at, changed_other, has_map, same_at}
 use Rattle.pl_tree.proofs.TreeLaws.{Reaches, child_below, child_known, each_once, is_tree, once_more, reaches}

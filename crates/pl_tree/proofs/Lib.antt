@@ -3,7 +3,7 @@ pub mod AncestorLaws
 mod Causes
 mod ChildLists
 pub mod ChildSlots
-pub mod ChildWalk
+pub mod CountedChildren
 mod EntryRemoved
 pub mod GoodChanges
 mod GoodEntered
@@ -14,13 +14,12 @@ mod GoodRetitled
 mod GoodRows
 pub mod GoodStores
 pub mod GoodTagged
-mod InsertedChildren
+pub mod InsertedChildren
 mod InsertedRows
 mod Insides
 mod KeptItems
 mod KeptRoots
 mod KeptTags
-mod KeyCounts
 mod LookedUp
 mod MappedItems
 mod MoreItems

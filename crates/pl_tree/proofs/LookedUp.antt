@@ -12,16 +12,14 @@ use Rattle.pl_base.specs.Good.{child_ids}
 use Rattle.pl_base.specs.Store.{Item}
 use Rattle.pl_base.specs.Tree.{IsFolder, children_of, has_child, has_item, item_at, parent_of}
 use Rattle.pl_base.proofs.Among.{In, at_in, from_flat_map, in_flat_map}
-use Rattle.pl_tree.proofs.KeyCounts.{Ascends, Once, count-append, counted}
+use Rattle.pl_base.proofs.ItemLookUps.{same_item_number}
+use Rattle.pl_base.proofs.KeyCounts.{Ascends, Once, count-append, counted}
 
 abbrev pub item_key : Item → ℕ
 item_key i = i.id.0
 
 abbrev pub id_key : ItemId → ℕ
 id_key id = id.0
-
-pub same_id : (a b : ItemId) → a.0 ≡ b.0 → a ≡ b
-same_id a b e = let id : ℕ → ItemId = λ k. record { 0 = k } in ap id e
 
 -- ---- lists of ids
 
@@ -38,7 +36,7 @@ among_in (c ∷ cs) id some = choose (c.0 == id.0) refl some (among_in cs id)
   where
     choose : (b : Bool) → (c.0 == id.0) ≡ b → (b || list_any (λ (d : ItemId). d.0 == id.0) cs) ≡ true
         → (list_any (λ (d : ItemId). d.0 == id.0) cs ≡ true → In id cs) → In id (c ∷ cs)
-    choose true is some rest = inl (sym (same_id c id (eqb-true c.0 id.0 is)))
+    choose true is some rest = inl (sym (same_item_number c id (eqb-true c.0 id.0 is)))
     choose false is some rest = inr (rest some)
 
 -- ---- what is found
@@ -67,18 +65,11 @@ none_found test (y ∷ ys) x none h = choose (test y) refl none h (none_found te
 pub found_at : (items : List Item) (id : ItemId) (i : Item) → item_at items id ≡ Some i → In i items × (i.id ≡ id)
 found_at items id i is =
     let r = found_in (λ (j : Item). j.id.0 == id.0) items i is in
-    (r.0, same_id i.id id (eqb-true i.id.0 id.0 r.1))
+    (r.0, same_item_number i.id id (eqb-true i.id.0 id.0 r.1))
 
 pub folder_at : (items : List Item) (id : ItemId) (i : Item) → item_at items id ≡ Some i → i.kind ≡ Folder
     → IsFolder items id
 folder_at items id i is kind = rw is kind
-
-pub has_in : (items : List Item) (i : Item) → In i items → has_item items i.id ≡ true
-has_in [] i h = absurd h
-has_in (j ∷ js) i (inl e) =
-    or_left (j.id.0 == i.id.0) (has_item js i.id)
-    (eq-eqb j.id.0 i.id.0 (ap item_key (sym e)))
-has_in (j ∷ js) i (inr h) = or_right (j.id.0 == i.id.0) (has_item js i.id) (has_in js i h)
 
 pub in_has : (items : List Item) (id : ItemId) → has_item items id ≡ true → (i : Item) × In i items × (i.id ≡ id)
 in_has [] id has = absurd (both_ways false refl has)
@@ -86,7 +77,7 @@ in_has (j ∷ js) id has = choose (j.id.0 == id.0) refl (in_has js id) has
   where
     choose : (b : Bool) → (j.id.0 == id.0) ≡ b → (has_item js id ≡ true → (i : Item) × In i js × (i.id ≡ id))
         → (b || has_item js id) ≡ true → (i : Item) × In i (j ∷ js) × (i.id ≡ id)
-    choose true is rest some = (j, inl refl, same_id j.id id (eqb-true j.id.0 id.0 is))
+    choose true is rest some = (j, inl refl, same_item_number j.id id (eqb-true j.id.0 id.0 is))
     choose false is rest some = let r = rest some in (r.0, inr r.1, r.2)
 
 -- ---- ids ascend

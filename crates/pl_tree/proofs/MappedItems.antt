@@ -10,8 +10,9 @@ use Rattle.pl_base.specs.Store.{Item}
 use Rattle.pl_base.specs.Tree.{has_item, item_at}
 use Rattle.pl_base.proofs.ItemLaws.{bare}
 use Rattle.pl_base.proofs.Among.{In}
-use Rattle.pl_tree.proofs.KeyCounts.{Ascends}
-use Rattle.pl_tree.proofs.LookedUp.{found_at, item_key, same_id}
+use Rattle.pl_base.proofs.ItemLookUps.{same_item_number}
+use Rattle.pl_base.proofs.KeyCounts.{Ascends}
+use Rattle.pl_tree.proofs.LookedUp.{found_at, item_key}
 
 -- an item, changed if it has the id
 abbrev pub changed_at : ItemId → (Item → Item) → Item → Item
@@ -118,5 +119,5 @@ at_filter q (i ∷ items) id passes = choose (q i.id) (i.id.0 == id.0) refl refl
     choose true false is here rest = ap (λ (t : Bool). if t then Some i else
         item_at (filter (λ (j : Item). q j.id) items) id) here ∙ rest
     choose false true is here rest =
-        absurd (both_ways (q i.id) is (ap q (same_id i.id id (eqb-true i.id.0 id.0 here)) ∙ passes))
+        absurd (both_ways (q i.id) is (ap q (same_item_number i.id id (eqb-true i.id.0 id.0 here)) ∙ passes))
     choose false false is here rest = rest

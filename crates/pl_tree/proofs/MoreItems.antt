@@ -11,19 +11,20 @@ use Rattle.pl_base.specs.Store.{Item}
 use Rattle.pl_base.specs.Tags.{tags_root}
 use Rattle.pl_base.specs.Tree.{children_of, item_at}
 use Rattle.pl_base.proofs.ItemLaws.{bare, ids_changed}
+use Rattle.pl_base.proofs.ItemLookUps.{same_item_number}
 use Rattle.pl_base.proofs.ListLaws.{map-map}
 use Rattle.pl_base.proofs.Among.{In, from_map, in_either}
 use Rattle.pl_tree.specs.declared.place.Place.TheVariants.{End}
 use Rattle.pl_tree.specs.Changes.{put}
 use Rattle.pl_tree.specs.Refused.{is_tag}
-use Rattle.pl_tree.proofs.KeyCounts.{Ascends, Once}
+use Rattle.pl_base.proofs.KeyCounts.{Ascends, Once}
 use Rattle.pl_tree.proofs.Causes.{Takes}
 use Rattle.pl_tree.proofs.ChildLists.{bare_grown, from_grown, grown, grown_id}
 use Rattle.pl_tree.proofs.InsertedChildren.{ascends_new, at_new, at_old, child_below, ids_other, rows_new, rows_other}
 use Rattle.pl_tree.proofs.InsertedChildren.{rows_parent}
 use Rattle.pl_tree.proofs.KeptTags.{tag_is}
 use Rattle.pl_tree.proofs.LookedUp.{at_id, children_in, found_at, from_child_ids, id_key, in_child_ids}
-use Rattle.pl_tree.proofs.LookedUp.{item_key, same_id}
+use Rattle.pl_tree.proofs.LookedUp.{item_key}
 use Rattle.pl_tree.proofs.TagItems.{a_tag}
 use Rattle.pl_tree.proofs.TagRows.{child_rows, row_child}
 
@@ -177,7 +178,7 @@ module _ (items : List Item) (id parent : ItemId) (row : Item) (own : row.id ≡
       each t h =
           elim (cases_eq t.id.0 parent.0) as (λ _. listed news t ≡ with_entry parent (bare row) (listed items t)) [
             | inl same ↦
-                let e : t.id ≡ parent = same_id t.id parent same in
+                let e : t.id ≡ parent = same_item_number t.id parent same in
                 let below : parent.0 < id.0 = subst (λ (c : ItemId). c.0 < id.0) e (tag_below t h) in
                 let rows : child_rows news t.id ≡ child_rows items t.id ++ bare row ∷ [] =
                 ap (child_rows news) e

@@ -15,18 +15,19 @@ use Rattle.pl_base.specs.Store.{Item, Store, item_id}
 use Rattle.pl_base.specs.Tags.{tags_root}
 use Rattle.pl_base.specs.Tree.{child_items, children_of, item_at}
 use Rattle.pl_base.proofs.Among.{In, in_either}
+use Rattle.pl_base.proofs.ItemLookUps.{same_item_number}
 use Rattle.pl_tree.specs.declared.place.Place.TheVariants.{End}
 use Rattle.pl_tree.specs.Changes.{item_of, with_new}
 use Rattle.pl_tree.specs.Refused.{is_tag}
 use Rattle.pl_tree.specs.Tagged.{new_entry, new_items, new_tag, tag_named, tagged_items}
-use Rattle.pl_tree.proofs.KeyCounts.{Ascends, Once}
+use Rattle.pl_base.proofs.KeyCounts.{Ascends, Once}
 use Rattle.pl_tree.proofs.Causes.{Takes}
 use Rattle.pl_tree.proofs.ChildLists.{grown}
 use Rattle.pl_tree.proofs.GoodEntered.{no_tags_root}
 use Rattle.pl_tree.proofs.GoodRows.{good_rows}
 use Rattle.pl_tree.proofs.InsertedChildren.{ascends_new, at_new, ids_other, ids_parent}
 use Rattle.pl_tree.proofs.KeptTags.{tag_is}
-use Rattle.pl_tree.proofs.LookedUp.{children_in, found_at, found_in, id_key, in_child_ids, item_key, same_id}
+use Rattle.pl_tree.proofs.LookedUp.{children_in, found_at, found_in, id_key, in_child_ids, item_key}
 use Rattle.pl_tree.proofs.MoreItems.{found_more, fresh_more, ids_more, kind_more, known_more, lists_apart, lists_entry}
 use Rattle.pl_tree.proofs.MoreItems.{lists_folder, still_takes, tag_lists, takes_below, with_entry}
 use Rattle.pl_tree.proofs.RootItems.{top_folder}
@@ -88,7 +89,7 @@ module _ (old : Store) (next : ℕ) (page : PageId) (name : List ℕ) (date : Mi
     other_tag : (folder : ItemId) → Takes items folder → folder.0 ≢ tag.id.0
     other_tag folder f same =
         both_ways (is_tag items folder) f.no_tag
-        (ap (is_tag items) (same_id folder tag.id same) ∙ tag_is items once tag.id child)
+        (ap (is_tag items) (same_item_number folder tag.id same) ∙ tag_is items once tag.id child)
 
     pub known_takes : (folder : ItemId) → Takes items folder → Takes known_now folder
     known_takes folder f =

@@ -12,15 +12,16 @@ use Rattle.pl_base.specs.Store.{Item, item_id}
 use Rattle.pl_base.specs.Tree.{adopted, adopting, children_of, last_item, leaving, moved, new_item}
 use Rattle.pl_base.specs.Tree.{put_behind, without_id}
 use Rattle.pl_base.proofs.ListLaws.{all-filter}
-use Rattle.pl_base.proofs.OneParent.{Once, same_item}
+use Rattle.pl_base.proofs.ItemLookUps.{same_item}
+use Rattle.pl_base.proofs.OneParent.{Once}
 use Rattle.pl_base.proofs.Among.{In, all_from_in, at_in, in_front, in_take}
 use Rattle.pl_tree.specs.declared.new_item.NewItem.{NewItem}
 use Rattle.pl_tree.specs.declared.place.Place.{Place}
 use Rattle.pl_tree.specs.declared.place.Place.TheVariants.{End}
 use Rattle.pl_tree.specs.Changes.{position, put, taken_out, with_appended, with_child, with_inserted}
 use Rattle.pl_tree.specs.Places.{before}
-use Rattle.pl_tree.proofs.KeyCounts.{Ascends}
-use Rattle.pl_tree.proofs.ChildWalk.{apart_numbers, children_once}
+use Rattle.pl_base.proofs.KeyCounts.{Ascends}
+use Rattle.pl_base.proofs.ChildrenRun.{apart_numbers, children_once}
 use Rattle.pl_tree.proofs.LookedUp.{at_id, children_in, item_key}
 use Rattle.pl_tree.proofs.TreeLaws.{ids_ascend}
 

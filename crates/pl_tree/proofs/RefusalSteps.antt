@@ -3,10 +3,10 @@ use Rattle.std.proofs.Common.{◌≡◌, ◌∙◌, Bool, true, false, List, Opt
 use Rattle.std.specs.Option.{option_or}
 use Rattle.pl_base.specs.declared.id.ItemId.{ItemId}
 use Rattle.pl_base.specs.declared.refusal.Refusal.{Refusal}
-use Rattle.pl_base.specs.declared.refusal.Refusal.TheVariants.{NoItem, Fixed, Inside}
+use Rattle.pl_base.specs.declared.refusal.Refusal.TheVariants.{NoItem, Fixed}
 use Rattle.pl_base.specs.Store.{Item}
-use Rattle.pl_base.specs.Tree.{has_item, lies_in}
-use Rattle.pl_tree.specs.Refused.{inside_refusal, is_fixed, item_refusal}
+use Rattle.pl_base.specs.Tree.{has_item}
+use Rattle.pl_tree.specs.Refused.{is_fixed, item_refusal}
 
 -- as `item_refusal` has it
 abbrev of_item : ItemId → Bool → Bool → Option Refusal
@@ -29,17 +29,3 @@ item_free items id there free =
 -- where the first cause is none, the next ones decide
 pub next_cause : (o first rest : Option Refusal) → None ≡ first → o ≡ rest → o ≡ option_or first rest
 next_cause o first rest none is = is ∙ ap (λ (r : Option Refusal). option_or r rest) none
-
-pub first_cause : (r : Refusal) (first rest : Option Refusal) → Some r ≡ first → Some r ≡ option_or first rest
-first_cause r first rest is = ap (λ (o : Option Refusal). option_or o rest) is
-
--- as `inside_refusal` has it
-pub inside_none : (items : List Item) (item parent : ItemId) → lies_in items item parent ≡ false
-    → None ≡ inside_refusal items item parent
-inside_none items item parent is =
-    sym (ap (λ (b : Bool). let o : Option Refusal = if b then Some (Inside item) else None in o) is)
-
-pub inside_some : (items : List Item) (item parent : ItemId) → lies_in items item parent ≡ true
-    → Some (Inside item) ≡ inside_refusal items item parent
-inside_some items item parent is =
-    sym (ap (λ (b : Bool). let o : Option Refusal = if b then Some (Inside item) else None in o) is)

@@ -9,7 +9,8 @@ use Rattle.pl_base.specs.Store.{Item}
 use Rattle.pl_base.specs.Tree.{children_of, has_child, has_item, item_at, leaving, parent_of, removed, without_id}
 use Rattle.pl_base.proofs.ListLaws.{found_in}
 use Rattle.pl_base.proofs.LookUps.{found_some}
-use Rattle.pl_base.proofs.OneParent.{is_among, same_item}
+use Rattle.pl_base.proofs.ItemLookUps.{same_item}
+use Rattle.pl_base.proofs.OneParent.{is_among}
 use Rattle.pl_tree.proofs.LookedUp.{children_in}
 use Rattle.pl_tree.proofs.MappedItems.{at_filter, at_map}
 

@@ -11,14 +11,15 @@ use Rattle.pl_base.specs.Store.{Item, Store, item_id}
 use Rattle.pl_base.specs.Tree.{has_item, item_at, leaving, parent_of, without_id}
 use Rattle.pl_base.proofs.ItemLaws.{bare}
 use Rattle.pl_base.proofs.Among.{In, from_filter, from_map, in_filter, in_map}
-use Rattle.pl_tree.proofs.KeyCounts.{Ascends, Once}
+use Rattle.pl_base.proofs.ItemLookUps.{has_in, same_item_number}
+use Rattle.pl_base.proofs.KeyCounts.{Ascends, Once}
 use Rattle.pl_tree.proofs.ChildLists.{count_kept, count_left, from_without, left_other, without_other}
 use Rattle.pl_tree.proofs.GoodRows.{HasGoodRows}
 use Rattle.pl_tree.proofs.Insides.{LiesLaws, parent_inside}
 use Rattle.pl_tree.proofs.KeptItems.{all_good, good_children, good_item}
 use Rattle.pl_tree.proofs.KeptRoots.{kept_roots, tops}
-use Rattle.pl_tree.proofs.LookedUp.{from_child_ids, has_in, has_parent, id_key, in_child_ids, in_has, item_key}
-use Rattle.pl_tree.proofs.LookedUp.{parent_is, same_id}
+use Rattle.pl_tree.proofs.LookedUp.{from_child_ids, has_parent, id_key, in_child_ids, in_has, item_key}
+use Rattle.pl_tree.proofs.LookedUp.{parent_is}
 use Rattle.pl_tree.proofs.MappedItems.{at_filter, bare_at, same_at}
 use Rattle.pl_tree.proofs.RootItems.{IsNoRoot, no_child_of_root, parent_of_top}
 use Rattle.pl_tree.proofs.TreeLaws.{Reaches, child_known, child_once, each_once, first_no_child, is_tree, once_fewer}
@@ -122,7 +123,7 @@ module _ (old : Store) (item : ItemId) (up : Ascends item_key old.items) (good :
         | inl within ↦ or_left (inside c) (holds c) (lies.child c i.id above within)
         | inr outside ↦
             elim (cases_eq c.0 item.0) as (λ _. (inside c || holds c) ≡ true) [
-              | inl e ↦ or_left (inside c) (holds c) (ap inside (same_id c item e) ∙ lies.itself there)
+              | inl e ↦ or_left (inside c) (holds c) (ap inside (same_item_number c item e) ∙ lies.itself there)
               | inr other ↦
                   let held : holds i.id ≡ true = held_outside (inside i.id) (holds i.id) outside before in
                   or_right (inside c) (holds c)

@@ -9,9 +9,10 @@ use Rattle.pl_base.specs.Good.{HasRoots, IsTopFolder, IsTree}
 use Rattle.pl_base.specs.Store.{Item, Store, item_id, root_folder, top_folders}
 use Rattle.pl_base.specs.Tree.{children_of, item_at, parent_of}
 use Rattle.pl_base.proofs.Among.{In, at_in, from_map, in_map}
-use Rattle.pl_tree.proofs.KeyCounts.{Ascends}
+use Rattle.pl_base.proofs.ItemLookUps.{same_item_number}
+use Rattle.pl_base.proofs.KeyCounts.{Ascends}
 use Rattle.pl_tree.proofs.KeptRoots.{top_range, tops}
-use Rattle.pl_tree.proofs.LookedUp.{at_id, child_of, found_at, id_key, item_key, parent_is, parent_of_child, same_id}
+use Rattle.pl_tree.proofs.LookedUp.{at_id, child_of, found_at, id_key, item_key, parent_is, parent_of_child}
 use Rattle.pl_tree.proofs.TreeLaws.{child_once, first_no_child}
 
 -- the item is none of the six
@@ -62,12 +63,12 @@ pub no_root_below : (store : Store) (p c : ItemId) → HasRoots store → IsTree
 no_root_below store p c roots tree other child m (inl e) same =
     let r = child_of store.items p c child in
     first_no_child store.items tree r.0 r.1
-    (subst (λ (d : ItemId). In d (r.0).children) (same_id c (item_id 1) (same ∙ e)) r.3)
+    (subst (λ (d : ItemId). In d (r.0).children) (same_item_number c (item_id 1) (same ∙ e)) r.3)
 no_root_below store p c roots tree other child m (inr g) same =
     let above : parent_of store.items c ≡ Some p =
     parent_of_child store.items p c (child_once store.items tree) child
     in
     let top : parent_of store.items c ≡ Some (item_id 1) =
-    ap (parent_of store.items) (same_id c (item_id m) same) ∙ parent_of_top store m roots tree g
+    ap (parent_of store.items) (same_item_number c (item_id m) same) ∙ parent_of_top store m roots tree g
     in
     other (ap id_key (same_Some p (item_id 1) (sym above ∙ top)))

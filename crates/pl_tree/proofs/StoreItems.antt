@@ -1,5 +1,5 @@
 -- Each change of the tree, where it is not refused, keeps the items of any store those of a good one.
-use Rattle.std.proofs.Common.{◌≡◌, ◌<◌, ◌≤◌, ◌==◌, ◌∙◌, ℕ, All, List, Option, Some, None, length, map, refl}
+use Rattle.std.proofs.Common.{◌≡◌, ◌<◌, ◌≤◌, ℕ, All, List, Option, Some, None, length, map, refl}
 use Rattle.std.specs.Prelude.{◌↔◌, IsTrue, bytes_eq}
 use Rattle.std.specs.List.Sorted.{IsStrictlyIncreasing}
 use Rattle.std.specs.Option.{IfSome, IsSome, option_and_then, option_or}
@@ -30,7 +30,7 @@ use Rattle.pl_tree.proofs.GoodMoved.{moved_good}
 use Rattle.pl_tree.proofs.GoodRemoved.{removed_good}
 use Rattle.pl_tree.proofs.GoodRetitled.{retitled_good}
 use Rattle.pl_tree.proofs.Insides.{LiesLaws}
-use Rattle.pl_tree.proofs.KeyCounts.{Ascends}
+use Rattle.pl_base.proofs.KeyCounts.{Ascends}
 use Rattle.pl_tree.proofs.LookedUp.{found_in, item_key}
 use Rattle.pl_tree.proofs.PutPlaces.{row_of_new}
 use Rattle.pl_tree.proofs.TreeLaws.{ids_ascend}

@@ -12,13 +12,14 @@ use Rattle.pl_base.specs.Store.{Item, Store}
 use Rattle.pl_base.specs.Tags.{is_tags_root, tags_of, tags_root}
 use Rattle.pl_base.specs.Tree.{child_items, children_of, item_at, parent_of}
 use Rattle.pl_base.proofs.Among.{In, at_in}
+use Rattle.pl_base.proofs.ItemLookUps.{same_item_number}
 use Rattle.pl_tree.specs.Refused.{is_entry, is_tag}
-use Rattle.pl_tree.proofs.KeyCounts.{Ascends}
+use Rattle.pl_base.proofs.KeyCounts.{Ascends}
 use Rattle.pl_tree.proofs.Causes.{MayChange, Takes}
 use Rattle.pl_tree.proofs.KeptItems.{good_item}
 use Rattle.pl_tree.proofs.KeptTags.{is_of_tags}
 use Rattle.pl_tree.proofs.LookedUp.{at_its_id, children_in, found_at, has_parent, in_child_ids, item_key}
-use Rattle.pl_tree.proofs.LookedUp.{parent_is, same_id}
+use Rattle.pl_tree.proofs.LookedUp.{parent_is}
 use Rattle.pl_tree.proofs.TreeLaws.{child_once}
 
 in_filter_map : (at : ItemId → Option Item) (ids : List ItemId) (c : ItemId) (i : Item) → In c ids → at c ≡ Some i
@@ -55,7 +56,8 @@ a_tag items id is = choose (parent_of items id) refl is
     choose None found is = absurd (both_ways false refl is)
     choose (Some p) found is =
         let r = has_parent items id p found in
-        record { root = r.0; there = r.1; is = r.2 ∙ same_id p tags_root (eqb-true p.0 tags_root.0 is); child = r.3 }
+        let same : p ≡ tags_root = same_item_number p tags_root (eqb-true p.0 tags_root.0 is) in
+        record { root = r.0; there = r.1; is = r.2 ∙ same; child = r.3 }
 
 -- the item is a child of a tag folder
 pub record IsEntry (items : List Item) (id : ItemId) : Type 0 where
@@ -103,7 +105,7 @@ child_of_tags items id is =
 pub change_apart : (items : List Item) (item x : ItemId) → MayChange items item → is_of_tags items x ≡ true
     → x.0 ≢ item.0
 change_apart items item x may is same =
-    let one : x ≡ item = same_id x item same in
+    let one : x ≡ item = same_item_number x item same in
     elim (of_tags items x is) as (λ _. ⊥) [
       | inl root ↦ omega (arith, may.no_root)
       | inr (inl tag) ↦ both_ways (is_tag items item) may.no_tag (ap (is_tag items) (sym one) ∙ tag)
@@ -136,7 +138,7 @@ pub takes_apart : (store : Store) (parent x : ItemId) → Ascends item_key store
     → Takes store.items parent → is_of_tags store.items x ≡ true → x.0 ≢ parent.0
 takes_apart store parent x up tags t is same =
     let items : List Item = store.items in
-    let one : x ≡ parent = same_id x parent same in
+    let one : x ≡ parent = same_item_number x parent same in
     elim (of_tags items x is) as (λ _. ⊥) [
       | inl root ↦ t.not_tags (sym same ∙ root)
       | inr (inl tag) ↦ both_ways (is_tag items parent) t.no_tag (ap (is_tag items) (sym one) ∙ tag)
@@ -160,7 +162,7 @@ no_child_of_tags store item i up good may h is c =
     elim (of_tags items i.id is) as (λ _. ⊥) [
       | inl root ↦
           both_ways (is_tag items item) may.no_tag
-          (ap is_tags_root (above ∙ ap (λ (p : ItemId). Some p) (same_id i.id tags_root root)))
+          (ap is_tags_root (above ∙ ap (λ (p : ItemId). Some p) (same_item_number i.id tags_root root)))
       | inr (inl tag) ↦
           both_ways (is_entry items item) may.no_entry
           (ap (λ (o : Option ItemId). is_tags_root (option_and_then (parent_of items) o)) above ∙ tag)

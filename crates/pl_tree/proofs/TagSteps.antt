@@ -44,15 +44,6 @@ entry_told items page name folder is = choose (tag_named name items) is
         let same : folder ≡ t.id = cc in
         ap (λ (id : ItemId). its_id (find (λ (i : Item). is_page page i.page) (child_items items id))) same
 
--- and where it is not
-pub entry_missing : (items : List Item) (page : PageId) (name : List ℕ) → None ≡ its_id (tag_named name items)
-    → None ≡ its_id (tag_entry page name items)
-entry_missing items page name is = choose (tag_named name items) is
-  where
-    choose : (o : Option Item) → None ≡ its_id o → None ≡ its_id (option_and_then (entry_in items page) o)
-    choose None is = refl
-    choose (Some t) is = absurd (cc)
-
 -- the folder is an item, and a folder
 pub folder_there : (kept : Kept) (name : List ℕ) (folder : ItemId) → HasTags (store_of kept)
     → Some folder ≡ its_id (tag_named name kept.items) → IsFolder kept.items folder

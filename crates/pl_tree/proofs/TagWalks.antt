@@ -1,7 +1,7 @@
 -- A walk over the children of a folder for the first one that passes a test.
 use Rattle.std.proofs.Common.{◌≡◌, ◌∙◌, ◌++◌, ◌==◌, Bool, true, false, List, [], ◌∷◌, Option, Some, None, ap, find}
-use Rattle.std.proofs.Common.{refl, subst, sym, ◌<◌}
-use Rattle.std.specs.List.{AllByRecursion, filter_map}
+use Rattle.std.proofs.Common.{length, refl, sym, ◌<◌}
+use Rattle.std.specs.List.{filter_map}
 use Rattle.std.specs.Option.{option_map, option_or}
 use Rattle.std.proofs.lemmas.List.Elements.{filter_map-append}
 use Rattle.std.proofs.lemmas.List.Folds.{find-append}
@@ -10,9 +10,10 @@ use Rattle.pl_base.specs.Good.{IsTree}
 use Rattle.pl_base.specs.Store.{Item}
 use Rattle.pl_base.specs.Tree.{child_items, children_of, has_item, item_at, sibling_behind}
 use Rattle.pl_base.proofs.LookUps.{found_passes}
-use Rattle.pl_base.proofs.OneParent.{same_item}
-use Rattle.pl_tree.proofs.ChildWalk.{IdWalk, IsHere, children_known, id_here, left, part, walk_ends, walk_goes_on}
-use Rattle.pl_tree.proofs.ChildWalk.{walk_nears}
+use Rattle.pl_base.proofs.ItemLookUps.{same_item}
+use Rattle.pl_base.proofs.ChildrenRun.{child_goes_on, child_here, child_names, children_run}
+use Rattle.pl_base.proofs.Walk.{StandsAt, Walk, ends, holds_here, left, nears, no_more, stands}
+use Rattle.pl_tree.proofs.CountedChildren.{children_known}
 
 module _ (items : List Item) (test : Item → Bool) where
   -- none of the items by these ids passes
@@ -54,40 +55,43 @@ module _ (items : List Item) (test : Item → Bool) where
 
   -- a child that the walk stands at is an item
   pub walked_there : (parent : ItemId) (next : Option ItemId) (id : ItemId) → IsTree items
-      → IdWalk (children_of items parent) NonePasses next → next ≡ Some id → has_item items id ≡ true
+      → Walk child_names (children_of items parent) NonePasses next → next ≡ Some id → has_item items id ≡ true
   walked_there parent next id tree walk at =
-      let w : IsHere (children_of items parent) NonePasses id =
-      id_here (children_of items parent) NonePasses next id walk at in
-      part (λ (c : ItemId). has_item items c ≡ true) w.front id w.rest
-      (subst (AllByRecursion (λ (c : ItemId). has_item items c ≡ true)) w.whole (children_known items parent tree))
+      let w : StandsAt child_names (children_of items parent) NonePasses id =
+      stands child_names (children_of items parent) NonePasses next id walk at in
+      ap (has_item items) (sym w.is)
+      ∙ holds_here child_names (children_of items parent) NonePasses (λ (c : ItemId). has_item items c ≡ true) id
+      (children_known items parent tree) w
 
   pub walked_on : (parent : ItemId) (next : Option ItemId) (id : ItemId) (then : Option ItemId) → IsTree items
-      → IdWalk (children_of items parent) NonePasses next → next ≡ Some id → then ≡ sibling_behind items id
-      → Some false ≡ option_map test (item_at items id) → IdWalk (children_of items parent) NonePasses then
+      → Walk child_names (children_of items parent) NonePasses next → next ≡ Some id → then ≡ sibling_behind items id
+      → Some false ≡ option_map test (item_at items id) → Walk child_names (children_of items parent) NonePasses then
   walked_on parent next id then tree walk at is fails =
-      let w : IsHere (children_of items parent) NonePasses id =
-      id_here (children_of items parent) NonePasses next id walk at in
-      walk_goes_on items parent NonePasses NonePasses id then tree w is (none_more w.front id fails w.so_far)
+      let w : StandsAt child_names (children_of items parent) NonePasses id =
+      stands child_names (children_of items parent) NonePasses next id walk at in
+      child_goes_on items parent NonePasses id w NonePasses then tree is (none_more w.front id fails w.so_far)
 
   pub walked_near : (parent : ItemId) (next : Option ItemId) (id : ItemId) (then : Option ItemId) → IsTree items
-      → IdWalk (children_of items parent) NonePasses next → next ≡ Some id → then ≡ sibling_behind items id
-      → left (children_of items parent) then < left (children_of items parent) next
+      → Walk child_names (children_of items parent) NonePasses next → next ≡ Some id → then ≡ sibling_behind items id
+      → left (sibling_behind items) (length (children_of items parent)) then
+      < left (sibling_behind items) (length (children_of items parent)) next
   walked_near parent next id then tree walk at is =
-      walk_nears items parent NonePasses next id then tree
-      (id_here (children_of items parent) NonePasses next id walk at) at is
+      nears child_names (sibling_behind items) (children_of items parent) NonePasses next then id
+      (children_run items parent tree) (stands child_names (children_of items parent) NonePasses next id walk at) at is
 
   pub found_here : (parent : ItemId) (next : Option ItemId) (id : ItemId)
-      → IdWalk (children_of items parent) NonePasses next → next ≡ Some id
+      → Walk child_names (children_of items parent) NonePasses next → next ≡ Some id
       → Some true ≡ option_map test (item_at items id)
       → Some id ≡ option_map (λ (i : Item). i.id) (find test (child_items items parent))
   found_here parent next id walk at passes =
-      let w : IsHere (children_of items parent) NonePasses id =
-      id_here (children_of items parent) NonePasses next id walk at in
+      let w : StandsAt child_names (children_of items parent) NonePasses id =
+      stands child_names (children_of items parent) NonePasses next id walk at in
       first_passes w.front id w.rest passes w.so_far
       ∙ ap (λ (ids : List ItemId). option_map (λ (i : Item). i.id) (find test (filter_map (item_at items) ids)))
-      (sym w.whole)
+      (sym (child_here items parent NonePasses id w))
 
-  pub found_none : (parent : ItemId) (next : Option ItemId) → IdWalk (children_of items parent) NonePasses next
+  pub found_none : (parent : ItemId) (next : Option ItemId) → Walk child_names (children_of items parent) NonePasses next
       → next ≡ None → None ≡ option_map (λ (i : Item). i.id) (find test (child_items items parent))
   found_none parent next w end =
-      ap (option_map (λ (i : Item). i.id)) (sym (walk_ends (children_of items parent) NonePasses next w end))
+      ap (option_map (λ (i : Item). i.id))
+      (sym (ends child_names (children_of items parent) NonePasses next w (no_more next end)))

@@ -14,12 +14,13 @@ use Rattle.pl_base.specs.Store.{Item}
 use Rattle.pl_base.specs.Tags.{tags_root}
 use Rattle.pl_base.specs.Tree.{children_of, item_at}
 use Rattle.pl_base.proofs.Among.{In, all_from_in, in_either}
+use Rattle.pl_base.proofs.ItemLookUps.{same_item_number}
 use Rattle.pl_tree.specs.declared.place.Place.TheVariants.{End}
 use Rattle.pl_tree.specs.Changes.{item_of, with_new}
 use Rattle.pl_tree.specs.Tagged.{new_entry, new_tag}
-use Rattle.pl_tree.proofs.KeyCounts.{Ascends}
+use Rattle.pl_base.proofs.KeyCounts.{Ascends}
 use Rattle.pl_tree.proofs.InsertedChildren.{rows_new, rows_other, rows_parent}
-use Rattle.pl_tree.proofs.LookedUp.{child_of, in_child_ids, item_key, same_id}
+use Rattle.pl_tree.proofs.LookedUp.{child_of, in_child_ids, item_key}
 use Rattle.pl_tree.proofs.TagRows.{HasTagRows, IsTagRow, child_rows, row_child}
 
 pub pairs_push : (R : Item → Item → Type 0) (xs : List Item) (y : Item) → AllPairs R xs
@@ -126,7 +127,7 @@ module _ (items : List Item) (id : ItemId) (date : Micros) (up : Ascends item_ke
               λ t h.
               let g : In t (child_rows items tags_root) = subst (In t) same_tags h in
               elim (cases_eq t.id.0 tag.id.0) as (λ _. IsTagRow entered t) [
-                | inl e ↦ tag_row t (same_id t.id tag.id e) (rows.folders t g)
+                | inl e ↦ tag_row t (same_item_number t.id tag.id e) (rows.folders t g)
                 | inr other ↦
                     same_row items entered t
                     (rows_other items id tag.id entry refl refl up fresh known t.id (tag_below t g) other)

@@ -11,11 +11,12 @@ use Rattle.pl_base.specs.declared.id.ItemId.{ItemId}
 use Rattle.pl_base.specs.Good.{IsReached, IsTree, child_ids}
 use Rattle.pl_base.specs.Store.{Item, item_id}
 use Rattle.pl_base.specs.Tree.{has_item}
+use Rattle.pl_base.proofs.ItemLookUps.{same_item_number}
 use Rattle.pl_base.proofs.ListLaws.{AllPairs-from_map}
 use Rattle.pl_base.proofs.Among.{In, all_from_in, at_in}
-use Rattle.pl_tree.proofs.KeyCounts.{Ascends, Once, ascends_from_pairs, count}
-use Rattle.pl_tree.proofs.KeyCounts.{count-cons, counted, once_from_pairs, pairs_from_once, tick, tick_other, tick_same}
-use Rattle.pl_tree.proofs.LookedUp.{id_key, in_child_ids, in_has, item_key, same_id}
+use Rattle.pl_base.proofs.KeyCounts.{Ascends, Once, ascends_from_pairs, count}
+use Rattle.pl_base.proofs.KeyCounts.{count-cons, counted, once_from_pairs, pairs_from_once, tick, tick_other, tick_same}
+use Rattle.pl_tree.proofs.LookedUp.{id_key, in_child_ids, in_has, item_key}
 
 pub ids_ascend : (items : List Item) → IsStrictlyIncreasing (map (λ (i : Item). i.id.0) items)
     → Ascends item_key items
@@ -69,7 +70,7 @@ child_below items n tree below c h =
 pub each_once : (items : List Item) → IsTree items → Once id_key (item_id 1 ∷ child_ids items)
 each_once items tree =
     once_from_pairs id_key (item_id 1 ∷ child_ids items)
-    (λ i j d before within e. tree.once i j d before within (same_id _ _ e))
+    (λ i j d before within e. tree.once i j d before within (same_item_number _ _ e))
 
 pub child_once : (items : List Item) → IsTree items → Once id_key (child_ids items)
 child_once items tree k =

@@ -10,22 +10,8 @@ use Rattle.pl_base.specs.Rows.{Kept, store_of}
 use Rattle.pl_base.specs.Store.{Item, item_id, root_folder, top_folders}
 use Rattle.pl_base.specs.Tree.{has_item, item_at, item_row, parent_of}
 use Rattle.pl_base.proofs.ListLaws.{found_in}
-use Rattle.pl_base.proofs.LookUps.{found_passes, found_some}
-use Rattle.pl_base.proofs.OneParent.{same_item}
+use Rattle.pl_base.proofs.LookUps.{found_some}
 use Rattle.pl_tree.proofs.AncestorLaws.{child_there}
-
--- what the rows tell of an item's parent
-pub parent_told : (items : List Item) (id : ItemId) (row : ItemRow)
-    → Some row ≡ option_map (item_row items) (item_at items id) → row.parent ≡ parent_of items id
-parent_told items id row is = choose (item_at items id) refl is
-  where
-    choose : (o : Option Item) → item_at items id ≡ o → Some row ≡ option_map (item_row items) o
-        → row.parent ≡ parent_of items id
-    choose None at is = absurd (cc)
-    choose (Some i) at is =
-        let same : row ≡ item_row items i = cc in
-        ap (λ (r : ItemRow). r.parent) same
-        ∙ ap (parent_of items) (same_item i.id id (found_passes (λ (j : Item). j.id.0 == id.0) items i at))
 
 -- whether it is an item
 pub told_there : (items : List Item) (id : ItemId) (o : Option ItemRow)

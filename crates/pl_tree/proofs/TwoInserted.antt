@@ -14,13 +14,14 @@ use Rattle.pl_base.specs.Tags.{tags_root}
 use Rattle.pl_base.specs.Tree.{IsFolder, adopted, children_of, item_at, new_item}
 use Rattle.pl_base.proofs.ItemLaws.{count_inserted, slots_inserted}
 use Rattle.pl_base.proofs.Among.{In, in_back}
+use Rattle.pl_base.proofs.ItemLookUps.{same_item_number}
 use Rattle.pl_tree.specs.declared.new_item.NewItem.{NewItem}
 use Rattle.pl_tree.specs.declared.place.Place.{Place}
 use Rattle.pl_tree.specs.declared.place.Place.TheVariants.{End}
 use Rattle.pl_tree.specs.Changes.{item_of, with_child, with_inserted}
 use Rattle.pl_tree.specs.Places.{before}
 use Rattle.pl_tree.proofs.KeptRoots.{tops}
-use Rattle.pl_tree.proofs.LookedUp.{at_id, at_its_id, children_in, folder_at, same_id}
+use Rattle.pl_tree.proofs.LookedUp.{at_id, at_its_id, children_in, folder_at}
 use Rattle.pl_tree.proofs.PutPlaces.{child_put, item_inserted, its_children, row_of_new}
 use Rattle.pl_tree.proofs.TreeLaws.{ids_ascend}
 
@@ -57,7 +58,7 @@ module _ (kept : Kept) (row : ItemRow) (title : List ℕ) (after : Option ItemId
       (in_back (adopted row.parent after (item_id kept.ids.item) kept.items) (new ∷ []) new (inl refl)) in
       folder_at now.items id new
       (at_id now.items new id (ids_ascend now.items h.item_ids.ascending) within
-      (same_id (item_id kept.ids.item) id (sym is)))
+      (same_item_number (item_id kept.ids.item) id (sym is)))
       kind
 
 pub live_of_second : (kept : Kept) (row other : ItemRow) (title : List ℕ) (after : Option ItemId)
@@ -113,7 +114,7 @@ both_inserted kept first second row other title after folder new entry h tree g 
     last_inserted kept first tags_root row title after new h tree made row_is title_is after_is in
     made_too ∙ ap (λ (r : ItemRow). with_item r [] None first) other_is
     ∙ ap (λ (id : ItemId). with_item (row_of_new id entry) [] None first)
-    (same_id folder (item_id kept.ids.item) folder_is)
+    (same_item_number folder (item_id kept.ids.item) folder_is)
     ∙ ap (λ (t : List ℕ). with_item (row_of_new (item_id kept.ids.item) entry) t None first) none
     ∙ ap (λ (k : Kept). with_item (row_of_new (item_id kept.ids.item) entry) entry.title None k) folder_made
     ∙ in_new kept tags_root End new entry (subst IsWellKept folder_made g)

@@ -16,7 +16,7 @@ use Rattle.pl_base.specs.Tree.{child_items, children_of, first_item, has_item, i
 use Rattle.pl_base.proofs.Among.{In}
 use Rattle.pl_tree.specs.Refused.{untag_refusal}
 use Rattle.pl_tree.specs.Tagged.{entry_in, tag_entry, tag_named, untagged_items}
-use Rattle.pl_tree.proofs.KeyCounts.{Ascends}
+use Rattle.pl_base.proofs.KeyCounts.{Ascends}
 use Rattle.pl_tree.proofs.EntryRemoved.{entry_child, has_child, if_none_left, mid_child, mid_good, no_children}
 use Rattle.pl_tree.proofs.GoodRows.{good_rows}
 use Rattle.pl_tree.proofs.GoodTagged.{good_untagged}

@@ -39,7 +39,7 @@ module _ {A : Type 0} (same : A → A → Bool) where
       choose true false is here rest = rw (is, here) (rest (rw here at none))
       choose false false is here rest = rw is (rest (rw here at none))
 
-  once_less : (q : A → Bool) (xs : List A) → each_once same xs ≡ true
+  pub once_less : (q : A → Bool) (xs : List A) → each_once same xs ≡ true
       → each_once same (filter q xs) ≡ true
   once_less q [] once = refl
   once_less q (x ∷ xs) once = choose (q x) refl (once_less q xs parts.1)

@@ -14,7 +14,7 @@ use Rattle.std.proofs.lemmas.Str.Ascii.{trim_ascii_is}
 use Rattle.pl_base.specs.Good.{IsTagName, is_blank}
 use Rattle.pl_words.specs.TagName.{trimmed, trimmed_back, trimmed_front}
 
-same_blank : (b : ℕ) → is_ascii_whitespace b ≡ is_blank b
+pub same_blank : (b : ℕ) → is_ascii_whitespace b ≡ is_blank b
 same_blank b = grind (arith, nat_tests)
 
 same_prefix : (bs : List ℕ) → prefix_len is_ascii_whitespace bs ≡ prefix_len is_blank bs

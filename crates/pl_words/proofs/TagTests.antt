@@ -1,5 +1,5 @@
 -- Which texts name a tag, as a test.
-use Rattle.std.proofs.Common.{◌≡◌, ◌≢◌, ◌==◌, ◌↔◌, ℕ, true, false, not, List, All, ap, Some, None}
+use Rattle.std.proofs.Common.{◌≡◌, ◌≢◌, ◌==◌, ℕ, true, false, not, List, All, ap, Some, None}
 use Rattle.std.proofs.Common.{length, ⊎_elim}
 use Rattle.std.specs.List.{list_any}
 use Rattle.std.proofs.lemmas.Bool.{and_from, and_parts, cases_Bool, cond-false, cond-true, le-leb, leb-true, lt-ltb}
@@ -40,10 +40,6 @@ test_of_name name tag =
     (ap not (no_comma_found name tag.no_comma)))
     tag.no_blank_before)
     tag.no_blank_after
-
--- the test tells the names of tags
-pub is_tag_name_tells : (name : List ℕ) → (is_tag_name name ≡ true) ↔ IsTagName name
-is_tag_name_tells name = (named_by_test name, test_of_name name)
 
 -- ---- what a text names
 

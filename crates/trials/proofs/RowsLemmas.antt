@@ -1,7 +1,6 @@
 -- What the calls of rows tell of a page or a visit that was asked for, and that a new row has its slots.
-use Rattle.std.proofs.Common.{◌≡◌, ◌≢◌, ◌<◌, ◌≤◌, ◌==◌, ℕ, All, Bool, true, false, List, Option, Some, None}
-use Rattle.std.proofs.Common.{arith, if◌then◌else◌, length, map, refl, subst, sym}
-use Rattle.std.specs.List.{list_any}
+use Rattle.std.proofs.Common.{◌≡◌, ◌<◌, ◌≤◌, ◌==◌, ℕ, true, false, List, Option, Some, None}
+use Rattle.std.proofs.Common.{arith, length, map, refl, subst, sym}
 use Rattle.std.specs.List.Sorted.{IsStrictlyIncreasing}
 use Rattle.std.specs.Option.{option_map}
 use Rattle.std.proofs.lemmas.List.Elements.{All-nil}
@@ -10,14 +9,13 @@ use Rattle.pl_base.specs.declared.id.VisitId.{VisitId}
 use Rattle.pl_base.specs.declared.id.TheConstants.Ids.{OPENING}
 use Rattle.pl_base.specs.declared.row.Mark.{Mark}
 use Rattle.pl_base.specs.declared.row.VisitRow.{VisitRow}
-use Rattle.pl_base.specs.Address.{longest_url, same_origin}
+use Rattle.pl_base.specs.Address.{same_origin}
 use Rattle.pl_base.specs.Live.{live_slots, slot_limit}
-use Rattle.pl_base.specs.Rows.{IsOriginOf, Kept, KeptPage, has_page, has_visit, live_with_page, live_with_title}
+use Rattle.pl_base.specs.Rows.{IsOriginOf, Kept, KeptPage, has_page, has_visit, live_with_title}
 use Rattle.pl_base.specs.Rows.{mark_of}
 use Rattle.pl_base.specs.Rows.{opening_with, page_at, row_of, store_of, visit_at}
 use Rattle.pl_base.specs.Store.{Visit}
-use Rattle.pl_plain.specs.Place.{urls_of}
-use Rattle.pl_plain.proofs.FlatChanges.{slots_with_page, slots_with_title}
+use Rattle.pl_plain.proofs.FlatChanges.{slots_with_title}
 use Rattle.pl_plain.proofs.Lookups.{there-found}
 
 pub page_there : (kept : Kept) (page : PageId) (mark : Mark) → Some mark ≡ option_map mark_of (page_at kept page)
@@ -30,30 +28,10 @@ visit_there kept visit row told = there-found (λ (v : Visit). v.id.0 == visit.0
 
 -- ---- a first page
 
-pub none_has : (kept : Kept) (url : List ℕ) → kept ≡ opening_with OPENING
-    → All (λ (p : KeptPage). p.page.url ≢ url) kept.pages
-none_has kept url opened =
-    subst (λ (k : Kept). All (λ (p : KeptPage). p.page.url ≢ url) k.pages) (sym opened)
-    (All-nil (λ (p : KeptPage). p.page.url ≢ url))
-
 pub no_origin : (kept : Kept) (url : List ℕ) → kept ≡ opening_with OPENING → IsOriginOf kept url None
 no_origin kept url opened =
     subst (λ (k : Kept). IsOriginOf k url None) (sym opened)
     (All-nil (λ (p : KeptPage). same_origin p.page.url url ≡ false))
-
-at_most_one : (b : Bool) → (if b then 0 else 1) ≤ 1
-at_most_one true = omega arith
-at_most_one false = omega arith
-
-pub has_slots : (kept : Kept) (url : List ℕ) → kept ≡ opening_with OPENING → length url ≤ longest_url
-    → live_with_page url kept ≤ slot_limit
-has_slots kept url opened short =
-    omega (
-      arith,
-      slots_with_page url (record { 0 = 0 }) kept,
-      subst (λ (k : Kept). live_slots (store_of k) ≤ 6) (sym opened) (omega arith),
-      at_most_one (list_any (same_origin url) (urls_of kept)),
-    )
 
 -- ---- a title
 

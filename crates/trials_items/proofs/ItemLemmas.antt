@@ -1,7 +1,6 @@
 -- What the calls of items tell of an item that was asked for, and that a new title has its slots.
-use Rattle.std.proofs.Common.{◌≡◌, ◌∙◌, ◌<◌, ◌≤◌, ◌==◌, ℕ, List, [], ◌∷◌, Option, Some, None, ap, arith, length}
+use Rattle.std.proofs.Common.{◌≡◌, ◌∙◌, ◌<◌, ◌≤◌, ◌==◌, ℕ, List, Option, Some, None, ap, arith, length}
 use Rattle.std.proofs.Common.{Bool, false, refl, suc, sym, true, zero}
-use Rattle.std.proofs.lemmas.Bool.{eqb-true}
 use Rattle.std.specs.List.{list_any}
 use Rattle.std.specs.Option.{IsSomeAnd, is_some, option_map}
 use Rattle.pl_base.specs.declared.date.Micros.{Micros}
@@ -15,9 +14,9 @@ use Rattle.pl_base.specs.Live.{live_slots, slot_limit}
 use Rattle.pl_base.specs.Rows.{Kept, KeptPage, has_page, live_with_item, live_with_item_title, mark_of, page_at}
 use Rattle.pl_base.specs.Rows.{store_of}
 use Rattle.pl_base.specs.Store.{Item}
-use Rattle.pl_base.specs.Tree.{IsFolder, ancestors, children_of, first_item, has_item, item_at, item_row, parent_of}
+use Rattle.pl_base.specs.Tree.{IsFolder, ancestors, has_item, item_at, item_row}
+use Rattle.pl_base.proofs.ItemLookUps.{parent_told}
 use Rattle.pl_plain.specs.FlatRows.{IsFlat}
-use Rattle.pl_check.proofs.RootTests.{found_passes}
 use Rattle.pl_plain.proofs.ItemChanges.{slots_retitled, slots_with_item}
 use Rattle.pl_plain.proofs.Lookups.{there-found}
 
@@ -43,23 +42,6 @@ folder_told items id row told kind = choose (item_at items id) told
         let is : row ≡ item_row items i = cc in
         sym (ap (λ (r : ItemRow). r.kind) is) ∙ kind
 
--- what the rows tell of an item's parent
-pub parent_told : (items : List Item) (id : ItemId) (row : ItemRow)
-    → Some row ≡ option_map (item_row items) (item_at items id) → row.parent ≡ parent_of items id
-parent_told items id row told = choose (item_at items id) refl told
-  where
-    same : (i : Item) → item_at items id ≡ Some i → i.id ≡ id
-    same i at =
-        let number : i.id.0 ≡ id.0 = eqb-true i.id.0 id.0 (found_passes (λ (j : Item). j.id.0 == id.0) items i at) in
-        ap (λ (n : ℕ). record { 0 = n }) number
-
-    choose : (found : Option Item) → item_at items id ≡ found → Some row ≡ option_map (item_row items) found
-        → row.parent ≡ parent_of items id
-    choose None at none = absurd (cc)
-    choose (Some i) at some =
-        let is : row ≡ item_row items i = cc in
-        ap (λ (r : ItemRow). r.parent) is ∙ ap (parent_of items) (same i at)
-
 -- ---- the way up from an item
 
 -- this item is among so many that another lies in
@@ -75,14 +57,6 @@ pub other_above : (items : List Item) (top id : ItemId) (n m : ℕ) (row : ItemR
     → is_above items top n (Some id) ≡ is_above items top m row.parent
 other_above items top id n m row next told other =
     rw (next, other) (ap (is_above items top m) (sym (parent_told items id row told)))
-
-pub childless : (items : List Item) (id : ItemId) → None ≡ first_item (children_of items id)
-    → children_of items id ≡ []
-childless items id none = choose (children_of items id) none
-  where
-    choose : (ids : List ItemId) → None ≡ first_item ids → ids ≡ []
-    choose [] none = refl
-    choose (c ∷ cs) none = absurd (cc)
 
 pub room_for_item : (kept : Kept) (row : ItemRow) (title : List ℕ) (after : Option ItemId)
     → length title ≤ longest_title → live_slots (store_of kept) < 4_000_000

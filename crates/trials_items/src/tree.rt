@@ -55,8 +55,8 @@ const TWO_SLOTS: &str = "aaaaaaaaaaaaaaaaaaaaaaaaaaaaaaaaaaaaaaaaaaaaaaaaaaaaaaa
 type Children<'a> = &'a [(u32, &'a [u32])];
 
 // Each change with the children of some folders after it, the items that have the page, how many
-// items there are, and the slots. Before them there are 9: those of six roots, and of a page with its
-// URL and its origin.
+// items there are, and the slots. Before them there are 9: those of six roots, and of a page with
+// its URL and its origin.
 const CHANGES: &[(Change, Children, &[u32], u32, u64)] = &[
     (
         Insert(2, 0, Folder, "F"),

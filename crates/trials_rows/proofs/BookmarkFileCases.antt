@@ -2,9 +2,7 @@
 use Rattle.std.proofs.Common.{◌≡◌, ◌++◌, ℕ, List, [], ◌∷◌, None, Some, map, refl}
 use Rattle.std.specs.Prelude.{codes}
 use Rattle.std.specs.Fmt.{digits}
-use Rattle.std.specs.Str.{chars}
 use lib.Utf8.{encode}
-use Rattle.caseless.proofs.Computing.{caseless}
 use Rattle.url.proofs.OnLiterals.{url_on_literals}
 use Rattle.pl_base.specs.declared.item.ItemKind.TheVariants.{Bookmark, Folder, Separator}
 use Rattle.pl_nbread.specs.declared.tree.Node.{Node}

@@ -1,12 +1,10 @@
 -- Cases of weights, bonuses, samples and frecencies: the definitions compute to values that were worked out by hand.
-use Rattle.std.proofs.Common.{◌≡◌, ◌++◌, ℕ, List, [], ◌∷◌, map, Option, Some, None, true, false, refl}
+use Rattle.std.proofs.Common.{◌≡◌, ◌++◌, ℕ, List, [], ◌∷◌, map, Some, None, true, false, refl}
 use Rattle.std.specs.Prelude.{pos, negsuc, codes}
 use Rattle.std.specs.List.{range_with_len}
 use Rattle.url.proofs.OnLiterals.{url_on_literals}
 use Rattle.pl_base.specs.declared.date.Micros.{Micros}
-use Rattle.pl_base.specs.declared.id.VisitId.{VisitId}
 use Rattle.pl_base.specs.declared.item.ItemKind.TheVariants.{Bookmark as ItemBookmark}
-use Rattle.pl_base.specs.declared.transition.Transition.{Transition}
 use Rattle.pl_base.specs.declared.transition.Transition.TheVariants.{Link, Typed, Embed, RedirectPermanent}
 use Rattle.pl_base.specs.declared.transition.Transition.TheVariants.{Reload}
 use Rattle.pl_base.specs.Date.{day_number, last_date}
@@ -16,6 +14,7 @@ use Rattle.pl_base.specs.Redirects.{is_redirect}
 use Rattle.pl_base.specs.Store.{Store, Page, Visit, Item, item_id, opening}
 use Rattle.pl_base.specs.Tables.{age, bonus_of, greatest_bonus, transition_bonus, weight_of}
 use Rattle.pl_base.specs.Transition.{transition_at, transitions}
+use Rattle.pl_base.proofs.WorkedRows.{visit}
 use Rattle.pl_score.specs.Sample.{most_points}
 
 abbrev date : ℕ → Micros
@@ -23,17 +22,6 @@ date n = record { 0 = n }
 
 abbrev page : ℕ → Page
 page n = record { id = record { 0 = n }; url = []; title = []; typed = false }
-
--- the visit `id` to page `of`
-abbrev visit : ℕ → ℕ → ℕ → Transition → Option VisitId → Visit
-visit id of at transition source =
-    record {
-      id = record { 0 = id };
-      page = record { 0 = of };
-      date = date at;
-      transition = transition;
-      source = source;
-    }
 
 -- a bookmark of page 1
 abbrev bookmark : Item

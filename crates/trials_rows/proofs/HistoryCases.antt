@@ -1,20 +1,20 @@
 -- Cases of visits, of visits and pages that go, and of days: the definitions compute to values worked out by hand.
-use Rattle.std.proofs.Common.{◌≡◌, ℕ, List, [], ◌∷◌, map, Option, Some, None, true, false, refl, Bool}
+use Rattle.std.proofs.Common.{◌≡◌, ℕ, List, [], ◌∷◌, map, Some, None, true, false, refl, Bool}
 use Rattle.std.specs.Prelude.{codes, pos}
 use Rattle.url.proofs.OnLiterals.{url_on_literals}
 use Rattle.pl_base.specs.declared.date.Day.{Day}
 use Rattle.pl_base.specs.declared.date.Micros.{Micros}
 use Rattle.pl_base.specs.declared.id.VisitId.{VisitId}
 use Rattle.pl_base.specs.declared.item.ItemKind.TheVariants.{Bookmark as ItemBookmark}
-use Rattle.pl_base.specs.declared.transition.Transition.{Transition}
 use Rattle.pl_base.specs.declared.transition.Transition.TheVariants.{Link, Typed, Embed}
 use Rattle.pl_base.specs.Date.{last_date, last_day}
 use Rattle.pl_base.specs.Days.{pages_moved}
 use Rattle.pl_base.specs.Expiration.{expired, is_earlier, trimmed, visits_before}
 use Rattle.pl_base.specs.Frecency.{frecency_of}
 use Rattle.pl_base.specs.Removal.{forgotten, without_visits}
-use Rattle.pl_base.specs.Store.{Store, Page, Visit, Item, item_id, opening, roots}
+use Rattle.pl_base.specs.Store.{Store, Page, Item, item_id, opening, roots}
 use Rattle.pl_base.specs.Visiting.{after_visit}
+use Rattle.pl_base.proofs.WorkedRows.{visit}
 
 abbrev day : ℕ → Day
 day n = record { 0 = n }
@@ -24,17 +24,6 @@ date n = record { 0 = n }
 
 abbrev page : ℕ → List ℕ → Bool → Page
 page n url typed = record { id = record { 0 = n }; url = url; title = []; typed = typed }
-
--- the visit `id` to page `of`
-abbrev visit : ℕ → ℕ → ℕ → Transition → Option VisitId → Visit
-visit id of at transition source =
-    record {
-      id = record { 0 = id };
-      page = record { 0 = of };
-      date = date at;
-      transition = transition;
-      source = source;
-    }
 
 -- a bookmark of the page
 abbrev bookmark : ℕ → ℕ → Item

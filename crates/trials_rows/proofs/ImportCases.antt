@@ -14,31 +14,10 @@ use Rattle.pl_base.specs.Store.{Item, Page, item_id, opening, root_folder}
 use Rattle.pl_nbread.specs.declared.tree.Node.{Node}
 use Rattle.pl_nbread.specs.declared.tree.Tree.{Tree}
 use Rattle.pl_nbread.specs.BookmarkTree.{micros}
+use Rattle.pl_nbwrite.proofs.TextRows.{bookmark, folder}
 use Rattle.pl_graft.specs.Import.{imported, row_count, tags_made}
 use Rattle.pl_outline.specs.Outline.{bookmarks}
 use Rattle.pl_step.specs.Step.{import_refusal, is_full}
-
-abbrev bookmark : ℕ → List ℕ → List ℕ → ℕ → List (List ℕ) → Node
-bookmark depth url title added tags = record {
-  depth = depth;
-  kind = Bookmark;
-  url = Some url;
-  title = title;
-  added = micros added;
-  modified = micros added;
-  tags = tags;
-}
-
-abbrev folder : ℕ → List ℕ → ℕ → ℕ → Node
-folder depth title added modified = record {
-  depth = depth;
-  kind = Folder;
-  url = None;
-  title = title;
-  added = micros added;
-  modified = micros modified;
-  tags = [];
-}
 
 abbrev separator : Node
 separator = record (folder 0 [] 0 0) { kind = Separator }

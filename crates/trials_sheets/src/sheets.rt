@@ -1,6 +1,3 @@
-ghost use Rattle.std.specs.Prelude.{◌≡◌, length};
-ghost use Rattle.pl_sheets.specs.Sheets.{page_count};
-
 use pl_base::{NoMemory, PAGE_SIZE};
 use pl_sheets::Sheets;
 use std::alloc::Global;

@@ -1,5 +1,5 @@
 // The nodes that tags make, each with no title yet.
-ghost use Rattle.std.specs.Prelude.{◌≡◌, ◌<◌, ◌≤◌, [], List, IfOk, unwrap_or};
+ghost use Rattle.std.specs.Prelude.{◌≡◌, ◌<◌, [], List, IfOk, unwrap_or};
 ghost use Rattle.std.specs.Option.{option_map};
 ghost use Rattle.pl_nbread.specs.BookmarkTree as spec;
 ghost use Rattle.pl_nbread.specs.BookmarkTree.{said, seconds_limit};

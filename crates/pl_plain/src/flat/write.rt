@@ -1,10 +1,10 @@
-ghost use Rattle.std.specs.Prelude.{◌≡◌, ◌+◌, ◌≤◌, ◌<◌, ◌^◌, ◌∷◌, ◌++◌, []};
-ghost use Rattle.std.specs.Prelude.{codes, length, map, replicate, All, OnOk};
+ghost use Rattle.std.specs.Prelude.{◌≡◌, ◌+◌, ◌≤◌, ◌<◌, ◌^◌, ◌++◌};
+ghost use Rattle.std.specs.Prelude.{length, map, All, OnOk};
 ghost use Rattle.pl_base.specs.Address.{longest_url};
 ghost use Rattle.pl_base.specs.Good.{child_ids, longest_title};
 ghost use Rattle.pl_stored.specs.Stored.{visit_of};
 ghost use Rattle.pl_plain.specs.FlatRows.{form_row};
-ghost use Rattle.pl_form.specs.Form.{eight, filled_pages, four, header, item_bytes, listed};
+ghost use Rattle.pl_form.specs.Form.{eight, four, item_bytes, listed};
 ghost use Rattle.pl_form.specs.Form.{page_bytes, page_or_zero, text_bytes, visit_bytes};
 ghost use Rattle.pl_form.specs.Form.{visit_or_zero};
 ghost use Rattle.pl_items.specs.declared.by_id.Child.{Child};

@@ -2,7 +2,8 @@ use Rattle.std.proofs.Common.{◌==◌, ◌∙◌, ◌++◌, ◌∷◌, [], ap, 
 use Rattle.std.proofs.lemmas.Int.{to_z-of_z}
 use Rattle.pl_base.specs.Rows.{Kept, KeptPage, mark_of}
 use Rattle.pl_base.proofs.LookUps.{found_where}
-use Rattle.pl_bar.proofs.Candidates.{mark_told, one_joins}
+use Rattle.pl_base.proofs.PageLaws.{mark_is}
+use Rattle.pl_bar.proofs.Candidates.{one_joins}
 use Rattle.pl_bar.proofs.offers.add_candidate.Goals as goal
 
 pub unwrap-mark-requires : goal.unwrap-mark-requires
@@ -13,7 +14,7 @@ unwrap-mark-requires g c =
 pub returns-in_ok-push : goal.returns-in_ok-push
 returns-in_ok-push g c p at =
     let kept : Kept = g.R.Rows.kept c.args.rows.now in
-    let mark = mark_told kept c.args.page p c.unwrap-mark.result at
+    let mark = mark_is kept c.args.page p c.unwrap-mark.result at
     (sym c.unwrap-mark.ensures ∙ c.page_at.ensures.mark) in
     c.in_ok-push.ensures.items
     ∙ ap (λ (y : ℤ). c.args.ranked.now.items ++ record { tier = c.in-Some.tier; frecency = y; page = c.args.page } ∷ [])

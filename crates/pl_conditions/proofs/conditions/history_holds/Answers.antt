@@ -2,10 +2,10 @@ use Rattle.std.proofs.Common.{◌≡◌, ◌∙◌, List, Some, ap, refl, sym}
 use Rattle.std.proofs.lemmas.Result.{IfOk-weaker}
 use Rattle.pl_base.specs.declared.transition.Transition.{Transition}
 use Rattle.pl_base.specs.Rows.{Kept, KeptPage, page_at, store_of}
+use Rattle.pl_base.proofs.PageLaws.{id_at}
 use Rattle.pl_place.specs.declared.query.Query.{Query}
 use Rattle.pl_conditions.specs.Conditions.{has_transitions, history_holds, page_holds}
 use Rattle.pl_conditions.proofs.AskedLaws.{history_by}
-use Rattle.pl_conditions.proofs.MarkLaws.{id_at}
 use Rattle.pl_conditions.proofs.conditions.history_holds.Goals as goal
 
 pub returns-then-not-has_transitions : goal.returns-then-not-has_transitions

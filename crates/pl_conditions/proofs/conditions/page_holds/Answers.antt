@@ -2,11 +2,11 @@ use Rattle.std.proofs.Common.{◌≡◌, ◌∙◌, ◌&&◌, Some, refl, sym}
 use Rattle.std.specs.List.{list_all}
 use Rattle.std.proofs.lemmas.Result.{IfOk-weaker}
 use Rattle.pl_base.specs.Rows.{Kept, KeptPage, page_at, store_of}
+use Rattle.pl_base.proofs.PageLaws.{id_at}
 use Rattle.pl_place.specs.declared.query.Query.{Query}
 use Rattle.pl_conditions.specs.AskedParts.{is_url_asked}
 use Rattle.pl_conditions.specs.Conditions.{has_word, is_uri, page_holds, words_asked}
 use Rattle.pl_conditions.proofs.AskedLaws.{page_by}
-use Rattle.pl_conditions.proofs.MarkLaws.{id_at}
 use Rattle.pl_conditions.proofs.conditions.page_holds.Goals as goal
 
 pub returns-then-not-has_count_asked : goal.returns-then-not-has_count_asked

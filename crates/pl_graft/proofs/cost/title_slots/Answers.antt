@@ -2,7 +2,7 @@
 use Rattle.std.proofs.Common.{◌≡◌, ◌≤◌, ◌∙◌, IsUtf8, ap, arith, length, subst}
 use Rattle.pl_base.specs.Good.{longest_title}
 use Rattle.pl_base.specs.Title.{cut_title}
-use Rattle.pl_graft.proofs.CutTitles.{cut_title-le}
+use Rattle.pl_base.proofs.TitleCuts.{cut_title-le}
 use Rattle.pl_graft.proofs.cost.title_slots.Goals as goal
 
 pub returns-clause-few : goal.returns-clause-few

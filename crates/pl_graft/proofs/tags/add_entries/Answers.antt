@@ -1,44 +1,46 @@
 use Rattle.std.proofs.Common.{List}
 use Rattle.pl_base.specs.Store.{Item}
-use Rattle.pl_base.specs.Tree.{children_of}
-use Rattle.pl_tree.proofs.ChildWalk.{IsHere, id_here, walk_goes_on, walk_nears, walk_starts}
+use Rattle.pl_base.specs.Tree.{children_of, sibling_behind}
+use Rattle.pl_base.proofs.ChildrenRun.{child_goes_on, child_names, children_run}
+use Rattle.pl_base.proofs.Walk.{StandsAt, nears, stands, starts}
 use Rattle.pl_graft.proofs.TagsRead.{ArePut, child_there, put_more, put_none}
 use Rattle.pl_graft.proofs.tags.add_entries.Given.{Over}
 use Rattle.pl_graft.proofs.tags.add_entries.Goals as goal
-use Rattle.pl_graft.proofs.tags.add_entries.Goals.{After-next_sibling-next, In_default}
+use Rattle.pl_graft.proofs.tags.add_entries.Goals.{After-next_sibling-next}
 
 pub loop-next-init : goal.loop-next-init
 loop-next-init g c =
-    walk_starts (children_of (g.R.Rows.kept c.args.rows.now).items c.args.folder)
+    starts child_names (children_of (g.R.Rows.kept c.args.rows.now).items c.args.folder)
     (ArePut (g.R.Rows.kept c.args.rows.now).items c.args.folder.0 c.args.entries.now c.args.entries.now 0)
     c.first_child-next.result c.first_child-next.ensures.first
     (put_none (g.R.Rows.kept c.args.rows.now).items c.args.folder.0 c.args.entries.now)
 
 here : (g : Over) (c : After-next_sibling-next g)
-    → IsHere (children_of (g.R.Rows.kept c.args.rows.now).items c.args.folder)
+    → StandsAt child_names (children_of (g.R.Rows.kept c.args.rows.now).items c.args.folder)
     (ArePut (g.R.Rows.kept c.args.rows.now).items c.args.folder.0 c.args.entries.now c.loop-next.entries
     c.loop-next.last) c.in-Some.entry
 here g c =
-    id_here (children_of (g.R.Rows.kept c.args.rows.now).items c.args.folder)
+    stands child_names (children_of (g.R.Rows.kept c.args.rows.now).items c.args.folder)
     (ArePut (g.R.Rows.kept c.args.rows.now).items c.args.folder.0 c.args.entries.now c.loop-next.entries
     c.loop-next.last) c.loop-next.next c.in-Some.entry c.loop-next.invariant c.in-Some.is
 
 pub loop-next-smaller : goal.loop-next-smaller
 loop-next-smaller g c =
-    walk_nears (g.R.Rows.kept c.args.rows.now).items c.args.folder
+    nears child_names (sibling_behind (g.R.Rows.kept c.args.rows.now).items)
+    (children_of (g.R.Rows.kept c.args.rows.now).items c.args.folder)
     (ArePut (g.R.Rows.kept c.args.rows.now).items c.args.folder.0 c.args.entries.now c.loop-next.entries
-    c.loop-next.last) c.loop-next.next c.in-Some.entry c.next_sibling-next.result c.requires.good.tree (here g c)
-    c.in-Some.is c.next_sibling-next.ensures.next
+    c.loop-next.last) c.loop-next.next c.next_sibling-next.result c.in-Some.entry
+    (children_run (g.R.Rows.kept c.args.rows.now).items c.args.folder c.requires.good.tree) (here g c) c.in-Some.is
+    c.next_sibling-next.ensures.next
 
 pub loop-next-preserved : goal.loop-next-preserved
 loop-next-preserved g c =
     let items : List Item = (g.R.Rows.kept c.args.rows.now).items in
-    let w : IsHere (children_of items c.args.folder)
+    let w : StandsAt child_names (children_of items c.args.folder)
     (ArePut items c.args.folder.0 c.args.entries.now c.loop-next.entries c.loop-next.last) c.in-Some.entry = here g c in
-    walk_goes_on items c.args.folder
-    (ArePut items c.args.folder.0 c.args.entries.now c.loop-next.entries c.loop-next.last)
-    (ArePut items c.args.folder.0 c.args.entries.now c.add_entry.new.entries c.from-last.result) c.in-Some.entry
-    c.next_sibling-next.result c.requires.good.tree w c.next_sibling-next.ensures.next
+    child_goes_on items c.args.folder (ArePut items c.args.folder.0 c.args.entries.now c.loop-next.entries
+    c.loop-next.last) c.in-Some.entry w (ArePut items c.args.folder.0 c.args.entries.now c.add_entry.new.entries
+    c.from-last.result) c.next_sibling-next.result c.requires.good.tree c.next_sibling-next.ensures.next
     (put_more items c.args.folder.0 c.args.entries.now c.loop-next.entries c.add_entry.new.entries c.loop-next.last
     w.front c.in-Some.entry c.page_of.result c.from-last.result
     (child_there items c.args.folder

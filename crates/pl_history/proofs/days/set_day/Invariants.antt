@@ -1,6 +1,7 @@
-use Rattle.std.proofs.Common.{ℕ, List}
+use Rattle.std.proofs.Common.{length, ℕ, List}
 use Rattle.pl_base.specs.Rows.{HaveSums}
-use Rattle.pl_marks.proofs.PageWalk.{left}
+use Rattle.pl_base.proofs.PagesRun.{following}
+use Rattle.pl_base.proofs.Walk.{left}
 use Rattle.pl_history.proofs.Freshened.{WalkedTo}
 use Rattle.pl_history.proofs.days.set_day.Given as goal
 
@@ -13,4 +14,4 @@ invariant-loop-next g l =
     }
 
 abbrev pub decreases-loop-next : goal.decreases-loop-next
-decreases-loop-next g l = left l.next
+decreases-loop-next g l = left (following (g.R.Rows.kept l.fn.rows)) (length (g.R.Rows.kept l.fn.rows).pages) l.next

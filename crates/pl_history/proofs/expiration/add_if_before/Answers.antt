@@ -5,8 +5,8 @@ use Rattle.pl_base.specs.Date.{day_number}
 use Rattle.pl_base.specs.Rows.{row_of}
 use Rattle.pl_base.specs.Store.{Visit}
 use Rattle.pl_base.proofs.LookUps.{found_where}
+use Rattle.pl_base.proofs.VisitsRun.{row_is, visit_is}
 use Rattle.pl_history.specs.Taken.{ids_of, is_before}
-use Rattle.pl_marks.proofs.VisitWalk.{row_is, visit_is}
 use Rattle.pl_history.proofs.expiration.add_if_before.Goals as goal
 
 pub unwrap-row-requires : goal.unwrap-row-requires

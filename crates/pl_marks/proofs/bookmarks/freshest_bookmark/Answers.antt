@@ -2,27 +2,28 @@ use Rattle.std.proofs.Common.{◌∙◌, ap, sym}
 use Rattle.std.specs.Option.{option_map}
 use Rattle.pl_base.specs.Rows.{Kept, store_of}
 use Rattle.pl_base.specs.View.{bookmarks_of, freshest}
+use Rattle.pl_base.proofs.ReferencesRun.{has_item_here, having, item_names, references_run}
+use Rattle.pl_base.proofs.Walk.{nears, stands}
+use Rattle.pl_base.specs.Tree.{reference_behind}
 use Rattle.pl_marks.specs.declared.bookmarks.Dated.{Dated}
 use Rattle.pl_marks.proofs.FreshestItem.{HasFreshest, freshest_at_end, freshest_goes_on, id_at_end}
-use Rattle.pl_marks.proofs.ItemWalk.{has_here, item_here, walk_nears}
 use Rattle.pl_marks.proofs.bookmarks.freshest_bookmark.Goals as goal
 
 pub dated_bookmark-requires : goal.dated_bookmark-requires
 dated_bookmark-requires g c =
     let kept : Kept = g.R.Rows.kept c.args.rows.now in
-    has_here kept c.args.page (HasFreshest kept.items c.loop-next.found) c.in-Some.item
-    (g.met.R.Rows.well_kept c.args.rows.now)
-    (item_here kept c.args.page (HasFreshest kept.items c.loop-next.found) c.loop-next.next c.in-Some.item
-    c.loop-next.invariant c.in-Some.is)
+    has_item_here kept c.args.page (HasFreshest kept.items c.loop-next.found) c.in-Some.item
+    (g.met.R.Rows.well_kept c.args.rows.now) (stands item_names (having kept.items c.args.page)
+    (HasFreshest kept.items c.loop-next.found) c.loop-next.next c.in-Some.item c.loop-next.invariant c.in-Some.is)
 
 pub loop-next-smaller : goal.loop-next-smaller
 loop-next-smaller g c =
     let kept : Kept = g.R.Rows.kept c.args.rows.now in
-    walk_nears kept c.args.page (HasFreshest kept.items c.loop-next.found) c.loop-next.next c.in-Some.item
-    c.next_reference-next.result (g.met.R.Rows.well_kept c.args.rows.now)
-    (item_here kept c.args.page (HasFreshest kept.items c.loop-next.found) c.loop-next.next c.in-Some.item
-    c.loop-next.invariant c.in-Some.is)
-    c.in-Some.is c.next_reference-next.ensures.next
+    nears item_names (reference_behind kept.items) (having kept.items c.args.page)
+    (HasFreshest kept.items c.loop-next.found) c.loop-next.next c.next_reference-next.result c.in-Some.item
+    (references_run kept c.args.page (g.met.R.Rows.well_kept c.args.rows.now))
+    (stands item_names (having kept.items c.args.page) (HasFreshest kept.items c.loop-next.found) c.loop-next.next
+    c.in-Some.item c.loop-next.invariant c.in-Some.is) c.in-Some.is c.next_reference-next.ensures.next
 
 pub loop-next-preserved : goal.loop-next-preserved
 loop-next-preserved g c =

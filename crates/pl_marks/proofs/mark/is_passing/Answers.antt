@@ -5,7 +5,7 @@ use Rattle.pl_base.specs.Redirects.{is_redirect_source}
 use Rattle.pl_base.specs.Rows.{row_of, store_of}
 use Rattle.pl_base.specs.Store.{Visit}
 use Rattle.pl_base.proofs.LookUps.{found_where}
-use Rattle.pl_marks.proofs.VisitWalk.{row_is, visit_is}
+use Rattle.pl_base.proofs.VisitsRun.{row_is, visit_is}
 use Rattle.pl_marks.proofs.mark.is_passing.Goals as goal
 
 pub unwrap-row-requires : goal.unwrap-row-requires

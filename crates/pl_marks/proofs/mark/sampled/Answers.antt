@@ -2,8 +2,8 @@ use Rattle.std.proofs.Common.{◌==◌, ◌∙◌, ◌≡◌, sym}
 use Rattle.pl_base.specs.Rows.{Kept, row_of, store_of}
 use Rattle.pl_base.specs.Store.{Visit}
 use Rattle.pl_base.proofs.LookUps.{found_where}
+use Rattle.pl_base.proofs.VisitsRun.{row_is, visit_is}
 use Rattle.pl_marks.proofs.PageScore.{sampled_is}
-use Rattle.pl_marks.proofs.VisitWalk.{row_is, visit_is}
 use Rattle.pl_marks.proofs.mark.sampled.Goals as goal
 
 pub unwrap-row-requires : goal.unwrap-row-requires

@@ -2,8 +2,8 @@ use Rattle.std.proofs.Common.{◌==◌, ◌∙◌, sym}
 use Rattle.std.proofs.lemmas.Bool.{false≢true}
 use Rattle.pl_base.specs.Store.{Item}
 use Rattle.pl_base.specs.Tree.{item_row}
+use Rattle.pl_base.proofs.ItemLookUps.{parent_told}
 use Rattle.pl_base.proofs.LookUps.{found_where}
-use Rattle.pl_marks.proofs.TagTree.{parent_told}
 use Rattle.pl_marks.proofs.tags.parent.Goals as goal
 
 pub returns-in_err-item_at : goal.returns-in_err-item_at

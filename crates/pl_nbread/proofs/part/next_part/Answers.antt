@@ -6,7 +6,6 @@ use Rattle.pl_nbread.proofs.ScanParts.{run_seen, run_shorter}
 use Rattle.pl_nbread.proofs.ScanSteps.{less_only, same_behind, same_front}
 use Rattle.pl_nbread.proofs.TokenLaws.{front_shorter}
 use Rattle.pl_nbread.proofs.part.next_part.Goals as goal
-use Rattle.pl_nbread.proofs.part.next_part.Goals.{After-cut}
 
 pub returns-in-Some-clause-shorter : goal.returns-in-Some-clause-shorter
 returns-in-Some-clause-shorter c =

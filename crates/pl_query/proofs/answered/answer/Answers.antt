@@ -7,7 +7,6 @@ use Rattle.pl_query.specs.declared.ordering.Candidate.{Candidate}
 use Rattle.pl_query.specs.QueryAnswer.{answer, told_row}
 use Rattle.pl_query.specs.Subjects.{row_at}
 use Rattle.pl_query.proofs.AnsweredRows.{answered_are, candidate_in, cut_there, found_apart, parts_in, told_are}
-use Rattle.pl_query.proofs.answered.answer.Goals.{After-result_rows}
 use Rattle.pl_query.proofs.answered.answer.Goals as goal
 
 pub put_in_order-requires : goal.put_in_order-requires

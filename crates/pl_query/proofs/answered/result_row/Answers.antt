@@ -5,8 +5,9 @@ use Rattle.pl_base.specs.Marks.{visit_count}
 use Rattle.pl_base.specs.Rows.{Kept, page_at, store_of}
 use Rattle.pl_base.specs.Store.{Page}
 use Rattle.pl_base.specs.Tags.{tag_text}
+use Rattle.pl_base.proofs.PageLaws.{url_at}
 use Rattle.pl_query.proofs.AnsweredRows.{told_alike}
-use Rattle.pl_query.proofs.RowsShown.{ShowsPage, page_there, page_url, shown_id, shown_row_id, shows_page}
+use Rattle.pl_query.proofs.RowsShown.{ShowsPage, page_there, shown_id, shown_row_id, shows_page}
 use Rattle.pl_query.proofs.answered.result_row.Goals as goal
 
 pub mark-mark-requires-clause-page : goal.mark-mark-requires-clause-page
@@ -24,7 +25,7 @@ returns g c row at =
     let here = ap (page_at kept) c.page-page.ensures ∙ s.page_is in
     told_alike (store_of kept) row c.id.result c.in_ok-url.url c.in_ok-title.title c.in_ok-tags.tags c.date.result
     c.mark-mark.result.count _ (c.id.ensures ∙ shown_row_id kept c.args.subject row at)
-    (page_url kept c.page-page.result s.p c.in_ok-url.url here c.in_ok-url.ensures.url
+    (url_at kept c.page-page.result s.p c.in_ok-url.url here c.in_ok-url.ensures.url
     ∙ ap (λ (p : Page). p.url) (sym s.is))
     (c.in_ok-title.ensures row at) (c.date.ensures row at)
     (c.mark-mark.ensures.count s.p here ∙ ap (λ (p : Page). visit_count (store_of kept) p.id) (sym s.is))

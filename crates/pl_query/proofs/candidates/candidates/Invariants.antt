@@ -1,11 +1,13 @@
-use Rattle.pl_marks.proofs.PageTurns.{PageTurns}
-use Rattle.pl_marks.proofs.PageWalk.{left}
+use Rattle.std.proofs.Common.{length}
+use Rattle.pl_base.proofs.PagesRun.{following, page_names}
+use Rattle.pl_base.proofs.Walk.{Walk, left}
 use Rattle.pl_query.proofs.AllParts.{HasParts}
 use Rattle.pl_query.proofs.candidates.candidates.Given as goal
 
 abbrev pub invariant-loop-next : goal.invariant-loop-next
 invariant-loop-next g l =
-    PageTurns (g.R.Rows.kept l.rows) (HasParts (g.R.Rows.kept l.rows) l.asked.query.now l.candidates.items) l.next
+    Walk page_names (g.R.Rows.kept l.rows).pages (HasParts (g.R.Rows.kept l.rows) l.asked.query.now l.candidates.items)
+    l.next
 
 abbrev pub decreases-loop-next : goal.decreases-loop-next
-decreases-loop-next g l = left l.next
+decreases-loop-next g l = left (following (g.R.Rows.kept l.rows)) (length (g.R.Rows.kept l.rows).pages) l.next

@@ -2,8 +2,8 @@ use Rattle.std.proofs.Common.{◌==◌, ◌∙◌, ap, sym}
 use Rattle.pl_base.specs.declared.row.Mark.{Mark}
 use Rattle.pl_base.specs.Rows.{Kept, KeptPage, mark_of}
 use Rattle.pl_base.proofs.LookUps.{found_where}
+use Rattle.pl_base.proofs.PageLaws.{mark_is}
 use Rattle.pl_marks.proofs.PageRows.{right_mark}
-use Rattle.pl_query.proofs.RowsShown.{mark_is}
 use Rattle.pl_query.proofs.shown.mark.Goals as goal
 
 pub unwrap-requires : goal.unwrap-requires

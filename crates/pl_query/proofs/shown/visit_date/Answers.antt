@@ -3,7 +3,7 @@ use Rattle.pl_base.specs.declared.row.VisitRow.{VisitRow}
 use Rattle.pl_base.specs.Rows.{row_of}
 use Rattle.pl_base.specs.Store.{Visit}
 use Rattle.pl_base.proofs.LookUps.{found_where}
-use Rattle.pl_marks.proofs.VisitWalk.{row_is}
+use Rattle.pl_base.proofs.VisitsRun.{row_is}
 use Rattle.pl_query.proofs.shown.visit_date.Goals as goal
 
 pub unwrap-requires : goal.unwrap-requires

@@ -1,6 +1,7 @@
 use Rattle.std.proofs.Common.{◌∙◌, sym}
-use Rattle.pl_tree.proofs.TreeRows.{no_parent, parent_told}
+use Rattle.pl_tree.proofs.TreeRows.{no_parent}
 use Rattle.pl_tree.proofs.ancestors.parent.Goals as goal
+use Rattle.pl_base.proofs.ItemLookUps.{parent_told}
 
 pub returns-in_err-item_at : goal.returns-in_err-item_at
 returns-in_err-item_at g c =

@@ -2,7 +2,7 @@ use Rattle.std.proofs.Common.{◌∙◌, ap, arith, sym}
 use Rattle.pl_base.specs.Tree.{children_of}
 use Rattle.pl_tree.specs.declared.place.Place.{Place}
 use Rattle.pl_tree.specs.Places.{before, others}
-use Rattle.pl_tree.proofs.ChildWalk.{before_end, few_children, last_of_all}
+use Rattle.pl_tree.proofs.CountedChildren.{before_end, few_children, last_of_all}
 use Rattle.pl_tree.proofs.children.child_before.Goals as goal
 
 pub returns-in-End-clause-before : goal.returns-in-End-clause-before

@@ -1,26 +1,28 @@
 use Rattle.std.proofs.Common.{◌∙◌, ◌+◌, None, Some, arith, sym}
 use Rattle.std.proofs.lemmas.Bool.{not-false, not-true}
 use Rattle.pl_base.specs.Rows.{Kept}
-use Rattle.pl_base.specs.Tree.{children_of}
+use Rattle.pl_base.specs.Tree.{children_of, sibling_behind}
+use Rattle.pl_base.proofs.ChildrenRun.{child_goes_on, child_names, children_run}
+use Rattle.pl_base.proofs.Walk.{StandsAt, ends, nears, no_more, stands, starts}
 use Rattle.pl_tree.specs.Places.{others}
-use Rattle.pl_tree.proofs.ChildWalk.{AreFirst, IsHere, Told, first_more, first_none, first_same, id_here, is_out}
-use Rattle.pl_tree.proofs.ChildWalk.{told_all, told_full, walk_ends, walk_goes_on, walk_nears, walk_starts}
+use Rattle.pl_tree.proofs.CountedChildren.{AreFirst, Told, first_more, first_none, first_same, is_out}
+use Rattle.pl_tree.proofs.CountedChildren.{told_all, told_full}
 use Rattle.pl_tree.proofs.children.first_children.Given.{Over}
 use Rattle.pl_tree.proofs.children.first_children.Goals as goal
-use Rattle.pl_tree.proofs.children.first_children.Goals.{In-Some, In_default, After-next_sibling-next}
+use Rattle.pl_tree.proofs.children.first_children.Goals.{In_default, After-next_sibling-next}
 use Rattle.pl_tree.proofs.children.first_children.Goals.{Then-count-limit, else-ne, then-ne}
 
 pub loop-next-init : goal.loop-next-init
 loop-next-init g c =
-    walk_starts (children_of (g.R.Rows.kept c.args.rows.now).items c.args.parent)
+    starts child_names (children_of (g.R.Rows.kept c.args.rows.now).items c.args.parent)
     (AreFirst c.args.left_out c.args.limit 0 None) c.first_child-next.result c.first_child-next.ensures.first
     (first_none c.args.left_out c.args.limit)
 
 here : (g : Over) (c : After-next_sibling-next g)
-    → IsHere (children_of (g.R.Rows.kept c.args.rows.now).items c.args.parent)
+    → StandsAt child_names (children_of (g.R.Rows.kept c.args.rows.now).items c.args.parent)
     (AreFirst c.args.left_out c.args.limit c.loop-next.count c.loop-next.last) c.in-Some.child
 here g c =
-    id_here (children_of (g.R.Rows.kept c.args.rows.now).items c.args.parent)
+    stands child_names (children_of (g.R.Rows.kept c.args.rows.now).items c.args.parent)
     (AreFirst c.args.left_out c.args.limit c.loop-next.count c.loop-next.last) c.loop-next.next c.in-Some.child
     c.loop-next.invariant c.in-Some.is
 
@@ -29,32 +31,34 @@ overflow_add-count g c = omega (arith, c.loop-next.invariant.so_far.few, c.range
 
 pub loop-next-smaller : goal.loop-next-smaller
 loop-next-smaller g c =
-    walk_nears (g.R.Rows.kept c.args.rows.now).items c.args.parent
-    (AreFirst c.args.left_out c.args.limit c.loop-next.count c.loop-next.last) c.loop-next.next c.in-Some.child
-    c.next_sibling-next.result c.requires.good.tree (here g c) c.in-Some.is c.next_sibling-next.ensures.next
+    let kept : Kept = g.R.Rows.kept c.args.rows.now in
+    nears child_names (sibling_behind kept.items) (children_of kept.items c.args.parent)
+    (AreFirst c.args.left_out c.args.limit c.loop-next.count c.loop-next.last) c.loop-next.next
+    c.next_sibling-next.result c.in-Some.child (children_run kept.items c.args.parent c.requires.good.tree) (here g c)
+    c.in-Some.is c.next_sibling-next.ensures.next
 
 pub loop-next-preserved : goal.loop-next-preserved
 loop-next-preserved g c =
     let kept : Kept = g.R.Rows.kept c.args.rows.now in
-    let w : IsHere (children_of kept.items c.args.parent)
+    let w : StandsAt child_names (children_of kept.items c.args.parent)
     (AreFirst c.args.left_out c.args.limit c.loop-next.count c.loop-next.last) c.in-Some.child = here g c in
     elim c.if-ne.branch [
       | then-ne b ↦
           rw (b.count-is, b.last-is)
-          (walk_goes_on kept.items c.args.parent
-          (AreFirst c.args.left_out c.args.limit c.loop-next.count c.loop-next.last)
-          (AreFirst c.args.left_out c.args.limit (c.loop-next.count + 1) (Some c.in-Some.child)) c.in-Some.child
-          c.next_sibling-next.result c.requires.good.tree w c.next_sibling-next.ensures.next
+          (child_goes_on kept.items c.args.parent
+          (AreFirst c.args.left_out c.args.limit c.loop-next.count c.loop-next.last) c.in-Some.child w
+          (AreFirst c.args.left_out c.args.limit (c.loop-next.count + 1) (Some c.in-Some.child))
+          c.next_sibling-next.result c.requires.good.tree c.next_sibling-next.ensures.next
           (first_more c.args.left_out c.args.limit c.loop-next.count c.loop-next.last w.front c.in-Some.child w.so_far
           (sym (is_out c.in-Some.child c.args.left_out)
           ∙ not-true _ (sym c.ne.ensures ∙ b.if-ne.true))
           c.if-count-limit.false))
       | else-ne b ↦
           rw (b.count-is, b.last-is)
-          (walk_goes_on kept.items c.args.parent
-          (AreFirst c.args.left_out c.args.limit c.loop-next.count c.loop-next.last)
-          (AreFirst c.args.left_out c.args.limit c.loop-next.count c.loop-next.last) c.in-Some.child
-          c.next_sibling-next.result c.requires.good.tree w c.next_sibling-next.ensures.next
+          (child_goes_on kept.items c.args.parent
+          (AreFirst c.args.left_out c.args.limit c.loop-next.count c.loop-next.last) c.in-Some.child w
+          (AreFirst c.args.left_out c.args.limit c.loop-next.count c.loop-next.last) c.next_sibling-next.result
+          c.requires.good.tree c.next_sibling-next.ensures.next
           (first_same c.args.left_out c.args.limit c.loop-next.count c.loop-next.last w.front c.in-Some.child w.so_far
           (sym (is_out c.in-Some.child c.args.left_out)
           ∙ not-false _ (sym c.ne.ensures ∙ b.if-ne.false))))
@@ -77,9 +81,9 @@ whole : (g : Over) (c : In_default g) → Told (others c.args.left_out
 whole g c =
     told_all (children_of (g.R.Rows.kept c.args.rows.now).items c.args.parent) c.args.left_out c.args.limit
     c.loop-next.count c.loop-next.last
-    (walk_ends (children_of (g.R.Rows.kept c.args.rows.now).items c.args.parent)
+    (ends child_names (children_of (g.R.Rows.kept c.args.rows.now).items c.args.parent)
     (AreFirst c.args.left_out c.args.limit c.loop-next.count c.loop-next.last) c.loop-next.next c.loop-next.invariant
-    c.in_default.is)
+    (no_more c.loop-next.next c.in_default.is))
 
 pub returns-in_default-clause-count : goal.returns-in_default-clause-count
 returns-in_default-clause-count g c = (whole g c).count_is

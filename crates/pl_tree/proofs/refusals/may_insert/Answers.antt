@@ -5,7 +5,7 @@ use Rattle.pl_base.specs.Rows.{Kept}
 use Rattle.pl_base.specs.Tree.{children_of}
 use Rattle.pl_tree.specs.Places.{before}
 use Rattle.pl_tree.specs.Refused.{parent_refusal, place_refusal}
-use Rattle.pl_tree.proofs.ChildWalk.{others_none}
+use Rattle.pl_tree.proofs.CountedChildren.{others_none}
 use Rattle.pl_tree.proofs.RefusalSteps.{next_cause}
 use Rattle.pl_tree.proofs.refusals.may_insert.Goals as goal
 

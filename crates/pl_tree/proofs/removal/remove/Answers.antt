@@ -3,7 +3,7 @@ use Rattle.pl_base.specs.declared.id.PageId.{PageId}
 use Rattle.pl_base.specs.Good.{HasGoodItems}
 use Rattle.pl_base.specs.Rows.{IsWellKept, Kept, store_of}
 use Rattle.pl_base.specs.Tree.{parent_of}
-use Rattle.pl_tree.proofs.KeyCounts.{Ascends}
+use Rattle.pl_base.proofs.KeyCounts.{Ascends}
 use Rattle.pl_tree.proofs.Causes.{may_change}
 use Rattle.pl_tree.proofs.GoodChanges.{good_removed}
 use Rattle.pl_tree.proofs.LookedUp.{item_key}

@@ -1,6 +1,7 @@
 use Rattle.std.proofs.Common.{◌∙◌, sym}
-use Rattle.pl_tree.proofs.TreeRows.{parent_told, told_there}
+use Rattle.pl_tree.proofs.TreeRows.{told_there}
 use Rattle.pl_tree.proofs.removal.remove_leaf.Goals as goal
+use Rattle.pl_base.proofs.ItemLookUps.{parent_told}
 
 pub unwrap-row-requires : goal.unwrap-row-requires
 unwrap-row-requires g c =

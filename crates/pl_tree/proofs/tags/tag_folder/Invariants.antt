@@ -1,16 +1,19 @@
+use Rattle.std.proofs.Common.{length}
 use Rattle.std.specs.Prelude.{bytes_eq}
 use Rattle.pl_base.specs.Fold.{folded}
 use Rattle.pl_base.specs.Store.{Item}
 use Rattle.pl_base.specs.Tags.{tags_root}
-use Rattle.pl_base.specs.Tree.{children_of}
-use Rattle.pl_tree.proofs.ChildWalk.{IdWalk, left}
+use Rattle.pl_base.specs.Tree.{children_of, sibling_behind}
+use Rattle.pl_base.proofs.ChildrenRun.{child_names}
+use Rattle.pl_base.proofs.Walk.{Walk, left}
 use Rattle.pl_tree.proofs.TagWalks.{NonePasses}
 use Rattle.pl_tree.proofs.tags.tag_folder.Given as goal
 
 abbrev pub invariant-loop-next : goal.invariant-loop-next
 invariant-loop-next g l =
-    IdWalk (children_of (g.R.Rows.kept l.rows).items tags_root)
+    Walk child_names (children_of (g.R.Rows.kept l.rows).items tags_root)
     (NonePasses (g.R.Rows.kept l.rows).items (λ (i : Item). bytes_eq (folded i.title) (folded l.name))) l.next
 
 abbrev pub decreases-loop-next : goal.decreases-loop-next
-decreases-loop-next g l = left (children_of (g.R.Rows.kept l.rows).items tags_root) l.next
+decreases-loop-next g l =
+    left (sibling_behind (g.R.Rows.kept l.rows).items) (length (children_of (g.R.Rows.kept l.rows).items tags_root)) l.next

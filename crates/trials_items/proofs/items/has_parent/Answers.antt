@@ -1,5 +1,5 @@
 use Rattle.std.proofs.Common.{◌∙◌, arith, sym}
-use Rattle.trials_items.proofs.ItemLemmas.{parent_told}
+use Rattle.pl_base.proofs.ItemLookUps.{parent_told}
 use Rattle.trials_items.proofs.items.has_parent.Goals as goal
 
 pub returns-in-Some : goal.returns-in-Some

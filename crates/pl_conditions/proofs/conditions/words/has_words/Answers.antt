@@ -2,9 +2,10 @@ use Rattle.std.proofs.Common.{◌∙◌, ap}
 use Rattle.std.specs.List.{list_all}
 use Rattle.pl_base.specs.Rows.{store_of}
 use Rattle.pl_base.specs.Store.{Store}
+use Rattle.pl_base.proofs.ListLaws.{list_all-alike}
 use Rattle.pl_conditions.specs.AskedParts.{is_in_texts}
 use Rattle.pl_conditions.specs.Conditions.{has_word}
-use Rattle.pl_conditions.proofs.AskedLaws.{list_all-alike, word_in_texts}
+use Rattle.pl_conditions.proofs.AskedLaws.{word_in_texts}
 use Rattle.pl_conditions.proofs.conditions.words.has_words.Goals as goal
 
 pub returns : goal.returns

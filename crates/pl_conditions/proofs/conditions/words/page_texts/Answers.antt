@@ -2,9 +2,9 @@ use Rattle.std.proofs.Common.{◌∙◌, List, ap, false, sym, ℕ}
 use Rattle.pl_base.specs.Fold.{folded}
 use Rattle.pl_base.specs.Rows.{Kept, store_of}
 use Rattle.pl_base.specs.Tags.{tag_text}
+use Rattle.pl_base.proofs.PageLaws.{id_at, title_at, url_at}
 use Rattle.pl_words.specs.Pieces.{in_address, searched}
 use Rattle.pl_conditions.proofs.AskedLaws.{in_searched}
-use Rattle.pl_conditions.proofs.MarkLaws.{id_at, title_at, url_at}
 use Rattle.pl_conditions.proofs.conditions.words.page_texts.Goals as goal
 
 pub returns : goal.returns

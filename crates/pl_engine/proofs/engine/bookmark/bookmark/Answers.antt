@@ -2,6 +2,7 @@ use Rattle.std.proofs.Common.{◌+◌, ◌∙◌, ap, arith, Bool, length, sym}
 use Rattle.pl_base.specs.Live.{chunks}
 use Rattle.pl_base.specs.Rows.{Kept, store_of}
 use Rattle.pl_base.specs.Title.{cut_title}
+use Rattle.pl_base.proofs.TitleCuts.{cut_title-le}
 use Rattle.pl_engine.specs.Room.{item_room}
 use Rattle.pl_history.specs.Target.{is_new}
 use Rattle.pl_engine.proofs.BookmarkAllowed.{bookmark_done, bookmark_refused, item_room_of}
@@ -9,7 +10,6 @@ use Rattle.pl_engine.proofs.BookmarkAllowed.{none_refused, room_item, room_page}
 use Rattle.pl_history.proofs.OriginParts.{is_place-by_parts}
 use Rattle.pl_engine.proofs.PageSlots.{are_slots}
 use Rattle.pl_history.proofs.ReadyPage.{ready}
-use Rattle.pl_engine.proofs.Titled.{cut_title-le}
 use Rattle.pl_engine.proofs.engine.bookmark.bookmark.Goals as goal
 
 pub returns-in-Some-room_refusal-clause-step : goal.returns-in-Some-room_refusal-clause-step

@@ -1,7 +1,7 @@
 use Rattle.std.proofs.Common.{◌∙◌, ap, arith, length, sym}
 use Rattle.pl_base.specs.Title.{cut_title}
+use Rattle.pl_base.proofs.TitleCuts.{cut_title-le}
 use Rattle.pl_engine.proofs.ItemTitled.{retitle_done, retitle_full, sound_retitled}
-use Rattle.pl_engine.proofs.Titled.{cut_title-le}
 use Rattle.pl_engine.proofs.engine.change.retitle.Goals as goal
 
 pub slots_after-requires-clause-title : goal.slots_after-requires-clause-title

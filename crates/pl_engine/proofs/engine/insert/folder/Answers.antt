@@ -1,5 +1,5 @@
 use Rattle.std.proofs.Common.{ap, arith, length}
-use Rattle.pl_engine.proofs.Titled.{cut_title-le}
+use Rattle.pl_base.proofs.TitleCuts.{cut_title-le}
 use Rattle.pl_engine.proofs.engine.insert.folder.Goals as goal
 
 pub insert_plain-requires-clause-title : goal.insert_plain-requires-clause-title

@@ -6,9 +6,9 @@ use Rattle.pl_step.specs.Step.{after_title, perform}
 use Rattle.pl_engine.specs.Titled.{within_slots}
 use Rattle.pl_base.specs.Store.{Store}
 use Rattle.pl_base.specs.Title.{cut_title}
+use Rattle.pl_base.proofs.TitleCuts.{cut_title-le}
 use Rattle.pl_history.proofs.KnownPage.{has_target}
 use Rattle.pl_history.proofs.Targets.{target_by}
-use Rattle.pl_engine.proofs.Titled.{cut_title-le}
 use Rattle.pl_engine.proofs.TitleStep.{same_of, step_of}
 use Rattle.pl_engine.proofs.engine.title.title.Goals as goal
 

@@ -1,8 +1,8 @@
 use Rattle.std.proofs.Common.{refl}
 use Rattle.pl_base.specs.declared.item.ItemRow.{ItemRow}
 use Rattle.pl_base.specs.Rows.{Kept}
+use Rattle.pl_base.proofs.TitleCuts.{cut_title-le}
 use Rattle.pl_graft.specs.Import.{node_row}
-use Rattle.pl_graft.proofs.CutTitles.{cut_title-le}
 use Rattle.pl_graft.proofs.ItemsKept.{row_goes_on, row_standing}
 use Rattle.pl_graft.proofs.Ready.{ready}
 use Rattle.pl_graft.proofs.grafting.Grafting.item_of_node.Goals as goal

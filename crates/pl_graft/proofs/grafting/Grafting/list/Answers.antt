@@ -2,7 +2,7 @@ use Rattle.std.proofs.Common.{◌≡◌, ◌∙◌, [], ◌∷◌, List, ap, len
 use Rattle.pl_base.specs.Rows.{Kept, store_of}
 use Rattle.pl_base.specs.Store.{item_id}
 use Rattle.pl_base.specs.Tree.{children_of}
-use Rattle.pl_tree.proofs.ChildWalk.{last_before_end}
+use Rattle.pl_tree.proofs.CountedChildren.{last_before_end}
 use Rattle.pl_graft.specs.declared.grafting.Open.{Open}
 use Rattle.pl_graft.specs.Import.{folders_behind, with_list}
 use Rattle.pl_graft.specs.OpenFolders.{AreOpen, MayGoOn, inner_of, root_of}

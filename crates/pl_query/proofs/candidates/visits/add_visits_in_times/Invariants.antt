@@ -1,11 +1,15 @@
-use Rattle.pl_marks.proofs.VisitWalk.{VisitWalk, left}
+use Rattle.pl_base.proofs.VisitsRun.{visit_names}
+use Rattle.pl_base.proofs.Walk.{Walk, left}
+use Rattle.pl_base.specs.Rows.{older_visit, page_visits}
+use Rattle.std.proofs.Common.{length}
 use Rattle.pl_query.proofs.PageParts.{HasVisits}
 use Rattle.pl_query.proofs.candidates.visits.add_visits_in_times.Given as goal
 
 abbrev pub invariant-loop-next : goal.invariant-loop-next
 invariant-loop-next g l =
-    VisitWalk (g.R.Rows.kept l.rows) l.fn.page
+    Walk visit_names (page_visits (g.R.Rows.kept l.rows) l.fn.page)
     (HasVisits (g.R.Rows.kept l.rows) l.asked.query.now l.fn.page l.fn.candidates.items l.candidates.items) l.next
 
 abbrev pub decreases-loop-next : goal.decreases-loop-next
-decreases-loop-next g l = left (g.R.Rows.kept l.rows) l.fn.page l.next
+decreases-loop-next g l = left (older_visit (g.R.Rows.kept l.rows))
+    (length (page_visits (g.R.Rows.kept l.rows) l.fn.page)) l.next

@@ -1,10 +1,10 @@
--- A walk over the children of a folder.
+-- The children of an item, counted: the one at a place, the first so many, and that there are fewer than ids.
 use Rattle.std.proofs.Common.{◌≡◌, ◌≢◌, ◌∙◌, ◌+◌, ◌<◌, ◌≤◌, ◌++◌, ◌==◌, ◌||◌, ℕ, Bool, true, false, List, [], ◌∷◌}
-use Rattle.std.proofs.Common.{Option, Some, None, ap, append_assoc, arith, eq-eqb, filter}
+use Rattle.std.proofs.Common.{Option, Some, None, ap, arith, eq-eqb, filter}
 use Rattle.std.proofs.Common.{if◌then◌else◌, inl, inr, length, map, min}
-use Rattle.std.proofs.Common.{not, refl, subst, suc, sym, take, zero}
+use Rattle.std.proofs.Common.{not, refl, suc, sym, take, zero}
 use Rattle.std.specs.List.{AllByRecursion, list_any, slice_get}
-use Rattle.std.specs.Option.{is_some, option_and_then, option_eq, option_map, option_or}
+use Rattle.std.specs.Option.{is_some, option_eq}
 use Rattle.std.proofs.lemmas.Bool.{eqb-true, false≢true, ne_eqb, or_cases, or_left, or_right}
 use Rattle.std.proofs.lemmas.List.{append-nil, length-append, length-map, take-append-le}
 use Rattle.std.proofs.lemmas.List.Elements.{filter-append, recursion_from_All}
@@ -12,185 +12,17 @@ use Rattle.std.proofs.lemmas.List.Sums.{count_by-le-length, length-filter}
 use Rattle.pl_base.specs.declared.id.ItemId.{ItemId}
 use Rattle.pl_base.specs.Good.{IsTree, child_ids, end_of_ids}
 use Rattle.pl_base.specs.Rows.{IsWellKept, Kept}
-use Rattle.pl_base.specs.Store.{Item, item_id}
-use Rattle.pl_base.specs.Tree.{children_of, first_item, has_child, has_item, item_at, item_behind}
-use Rattle.pl_base.specs.Tree.{last_item, parent_of, sibling_behind}
+use Rattle.pl_base.specs.Store.{Item}
+use Rattle.pl_base.specs.Tree.{children_of, first_item, has_item, item_at}
+use Rattle.pl_base.specs.Tree.{last_item}
 use Rattle.pl_base.proofs.IdsLaws.{few_ids}
-use Rattle.pl_base.proofs.LookUps.{both, found_holds, found_passes}
-use Rattle.pl_base.proofs.OneParent.{IsParent, Once, is_among, once, once_behind, parents, same_item}
+use Rattle.pl_base.proofs.LookUps.{both, found_holds, front, rest_of}
+use Rattle.pl_base.proofs.ItemLookUps.{last_push, same_item}
+use Rattle.pl_base.proofs.ChildrenRun.{child_names, children_once}
+use Rattle.pl_base.proofs.OneParent.{Once}
+use Rattle.pl_base.proofs.Walk.{Walk}
 use Rattle.pl_tree.specs.declared.place.Place.TheVariants.{End}
 use Rattle.pl_tree.specs.Places.{before, is_item, others}
-
--- ---- ids that stand once
-
-pub part : {X : Type 0} (P : X → Type 0) (front : List X) (x : X) (rest : List X) → AllByRecursion P (front ++ x ∷ rest)
-    → P x
-part P [] x rest all = all.0
-part P (y ∷ front) x rest all = part P front x rest all.1
-
-front_of : {X : Type 0} (P : X → Type 0) (xs ys : List X) → AllByRecursion P (xs ++ ys) → AllByRecursion P xs
-front_of P [] ys all = tt
-front_of P (x ∷ xs) ys all = (all.0, front_of P xs ys all.1)
-
-rest_of : {X : Type 0} (P : X → Type 0) (xs ys : List X) → AllByRecursion P (xs ++ ys) → AllByRecursion P ys
-rest_of P [] ys all = all
-rest_of P (x ∷ xs) ys all = rest_of P xs ys all.1
-
-once_front : (cs ds : List ItemId) → Once (cs ++ ds) → Once cs
-once_front [] ds one = tt
-once_front (c ∷ cs) ds one = (front_of (λ (d : ItemId). c ≢ d) cs ds one.0, once_front cs ds one.1)
-
-pub apart_numbers : (c d : ItemId) → c ≢ d → (c.0 == d.0) ≡ false
-apart_numbers c d other = ne_eqb c.0 d.0 (λ same. other (same_item c d (eq-eqb c.0 d.0 same)))
-
-pub behind_here : (front : List ItemId) (c : ItemId) (rest : List ItemId) → Once (front ++ c ∷ rest)
-    → item_behind c (front ++ c ∷ rest) ≡ first_item rest
-behind_here [] c rest one = rw (eq-eqb c.0 c.0 refl) refl
-behind_here (w ∷ front) c rest one =
-    rw (apart_numbers w c (part (λ (d : ItemId). w ≢ d) front c rest one.0)) (behind_here front c rest one.1)
-
-among_here : (front : List ItemId) (c : ItemId) (rest : List ItemId) → is_among c (front ++ c ∷ rest) ≡ true
-among_here [] c rest = or_left (c.0 == c.0) (is_among c rest) (eq-eqb c.0 c.0 refl)
-among_here (w ∷ front) c rest = or_right (w.0 == c.0) (is_among c (front ++ c ∷ rest)) (among_here front c rest)
-
--- ---- the children of a folder
-
-each_once : (items : List Item) → Once (child_ids items) → AllByRecursion (λ (i : Item). Once i.children) items
-each_once [] one = tt
-each_once (i ∷ items) one = (
-  once_front i.children (child_ids items) one,
-  each_once items (once_behind i.children (child_ids items) one),
-)
-
-pub children_once : (items : List Item) (parent : ItemId) → IsTree items → Once (children_of items parent)
-children_once items parent tree = choose (item_at items parent) refl
-  where
-    choose : (o : Option Item) → item_at items parent ≡ o → Once (children_of items parent)
-    choose None at = rw at tt
-    choose (Some p) at =
-        rw at (found_holds (λ (i : Item). Once i.children) (λ (i : Item). i.id.0 == parent.0) items p
-        (each_once items (once (item_id 1 ∷ child_ids items) tree.once).1) at)
-
--- each child of an item has it as its parent
-pub parent_here : (items : List Item) (parent : ItemId) (front : List ItemId) (c : ItemId) (rest : List ItemId)
-    → IsTree items → children_of items parent ≡ front ++ c ∷ rest → parent_of items c ≡ Some parent
-parent_here items parent front c rest tree whole = choose (item_at items parent) refl
-  where
-    none : (front : List ItemId) → [] ≡ front ++ c ∷ rest → parent_of items c ≡ Some parent
-    none [] is = absurd (cc)
-    none (w ∷ front) is = absurd (cc)
-
-    choose : (o : Option Item) → item_at items parent ≡ o → parent_of items c ≡ Some parent
-    choose None at = none front (rw at at whole)
-    choose (Some p) at =
-        let listed : p.children ≡ front ++ c ∷ rest = rw at at whole in
-        let has : has_child c p ≡ true = ap (is_among c) listed ∙ among_here front c rest in
-        ap (option_map (λ (i : Item). i.id))
-        (found_holds (IsParent items) (λ (i : Item). i.id.0 == parent.0) items p (parents items tree) at c has)
-        ∙ ap (λ (id : ItemId). Some id)
-        (same_item p.id parent (found_passes (λ (i : Item). i.id.0 == parent.0) items p at))
-
-pub sibling_here : (items : List Item) (parent : ItemId) (front : List ItemId) (c : ItemId) (rest : List ItemId)
-    → IsTree items → children_of items parent ≡ front ++ c ∷ rest → sibling_behind items c ≡ first_item rest
-sibling_here items parent front c rest tree whole =
-    ap (option_and_then (λ (p : ItemId). item_behind c (children_of items p)))
-    (parent_here items parent front c rest tree whole)
-    ∙ ap (item_behind c) whole
-    ∙ behind_here front c rest (subst Once whole (children_once items parent tree))
-
--- ---- the walk
-
--- what holds of the ids in front of the next one
-pub record IdWalk (ids : List ItemId) (P : List ItemId → Type 0) (next : Option ItemId) : Type 0 where
-  pub front : List ItemId
-  pub rest : List ItemId
-  pub whole : ids ≡ front ++ rest
-  pub here : next ≡ first_item rest
-  pub so_far : P front
-
--- the id that a walk stands at
-pub record IsHere (ids : List ItemId) (P : List ItemId → Type 0) (id : ItemId) : Type 0 where
-  pub front : List ItemId
-  pub rest : List ItemId
-  pub whole : ids ≡ front ++ id ∷ rest
-  pub so_far : P front
-
-pub walk_starts : (ids : List ItemId) (P : List ItemId → Type 0) (next : Option ItemId) → next ≡ first_item ids
-    → P [] → IdWalk ids P next
-walk_starts ids P next is none = record { front = []; rest = ids; whole = refl; here = is; so_far = none }
-
-pub id_here : (ids : List ItemId) (P : List ItemId → Type 0) (next : Option ItemId) (id : ItemId)
-    → IdWalk ids P next → next ≡ Some id → IsHere ids P id
-id_here ids P next id w at = choose w.rest w.whole w.here
-  where
-    choose : (rest : List ItemId) → ids ≡ w.front ++ rest → next ≡ first_item rest → IsHere ids P id
-    choose [] whole none = absurd (cc)
-    choose (c ∷ rest) whole some =
-        let same : c ≡ id = cc in
-        record {
-          front = w.front;
-          rest = rest;
-          whole = whole ∙ ap (λ (d : ItemId). w.front ++ d ∷ rest) same;
-          so_far = w.so_far;
-        }
-
-pub walk_goes_on : (items : List Item) (parent : ItemId) (P Q : List ItemId → Type 0) (id : ItemId)
-    (next : Option ItemId) → IsTree items → (w : IsHere (children_of items parent) P id)
-    → next ≡ sibling_behind items id → Q (w.front ++ id ∷ []) → IdWalk (children_of items parent) Q next
-walk_goes_on items parent P Q id next tree w is more =
-    record {
-      front = w.front ++ id ∷ [];
-      rest = w.rest;
-      whole = w.whole ∙ sym (append_assoc w.front (id ∷ []) w.rest);
-      here = is ∙ sibling_here items parent w.front id w.rest tree w.whole;
-      so_far = more;
-    }
-
--- at its end the walk has gone over all
-pub walk_ends : (ids : List ItemId) (P : List ItemId → Type 0) (next : Option ItemId) → IdWalk ids P next
-    → next ≡ None → P ids
-walk_ends ids P next w at = choose w.rest w.whole w.here
-  where
-    choose : (rest : List ItemId) → ids ≡ w.front ++ rest → next ≡ first_item rest → P ids
-    choose [] whole end = subst P (sym (whole ∙ append-nil w.front)) w.so_far
-    choose (c ∷ rest) whole some = absurd (cc)
-
--- ---- how many are left
-
-from_id : ItemId → List ItemId → List ItemId
-from_id id [] = []
-from_id id (c ∷ cs) = if c.0 == id.0 then c ∷ cs else from_id id cs
-
-pub left : List ItemId → Option ItemId → ℕ
-left ids None = 0
-left ids (Some id) = length (from_id id ids)
-
-from_here : (front : List ItemId) (c : ItemId) (rest : List ItemId) → Once (front ++ c ∷ rest)
-    → from_id c (front ++ c ∷ rest) ≡ c ∷ rest
-unfolding from_id
-from_here [] c rest one = rw (eq-eqb c.0 c.0 refl) refl
-from_here (w ∷ front) c rest one =
-    rw (apart_numbers w c (part (λ (d : ItemId). w ≢ d) front c rest one.0)) (from_here front c rest one.1)
-
-left_of : (front rest : List ItemId) → Once (front ++ rest) → left (front ++ rest) (first_item rest) ≡ length rest
-unfolding left
-left_of front [] one = refl
-left_of front (c ∷ rest) one = ap length (from_here front c rest one)
-
-pub walk_nears : (items : List Item) (parent : ItemId) (P : List ItemId → Type 0) (now : Option ItemId) (id : ItemId)
-    (next : Option ItemId) → IsTree items → IsHere (children_of items parent) P id → now ≡ Some id
-    → next ≡ sibling_behind items id → left (children_of items parent) next < left (children_of items parent) now
-walk_nears items parent P now id next tree w at is =
-    let ids : List ItemId = children_of items parent in
-    let one : Once (w.front ++ id ∷ w.rest) = subst Once w.whole (children_once items parent tree) in
-    let again : w.front ++ id ∷ w.rest ≡ (w.front ++ id ∷ []) ++ w.rest = sym (append_assoc w.front (id ∷ []) w.rest) in
-    let after : left ids next ≡ length w.rest =
-    ap (left ids) (is ∙ sibling_here items parent w.front id w.rest tree w.whole)
-    ∙ ap (λ (cs : List ItemId). left cs (first_item w.rest)) (w.whole ∙ again)
-    ∙ left_of (w.front ++ id ∷ []) w.rest (subst Once again one) in
-    let before : left ids now ≡ length (id ∷ w.rest) =
-    ap (left ids) at ∙ ap (λ (cs : List ItemId). left cs (Some id)) w.whole ∙ left_of w.front (id ∷ w.rest) one in
-    omega (arith, after, before)
 
 -- ---- the child at a place
 
@@ -206,7 +38,7 @@ Counts n front = length front ≡ n
 pub counts_more : (front : List ItemId) (c : ItemId) (n : ℕ) → Counts n front → Counts (n + 1) (front ++ c ∷ [])
 counts_more front c n is = omega (arith, length-append front (c ∷ []))
 
-pub found_at : (ids : List ItemId) (n : ℕ) (next : Option ItemId) → IdWalk ids (Counts n) next → next ≡ slice_get ids n
+pub found_at : (ids : List ItemId) (n : ℕ) (next : Option ItemId) → Walk child_names ids (Counts n) next → next ≡ slice_get ids n
 found_at ids n next w =
     w.here ∙ sym (at_front w.front w.rest) ∙ ap (slice_get (w.front ++ w.rest)) w.so_far
     ∙ ap (λ (cs : List ItemId). slice_get cs n) (sym w.whole)
@@ -217,15 +49,11 @@ none_from (c ∷ ids) zero m le is = absurd (cc)
 none_from (c ∷ ids) (suc n) zero le is = absurd (omega arith)
 none_from (c ∷ ids) (suc n) (suc m) le is = none_from ids n m (omega arith) is
 
-pub ended_before : (ids : List ItemId) (n m : ℕ) (next : Option ItemId) → IdWalk ids (Counts n) next → next ≡ None
+pub ended_before : (ids : List ItemId) (n m : ℕ) (next : Option ItemId) → Walk child_names ids (Counts n) next → next ≡ None
     → n ≤ m → None ≡ slice_get ids m
 ended_before ids n m next w end le = none_from ids n m le (sym end ∙ found_at ids n next w)
 
 -- ---- the first so many, with one left out
-
-last_push : (xs : List ItemId) (c : ItemId) → last_item (xs ++ c ∷ []) ≡ Some c
-last_push [] c = refl
-last_push (x ∷ xs) c = ap (λ (o : Option ItemId). option_or o (Some x)) (last_push xs c)
 
 -- the counted ids, and the last of them
 pub record AreFirst (left_out : Option ItemId) (limit count : ℕ) (last : Option ItemId) (front : List ItemId)
@@ -298,7 +126,7 @@ take_front n xs ys is =
     take-append-le n xs ys (omega arith) ∙ take_all n xs (omega arith)
 
 pub told_full : (ids : List ItemId) (left_out : Option ItemId) (limit count : ℕ) (last next : Option ItemId)
-    → IdWalk ids (AreFirst left_out limit count last) next → count ≡ limit
+    → Walk child_names ids (AreFirst left_out limit count last) next → count ≡ limit
     → Told (others left_out ids) limit count last
 told_full ids left_out limit count last next w full =
     let split : others left_out ids ≡ others left_out w.front ++ others left_out w.rest =
@@ -375,7 +203,7 @@ each_known : (all items : List Item) → AllByRecursion (λ (c : ItemId). has_it
     → AllByRecursion (λ (i : Item). AllByRecursion (λ (c : ItemId). has_item all c ≡ true) i.children) items
 each_known all [] known = tt
 each_known all (i ∷ items) known = (
-  front_of (λ (c : ItemId). has_item all c ≡ true) i.children (child_ids items) known,
+  front (λ (c : ItemId). has_item all c ≡ true) i.children (child_ids items) known,
   each_known all items (rest_of (λ (c : ItemId). has_item all c ≡ true) i.children (child_ids items) known),
 )
 

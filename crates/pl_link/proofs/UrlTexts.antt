@@ -1,8 +1,7 @@
 -- What the URL parser makes of an absolute address is ASCII.
 use Rattle.std.proofs.Common.{◌≡◌, ◌+◌, ◌<◌, ◌^◌, ◌==◌, ◌&&◌, ◌||◌, ℕ, Bool, true, false, not, cond}
-use Rattle.std.proofs.Common.{List, [], ◌∷◌, IsAscii, None, Option, Some, Ok, arith, codes, decimal}
-use Rattle.std.proofs.Common.{drop, get_or, is_some, lit<, refl, subst, take}
-use Rattle.std.proofs.Common.{unwrap_or, nat_lt}
+use Rattle.std.proofs.Common.{List, [], ◌∷◌, IsAscii, None, Option, Some, Ok, Err, arith, codes, decimal}
+use Rattle.std.proofs.Common.{drop, get_or, is_some, length, lit<, nat_le, nat_lt, refl, subst, take, unwrap_or}
 use Rattle.std.specs.Prelude.{IfSome}
 use Rattle.std.specs.List.{AllByRecursion as ByRecursion, concat, list_all}
 use Rattle.std.specs.Char.{is_ascii_digit, to_ascii_lowercase}
@@ -11,6 +10,7 @@ use Rattle.std.specs.Str.Parse.{digits_value}
 use Rattle.std.proofs.lemmas.Bool.{and_parts, cond_both, ltb-true}
 use Rattle.std.proofs.lemmas.Fmt.{IsAscii-decimal}
 use Rattle.std.proofs.lemmas.Str.{IsAscii-append}
+use Rattle.std.proofs.lemmas.Slice.Eq.{bytes_eq-Decides}
 use Rattle.std.proofs.lemmas.Str.Ascii.{IsAscii-cons, IsAscii-map, IsAscii-nil, lowercase_ascii}
 use Rattle.percent_encoding.specs.declared.ascii_set.AsciiSet.{AsciiSet}
 use Rattle.percent_encoding.specs.Percent.{percent_encode}
@@ -32,8 +32,9 @@ use Rattle.url.specs.Path.{escape_end, is_windows_drive_letter}
 use Rattle.url.specs.Path.{parse_path_start, segment_len}
 use Rattle.url.specs.Scheme.{is_file, is_special, scheme_len, scheme_type}
 use Rattle.url.proofs.SchemeLemmas.{scheme_at_front}
-use Rattle.pl_place.proofs.UrlHosts.{IsAsciiHost, ascii_file_host, ascii_host, by_test, ok_then, past_error, same_ok}
-use Rattle.pl_place.proofs.UrlPaths.{ascii_ended, ascii_segments, ascii_slash, ascii_start, ascii_when}
+use Rattle.pl_base.specs.Address.{is_store_url, is_text, longest_url, record_of, serialized}
+use Rattle.pl_link.proofs.UrlHosts.{IsAsciiHost, ascii_file_host, ascii_host, by_test, ok_then, past_error, same_ok}
+use Rattle.pl_link.proofs.UrlPaths.{ascii_ended, ascii_segments, ascii_slash, ascii_start, ascii_when}
 
 -- ---- the parts
 
@@ -300,5 +301,17 @@ ascii_text url ascii =
     )
 
 -- what an absolute address is written as is ASCII
-pub serialized_ascii : (input : List ℕ) (url : Parts) → parse_url None input ≡ Ok url → IsAscii (serialize url)
+serialized_ascii : (input : List ℕ) (url : Parts) → parse_url None input ≡ Ok url → IsAscii (serialize url)
 serialized_ascii input url is = ascii_text url (ascii_url input url is)
+
+record_ascii : (r : Parsed Parts) (url : List ℕ) → parse_url None url ≡ r → is_text url (serialized r) ≡ true
+    → IsAscii url
+record_ascii (Err e) url parsed is = cc
+record_ascii (Ok found) url parsed is =
+    subst IsAscii ((bytes_eq-Decides (serialize found) url).0 is) (serialized_ascii url found parsed)
+
+-- a URL of the store is ASCII
+pub store_url_ascii : (url : List ℕ) → is_store_url url ≡ true → IsAscii url
+store_url_ascii url own =
+    record_ascii (record_of url) url refl
+    (and_parts (is_text url (serialized (record_of url))) (nat_le (length url) longest_url) own).0

@@ -1,0 +1,65 @@
+-- Lists of visits: the latest first, looked up by their ids, and the one behind another.
+use Rattle.std.proofs.Common.{◌≡◌, ◌≢◌, ◌∙◌, ◌++◌, ◌||◌, All, Bool, true, false, List, [], ◌∷◌, Some}
+use Rattle.std.proofs.Common.{ap, eq-eqb, if◌then◌else◌, is_some, map, refl, sym}
+use Rattle.std.specs.List.{AllByRecursion, list_any}
+use Rattle.std.proofs.lemmas.Bool.{ne_eqb}
+use Rattle.std.proofs.lemmas.List.Elements.{All-from_recursion}
+use Rattle.std.proofs.lemmas.List.Kept.{AllPairs-from_increasing}
+use Rattle.pl_base.specs.Rows.{IsWellKept, Kept, first_id, id_behind, visit_at}
+use Rattle.pl_base.specs.Store.{Visit}
+use Rattle.pl_base.specs.Visits.{in_place, is_later, latest_first}
+use Rattle.pl_base.proofs.LookUps.{apart_ascending, found_self, part}
+use Rattle.pl_base.proofs.VisitsLaws.{Differ}
+
+-- ---- the latest first
+
+pub any-in_place : (p : Visit → Bool) (v : Visit) (ws : List Visit)
+    → list_any p (in_place v ws) ≡ (p v || list_any p ws)
+any-in_place p v [] = refl
+any-in_place p v (w ∷ ws) = choose (is_later v w) (any-in_place p v ws)
+  where
+    swap : (a b c : Bool) → (a || (b || c)) ≡ (b || (a || c))
+    swap true true c = refl
+    swap true false c = refl
+    swap false true c = refl
+    swap false false c = refl
+
+    choose : (b : Bool) → list_any p (in_place v ws) ≡ (p v || list_any p ws)
+        → list_any p (if b then v ∷ w ∷ ws else w ∷ in_place v ws) ≡ (p v || (p w || list_any p ws))
+    choose true rest = refl
+    choose false rest = ap (λ (b : Bool). p w || b) rest ∙ swap (p w) (p v) (list_any p ws)
+
+pub any-latest_first : (p : Visit → Bool) (vs : List Visit) → list_any p (latest_first vs) ≡ list_any p vs
+any-latest_first p [] = refl
+any-latest_first p (v ∷ vs) =
+    any-in_place p v (latest_first vs) ∙ ap (λ (b : Bool). p v || b) (any-latest_first p vs)
+
+pub one_in_place : (v : Visit) (ws : List Visit) → is_some (first_id (in_place v ws)) ≡ true
+one_in_place v [] = refl
+one_in_place v (w ∷ ws) = choose (is_later v w)
+  where
+    choose : (b : Bool) → is_some (first_id (if b then v ∷ w ∷ ws else w ∷ in_place v ws)) ≡ true
+    choose true = refl
+    choose false = refl
+
+-- ---- looked up
+
+-- each visit is found by its id
+pub each_visit_found : (kept : Kept) → IsWellKept kept
+    → AllByRecursion (λ (v : Visit). visit_at kept v.id ≡ Some v) kept.visits
+each_visit_found kept h =
+    found_self (λ (v : Visit). v.id.0) kept.visits
+    (apart_ascending (λ (v : Visit). v.id.0) kept.visits
+    (AllPairs-from_increasing (map (λ (v : Visit). v.id.0) kept.visits) h.visit_ids.ascending))
+
+pub visits_found : (kept : Kept) → IsWellKept kept → All (λ (v : Visit). visit_at kept v.id ≡ Some v) kept.visits
+visits_found kept h =
+    All-from_recursion (λ (v : Visit). visit_at kept v.id ≡ Some v) kept.visits (each_visit_found kept h)
+
+-- the one behind a visit that stands there once
+pub id_behind_is : (front : List Visit) (v : Visit) (rest : List Visit) → Differ (front ++ v ∷ rest)
+    → id_behind v.id (front ++ v ∷ rest) ≡ first_id rest
+id_behind_is [] v rest differ = rw (eq-eqb v.id.0 v.id.0 refl) refl
+id_behind_is (w ∷ front) v rest differ =
+    let apart : w.id.0 ≢ v.id.0 = λ same. part (λ (x : Visit). x.id.0 ≢ w.id.0) front v rest differ.0 (sym same) in
+    rw (ne_eqb w.id.0 v.id.0 apart) (id_behind_is front v rest differ.1)
