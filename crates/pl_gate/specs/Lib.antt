@@ -1,4 +1,5 @@
 pub mod Device
+pub mod FileCalls
 pub mod Gate
 pub mod Recovery
 pub mod States

@@ -3,10 +3,9 @@ ghost use Rattle.std.specs.Prelude.{◌≡◌, ◌≤◌, ◌<◌, ◌+◌, ◌*
 ghost use Rattle.std.specs.Int.{w64, to_le_bytes};
 ghost use Rattle.std.specs.Option.{option_map};
 ghost use Rattle.pl_base.specs.Touched.{page_size};
-ghost use Rattle.pl_desk.specs.Desk.{last_offset, overwritten, Follows, Torn, Only};
-ghost use Rattle.pl_desk.specs.Shown.{ShowsStep};
+ghost use Rattle.pl_desk.specs.Desk.{last_offset, overwritten, Torn, Only};
 ghost use Rattle.pl_desk.specs.Counts.{Counts, Writes};
-ghost use Rattle.pl_desk.specs.Calls.{KeepsLine};
+ghost use Rattle.pl_gate.specs.FileCalls.{CallsFile, MayTear};
 ghost use Rattle.pl_gate.specs.Gate.{entry_size};
 ghost use Rattle.pl_gate.specs.Device.{entry_ranges, image_ranges, place_bytes, with_entries};
 ghost use Rattle.pl_gate.specs.Device.{with_gate, with_images, TornIn};
@@ -25,14 +24,11 @@ pub fn write_entries<D: Desk>(desk: &mut D, start: u64, touched: &Touched) -> Re
     requires range { start + entry_size * length touched.now.pages ≤ last_offset }
     ensures held { OnOk result
         (D.held desk.new ≡ option_map (with_entries start touched.now.pages) (D.held desk.old)) }
-    ensures leaves { Follows (TornIn (entry_ranges start touched.now.pages))
-        (D.may_leave desk.old) (D.may_leave desk.new) }
-    ensures moments { ShowsStep D.Desk desk.old desk.new
-        (TornIn (entry_ranges start touched.now.pages)) }
-    ensures line { KeepsLine D.Desk desk.old desk.new }
+    ensures torn { MayTear D.Desk (TornIn (entry_ranges start touched.now.pages))
+        desk.old desk.new }
     ensures written { Writes result (entry_size * length touched.now.pages)
         (D.written desk.old) (D.written desk.new) }
-    ensures counted { Counts result (D.device_faults desk.old) (D.device_faults desk.new) }
+    ensures calls { CallsFile D.Desk (Counts result) desk.old desk.new }
 {
     let mut index = 0;
     while index < touched.count() {
@@ -60,11 +56,9 @@ pub fn write_place<D: Desk>(desk: &mut D, start: u64, count: u32, after: u32) ->
     ensures held { OnOk result
         (D.held desk.new ≡ option_map (overwritten 0 8 (place_bytes start count after))
         (D.held desk.old)) }
-    ensures leaves { Follows (Torn 8 16) (D.may_leave desk.old) (D.may_leave desk.new) }
-    ensures moments { ShowsStep D.Desk desk.old desk.new (Torn 8 16) }
-    ensures line { KeepsLine D.Desk desk.old desk.new }
+    ensures torn { MayTear D.Desk (Torn 8 16) desk.old desk.new }
     ensures written { Writes result 16 (D.written desk.old) (D.written desk.new) }
-    ensures counted { Counts result (D.device_faults desk.old) (D.device_faults desk.new) }
+    ensures calls { CallsFile D.Desk (Counts result) desk.old desk.new }
 {
     desk.write_at(PLACE, &place_bytes(start, count, after))
 }
@@ -83,13 +77,10 @@ fn place_bytes(start: u64, count: u32, after: u32) -> [u8; 16]
 pub fn write_images<D: Desk>(desk: &mut D, touched: &Touched) -> Result<(), Failed>
     ensures held { OnOk result
         (D.held desk.new ≡ option_map (with_images touched.now.pages) (D.held desk.old)) }
-    ensures leaves { Follows (TornIn (image_ranges touched.now.pages))
-        (D.may_leave desk.old) (D.may_leave desk.new) }
-    ensures moments { ShowsStep D.Desk desk.old desk.new (TornIn (image_ranges touched.now.pages)) }
-    ensures line { KeepsLine D.Desk desk.old desk.new }
+    ensures torn { MayTear D.Desk (TornIn (image_ranges touched.now.pages)) desk.old desk.new }
     ensures written { Writes result (page_size * length touched.now.pages)
         (D.written desk.old) (D.written desk.new) }
-    ensures counted { Counts result (D.device_faults desk.old) (D.device_faults desk.new) }
+    ensures calls { CallsFile D.Desk (Counts result) desk.old desk.new }
 {
     let mut index = 0;
     while index < touched.count() {
@@ -105,11 +96,9 @@ pub fn write_gate<D: Desk>(desk: &mut D, byte: u8) -> Result<(), Failed>
     ensures held { OnOk result (D.held desk.new ≡ option_map (with_gate byte) (D.held desk.old)) }
     ensures durable { OnOk result
         (IfSome (D.held desk.new) (λ file. Only file (D.may_leave desk.new))) }
-    ensures leaves { Follows (Torn 0 1) (D.may_leave desk.old) (D.may_leave desk.new) }
-    ensures moments { ShowsStep D.Desk desk.old desk.new (Torn 0 1) }
-    ensures line { KeepsLine D.Desk desk.old desk.new }
+    ensures torn { MayTear D.Desk (Torn 0 1) desk.old desk.new }
     ensures written { Writes result 1 (D.written desk.old) (D.written desk.new) }
-    ensures counted { Counts result (D.device_faults desk.old) (D.device_faults desk.new) }
+    ensures calls { CallsFile D.Desk (Counts result) desk.old desk.new }
 {
     desk.write_at(0, &[byte])?;
     desk.sync()

@@ -3,7 +3,7 @@ ghost use Rattle.std.specs.Option.{option_map};
 ghost use Rattle.pl_base.specs.Touched.{IsWithin, changed, bytes_before, page_size};
 ghost use Rattle.pl_desk.specs.Shown.{AtAnyMoment, Rests};
 ghost use Rattle.pl_desk.specs.Counts.{Counts, Writes};
-ghost use Rattle.pl_desk.specs.Calls.{KeepsLine};
+ghost use Rattle.pl_gate.specs.FileCalls.{CallsFile};
 ghost use Rattle.pl_gate.specs.Device.{with_gate, with_images};
 ghost use Rattle.pl_gate.specs.Gate.{Holds, entry_size};
 ghost use Rattle.pl_gate.specs.States.{HoldsEither, IsArmed, IsClosed, IsInstalled, IsStaged};
@@ -55,9 +55,7 @@ impl<'d, D: Desk> Gate<'d, D> {
 
         ensures written { Writes result (entry_size * length touched.now.pages + 16)
             (D.written self.old.desk.now) (D.written self.new.desk.now) }
-        ensures line { KeepsLine D.Desk self.old.desk.now self.new.desk.now }
-        ensures counted { Counts result
-            (D.device_faults self.old.desk.now) (D.device_faults self.new.desk.now) }
+        ensures calls { CallsFile D.Desk (Counts result) self.old.desk.now self.new.desk.now }
         ensures same_desk { self.new.desk.ghost_name ≡ self.old.desk.ghost_name }
     {
         let after = touched.after();
@@ -84,9 +82,7 @@ impl<'d, D: Desk> Gate<'d, D> {
 
         ensures written { Writes result 1
             (D.written self.old.desk.now) (D.written self.new.desk.now) }
-        ensures line { KeepsLine D.Desk self.old.desk.now self.new.desk.now }
-        ensures counted { Counts result
-            (D.device_faults self.old.desk.now) (D.device_faults self.new.desk.now) }
+        ensures calls { CallsFile D.Desk (Counts result) self.old.desk.now self.new.desk.now }
         ensures same_desk { self.new.desk.ghost_name ≡ self.old.desk.ghost_name }
     {
         write_gate(self.desk, 1)?;
@@ -110,9 +106,7 @@ impl<'d, D: Desk> Gate<'d, D> {
 
         ensures written { Writes result (page_size * length armed.entry.pages)
             (D.written self.old.desk.now) (D.written self.new.desk.now) }
-        ensures line { KeepsLine D.Desk self.old.desk.now self.new.desk.now }
-        ensures counted { Counts result
-            (D.device_faults self.old.desk.now) (D.device_faults self.new.desk.now) }
+        ensures calls { CallsFile D.Desk (Counts result) self.old.desk.now self.new.desk.now }
         ensures same_desk { self.new.desk.ghost_name ≡ self.old.desk.ghost_name }
     {
         write_images(self.desk, armed.touched)?;
@@ -135,9 +129,7 @@ impl<'d, D: Desk> Gate<'d, D> {
 
         ensures written { Writes result 1
             (D.written self.old.desk.now) (D.written self.new.desk.now) }
-        ensures line { KeepsLine D.Desk self.old.desk.now self.new.desk.now }
-        ensures counted { Counts result
-            (D.device_faults self.old.desk.now) (D.device_faults self.new.desk.now) }
+        ensures calls { CallsFile D.Desk (Counts result) self.old.desk.now self.new.desk.now }
         ensures same_desk { self.new.desk.ghost_name ≡ self.old.desk.ghost_name }
     {
         write_gate(self.desk, 0)?;

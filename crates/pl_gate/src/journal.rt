@@ -3,10 +3,10 @@ ghost use Rattle.std.specs.Option.{option_map};
 ghost use Rattle.std.specs.Prelude.{◌≡◌, ◌≤◌, ◌<◌, ◌⊎◌, ◌↔◌, ◌+◌, ◌*◌, ℕ, List, Some, None, Err};
 ghost use Rattle.std.specs.Prelude.{true, false, length, IfOk, IfSome, OnOk};
 ghost use Rattle.pl_base.specs.Touched.{page_size};
-ghost use Rattle.pl_desk.specs.Desk.{last_offset, overwritten, Follows, Torn};
-ghost use Rattle.pl_desk.specs.Shown.{ShowsStep};
+ghost use Rattle.pl_desk.specs.Desk.{last_offset, overwritten, Torn};
 ghost use Rattle.pl_desk.specs.Counts.{CountsAt, Writes};
-ghost use Rattle.pl_desk.specs.Calls.{KeepsLine, OnlyReads};
+ghost use Rattle.pl_desk.specs.Calls.{OnlyReads};
+ghost use Rattle.pl_gate.specs.FileCalls.{CallsFile, MayTear};
 ghost use Rattle.pl_gate.specs.Device.{image_ranges, with_images, TornIn};
 ghost use Rattle.pl_gate.specs.Gate.{entry_at, entry_size, has_gate, is_journal, is_set, journal};
 ghost use Rattle.pl_gate.specs.Recovery.{IsGatePageOf};
@@ -88,16 +88,12 @@ pub fn install_journal<D: Desk>(desk: &mut D, told: &GatePage) -> Result<(), Gat
     requires gate { IfSome (D.held desk.old) (λ file. has_gate file ≡ true) }
     ensures held { OnOk result
         (D.held desk.new ≡ option_map (λ file. with_images (journal file) file) (D.held desk.old)) }
-    ensures leaves { (file : List ℕ) → D.held desk.old ≡ Some file
-        → Follows (TornIn (image_ranges (journal file)))
-        (D.may_leave desk.old) (D.may_leave desk.new) }
-    ensures moments { (file : List ℕ) → D.held desk.old ≡ Some file
-        → ShowsStep D.Desk desk.old desk.new (TornIn (image_ranges (journal file))) }
-    ensures line { KeepsLine D.Desk desk.old desk.new }
+    ensures torn { (file : List ℕ) → D.held desk.old ≡ Some file
+        → MayTear D.Desk (TornIn (image_ranges (journal file))) desk.old desk.new }
     ensures written { Writes result (page_size * told.now.count)
         (D.written desk.old) (D.written desk.new) }
-    ensures counted { CountsAt (result ≡ Err GateError.DeviceFault)
-        (D.device_faults desk.old) (D.device_faults desk.new) }
+    ensures calls { CallsFile D.Desk (CountsAt (result ≡ Err GateError.DeviceFault))
+        desk.old desk.new }
     ensures good { result ≡ Err GateError.BadGate → D.held desk.old ≡ None }
 {
     let mut last = 0;
@@ -123,16 +119,12 @@ fn install_entry<D: Desk>(desk: &mut D, at: u64, last: u64, after: u32) -> Resul
     ensures bad { result ≡ Err GateError.BadGate
         → IfSome (D.held desk.old)
         (λ file. ((entry_at at file).page ≤ last) ⊎ (after ≤ (entry_at at file).page)) }
-    ensures leaves { (file : List ℕ) → D.held desk.old ≡ Some file
-        → Follows (Torn (page_size * (entry_at at file).page) page_size)
-        (D.may_leave desk.old) (D.may_leave desk.new) }
-    ensures moments { (file : List ℕ) → D.held desk.old ≡ Some file
-        → ShowsStep D.Desk desk.old desk.new
-        (Torn (page_size * (entry_at at file).page) page_size) }
-    ensures line { KeepsLine D.Desk desk.old desk.new }
+    ensures torn { (file : List ℕ) → D.held desk.old ≡ Some file
+        → MayTear D.Desk (Torn (page_size * (entry_at at file).page) page_size)
+        desk.old desk.new }
     ensures written { Writes result page_size (D.written desk.old) (D.written desk.new) }
-    ensures counted { CountsAt (result ≡ Err GateError.DeviceFault)
-        (D.device_faults desk.old) (D.device_faults desk.new) }
+    ensures calls { CallsFile D.Desk (CountsAt (result ≡ Err GateError.DeviceFault))
+        desk.old desk.new }
 {
     let page = read_page(desk, at, last, after)?;
     let mut image = [0; PAGE_SIZE];

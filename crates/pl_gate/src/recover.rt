@@ -1,13 +1,14 @@
-ghost use Rattle.std.specs.Prelude.{◌≡◌, ◌≤◌, ◌+◌, ◌*◌, ℕ, List, Some, None, Err, true, false};
+ghost use Rattle.std.specs.Prelude.{◌≡◌, ◌≤◌, ◌+◌, ◌*◌, ℕ, List, Some, None, Err, true};
 ghost use Rattle.std.specs.Prelude.{IfSome, OnOk};
 ghost use Rattle.pl_base.specs.Touched.{page_size};
 ghost use Rattle.pl_desk.specs.Desk.{last_offset, Only};
 ghost use Rattle.pl_desk.specs.Settling.{Settles};
 ghost use Rattle.pl_desk.specs.Shown.{AtAnyMoment, Rests};
 ghost use Rattle.pl_desk.specs.Counts.{CountsAt, Writes};
-ghost use Rattle.pl_desk.specs.Calls.{KeepsLine};
+ghost use Rattle.pl_gate.specs.FileCalls.{CallsFile};
 ghost use Rattle.pl_gate.specs.Gate.{entry_size, has_gate, is_set};
-ghost use Rattle.pl_gate.specs.Recovery.{IsGatePageOf, IsSettledAs, StandsAs, recovery_bytes};
+ghost use Rattle.pl_gate.specs.Recovery.{IsGatePageOf, IsSettledAs, SettlesGate, StandsAs};
+ghost use Rattle.pl_gate.specs.Recovery.{recovery_bytes};
 
 use crate::device::write_gate;
 use crate::error::GateError;
@@ -23,19 +24,7 @@ impl<'d, D: Desk> Gate<'d, D> {
     /// gate is set. `BadGate` comes just where the file has less than 1,024 bytes, and where the
     /// gate is set over a journal that breaks its format.
     pub fn recover(&mut self) -> Result<Closed, GateError>
-        // Where the desk tells its content, the file is at rest then, and stands for what it stood
-        // for.
-        ensures settled { OnOk result ((file : List ℕ) → D.held self.old.desk.now ≡ Some file
-            → Rests D.Desk self.new.desk.now (IsSettledAs file)) }
-        ensures good { OnOk result
-            (IfSome (D.held self.old.desk.now) (λ file. has_gate file ≡ true)) }
-        ensures bad { result ≡ Err GateError.BadGate
-            → IfSome (D.held self.old.desk.now) (λ file. has_gate file ≡ false) }
-        ensures untouched { result ≡ Err GateError.BadGate
-            → D.held self.new.desk.now ≡ D.held self.old.desk.now }
-        // A file whose gate is not set is left as it was.
-        ensures unset { (file : List ℕ) → D.held self.old.desk.now ≡ Some file → is_set file ≡ false
-            → D.held self.new.desk.now ≡ D.held self.old.desk.now }
+        ensures settles { SettlesGate D.Desk result self.old.desk.now self.new.desk.now }
         ensures unwritten { result ≡ Err GateError.BadGate → (file : List ℕ)
             → D.held self.old.desk.now ≡ Some file
             → D.written self.new.desk.now ≡ D.written self.old.desk.now }
@@ -52,12 +41,8 @@ impl<'d, D: Desk> Gate<'d, D> {
         ensures written { OnOk result
             ((file : List ℕ) → D.held self.old.desk.now ≡ Some file
             → D.written self.new.desk.now ≡ D.written self.old.desk.now + recovery_bytes file) }
-        ensures no_more { (file : List ℕ) → D.held self.old.desk.now ≡ Some file
-            → D.written self.new.desk.now ≤ D.written self.old.desk.now + recovery_bytes file }
-        ensures no_less { D.written self.old.desk.now ≤ D.written self.new.desk.now }
-        ensures line { KeepsLine D.Desk self.old.desk.now self.new.desk.now }
-        ensures counted { CountsAt (result ≡ Err GateError.DeviceFault)
-            (D.device_faults self.old.desk.now) (D.device_faults self.new.desk.now) }
+        ensures calls { CallsFile D.Desk (CountsAt (result ≡ Err GateError.DeviceFault))
+            self.old.desk.now self.new.desk.now }
         ensures same_desk { self.new.desk.ghost_name ≡ self.old.desk.ghost_name }
     {
         self.desk.sync()?;
@@ -90,9 +75,8 @@ fn clear_gate<D: Desk>(desk: &mut D, told: &GatePage) -> Result<(), GateError>
     ensures good { result ≡ Err GateError.BadGate → D.held desk.old ≡ None }
     ensures written { Writes result (page_size * told.now.count + 1)
         (D.written desk.old) (D.written desk.new) }
-    ensures line { KeepsLine D.Desk desk.old desk.new }
-    ensures counted { CountsAt (result ≡ Err GateError.DeviceFault)
-        (D.device_faults desk.old) (D.device_faults desk.new) }
+    ensures calls { CallsFile D.Desk (CountsAt (result ≡ Err GateError.DeviceFault))
+        desk.old desk.new }
 {
     install_journal(desk, told)?;
     desk.sync()?;

@@ -1,5 +1,5 @@
 -- What a settled file stands for.
-use Rattle.std.proofs.Common.{◌≡◌, ◌↔◌, ◌≤◌, ◌+◌, arith, ℕ, true, false, List, Option, Some, None, IfSome, IsSome}
+use Rattle.std.proofs.Common.{◌≡◌, ◌↔◌, ◌≤◌, ◌+◌, arith, ℕ, true, false, List, Some, IfSome, IsSome}
 use Rattle.std.proofs.Common.{Result, Ok, Err, length, take, drop, ap, refl, sym, ◌∙◌, subst}
 use Rattle.std.specs.Prelude.{⊤, IsErrAnd}
 use Rattle.std.proofs.lemmas.Bool.{both_ways}
@@ -7,7 +7,7 @@ use Rattle.std.proofs.lemmas.Option.{MatchOption-at_some, same_Some}
 use Rattle.std.proofs.lemmas.Result.{err_from_is_err_and}
 use Rattle.pl_base.specs.Store.{Store}
 use Rattle.pl_base.specs.Touched.{page_size}
-use Rattle.pl_desk.proofs.Told.{if_some}
+use Rattle.pl_desk.proofs.Told.{if_some, value}
 use Rattle.pl_desk.proofs.AnyMoment.{rests_less, still_rests}
 use Rattle.pl_desk.specs.Calls.{KeepsLine, OnlyReads}
 use Rattle.pl_desk.specs.Shown.{Rests}
@@ -84,10 +84,6 @@ fault_ends error result is fault =
     let same : error ≡ gate.DeviceFault = cc in let p = err_from_is_err_and result is in
     p.1 ∙ ap Err (p.2 ∙ ap ended_by_gate same)
 
-some_is : {X : Type 0} (o : Option X) → IsSome o → (x : X) × (o ≡ Some x)
-some_is None some = absurd (both_ways false refl some)
-some_is (Some x) some = (x, refl)
-
 module _ {D : Type 0} (desk : Ghosts D) (told : (now : D) → IsSome (desk.held now) ↔ IsSome (desk.said now))
     (old mid new : D) (settled : (file : List ℕ) → desk.held old ≡ Some file → Rests desk mid (IsSettledAs file))
     (good : IfSome (desk.held old) (λ file. has_gate file ≡ true)) (line : KeepsLine desk old mid)
@@ -125,7 +121,7 @@ module _ {D : Type 0} (desk : Ghosts D) (told : (now : D) → IsSome (desk.held 
     still_none = if_some (desk.held new) _ (λ later is store stands.
         let is_mid = sym reads.file.held ∙ is in
         let said = (told mid).0 (subst IsSome (sym is_mid) refl) in
-        let first = some_is (desk.held old) ((told old).1 (subst IsSome line.said said)) in
+        let first = value (desk.held old) ((told old).1 (subst IsSome line.said said)) in
         let rests = settled first.0 first.1 in
         let has = subst (IsSettledAs first.0) (same_Some rests.file later (sym rests.is_held ∙ is_mid)) rests.has in
         (MatchOption-at_some _ _ later is_mid none) store (later_form first.0 later has store stands));

@@ -1,8 +1,8 @@
 -- What keeps a store, and what the desk's file is to it.
-use Rattle.std.specs.Prelude.{◌⊎◌, ⊤, ℕ, Bool, true, false, List}
+use Rattle.std.specs.Prelude.{◌≡◌, ◌⊎◌, ⊤, ℕ, Bool, true, false, List, Result, Some, IfOk, OnErr}
 use Rattle.pl_base.specs.Store.{Store}
 use Rattle.pl_desk.specs.Calls.{LeavesNoMore}
-use Rattle.pl_desk.specs.Shown.{Rests}
+use Rattle.pl_desk.specs.Shown.{AtAnyMoment, Rests}
 use Rattle.pl_desk.specs.declared.desk.Desk.{Ghosts}
 use Rattle.pl_store.specs.Session.{IsPreparedFrom, IsSettled, Stands, memory_limit, memory_store}
 use Rattle.pl_store.specs.Session.{next_limit, next_store, session_limit, session_store}
@@ -65,3 +65,23 @@ IsKept desk (File s) first now = IsSettled desk s now
 abbrev pub Keeps : {D : Type 0} (desk : Ghosts D) → Bool → D → Store → D → Type 0
 Keeps desk true first store now = Rests desk now (λ file. Stands file store)
 Keeps desk false first store now = LeavesNoMore desk first now
+
+-- What a commit of a step leaves of the keeper that prepared it, and of its file.
+pub record TakesStep {D E : Type 0} (desk : Ghosts D) (before : Keeper) (next : Store)
+    (result : Result Keeper E) (old new : D) : Type 0 where
+  -- a store in a file stays in it, and one in memory stays there
+  pub kind : IfOk result (λ keeper. is_file keeper ≡ is_file before)
+  -- the file holds the next store as it held the one before
+  pub kept : IfOk result
+      (λ keeper. (first : D) → IsKept desk before first old → IsKept desk keeper first new)
+  -- a stop at any moment leaves one of the two stores
+  pub any_moment : (first : D) (line : List ℕ) → IsKept desk before first old
+      → desk.said old ≡ Some line → AtAnyMoment desk old new
+      (LeavesEither desk (is_file before) first (keeper_store before) next)
+  -- and so does a failed call
+  pub left : OnErr result ((first : D) (file : List ℕ) → IsKept desk before first old
+      → desk.may_leave new file
+      → LeavesEither desk (is_file before) first (keeper_store before) next file)
+  -- a store in memory calls nothing, and none of its calls fails
+  pub alone : is_file before ≡ false → new ≡ old
+  pub in_file : OnErr result (is_file before ≡ true)

@@ -4,4 +4,5 @@ pub mod Keeper
 pub mod OwnBase
 pub mod Reading
 pub mod Session
+pub mod Uncounted
 pub mod Unchanged

@@ -1,7 +1,7 @@
 ghost use Rattle.std.specs.Prelude.{◌≡◌, ℕ, List, IfOk, IsOk};
 ghost use Rattle.pl_desk.specs.Shown.{AtAnyMoment};
 ghost use Rattle.pl_desk.specs.Counts.{Counts, Writes};
-ghost use Rattle.pl_desk.specs.Calls.{KeepsLine};
+ghost use Rattle.pl_gate.specs.FileCalls.{CallsFile};
 ghost use Rattle.pl_store.specs.Session.{IsPreparedFrom, IsSettled, StandsForEither};
 ghost use Rattle.pl_store.specs.Session.{bytes_to_write, session_limit, next_limit, next_store};
 ghost use Rattle.pl_store.specs.Session.{session_store, writes_nothing};
@@ -32,8 +32,7 @@ impl Prepared {
         ensures unasked_ok { writes_nothing self → IsOk result }
         ensures written { Writes result (bytes_to_write self)
             (D.written desk.old) (D.written desk.new) }
-        ensures line { KeepsLine D.Desk desk.old desk.new }
-        ensures counted { Counts result (D.device_faults desk.old) (D.device_faults desk.new) }
+        ensures calls { CallsFile D.Desk (Counts result) desk.old desk.new }
     {
         let Prepared { engine, change } = self;
         let Some(pending) = change else {

@@ -11,6 +11,8 @@ use pl_engine::Engine;
 use pl_plain::Flat;
 use pl_step::{Command, Reply};
 use std::alloc::Global;
+use std::marker::Brand;
+use std::sync::ledger::Blank;
 
 /// A store in memory alone.
 #[derive(Drop)]
@@ -36,7 +38,7 @@ impl Memory {
             ≡ perform (memory_limit self) (memory_store self) command.now) }
         ensures limit { IfOk result (λ done. memory_limit done.0 ≡ memory_limit self) }
     {
-        let (engine, reply) = uncounted::apply(self.engine, command)?;
+        let (engine, reply) = uncounted::apply::<Brand>(Blank::new(1), self.engine, command)?;
         Ok((Memory { engine }, reply))
     }
 }

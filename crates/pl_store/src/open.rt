@@ -1,8 +1,8 @@
 ghost use Rattle.std.specs.Prelude.{◌≡◌, ◌≤◌, ℕ, List, Err, Some};
 ghost use Rattle.pl_base.specs.Live.{slot_limit};
-ghost use Rattle.pl_desk.specs.Calls.{KeepsLine};
 ghost use Rattle.pl_desk.specs.Counts.{CountsAt};
 ghost use Rattle.pl_desk.specs.Settling.{Settles};
+ghost use Rattle.pl_gate.specs.FileCalls.{CallsFile};
 ghost use Rattle.pl_store.specs.Ending.{KeepsFinished, Makes, Opens};
 ghost use Rattle.pl_store.specs.Session.{StandsAlike};
 
@@ -21,9 +21,7 @@ use std::alloc::Global;
 pub fn create<D: Desk>(alloc: Global, desk: &mut D) -> Result<Session, Ended>
     ensures ends { Makes D.Desk result desk.old desk.new }
     ensures no_less { D.written desk.old ≤ D.written desk.new }
-    ensures line { KeepsLine D.Desk desk.old desk.new }
-    ensures counted { CountsAt (result ≡ Err Ended.DeviceFault)
-        (D.device_faults desk.old) (D.device_faults desk.new) }
+    ensures calls { CallsFile D.Desk (CountsAt (result ≡ Err Ended.DeviceFault)) desk.old desk.new }
 {
     let len = desk.len()?;
     if len > 0 {
@@ -47,9 +45,7 @@ pub fn reopen<D: Desk>(alloc: Global, desk: &mut D, limit: u32) -> Result<Sessio
     ensures any_moment { (file : List ℕ) → D.held desk.old ≡ Some file
         → Settles D.Desk (result ≡ Err Ended.DeviceFault) desk.old desk.new (StandsAlike file) }
     ensures no_less { D.written desk.old ≤ D.written desk.new }
-    ensures line { KeepsLine D.Desk desk.old desk.new }
-    ensures counted { CountsAt (result ≡ Err Ended.DeviceFault)
-        (D.device_faults desk.old) (D.device_faults desk.new) }
+    ensures calls { CallsFile D.Desk (CountsAt (result ≡ Err Ended.DeviceFault)) desk.old desk.new }
 {
     settle(desk)?;
     read_session(alloc, desk, limit)

@@ -1,14 +1,12 @@
 // What an opening reads of a file.
-ghost use Rattle.std.specs.Prelude.{◌≡◌, ◌≤◌, ◌+◌, ℕ, List, Err, Some, true, false, drop, IfOk};
-ghost use Rattle.std.specs.Prelude.{IfSome, OnOk};
+ghost use Rattle.std.specs.Prelude.{◌≡◌, ◌≤◌, ℕ, List, Err, Some, drop, IfOk};
 ghost use Rattle.pl_base.specs.Touched.{page_size};
 ghost use Rattle.pl_base.specs.Live.{slot_limit};
-ghost use Rattle.pl_desk.specs.Calls.{KeepsLine, OnlyReads};
+ghost use Rattle.pl_desk.specs.Calls.{OnlyReads};
 ghost use Rattle.pl_desk.specs.Counts.{Counts, CountsAt};
 ghost use Rattle.pl_desk.specs.Settling.{Settles};
-ghost use Rattle.pl_desk.specs.Shown.{Rests};
-ghost use Rattle.pl_gate.specs.Gate.{has_gate, is_set};
-ghost use Rattle.pl_gate.specs.Recovery.{IsSettledAs, StandsAs, recovery_bytes};
+ghost use Rattle.pl_gate.specs.FileCalls.{CallsFile};
+ghost use Rattle.pl_gate.specs.Recovery.{SettlesGate, StandsAs};
 ghost use Rattle.pl_store.specs.Reading.{HoldNone, IsReadFrom, EndsReading, TellsPages};
 ghost use Rattle.pl_store.specs.Session.{session_limit};
 
@@ -24,22 +22,11 @@ use std::alloc::Global;
 
 /// Settles the gate of a file that a stop may have left.
 pub(crate) fn settle<D: Desk>(desk: &mut D) -> Result<(), GateError>
-    ensures settled { OnOk result ((file : List ℕ) → D.held desk.old ≡ Some file
-        → Rests D.Desk desk.new (IsSettledAs file)) }
-    ensures good { OnOk result (IfSome (D.held desk.old) (λ file. has_gate file ≡ true)) }
-    ensures bad { result ≡ Err GateError.BadGate
-        → IfSome (D.held desk.old) (λ file. has_gate file ≡ false) }
-    ensures untouched { result ≡ Err GateError.BadGate → D.held desk.new ≡ D.held desk.old }
-    ensures unset { (file : List ℕ) → D.held desk.old ≡ Some file → is_set file ≡ false
-        → D.held desk.new ≡ D.held desk.old }
+    ensures settles { SettlesGate D.Desk result desk.old desk.new }
     ensures any_moment { (file : List ℕ) → D.held desk.old ≡ Some file
         → Settles D.Desk (result ≡ Err GateError.DeviceFault) desk.old desk.new (StandsAs file) }
-    ensures no_more { (file : List ℕ) → D.held desk.old ≡ Some file
-        → D.written desk.new ≤ D.written desk.old + recovery_bytes file }
-    ensures no_less { D.written desk.old ≤ D.written desk.new }
-    ensures line { KeepsLine D.Desk desk.old desk.new }
-    ensures counted { CountsAt (result ≡ Err GateError.DeviceFault)
-        (D.device_faults desk.old) (D.device_faults desk.new) }
+    ensures calls { CallsFile D.Desk (CountsAt (result ≡ Err GateError.DeviceFault))
+        desk.old desk.new }
 {
     let mut gate = Gate::of(desk);
     gate.recover()?;

@@ -10,6 +10,8 @@ use pl_engine::Engine;
 use pl_nbread::Tree;
 use pl_plain::Flat;
 use pl_step::{Command, Reply};
+use std::marker::Brand;
+use std::sync::ledger::Blank;
 
 /// An open store, between two commands. The file holds it, and is not read again.
 #[derive(Drop)]
@@ -45,7 +47,7 @@ impl Session {
         ensures plain { IfOk result IsPlain }
         ensures returns { IfOk result (λ tree. (limit : ℕ) → Returns limit tree) }
     {
-        uncounted::tree(&self.engine)
+        uncounted::tree::<Brand>(Blank::new(1), &self.engine)
     }
 
     /// Performs a command in memory: no call of the file is made. A refusal is a reply, and leaves
@@ -65,7 +67,7 @@ impl Session {
         ensures idle { IfOk result
             (λ done. IsIdle command.now (session_store self) → writes_nothing done.0) }
     {
-        let (mut engine, reply) = uncounted::apply(self.engine, command)?;
+        let (mut engine, reply) = uncounted::apply::<Brand>(Blank::new(1), self.engine, command)?;
         if changes_nothing(command, &reply) {
             return Ok((
                 Prepared {
@@ -75,7 +77,7 @@ impl Session {
                 reply,
             ));
         }
-        let touched = uncounted::touched(&mut engine)?;
+        let touched = uncounted::touched::<Brand>(Blank::new(1), &mut engine)?;
         let change = Pending::of(touched);
         Ok((Prepared { engine, change }, reply))
     }

@@ -11,6 +11,8 @@ use pl_base::{NoMemory, Touched};
 use pl_engine::Engine;
 use pl_plain::Flat;
 use std::alloc::Global;
+use std::marker::Brand;
+use std::sync::ledger::Blank;
 
 /// A session of the store before its first command, and the change that writes it into an empty
 /// file.
@@ -25,6 +27,6 @@ pub(crate) fn start(alloc: Global, limit: u32) -> Result<(Session, Touched), NoM
     ensures after { IfOk result (λ done. 1 < done.1.after) }
 {
     let mut engine = Engine::over(alloc, Flat::opening(alloc)?, limit)?;
-    let touched = uncounted::touched(&mut engine)?;
+    let touched = uncounted::touched::<Brand>(Blank::new(1), &mut engine)?;
     Ok((Session { engine }, touched))
 }

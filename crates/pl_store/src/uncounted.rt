@@ -1,5 +1,6 @@
-// The engine's calls where nothing is counted.
-ghost use Rattle.std.specs.Prelude.{◌≡◌, ◌≤◌, ◌<◌, ℕ, List, false, length, IfOk, OnOk};
+// The engine's calls where nothing is counted. A caller hands over a blank for `Brand`, and its
+// `Invariants.antt` says that the ledger is the blank's.
+ghost use Rattle.std.specs.Prelude.{◌≡◌, ◌≤◌, ℕ, List, false, length, IfOk, OnOk};
 ghost use Rattle.std.specs.List.{All};
 ghost use Rattle.pl_base.specs.Rows.{store_of};
 ghost use Rattle.pl_base.specs.Touched.{IsWithin, MayDiffer, bytes_before, changed, page_numbers};
@@ -12,47 +13,22 @@ ghost use Rattle.pl_plain.specs.Flat.{IsBase, bytes_of, kept_of};
 ghost use Rattle.pl_step.specs.Commands.{HasDates, is_change};
 ghost use Rattle.pl_step.specs.Step.{perform};
 ghost use Rattle.pl_store.specs.OwnBase.{HasOwnBase};
+ghost use Rattle.pl_store.specs.Uncounted.{IsBlankOf};
 
 use pl_base::{NoMemory, Refusal, Steps, Touched};
 use pl_engine::Engine;
 use pl_nbread::Tree;
 use pl_plain::Flat;
 use pl_step::{Command, Reply};
-use std::marker::Brand;
 use std::sync::ledger::{Blank, Ledger};
 
 /// One step of the machine.
-pub(crate) fn apply(
-    engine: Engine<Flat>,
-    command: &Command,
-) -> Result<(Engine<Flat>, Reply), NoMemory>
-    requires dates { HasDates command.now }
-    ensures step { IfOk result
-        (λ done. (done.1, store_of (kept_of done.0.rows))
-        ≡ perform engine.limit (store_of (kept_of engine.rows)) command.now) }
-    ensures refused { IfOk result
-        (λ done. (refusal : Refusal) → done.1 ≡ Reply.Refused refusal → done.0.rows ≡ engine.rows) }
-    ensures unchanged { IfOk result
-        (λ done. is_change command.now ≡ false → done.0.rows ≡ engine.rows) }
-    ensures idle { IfOk result
-        (λ done. IsIdle command.now (store_of (kept_of engine.rows)) → done.0.rows ≡ engine.rows) }
-    ensures base { IfOk result
-        (λ done. (bytes : List ℕ) → IsBase engine.rows bytes → IsBase done.0.rows bytes) }
-    ensures stands { IfOk result
-        (λ done. StandsFor (bytes_of done.0.rows) (store_of (kept_of done.0.rows))) }
-    ensures limit { IfOk result (λ done. done.0.limit ≡ engine.limit) }
-{
-    apply_with::<Brand>(Blank::new(1), engine, command)
-}
-
-fn apply_with<L: Ledger>(
+pub(crate) fn apply<L: Ledger>(
     blank: Blank,
     engine: Engine<Flat>,
     command: &Command,
 ) -> Result<(Engine<Flat>, Reply), NoMemory>
-    requires name { blank.name ≡ L.name }
-    requires parts { blank.parts ≡ L.parts }
-    requires some { 0 < blank.parts }
+    requires blank { IsBlankOf L.Ledger blank }
     requires dates { HasDates command.now }
     ensures step { IfOk result
         (λ done. (done.1, store_of (kept_of done.0.rows))
@@ -74,32 +50,11 @@ fn apply_with<L: Ledger>(
 
 /// The pages of the store's bytes that changed since the last such call, or since the rows were
 /// made.
-pub(crate) fn touched(engine: &mut Engine<Flat>) -> Result<Touched, NoMemory>
-    ensures whole { IfOk result
-        (λ change. (base : List ℕ) → IsBase engine.old.rows base
-        → changed change base ≡ bytes_of engine.new.rows) }
-    ensures before { IfOk result
-        (λ change. (base : List ℕ) → IsBase engine.old.rows base
-        → length base ≡ bytes_before change.before) }
-    ensures some { IfOk result (λ change. 1 ≤ change.before) }
-    ensures after { IfOk result
-        (λ change. length (bytes_of engine.new.rows) ≡ bytes_before change.after) }
-    ensures within { IfOk result IsWithin }
-    ensures needed { IfOk result
-        (λ change. All (MayDiffer (IsBase engine.old.rows) (bytes_of engine.new.rows))
-        (page_numbers change.pages)) }
-    ensures base { OnOk result (HasOwnBase engine.new.rows) }
-    ensures kept { kept_of engine.new.rows ≡ kept_of engine.old.rows }
-    ensures bytes { bytes_of engine.new.rows ≡ bytes_of engine.old.rows }
-    ensures limit { engine.new.limit ≡ engine.old.limit }
-{
-    touched_with::<Brand>(Blank::new(1), engine)
-}
-
-fn touched_with<L: Ledger>(blank: Blank, engine: &mut Engine<Flat>) -> Result<Touched, NoMemory>
-    requires name { blank.name ≡ L.name }
-    requires parts { blank.parts ≡ L.parts }
-    requires some { 0 < blank.parts }
+pub(crate) fn touched<L: Ledger>(
+    blank: Blank,
+    engine: &mut Engine<Flat>,
+) -> Result<Touched, NoMemory>
+    requires blank { IsBlankOf L.Ledger blank }
     ensures whole { IfOk result
         (λ change. (base : List ℕ) → IsBase engine.old.rows base
         → changed change base ≡ bytes_of engine.new.rows) }
@@ -122,18 +77,8 @@ fn touched_with<L: Ledger>(blank: Blank, engine: &mut Engine<Flat>) -> Result<To
 }
 
 /// The bookmarks of the store.
-pub(crate) fn tree(engine: &Engine<Flat>) -> Result<Tree, NoMemory>
-    ensures tree { IfOk result (λ tree. tree ≡ bookmarks (store_of (kept_of engine.now.rows))) }
-    ensures plain { IfOk result IsPlain }
-    ensures returns { IfOk result (λ tree. (limit : ℕ) → Returns limit tree) }
-{
-    tree_with::<Brand>(Blank::new(1), engine)
-}
-
-fn tree_with<L: Ledger>(blank: Blank, engine: &Engine<Flat>) -> Result<Tree, NoMemory>
-    requires name { blank.name ≡ L.name }
-    requires parts { blank.parts ≡ L.parts }
-    requires some { 0 < blank.parts }
+pub(crate) fn tree<L: Ledger>(blank: Blank, engine: &Engine<Flat>) -> Result<Tree, NoMemory>
+    requires blank { IsBlankOf L.Ledger blank }
     ensures tree { IfOk result (λ tree. tree ≡ bookmarks (store_of (kept_of engine.now.rows))) }
     ensures plain { IfOk result IsPlain }
     ensures returns { IfOk result (λ tree. (limit : ℕ) → Returns limit tree) }

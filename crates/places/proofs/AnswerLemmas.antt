@@ -136,20 +136,6 @@ module _ {D : Type 0} (desk : Ghosts D) where
       (subst (λ (t : List ℕ). ShowsOnly desk mid new (ShowsFront desk mid before t)) written
       (saying before (unsaid ∙ is)))
 
-  -- the step is a command's, and the text its reply
-  pub performing : (old new first : D) (keeper : Keeper) (limit : ℕ) (command : Command) (reply : Reply) (next : Store)
-      (before : List ℕ) → (reply, next) ≡ perform limit (keeper_store keeper) command
-      → ShowsOnly desk old new (ShowsTaking desk (is_file keeper) first (keeper_store keeper) next (reply_text reply)
-      before)
-      → ShowsOnly desk old new (ShowsAnswer desk (is_file keeper) first limit (keeper_store keeper) (Ok command ∷ [])
-      before)
-  performing old new first keeper limit command reply next before step shows =
-      subst (λ (text : List ℕ). ShowsOnly desk old new (ShowsTaking desk (is_file keeper) first (keeper_store keeper)
-      (after limit (keeper_store keeper) (Ok command ∷ [])) text before))
-      (sym (text_of_command limit (keeper_store keeper) next command reply step))
-      (subst (λ (store : Store). ShowsOnly desk old new (ShowsTaking desk (is_file keeper) first (keeper_store keeper)
-      store (reply_text reply) before)) (after_command limit (keeper_store keeper) next command reply step) shows)
-
   -- a refusal is said, and the store stays
   pub refusing : OnlyNow desk
       → (old new first : D) (keeper : Keeper) (limit : ℕ) (entries : List (Parsed Command)) (refusal : Refusal)

@@ -7,5 +7,6 @@ pub mod Limits
 pub mod Lines
 pub mod Progress
 pub mod Said
+pub mod Serving
 pub mod Status
 pub mod Stops

@@ -1,5 +1,6 @@
 -- How far a run has come.
 use Rattle.std.specs.Prelude.{◌≡◌, ◌≤◌, ℕ, List, [], ◌∷◌, ◌++◌, length, take, Option, Some}
+use Rattle.std.specs.Prelude.{Result, IfErr, IfOk}
 use Rattle.pl_base.specs.Store.{Store}
 use Rattle.pl_base.specs.Live.{slot_limit}
 use Rattle.pl_desk.specs.Shown.{ShowsOnly}
@@ -69,3 +70,14 @@ module _ {D : Type 0} (desk : Ghosts D) where
       → IsAt start bytes (Some begun) run (desk.said old) → IsKept desk run.keeper first old
       → ShowsOnly desk old new
       (ShowsAnswered desk (is_file run.keeper) first slot_limit start (entries bytes) begun)
+
+  -- how the next piece of the input is taken
+  pub record Takes (run : ScriptRun) (piece : List ℕ) (result : Result ScriptRun AnswerError)
+      (old new : D) : Type 0 where
+    -- the next run stands behind it
+    pub goes_on : IfOk result (λ next. GoesOn run piece old next new)
+    -- or the run stopped at one of its entries
+    pub ends : IfErr result
+        (λ error. StopsIn error run (λ bytes. ended_entries (bytes ++ piece)) old new)
+    -- what a stop shows meanwhile
+    pub shows : ShowsIn run (λ bytes. ended_entries (bytes ++ piece)) old new

@@ -22,6 +22,7 @@ ghost use Rattle.places.specs.Drilling.{summary_of, told};
 ghost use Rattle.places.specs.Ending.{EndsTask, EndsUnopened};
 ghost use Rattle.places.specs.Progress.{StaysKept};
 ghost use Rattle.places.specs.Stops.{LeavesOfAnswer, ShowsUnopened};
+ghost use Rattle.places.specs.Serving.{CountsFaults};
 
 use crate::answer_error::AnswerError;
 use crate::say::say_all;
@@ -189,10 +190,8 @@ pub fn drill_stored<D: Desk>(alloc: Global, count: u32, seed: u64, desk: &mut D)
     ensures not_said { result ≡ Status.NotAStore → D.said desk.new ≡ D.said desk.old }
     ensures no_store { (file : List ℕ) → D.held desk.old ≡ Some file → StandsForNone file
         → EndsUnopened result × (D.said desk.new ≡ D.said desk.old) }
-    ensures says_counted { CountsAt (result ≡ Status.SayFault)
-        (D.line_faults desk.old) (D.line_faults desk.new) }
-    ensures device_counted { CountsAt (result ≡ Status.DeviceFault)
-        (D.device_faults desk.old) (D.device_faults desk.new) }
+    ensures counted { CountsFaults D.Desk (result ≡ Status.SayFault)
+        (result ≡ Status.DeviceFault) desk.old desk.new }
 {
     match reopen(alloc, desk, SLOT_LIMIT) {
         Ok(session) => status_of(drill(alloc, Keeper::File(session), count, seed, desk)),
@@ -226,10 +225,8 @@ fn drill<D: Desk>(
     ensures shows { (first : D) (before : List ℕ) → D.said desk.old ≡ Some before
         → IsKept D.Desk keeper first desk.old → ShowsOnly D.Desk desk.old desk.new
         (ShowsDrill D.Desk count seed (keeper_store keeper) before) }
-    ensures says_counted { CountsAt (result ≡ Err AnswerError.SayFault)
-        (D.line_faults desk.old) (D.line_faults desk.new) }
-    ensures device_counted { CountsAt (result ≡ Err AnswerError.DeviceFault)
-        (D.device_faults desk.old) (D.device_faults desk.new) }
+    ensures counted { CountsFaults D.Desk (result ≡ Err AnswerError.SayFault)
+        (result ≡ Err AnswerError.DeviceFault) desk.old desk.new }
 {
     let drilling = run_lines(alloc, keeper, count, seed, desk)?;
     let text = drilling.summary(count)?;

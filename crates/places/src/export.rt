@@ -1,7 +1,6 @@
 // The bookmark file of the store of the file.
 ghost use Rattle.std.specs.Prelude.{◌≡◌, ℕ, List, Some, IfOk};
 ghost use Rattle.pl_base.specs.Store.{Store};
-ghost use Rattle.pl_desk.specs.Counts.{CountsAt};
 ghost use Rattle.pl_desk.specs.Settling.{ShowsThen};
 ghost use Rattle.pl_store.specs.Ending.{KeepsFinished, RefusesFile, StandsForNone};
 ghost use Rattle.pl_store.specs.Session.{Stands, session_store};
@@ -9,6 +8,7 @@ ghost use Rattle.places.specs.Ending.{EndsTask, EndsUnopened};
 ghost use Rattle.places.specs.Exporting as spec;
 ghost use Rattle.places.specs.Exporting.{ComesBack, EndsExport, ShowsExport};
 ghost use Rattle.places.specs.Stops.{ShowsUnopened};
+ghost use Rattle.places.specs.Serving.{CountsFaults};
 
 use crate::say::say_all;
 use crate::status::Status;
@@ -38,10 +38,8 @@ pub fn export_stored<D: Desk>(alloc: Global, desk: &mut D) -> Status
     ensures not_said { result ≡ Status.NotAStore → D.said desk.new ≡ D.said desk.old }
     ensures no_store { (file : List ℕ) → D.held desk.old ≡ Some file → StandsForNone file
         → EndsUnopened result × (D.said desk.new ≡ D.said desk.old) }
-    ensures says_counted { CountsAt (result ≡ Status.SayFault)
-        (D.line_faults desk.old) (D.line_faults desk.new) }
-    ensures device_counted { CountsAt (result ≡ Status.DeviceFault)
-        (D.device_faults desk.old) (D.device_faults desk.new) }
+    ensures counted { CountsFaults D.Desk (result ≡ Status.SayFault)
+        (result ≡ Status.DeviceFault) desk.old desk.new }
 {
     let session = match reopen(alloc, desk, SLOT_LIMIT) {
         Ok(session) => session,

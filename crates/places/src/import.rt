@@ -18,6 +18,7 @@ ghost use Rattle.places.specs.Importing.{EndsImport, Imports, IsImport, LeavesRe
 ghost use Rattle.places.specs.Importing.{StopsCommit, StopsImport, StopsParsing, StopsReading};
 ghost use Rattle.places.specs.Status.{done_or};
 ghost use Rattle.places.specs.Stops.{ShowsUnopened};
+ghost use Rattle.places.specs.Serving.{CountsFaults};
 
 use crate::answer::conclude;
 use crate::input::{PIECE, next_piece};
@@ -49,10 +50,8 @@ pub fn import_stored<S: Source, D: Desk>(alloc: Global, input: &mut S, desk: &mu
         → EndsUnopened result × (input.new ≡ input.old) × (D.said desk.new ≡ D.said desk.old) }
     ensures reads_counted { CountsAt (result ≡ Status.ReadFault) (S.faults input.old)
         (S.faults input.new) }
-    ensures says_counted { CountsAt (result ≡ Status.SayFault)
-        (D.line_faults desk.old) (D.line_faults desk.new) }
-    ensures device_counted { CountsAt (result ≡ Status.DeviceFault)
-        (D.device_faults desk.old) (D.device_faults desk.new) }
+    ensures counted { CountsFaults D.Desk (result ≡ Status.SayFault)
+        (result ≡ Status.DeviceFault) desk.old desk.new }
 {
     match reopen(alloc, desk, SLOT_LIMIT) {
         Ok(session) => status_of(import(alloc, Keeper::File(session), input, desk)),
@@ -87,10 +86,8 @@ fn import<S: Source, D: Desk>(
     ensures stops { IfErr result StopsImport }
     ensures reads_counted { CountsAt (result ≡ Err Status.ReadFault) (S.faults input.old)
         (S.faults input.new) }
-    ensures says_counted { CountsAt (result ≡ Err Status.SayFault)
-        (D.line_faults desk.old) (D.line_faults desk.new) }
-    ensures device_counted { CountsAt (result ≡ Err Status.DeviceFault)
-        (D.device_faults desk.old) (D.device_faults desk.new) }
+    ensures counted { CountsFaults D.Desk (result ≡ Err Status.SayFault)
+        (result ≡ Err Status.DeviceFault) desk.old desk.new }
 {
     let bytes = read_all(alloc, input)?;
     let tree = tree_of(alloc, &bytes)?;
@@ -159,10 +156,8 @@ fn commit<D: Desk>(
         → ShowsOnly D.Desk desk.old desk.new
         (ShowsImport D.Desk (keeper_store keeper) bytes before) }
     ensures stops { IfErr result StopsCommit }
-    ensures says_counted { CountsAt (result ≡ Err Status.SayFault)
-        (D.line_faults desk.old) (D.line_faults desk.new) }
-    ensures device_counted { CountsAt (result ≡ Err Status.DeviceFault)
-        (D.device_faults desk.old) (D.device_faults desk.new) }
+    ensures counted { CountsFaults D.Desk (result ≡ Err Status.SayFault)
+        (result ≡ Err Status.DeviceFault) desk.old desk.new }
 {
     let (ready, reply) = keeper.prepare(command)?;
     if let Reply::Refused(refusal) = reply {

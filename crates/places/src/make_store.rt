@@ -1,7 +1,7 @@
 // A new store in an empty file.
 ghost use Rattle.std.specs.Prelude.{◌≡◌};
-ghost use Rattle.pl_desk.specs.Counts.{CountsAt};
 ghost use Rattle.places.specs.Ending.{EndsNew, EndsTask};
+ghost use Rattle.places.specs.Serving.{CountsFaults};
 
 use crate::say::say_all;
 use crate::status::Status;
@@ -15,10 +15,8 @@ use std::alloc::Global;
 pub fn make_store<D: Desk>(alloc: Global, desk: &mut D) -> Status
     ensures status { EndsTask Task.New result }
     ensures ends { EndsNew D.Desk result desk.old desk.new }
-    ensures says_counted { CountsAt (result ≡ Status.SayFault)
-        (D.line_faults desk.old) (D.line_faults desk.new) }
-    ensures device_counted { CountsAt (result ≡ Status.DeviceFault)
-        (D.device_faults desk.old) (D.device_faults desk.new) }
+    ensures counted { CountsFaults D.Desk (result ≡ Status.SayFault)
+        (result ≡ Status.DeviceFault) desk.old desk.new }
 {
     if let Err(ended) = create(alloc, desk) {
         return Status::from(ended);

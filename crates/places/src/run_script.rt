@@ -10,6 +10,7 @@ ghost use Rattle.places.specs.Ending.{IfTold, LeavesAtEnd};
 ghost use Rattle.places.specs.declared.status.Status.{Status};
 ghost use Rattle.places.specs.Status.{EndsAs};
 ghost use Rattle.places.specs.Stops.{ShowsAnswered};
+ghost use Rattle.places.specs.Serving.{CountsFaults};
 
 use crate::input::{PIECE, next_piece};
 use crate::script_run::ScriptRun;
@@ -39,10 +40,8 @@ pub fn run_script<S: Source, D: Desk>(
     ensures in_file { result ≡ Err Stop.DeviceFault → is_file keeper ≡ true }
     ensures reads_counted { CountsAt (result ≡ Err Stop.ReadFault) (S.faults input.old)
         (S.faults input.new) }
-    ensures says_counted { CountsAt (result ≡ Err Stop.SayFault)
-        (D.line_faults desk.old) (D.line_faults desk.new) }
-    ensures device_counted { CountsAt (result ≡ Err Stop.DeviceFault)
-        (D.device_faults desk.old) (D.device_faults desk.new) }
+    ensures counted { CountsFaults D.Desk (result ≡ Err Stop.SayFault)
+        (result ≡ Err Stop.DeviceFault) desk.old desk.new }
 {
     let mut run = ScriptRun::new(alloc, keeper);
     let mut read = 0;

@@ -12,6 +12,7 @@ ghost use Rattle.pl_script.specs.Script.{script};
 ghost use Rattle.places.specs.Ending.{EndsTask, EndsUnopened, IfTold, LeavesAtEnd};
 ghost use Rattle.places.specs.Status.{EndsAs};
 ghost use Rattle.places.specs.Stops.{ShowsAnswered, ShowsUnopened};
+ghost use Rattle.places.specs.Serving.{CountsFaults};
 
 use crate::run_script::run_script;
 use crate::status::Status;
@@ -32,10 +33,8 @@ pub fn try_script<S: Source, D: Desk>(alloc: Global, input: &mut S, desk: &mut D
     ensures alone { LeavesFile D.Desk desk.old desk.new }
     ensures reads_counted { CountsAt (result ≡ Status.ReadFault) (S.faults input.old)
         (S.faults input.new) }
-    ensures says_counted { CountsAt (result ≡ Status.SayFault)
-        (D.line_faults desk.old) (D.line_faults desk.new) }
-    ensures device_counted { CountsAt (result ≡ Status.DeviceFault)
-        (D.device_faults desk.old) (D.device_faults desk.new) }
+    ensures counted { CountsFaults D.Desk (result ≡ Status.SayFault)
+        (result ≡ Status.DeviceFault) desk.old desk.new }
 {
     match Memory::opening(alloc, SLOT_LIMIT) {
         Ok(memory) => status_of(run_script(alloc, Keeper::Memory(memory), input, desk)),
@@ -63,10 +62,8 @@ pub fn run_stored<S: Source, D: Desk>(alloc: Global, input: &mut S, desk: &mut D
         → EndsUnopened result × (input.new ≡ input.old) × (D.said desk.new ≡ D.said desk.old) }
     ensures reads_counted { CountsAt (result ≡ Status.ReadFault) (S.faults input.old)
         (S.faults input.new) }
-    ensures says_counted { CountsAt (result ≡ Status.SayFault)
-        (D.line_faults desk.old) (D.line_faults desk.new) }
-    ensures device_counted { CountsAt (result ≡ Status.DeviceFault)
-        (D.device_faults desk.old) (D.device_faults desk.new) }
+    ensures counted { CountsFaults D.Desk (result ≡ Status.SayFault)
+        (result ≡ Status.DeviceFault) desk.old desk.new }
 {
     match reopen(alloc, desk, SLOT_LIMIT) {
         Ok(session) => status_of(run_script(alloc, Keeper::File(session), input, desk)),

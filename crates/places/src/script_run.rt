@@ -1,5 +1,5 @@
 // A run of a script whose bytes come one after another.
-ghost use Rattle.std.specs.Prelude.{◌≡◌, ◌≢◌, ℕ, List, Option, [], ◌∷◌, ◌++◌, Err, true, false};
+ghost use Rattle.std.specs.Prelude.{◌≡◌, ◌≢◌, ℕ, List, Option, [], ◌∷◌, ◌++◌, Err};
 ghost use Rattle.std.specs.Prelude.{IfErr, IfOk, OnOk};
 ghost use Rattle.std.specs.Str.Lines.{strip_carriage_return};
 
@@ -26,14 +26,12 @@ pub struct ScriptRun {
 impl ScriptRun {
     ghost use Rattle.pl_base.specs.Store.{Store};
     ghost use Rattle.pl_base.specs.Live.{slot_limit};
-    ghost use Rattle.pl_desk.specs.Calls.{LeavesFile};
-    ghost use Rattle.pl_desk.specs.Counts.{CountsAt};
     ghost use Rattle.pl_step.specs.Run.{replies, after};
-    ghost use Rattle.pl_store.specs.Keeper.{is_file, keeper_limit, keeper_store};
+    ghost use Rattle.pl_store.specs.Keeper.{keeper_limit, keeper_store};
     ghost use Rattle.pl_script.specs.Script.{script};
-    ghost use Rattle.places.specs.Progress.{GoesOn, IsAt, ShowsIn, StaysKept, StopsIn};
-    ghost use Rattle.places.specs.Progress.{ended_entries};
+    ghost use Rattle.places.specs.Progress.{IsAt, ShowsIn, StopsIn, Takes};
     ghost use Rattle.places.specs.Said.{Says, texts};
+    ghost use Rattle.places.specs.Serving.{CountsFaults, Serves};
 
     pub fn new(alloc: Global, keeper: Keeper) -> Self
         ensures at { keeper_limit keeper ≡ slot_limit → (begun : Option (List ℕ))
@@ -49,21 +47,10 @@ impl ScriptRun {
 
     /// Takes the next bytes of the input, and answers each line that ends within them.
     pub fn take_all<D: Desk>(self, piece: &[u8], desk: &mut D) -> Result<ScriptRun, AnswerError>
-        ensures ok { IfOk result (λ run. GoesOn D.Desk self piece.now desk.old run desk.new) }
-        ensures kind { IfOk result (λ run. is_file run.keeper ≡ is_file self.keeper) }
-        ensures kept { IfOk result
-            (λ run. StaysKept D.Desk self.keeper desk.old run.keeper desk.new) }
-        ensures ends { IfErr result (λ error.
-            StopsIn D.Desk error self (λ bytes. ended_entries (bytes ++ piece.now))
-            desk.old desk.new) }
-        ensures shows { ShowsIn D.Desk self (λ bytes. ended_entries (bytes ++ piece.now)) desk.old
-            desk.new }
-        ensures alone { is_file self.keeper ≡ false → LeavesFile D.Desk desk.old desk.new }
-        ensures in_file { result ≡ Err AnswerError.DeviceFault → is_file self.keeper ≡ true }
-        ensures says_counted { CountsAt (result ≡ Err AnswerError.SayFault)
-            (D.line_faults desk.old) (D.line_faults desk.new) }
-        ensures device_counted { CountsAt (result ≡ Err AnswerError.DeviceFault)
-            (D.device_faults desk.old) (D.device_faults desk.new) }
+        ensures takes { Takes D.Desk self piece.now result desk.old desk.new }
+        ensures serves { Serves D.Desk self.keeper (λ run. run.keeper) result desk.old desk.new }
+        ensures counted { CountsFaults D.Desk (result ≡ Err AnswerError.SayFault)
+            (result ≡ Err AnswerError.DeviceFault) desk.old desk.new }
     {
         let mut run = self;
         for &byte in piece {
@@ -73,21 +60,10 @@ impl ScriptRun {
     }
 
     fn take<D: Desk>(self, byte: u8, desk: &mut D) -> Result<ScriptRun, AnswerError>
-        ensures ok { IfOk result (λ run. GoesOn D.Desk self (byte ∷ []) desk.old run desk.new) }
-        ensures kind { IfOk result (λ run. is_file run.keeper ≡ is_file self.keeper) }
-        ensures kept { IfOk result
-            (λ run. StaysKept D.Desk self.keeper desk.old run.keeper desk.new) }
-        ensures ends { IfErr result (λ error.
-            StopsIn D.Desk error self (λ bytes. ended_entries (bytes ++ byte ∷ []))
-            desk.old desk.new) }
-        ensures shows { ShowsIn D.Desk self (λ bytes. ended_entries (bytes ++ byte ∷ [])) desk.old
-            desk.new }
-        ensures alone { is_file self.keeper ≡ false → LeavesFile D.Desk desk.old desk.new }
-        ensures in_file { result ≡ Err AnswerError.DeviceFault → is_file self.keeper ≡ true }
-        ensures says_counted { CountsAt (result ≡ Err AnswerError.SayFault)
-            (D.line_faults desk.old) (D.line_faults desk.new) }
-        ensures device_counted { CountsAt (result ≡ Err AnswerError.DeviceFault)
-            (D.device_faults desk.old) (D.device_faults desk.new) }
+        ensures takes { Takes D.Desk self (byte ∷ []) result desk.old desk.new }
+        ensures serves { Serves D.Desk self.keeper (λ run. run.keeper) result desk.old desk.new }
+        ensures counted { CountsFaults D.Desk (result ≡ Err AnswerError.SayFault)
+            (result ≡ Err AnswerError.DeviceFault) desk.old desk.new }
     {
         if byte == b'\n' {
             self.end_line(desk)
@@ -98,21 +74,10 @@ impl ScriptRun {
 
     // The line has ended with LF.
     fn end_line<D: Desk>(self, desk: &mut D) -> Result<ScriptRun, AnswerError>
-        ensures ok { IfOk result (λ run. GoesOn D.Desk self (10 ∷ []) desk.old run desk.new) }
-        ensures kind { IfOk result (λ run. is_file run.keeper ≡ is_file self.keeper) }
-        ensures kept { IfOk result
-            (λ run. StaysKept D.Desk self.keeper desk.old run.keeper desk.new) }
-        ensures ends { IfErr result (λ error.
-            StopsIn D.Desk error self (λ bytes. ended_entries (bytes ++ 10 ∷ []))
-            desk.old desk.new) }
-        ensures shows { ShowsIn D.Desk self (λ bytes. ended_entries (bytes ++ 10 ∷ [])) desk.old
-            desk.new }
-        ensures alone { is_file self.keeper ≡ false → LeavesFile D.Desk desk.old desk.new }
-        ensures in_file { result ≡ Err AnswerError.DeviceFault → is_file self.keeper ≡ true }
-        ensures says_counted { CountsAt (result ≡ Err AnswerError.SayFault)
-            (D.line_faults desk.old) (D.line_faults desk.new) }
-        ensures device_counted { CountsAt (result ≡ Err AnswerError.DeviceFault)
-            (D.device_faults desk.old) (D.device_faults desk.new) }
+        ensures takes { Takes D.Desk self (10 ∷ []) result desk.old desk.new }
+        ensures serves { Serves D.Desk self.keeper (λ run. run.keeper) result desk.old desk.new }
+        ensures counted { CountsFaults D.Desk (result ≡ Err AnswerError.SayFault)
+            (result ≡ Err AnswerError.DeviceFault) desk.old desk.new }
     {
         let ScriptRun {
             alloc,
@@ -152,18 +117,12 @@ impl ScriptRun {
             (λ keeper. (start : Store) (bytes : List ℕ) (begun : Option (List ℕ))
             → IsAt start bytes begun self (D.said desk.old)
             → keeper_store keeper ≡ after slot_limit start (script bytes)) }
-        ensures kind { IfOk result (λ keeper. is_file keeper ≡ is_file self.keeper) }
-        ensures kept { IfOk result (λ keeper.
-            StaysKept D.Desk self.keeper desk.old keeper desk.new) }
+        ensures serves { Serves D.Desk self.keeper (λ keeper. keeper) result desk.old desk.new }
         ensures ends { IfErr result (λ error.
             StopsIn D.Desk error self script desk.old desk.new) }
         ensures shows { ShowsIn D.Desk self script desk.old desk.new }
-        ensures alone { is_file self.keeper ≡ false → LeavesFile D.Desk desk.old desk.new }
-        ensures in_file { result ≡ Err AnswerError.DeviceFault → is_file self.keeper ≡ true }
-        ensures says_counted { CountsAt (result ≡ Err AnswerError.SayFault)
-            (D.line_faults desk.old) (D.line_faults desk.new) }
-        ensures device_counted { CountsAt (result ≡ Err AnswerError.DeviceFault)
-            (D.device_faults desk.old) (D.device_faults desk.new) }
+        ensures counted { CountsFaults D.Desk (result ≡ Err AnswerError.SayFault)
+            (result ≡ Err AnswerError.DeviceFault) desk.old desk.new }
     {
         answer(self.alloc, self.keeper, &self.line, desk)
     }

@@ -94,8 +94,8 @@ returns-in-Try-clause-complete g c = λ task wanted nothing.
     sym c.of.ensures ∙ c.in-Some.is ∙ ap (λ (t : Task). Some t) c.in-Try.is in
     let fails = of_task source desk tasks.Try task (asked_of c.args.words.now) c.args.input.now old
     c.try_script.new.input new asked wanted nothing in
-    let say = none_failed (desk.line_faults old) (desk.line_faults new) did.says_counted fails.says in
-    let call = none_failed (desk.device_faults old) (desk.device_faults new) did.device_counted fails.calls in
+    let say = none_failed (desk.line_faults old) (desk.line_faults new) did.counted.says fails.says in
+    let call = none_failed (desk.device_faults old) (desk.device_faults new) did.counted.device fails.calls in
     let said = value (desk.said old) fails.told in
     let read = none_failed (source.faults c.args.input.now) (source.faults c.try_script.new.input) did.reads_counted
     fails.reads in
@@ -113,8 +113,8 @@ returns-in-New-clause-complete g c = λ task wanted nothing.
     sym c.of.ensures ∙ c.in-Some.is ∙ ap (λ (t : Task). Some t) c.in-New.is in
     let fails = of_task source desk tasks.New task (asked_of c.args.words.now) c.args.input.now old
     c.args.input.now new asked wanted nothing in
-    let say = none_failed (desk.line_faults old) (desk.line_faults new) did.says_counted fails.says in
-    let call = none_failed (desk.device_faults old) (desk.device_faults new) did.device_counted fails.calls in
+    let say = none_failed (desk.line_faults old) (desk.line_faults new) did.counted.says fails.says in
+    let call = none_failed (desk.device_faults old) (desk.device_faults new) did.counted.device fails.calls in
     new_done desk c.make_store.result old new fails.needs say call did.ends
 
 pub returns-in-Run-clause-complete : goal.returns-in-Run-clause-complete
@@ -125,8 +125,8 @@ returns-in-Run-clause-complete g c = λ task wanted nothing.
     sym c.of.ensures ∙ c.in-Some.is ∙ ap (λ (t : Task). Some t) c.in-Run.is in
     let fails = of_task source desk tasks.Run task (asked_of c.args.words.now) c.args.input.now old
     c.run_stored.new.input new asked wanted nothing in
-    let say = none_failed (desk.line_faults old) (desk.line_faults new) did.says_counted fails.says in
-    let call = none_failed (desk.device_faults old) (desk.device_faults new) did.device_counted fails.calls in
+    let say = none_failed (desk.line_faults old) (desk.line_faults new) did.counted.says fails.says in
+    let call = none_failed (desk.device_faults old) (desk.device_faults new) did.counted.device fails.calls in
     let said = value (desk.said old) fails.told in
     let read = none_failed (source.faults c.args.input.now) (source.faults c.run_stored.new.input) did.reads_counted
     fails.reads in
@@ -145,8 +145,8 @@ returns-in-Import-clause-complete g c = λ task wanted nothing.
     sym c.of.ensures ∙ c.in-Some.is ∙ ap (λ (t : Task). Some t) c.in-Import.is in
     let fails = of_task source desk tasks.Import task (asked_of c.args.words.now) c.args.input.now old
     c.import_stored.new.input new asked wanted nothing in
-    let say = none_failed (desk.line_faults old) (desk.line_faults new) did.says_counted fails.says in
-    let call = none_failed (desk.device_faults old) (desk.device_faults new) did.device_counted fails.calls in
+    let say = none_failed (desk.line_faults old) (desk.line_faults new) did.counted.says fails.says in
+    let call = none_failed (desk.device_faults old) (desk.device_faults new) did.counted.device fails.calls in
     let said = value (desk.said old) fails.told in
     let read = none_failed (source.faults c.args.input.now) (source.faults c.import_stored.new.input) did.reads_counted
     fails.reads in
@@ -163,8 +163,8 @@ returns-in-Export-clause-complete g c = λ task wanted nothing.
     sym c.of.ensures ∙ c.in-Some.is ∙ ap (λ (t : Task). Some t) c.in-Export.is in
     let fails = of_task source desk tasks.Export task (asked_of c.args.words.now) c.args.input.now old
     c.args.input.now new asked wanted nothing in
-    let say = none_failed (desk.line_faults old) (desk.line_faults new) did.says_counted fails.says in
-    let call = none_failed (desk.device_faults old) (desk.device_faults new) did.device_counted fails.calls in
+    let say = none_failed (desk.line_faults old) (desk.line_faults new) did.counted.says fails.says in
+    let call = none_failed (desk.device_faults old) (desk.device_faults new) did.counted.device fails.calls in
     let said = value (desk.said old) fails.told in
     let start = fails.needs.0 in let held = fails.needs.1 in
     export_done desk c.export_stored.result old start said.0 new say call
@@ -178,8 +178,8 @@ returns-in-Drill-clause-complete g c = λ task wanted nothing.
     sym c.of.ensures ∙ c.in-Some.is ∙ ap (λ (t : Task). Some t) c.in-Drill.is in
     let fails = of_task source desk (tasks.Drill c.in-Drill.count c.in-Drill.seed) task (asked_of c.args.words.now) c.args.input.now old
     c.args.input.now new asked wanted nothing in
-    let say = none_failed (desk.line_faults old) (desk.line_faults new) did.says_counted fails.says in
-    let call = none_failed (desk.device_faults old) (desk.device_faults new) did.device_counted fails.calls in
+    let say = none_failed (desk.line_faults old) (desk.line_faults new) did.counted.says fails.says in
+    let call = none_failed (desk.device_faults old) (desk.device_faults new) did.counted.device fails.calls in
     let said = value (desk.said old) fails.told in
     let start = fails.needs.0 in let held = fails.needs.1 in
     drill_done desk c.drill_stored.result c.in-Drill.count c.in-Drill.seed old start said.0 new say call

@@ -79,11 +79,9 @@ shown g c =
     (TornIn (entry_ranges c.args.start c.args.touched.now.pages))
     c.loop-index.invariant.moments c.loop-index.invariant.line.said c.write_at.ensures.time (left g c)
 
-pub returns-in_err-write_at-clause-leaves : goal.returns-in_err-write_at-clause-leaves
-returns-in_err-write_at-clause-leaves g c = left g c.before.before.before
-
-pub returns-in_err-write_at-clause-moments : goal.returns-in_err-write_at-clause-moments
-returns-in_err-write_at-clause-moments g c = shown g c.before.before.before
+pub returns-in_err-write_at-clause-torn : goal.returns-in_err-write_at-clause-torn
+returns-in_err-write_at-clause-torn g c =
+    record { leaves = left g c.before.before.before; moments = shown g c.before.before.before }
 
 pub loop-index-preserved : goal.loop-index-preserved
 loop-index-preserved g c =

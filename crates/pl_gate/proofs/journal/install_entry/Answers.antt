@@ -36,14 +36,19 @@ image_shown g c file =
     (number_shown g c.before.before.before.before.before file) c.read_page.ensures.reads.line.said
     c.read_at.ensures.time (read_left g c file)
 
-pub returns-in_err-page-clause-moments : goal.returns-in_err-page-clause-moments
-returns-in_err-page-clause-moments g c file is = number_shown g c.before.before.before file
+pub returns-in_err-page-clause-torn : goal.returns-in_err-page-clause-torn
+returns-in_err-page-clause-torn g c file is = record {
+  leaves = λ later left. (
+    later,
+    c.read_page.ensures.reads.file.left later left,
+    torn_same (page_size * (entry_at c.args.at file).page) page_size later,
+  );
+  moments = number_shown g c.before.before.before file;
+}
 
-pub returns-in_err-read_at-clause-leaves : goal.returns-in_err-read_at-clause-leaves
-returns-in_err-read_at-clause-leaves g c file is = read_left g c.before.before.before.before file
-
-pub returns-in_err-read_at-clause-moments : goal.returns-in_err-read_at-clause-moments
-returns-in_err-read_at-clause-moments g c file is = image_shown g c.before.before.before.before file
+pub returns-in_err-read_at-clause-torn : goal.returns-in_err-read_at-clause-torn
+returns-in_err-read_at-clause-torn g c file is = let read = c.before.before.before.before in
+    record { leaves = read_left g read file; moments = image_shown g read file }
 
 written_left : (g : Over) (c : After-write_at g) (file : List ℕ) → g.D.Desk.held c.args.desk.now ≡ Some file
     → Follows (Step c.args.at file) (g.D.Desk.may_leave c.args.desk.now) (g.D.Desk.may_leave c.write_at.new.self)
@@ -68,8 +73,10 @@ written_shown g c file is =
     (c.read_at.ensures.said ∙ c.read_page.ensures.reads.line.said) c.write_at.ensures.time
     (written_left g c file is)
 
-pub returns-in_err-write_at-clause-moments : goal.returns-in_err-write_at-clause-moments
-returns-in_err-write_at-clause-moments g c file is = written_shown g c.before.before.before file is
+pub returns-in_err-write_at-clause-torn : goal.returns-in_err-write_at-clause-torn
+returns-in_err-write_at-clause-torn g c file is = let wrote = c.before.before.before in
+    record { leaves = written_left g wrote file is; moments = written_shown g wrote file is }
 
-pub returns-clause-moments : goal.returns-clause-moments
-returns-clause-moments g c file is = written_shown g c.before.before file is
+pub returns-clause-torn : goal.returns-clause-torn
+returns-clause-torn g c file is = let wrote = c.before.before in
+    record { leaves = written_left g wrote file is; moments = written_shown g wrote file is }

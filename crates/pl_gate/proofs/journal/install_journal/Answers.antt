@@ -103,7 +103,7 @@ begun g c file is =
     (follows_more (image_ranges (take k (journal file))) (page_size * p.page, page_size)
     (desk.may_leave c.args.desk.now) (desk.may_leave c.loop-index.desk) (desk.may_leave c.install_entry.new.desk)
     (c.loop-index.invariant.leaves file is)
-    (c.install_entry.ensures.leaves (with_images (take k (journal file)) file) (held_is g first file is)))
+    (c.install_entry.ensures.torn (with_images (take k (journal file)) file) (held_is g first file is)).leaves)
 
 -- a chain of writes, one entry more begun, among all of them
 among : (g : Over) (c : After-install_entry g) (file : List ℕ) → g.D.Desk.held c.args.desk.now ≡ Some file
@@ -128,8 +128,8 @@ left : (g : Over) (c : After-install_entry g) (file : List ℕ) → g.D.Desk.hel
     (g.D.Desk.may_leave c.install_entry.new.desk)
 left g c file is later may =
     let torn =
-    c.install_entry.ensures.leaves (with_images (take c.loop-index.index (journal file)) file)
-    (held_is g c.before.before file is) later may in
+    (c.install_entry.ensures.torn (with_images (take c.loop-index.index (journal file)) file)
+    (held_is g c.before.before file is)).leaves later may in
     let so_far = c.loop-index.invariant.leaves file is torn.0 torn.1 in
     (so_far.0, so_far.1, among g c file is so_far.0 torn.0 later so_far.2 torn.2)
 
@@ -140,7 +140,8 @@ shown g c file is =
     went_on desk c.args.desk.now c.loop-index.desk c.install_entry.new.desk (TornIn (image_ranges (journal file)))
     (Torn (page_size * (entry g c.before.before file).page) page_size)
     (c.loop-index.invariant.moments file is) c.loop-index.invariant.line.said
-    (c.install_entry.ensures.moments (with_images (take k (journal file)) file) (held_is g c.before.before file is))
+    (c.install_entry.ensures.torn (with_images (take k (journal file)) file)
+    (held_is g c.before.before file is)).moments
     (λ mid may next torn. let so_far = c.loop-index.invariant.leaves file is mid may in
     (so_far.0, so_far.1, among g c file is so_far.0 mid next so_far.2 torn))
 
@@ -152,11 +153,9 @@ numbers_is g c file is =
     ap (λ (l : List PageImage). numbers_fit c.loop-index.last c.args.told.now.after (page_numbers l))
     (sym (next_is g c.before.before file is)) ∙ c.loop-index.invariant.numbers file is
 
-pub returns-in_err-last-clause-leaves : goal.returns-in_err-last-clause-leaves
-returns-in_err-last-clause-leaves g c file is = left g c.before.before.before file is
-
-pub returns-in_err-last-clause-moments : goal.returns-in_err-last-clause-moments
-returns-in_err-last-clause-moments g c file is = shown g c.before.before.before file is
+pub returns-in_err-last-clause-torn : goal.returns-in_err-last-clause-torn
+returns-in_err-last-clause-torn g c file is = let wrote = c.before.before.before in
+    record { leaves = left g wrote file is; moments = shown g wrote file is }
 
 pub returns-in_err-last-clause-good : goal.returns-in_err-last-clause-good
 returns-in_err-last-clause-good g c bad =
@@ -200,12 +199,12 @@ loop-index-preserved g c =
       leaves = λ file is. begun g first file is;
       moments = λ file is. shown g first file is;
       line = record {
-        said = c.install_entry.ensures.line.said ∙ c.loop-index.invariant.line.said;
-        faults = c.install_entry.ensures.line.faults ∙ c.loop-index.invariant.line.faults;
+        said = c.install_entry.ensures.calls.line.said ∙ c.loop-index.invariant.line.said;
+        faults = c.install_entry.ensures.calls.line.faults ∙ c.loop-index.invariant.line.faults;
       };
       written = c.in_ok-last.ensures.written ∙ omega (arith, c.loop-index.invariant.written);
       no_fault =
-          c.in_ok-last.ensures.counted.stands (λ is. none-some _ (ap result_err is)) ∙ c.loop-index.invariant.no_fault;
+          c.in_ok-last.ensures.calls.counted.stands (λ is. none-some _ (ap result_err is)) ∙ c.loop-index.invariant.no_fault;
     }
 
 pub returns-clause-held : goal.returns-clause-held
@@ -228,8 +227,8 @@ returns-clause-held g c = at (g.D.Desk.held c.args.desk.now) refl
         c.loop-index.invariant.held file is ∙ ap (λ (l : List PageImage). Some (with_images l file)) all
         ∙ ap (option_map (λ now. with_images (journal now) now)) (sym is)
 
-pub returns-clause-leaves : goal.returns-clause-leaves
-returns-clause-leaves g c file is =
+pub returns-clause-torn : goal.returns-clause-torn
+returns-clause-torn g c file is =
     let told = MatchOption-at_some _ _ file is c.requires.told in
     let all =
     take_all c.loop-index.index (journal file)
@@ -239,5 +238,9 @@ returns-clause-leaves g c file is =
       told.count,
       c.loop-index-test.false,
     )) in
-    subst (λ (l : List PageImage). Follows (TornIn (image_ranges l)) (g.D.Desk.may_leave c.args.desk.now)
-    (g.D.Desk.may_leave c.loop-index.desk)) all (c.loop-index.invariant.leaves file is)
+    record {
+      leaves =
+          subst (λ (l : List PageImage). Follows (TornIn (image_ranges l)) (g.D.Desk.may_leave c.args.desk.now)
+          (g.D.Desk.may_leave c.loop-index.desk)) all (c.loop-index.invariant.leaves file is);
+      moments = c.loop-index.invariant.moments file is;
+    }

@@ -33,7 +33,7 @@ stood g c file is before may later torn =
 
 images_left : (g : Over) (c : After-install_journal g) (file : List ℕ) → Held g c file → (later : List ℕ)
     → g.D.Desk.may_leave c.install_journal.new.desk later → StandsAs file later
-images_left g c file is later may = let from = c.install_journal.ensures.leaves file is later may in
+images_left g c file is later may = let from = (c.install_journal.ensures.torn file is).leaves later may in
     stood g c file is from.0 from.1 later from.2
 
 images_shown : (g : Over) (c : After-install_journal g) (file : List ℕ) → Held g c file
@@ -42,7 +42,7 @@ images_shown g c file is =
     let desk = g.D.Desk in
     from_rest desk c.args.desk.now c.install_journal.new.desk (λ f. f ≡ file) (StandsAs file)
     (TornIn (image_ranges (journal file))) (g.met.D.Desk.told_together c.args.desk.now) (rests g c file is)
-    (c.install_journal.ensures.moments file is) (stood g c file is)
+    (c.install_journal.ensures.torn file is).moments (stood g c file is)
 
 -- and synced
 sync_left : (g : Over) (c : After-sync g) (file : List ℕ) → Held g c.before.before.before.before file → (later : List ℕ)
@@ -55,7 +55,7 @@ sync_shown : (g : Over) (c : After-sync g) (file : List ℕ) → Held g c.before
 sync_shown g c file is =
     let desk = g.D.Desk in
     and_call desk c.args.desk.now c.install_journal.new.desk c.sync.new.self (StandsAs file)
-    c.install_journal.ensures.line.said (images_shown g c.before.before.before.before file is) c.sync.ensures.time
+    c.install_journal.ensures.calls.line.said (images_shown g c.before.before.before.before file is) c.sync.ensures.time
     (sync_left g c file is)
 
 -- the file is then the one with all images in their places, and the gate is cleared
@@ -77,7 +77,7 @@ cleared g c file is mid may later torn =
 gate_left : (g : Over) (c : After-write_gate g) (file : List ℕ)
     → Held g c.before.before.before.before.before.before.before.before file → (later : List ℕ)
     → g.D.Desk.may_leave c.write_gate.new.desk later → StandsAs file later
-gate_left g c file is later may = let from = c.write_gate.ensures.leaves later may in
+gate_left g c file is later may = let from = c.write_gate.ensures.torn.leaves later may in
     cleared g c file is from.0 from.1 later from.2
 
 gate_shown : (g : Over) (c : After-write_gate g) (file : List ℕ)
@@ -86,9 +86,9 @@ gate_shown : (g : Over) (c : After-write_gate g) (file : List ℕ)
 gate_shown g c file is =
     let desk = g.D.Desk in let old = c.args.desk.now in
     and_then desk old c.sync.new.self c.write_gate.new.desk (StandsAs file) (Torn 0 1)
-    (c.sync.ensures.said ∙ c.install_journal.ensures.line.said)
+    (c.sync.ensures.said ∙ c.install_journal.ensures.calls.line.said)
     (some_said desk old file (g.met.D.Desk.told_together old) is)
-    (sync_shown g c.before.before.before.before file is) c.write_gate.ensures.moments (cleared g c file is)
+    (sync_shown g c.before.before.before.before file is) c.write_gate.ensures.torn.moments (cleared g c file is)
 
 pub returns-in_err-install_journal-clause-left : goal.returns-in_err-install_journal-clause-left
 returns-in_err-install_journal-clause-left g c file is later may =

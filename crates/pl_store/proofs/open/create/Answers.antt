@@ -20,7 +20,7 @@ returns-clause-ends g c =
           let held = c.len.ensures.held ∙ is ∙ ap Some empty in
           record {
             rests = subst (λ (bytes : List ℕ). Rests desk c.write_change.new.desk (IsClosed bytes)) done.whole
-                (c.in_ok-write_change.ensures.closed_empty held done.before done.after);
+                (c.in_ok-write_change.ensures.closed.closed_empty held done.before done.after);
             stands = done.stands;
           };
     }

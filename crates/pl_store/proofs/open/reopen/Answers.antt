@@ -13,8 +13,8 @@ use Rattle.pl_store.proofs.open.reopen.Goals as goal
 pub returns-clause-ends : goal.returns-clause-ends
 returns-clause-ends g c =
     let settle = c.in_ok-settle.ensures in
-    opens g.D.Desk g.met.D.Desk.told_together c.args.desk.now c.settle.new.desk c.read_session.new.desk settle.settled
-    settle.good c.settle.ensures.line c.read_session.ensures.reads c.args.limit c.read_session.result
+    opens g.D.Desk g.met.D.Desk.told_together c.args.desk.now c.settle.new.desk c.read_session.new.desk
+    settle.settles.settled settle.settles.good c.settle.ensures.calls.line c.read_session.ensures.reads c.args.limit c.read_session.result
     c.read_session.ensures.ends
 
 -- what a stop within the settling shows
@@ -33,9 +33,9 @@ returns-in_err-settle-clause-any_moment g c file is =
 pub returns-clause-any_moment : goal.returns-clause-any_moment
 returns-clause-any_moment g c file is =
     let desk = g.D.Desk in let old = c.args.desk.now in let mid = c.settle.new.desk in
-    let new = c.read_session.new.desk in let line = c.settle.ensures.line in
+    let new = c.read_session.new.desk in let line = c.settle.ensures.calls.line in
     let P = Unsaid desk old (desk.may_leave old) in let Q = Unsaid desk old (StandsAlike file) in
-    let rests = c.in_ok-settle.ensures.settled file is in
+    let rests = c.in_ok-settle.ensures.settles.settled file is in
     let some = some_said desk old file (g.met.D.Desk.told_together old) is in
     let alike : (later : List ℕ) → desk.may_leave mid later → StandsAlike file later = λ later may.
     subst (StandsAlike file) (sym (rests.only later may)) (stands_alike file rests.file rests.has.stands) in
@@ -46,7 +46,7 @@ returns-clause-any_moment g c file is =
     (λ later shown shows. (alike later shows.0, sym line.said ∙ shows.1))))
 
 pub returns-in_err-settle-clause-finished : goal.returns-in_err-settle-clause-finished
-returns-in_err-settle-clause-finished g c file is unset = let settle = c.settle.ensures in (
+returns-in_err-settle-clause-finished g c file is unset = let settle = c.settle.ensures.settles in (
   settle.unset file is unset,
   writes_none file (g.D.Desk.written c.args.desk.now) (g.D.Desk.written c.settle.new.desk) unset settle.no_less
       (settle.no_more file is),
@@ -54,7 +54,7 @@ returns-in_err-settle-clause-finished g c file is unset = let settle = c.settle.
 
 pub returns-clause-finished : goal.returns-clause-finished
 returns-clause-finished g c file is unset =
-    let settle = c.settle.ensures in let read = c.read_session.ensures.reads.file in (
+    let settle = c.settle.ensures.settles in let read = c.read_session.ensures.reads.file in (
       read.held ∙ settle.unset file is unset,
       read.written ∙ writes_none file (g.D.Desk.written c.args.desk.now) (g.D.Desk.written c.settle.new.desk) unset
           settle.no_less (settle.no_more file is),

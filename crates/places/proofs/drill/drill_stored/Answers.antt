@@ -19,7 +19,7 @@ returns-in-Ok-clause-ends g c = λ file start before held stands begun.
     sym (MatchOption-at_some _ _ file held c.in-Ok.ensures.ends.1.only start stands) in
     rw c.status_of.ensures
     (subst (λ (s : Store). EndsDrill desk (drill_status c.drill.result) c.args.count c.args.seed old s before new) is
-    (c.drill.ensures.ends old before (c.reopen.ensures.line.said ∙ begun) (c.in-Ok.ensures.ends.1.settled file held)))
+    (c.drill.ensures.ends old before (c.reopen.ensures.calls.line.said ∙ begun) (c.in-Ok.ensures.ends.1.settled file held)))
 
 pub returns-in-Ok-clause-stops : goal.returns-in-Ok-clause-stops
 returns-in-Ok-clause-stops g c = λ file start before held stands begun.
@@ -32,7 +32,7 @@ returns-in-Ok-clause-stops g c = λ file start before held stands begun.
     (shows_opened desk file start count seed before old mid stands begun (c.in-Ok.ensures.any_moment file held)
     (no_fault _))
     (subst (λ (s : Store). ShowsOnly desk mid new (ShowsDrill desk count seed s before)) is
-    (c.drill.ensures.shows old before (c.reopen.ensures.line.said ∙ begun)
+    (c.drill.ensures.shows old before (c.reopen.ensures.calls.line.said ∙ begun)
     (c.in-Ok.ensures.ends.1.settled file held))))
 
 pub returns-in-Ok-clause-no_store : goal.returns-in-Ok-clause-no_store
@@ -61,7 +61,7 @@ pub returns-in-Err-clause-ends : goal.returns-in-Err-clause-ends
 returns-in-Err-clause-ends g c = λ file start before held stands begun.
     let desk = g.D.Desk in let old = c.args.desk.now in let new = c.reopen.new.desk in
     ends_unopened desk c.in-Err.ended c.from.result file start c.args.count c.args.seed before old new
-    g.met.D.Desk.counts_now c.from.ensures held c.in-Err.ensures.ends stands c.reopen.ensures.line.said begun
+    g.met.D.Desk.counts_now c.from.ensures held c.in-Err.ensures.ends stands c.reopen.ensures.calls.line.said begun
     (c.in-Err.ensures.any_moment file held)
 
 pub returns-in-Err-clause-status : goal.returns-in-Err-clause-status

@@ -15,7 +15,7 @@ use Rattle.places.proofs.export.export_stored.Goals as goal
 pub returns-in-Err-clause-ends : goal.returns-in-Err-clause-ends
 returns-in-Err-clause-ends g c = λ file start before held stands begun.
     export_unopened g.D.Desk c.in-Err.ended c.from.result file start before c.args.desk.now c.reopen.new.desk
-    g.met.D.Desk.counts_now c.from.ensures held c.in-Err.ensures.ends stands c.reopen.ensures.line.said begun
+    g.met.D.Desk.counts_now c.from.ensures held c.in-Err.ensures.ends stands c.reopen.ensures.calls.line.said begun
     (c.in-Err.ensures.any_moment file held)
 
 pub returns-in-Err-clause-stops : goal.returns-in-Err-clause-stops
@@ -32,7 +32,7 @@ pub returns-in-Err-export_text-clause-ends : goal.returns-in-Err-export_text-cla
 returns-in-Err-export_text-clause-ends g c = λ file start before held stands begun.
     let opens = c.in-Ok.ensures.ends.1 in
     let is : session_store c.in-Ok.session ≡ start = sym (MatchOption-at_some _ _ file held opens.only start stands) in (
-      c.reopen.ensures.line.said ∙ begun,
+      c.reopen.ensures.calls.line.said ∙ begun,
       settled_rests g.D.Desk c.in-Ok.session start c.reopen.new.desk is (opens.settled file held),
     )
 
@@ -48,7 +48,7 @@ returns-in-Ok-say_all-clause-ends g c = λ file start before held stands begun.
     let desk = g.D.Desk in let mid = c.reopen.new.desk in let new = c.say_all.new.desk in
     let opens = c.in-Ok.ensures.ends.1 in
     let is : session_store c.in-Ok.session ≡ start = sym (MatchOption-at_some _ _ file held opens.only start stands) in (
-      said_whole desk before c.as_bytes.result.now (export_text start) mid new (c.reopen.ensures.line.said ∙ begun)
+      said_whole desk before c.as_bytes.result.now (export_text start) mid new (c.reopen.ensures.calls.line.said ∙ begun)
           c.in-Ok-say_all.ensures.whole
           (c.as_bytes.ensures.value ∙ c.as_str.ensures ∙ c.in-Ok-export_text.ensures.text
           ∙ ap (λ (s : Store). export_text s) is),
@@ -69,7 +69,7 @@ returns-in-Ok-say_all-clause-stops g c = λ file start before held stands begun.
     (settled_rests desk c.in-Ok.session start mid is (opens.settled file held))
     (c.as_bytes.ensures.value ∙ c.as_str.ensures ∙ c.in-Ok-export_text.ensures.text
     ∙ ap (λ (s : Store). export_text s) is)
-    (c.say_all.ensures.shows before (c.reopen.ensures.line.said ∙ begun))))
+    (c.say_all.ensures.shows before (c.reopen.ensures.calls.line.said ∙ begun))))
 
 pub returns-in-Ok-say_all-clause-finished : goal.returns-in-Ok-say_all-clause-finished
 returns-in-Ok-say_all-clause-finished g c = λ file held finished.
@@ -87,7 +87,7 @@ returns-clause-ends g c = λ file start before held stands begun.
     let desk = g.D.Desk in let mid = c.reopen.new.desk in let new = c.say_all.new.desk in
     let opens = c.in-Ok.ensures.ends.1 in
     let is : session_store c.in-Ok.session ≡ start = sym (MatchOption-at_some _ _ file held opens.only start stands) in (
-      said_part desk before c.as_bytes.result.now (export_text start) mid new (c.reopen.ensures.line.said ∙ begun)
+      said_part desk before c.as_bytes.result.now (export_text start) mid new (c.reopen.ensures.calls.line.said ∙ begun)
           c.in-Err-say_all.ensures.front
           (c.as_bytes.ensures.value ∙ c.as_str.ensures ∙ c.in-Ok-export_text.ensures.text
           ∙ ap (λ (s : Store). export_text s) is),
@@ -108,7 +108,7 @@ returns-clause-stops g c = λ file start before held stands begun.
     (settled_rests desk c.in-Ok.session start mid is (opens.settled file held))
     (c.as_bytes.ensures.value ∙ c.as_str.ensures ∙ c.in-Ok-export_text.ensures.text
     ∙ ap (λ (s : Store). export_text s) is)
-    (c.say_all.ensures.shows before (c.reopen.ensures.line.said ∙ begun))))
+    (c.say_all.ensures.shows before (c.reopen.ensures.calls.line.said ∙ begun))))
 
 pub returns-clause-finished : goal.returns-clause-finished
 returns-clause-finished g c = λ file held finished.

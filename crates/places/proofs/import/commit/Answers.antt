@@ -1,7 +1,9 @@
-use Rattle.std.proofs.Common.{◌∙◌, inr, refl, true}
+use Rattle.std.proofs.Common.{◌∙◌, ℕ, List, append-nil, inr, refl, subst, true}
 use Rattle.std.proofs.lemmas.Result.{err_from_is_err_and}
 use Rattle.pl_store.specs.Keeper.{is_file, keeper_limit, keeper_store, ready_store}
 use Rattle.pl_store.proofs.KeeperLaws.{kept_keeps}
+use Rattle.pl_script.specs.Reply.{reply_text}
+use Rattle.places.specs.Said.{Says}
 use Rattle.places.proofs.AnswerLemmas.{keeps_as}
 use Rattle.places.proofs.ImportLemmas.{answer_stops, device_as, ends_failed, ends_refused, ends_said, ends_unprepared}
 use Rattle.places.proofs.ImportLemmas.{not_refused, says_as, shows_begun, shows_taking}
@@ -51,8 +53,8 @@ returns-in_err-concluded-clause-ends g c =
     c.conclude-concluded.new.desk
     c.in_ok-ready.reply (ready_store c.in_ok-ready.ready) c.requires.limit c.requires.file imports begun
     c.in_ok-ready.ensures.step c.in_err-concluded.field-0.0 (not_refused c.in_ok-ready.reply c.in_default.not-Refused)
-    c.in_err-concluded.ensures.stopped
-    (c.in_err-concluded.ensures.left c.args.keeper first c.in_ok-ready.ensures.from kept))
+    c.in_err-concluded.ensures.answers.stopped
+    ((c.in_err-concluded.ensures.taking c.args.keeper c.in_ok-ready.ensures.from).left first kept))
 
 pub returns-in_err-concluded-clause-shows : goal.returns-in_err-concluded-clause-shows
 returns-in_err-concluded-clause-shows g c bytes before first imports begun kept =
@@ -60,39 +62,41 @@ returns-in_err-concluded-clause-shows g c bytes before first imports begun kept 
     c.conclude-concluded.new.desk
     c.in_ok-ready.reply (ready_store c.in_ok-ready.ready) c.requires.limit c.requires.file imports begun
     c.in_ok-ready.ensures.step (not_refused c.in_ok-ready.reply c.in_default.not-Refused)
-    (c.conclude-concluded.ensures.shows c.args.keeper first before c.in_ok-ready.ensures.from begun kept)
+    ((c.conclude-concluded.ensures.taking c.args.keeper c.in_ok-ready.ensures.from).shows first before begun kept)
 
 pub returns-in_err-concluded-clause-stops : goal.returns-in_err-concluded-clause-stops
 returns-in_err-concluded-clause-stops g c =
     let p = err_from_is_err_and c.from_residual-in_err-concluded.result c.from_residual-in_err-concluded.ensures.1 in
     rw (p.1, p.2) (answer_stops c.in_err-concluded.field-0.0)
 
-pub returns-in_err-concluded-clause-says_counted : goal.returns-in_err-concluded-clause-says_counted
-returns-in_err-concluded-clause-says_counted g c = let desk = g.D.Desk in
+pub returns-in_err-concluded-clause-counted : goal.returns-in_err-concluded-clause-counted
+returns-in_err-concluded-clause-counted g c = let desk = g.D.Desk in
     let p = err_from_is_err_and c.from_residual-in_err-concluded.result c.from_residual-in_err-concluded.ensures.1 in
-    rw (p.1, p.2) (says_as c.in_err-concluded.field-0.0 (desk.line_faults c.args.desk.now)
-    (desk.line_faults c.conclude-concluded.new.desk) c.in_err-concluded.ensures.says_counted)
-
-pub returns-in_err-concluded-clause-device_counted : goal.returns-in_err-concluded-clause-device_counted
-returns-in_err-concluded-clause-device_counted g c = let desk = g.D.Desk in
-    let p = err_from_is_err_and c.from_residual-in_err-concluded.result c.from_residual-in_err-concluded.ensures.1 in
-    rw (p.1, p.2) (device_as c.in_err-concluded.field-0.0 (desk.device_faults c.args.desk.now)
-    (desk.device_faults c.conclude-concluded.new.desk) c.in_err-concluded.ensures.device_counted)
+    let error = c.in_err-concluded.field-0.0 in let counted = c.in_err-concluded.ensures.counted in
+    rw (p.1, p.2) (record {
+      says =
+          says_as error (desk.line_faults c.args.desk.now) (desk.line_faults c.conclude-concluded.new.desk)
+          counted.says;
+      device =
+          device_as error (desk.device_faults c.args.desk.now) (desk.device_faults c.conclude-concluded.new.desk)
+          counted.device;
+    })
 
 -- the reply was said
 pub returns-clause-ends : goal.returns-clause-ends
 returns-clause-ends g c bytes before first imports begun kept = let desk = g.D.Desk in
-    let next = c.in_ok-concluded.field-0 in
+    let next = c.in_ok-concluded.field-0 in let answers = c.in_ok-concluded.ensures.answers in
+    let serves = c.in_ok-concluded.ensures.serves c.args.keeper c.in_ok-ready.ensures.from in
+    let text = reply_text c.in_ok-ready.reply in
     ends_said desk c.args.keeper c.args.command.now bytes before first c.args.desk.now c.conclude-concluded.new.desk
     c.in_ok-ready.reply (ready_store c.in_ok-ready.ready) c.requires.limit c.requires.file imports begun
     c.in_ok-ready.ensures.step (not_refused c.in_ok-ready.reply c.in_default.not-Refused)
-    c.in_ok-concluded.ensures.said
+    (subst (λ (t : List ℕ). Says (desk.said c.args.desk.now) t (desk.said c.conclude-concluded.new.desk))
+    (append-nil text) answers.said)
     (keeps_as desk (is_file next) true first (keeper_store next) (ready_store c.in_ok-ready.ready)
     c.conclude-concluded.new.desk
-    (c.in_ok-concluded.ensures.kind c.args.keeper c.in_ok-ready.ensures.from ∙ c.requires.file)
-    c.in_ok-concluded.ensures.store
-    (kept_keeps desk next first c.conclude-concluded.new.desk
-    (c.in_ok-concluded.ensures.kept c.args.keeper c.in_ok-ready.ensures.from first kept)))
+    (serves.kind ∙ c.requires.file) answers.store
+    (kept_keeps desk next first c.conclude-concluded.new.desk (serves.kept first kept)))
 
 pub returns-clause-shows : goal.returns-clause-shows
 returns-clause-shows g c bytes before first imports begun kept =
@@ -100,4 +104,4 @@ returns-clause-shows g c bytes before first imports begun kept =
     c.conclude-concluded.new.desk
     c.in_ok-ready.reply (ready_store c.in_ok-ready.ready) c.requires.limit c.requires.file imports begun
     c.in_ok-ready.ensures.step (not_refused c.in_ok-ready.reply c.in_default.not-Refused)
-    (c.conclude-concluded.ensures.shows c.args.keeper first before c.in_ok-ready.ensures.from begun kept)
+    ((c.conclude-concluded.ensures.taking c.args.keeper c.in_ok-ready.ensures.from).shows first before begun kept)

@@ -21,7 +21,7 @@ returns-in-Ok-clause-ends g c = λ file start held stands bytes before told begu
     sym (MatchOption-at_some _ _ file held c.in-Ok.ensures.ends.1.only start stands) in
     rw c.status_of.ensures
     (subst (λ (s : Store). EndsImport desk (done_or c.import.result) old s bytes before left new) is
-    (c.import.ensures.ends bytes before told (c.reopen.ensures.line.said ∙ begun) old
+    (c.import.ensures.ends bytes before told (c.reopen.ensures.calls.line.said ∙ begun) old
     (c.in-Ok.ensures.ends.1.settled file held)))
 
 pub returns-in-Ok-clause-stops : goal.returns-in-Ok-clause-stops
@@ -35,7 +35,7 @@ returns-in-Ok-clause-stops g c = λ file start held stands bytes before told beg
     (shows_opened desk file start bytes before old mid stands begun (c.in-Ok.ensures.any_moment file held)
     (no_fault _))
     (subst (λ (s : Store). ShowsOnly desk mid new (ShowsImport desk s bytes before)) is
-    (c.import.ensures.shows bytes before told (c.reopen.ensures.line.said ∙ begun) old
+    (c.import.ensures.shows bytes before told (c.reopen.ensures.calls.line.said ∙ begun) old
     (c.in-Ok.ensures.ends.1.settled file held))))
 
 pub returns-in-Ok-clause-no_store : goal.returns-in-Ok-clause-no_store
@@ -64,7 +64,7 @@ pub returns-in-Err-clause-ends : goal.returns-in-Err-clause-ends
 returns-in-Err-clause-ends g c = λ file start held stands bytes before told begun.
     let desk = g.D.Desk in let old = c.args.desk.now in let new = c.reopen.new.desk in
     ends_unopened desk c.in-Err.ended c.from.result file start bytes before (g.S.Source.left c.args.input.now) old new
-    g.met.D.Desk.counts_now c.from.ensures held c.in-Err.ensures.ends stands told c.reopen.ensures.line.said begun
+    g.met.D.Desk.counts_now c.from.ensures held c.in-Err.ensures.ends stands told c.reopen.ensures.calls.line.said begun
     (c.in-Err.ensures.any_moment file held)
 
 pub returns-in-Err-clause-status : goal.returns-in-Err-clause-status

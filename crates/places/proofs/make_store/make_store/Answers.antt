@@ -46,23 +46,23 @@ not_made desk (ended.NotEmpty n) s old new is makes unsaid =
 pub returns-in-Err-clause-ends : goal.returns-in-Err-clause-ends
 returns-in-Err-clause-ends g c =
     (not_made g.D.Desk c.in-Err.ended c.from.result c.args.desk.now c.create.new.desk c.from.ensures
-    c.in-Err.ensures.ends c.create.ensures.line.said).0
+    c.in-Err.ensures.ends c.create.ensures.calls.line.said).0
 
 pub returns-in-Err-clause-status : goal.returns-in-Err-clause-status
 returns-in-Err-clause-status g c =
     (not_made g.D.Desk c.in-Err.ended c.from.result c.args.desk.now c.create.new.desk c.from.ensures
-    c.in-Err.ensures.ends c.create.ensures.line.said).1
+    c.in-Err.ensures.ends c.create.ensures.calls.line.said).1
 
 pub returns-in-Ok-clause-ends : goal.returns-in-Ok-clause-ends
 returns-in-Ok-clause-ends g c = (
-  rw (sym c.create.ensures.line.said) c.in-Ok.ensures.whole,
+  rw (sym c.create.ensures.calls.line.said) c.in-Ok.ensures.whole,
   made g.D.Desk c.in_default.field-0 c.args.desk.now c.create.new.desk c.say_all.new.desk c.in_default.ensures.ends
       c.say_all.ensures.file.kept,
 )
 
 pub returns-in-Err-say_all-clause-ends : goal.returns-in-Err-say_all-clause-ends
 returns-in-Err-say_all-clause-ends g c = (
-  rw (sym c.create.ensures.line.said) c.in-Err-say_all.ensures.front,
+  rw (sym c.create.ensures.calls.line.said) c.in-Err-say_all.ensures.front,
   made g.D.Desk c.in_default.field-0 c.args.desk.now c.create.new.desk c.say_all.new.desk c.in_default.ensures.ends
       c.say_all.ensures.file.kept,
 )

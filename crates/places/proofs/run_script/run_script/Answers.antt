@@ -66,7 +66,7 @@ returns-in_err-run-clause-shows g c = rw (← c.new-run.ensures.keeper) (λ byte
     (g.S.Source.left c.next_piece.new.input) (is_file c.new-run.result.keeper) c.loop-read.run c.args.desk.now
     c.loop-read.desk c.take_all.new.desk
     behind is.kind (rw c.deref.ensures.value c.in_ok-piece.ensures.taken) (is.shows bytes before all begun first kept)
-    (c.take_all.ensures.shows start (take c.loop-read.read bytes) before first behind.at (is.kept first kept)))
+    (c.take_all.ensures.takes.shows start (take c.loop-read.read bytes) before first behind.at (is.kept first kept)))
 
 pub loop-read-preserved : goal.loop-read-preserved
 loop-read-preserved g c = let desk = g.D.Desk in let is = c.loop-read.invariant in
@@ -76,7 +76,7 @@ loop-read-preserved g c = let desk = g.D.Desk in let is = c.loop-read.invariant 
           (goes_on_behind start c.loop-read.read bytes before c.deref.result.now (g.S.Source.left c.loop-read.input)
           (g.S.Source.left c.next_piece.new.input) (g.D.Desk.said c.loop-read.desk) (g.D.Desk.said c.take_all.new.desk)
           c.loop-read.run _ (is.told bytes before all begun)
-          (rw c.deref.ensures.value c.in_ok-piece.ensures.taken) (did.ok start));
+          (rw c.deref.ensures.value c.in_ok-piece.ensures.taken) (did.takes.goes_on start));
       shows = λ bytes before all begun first kept. let behind = is.told bytes before all begun in
           shows_piece desk first start c.loop-read.read bytes before c.deref.result.now
           (g.S.Source.left c.loop-read.input)
@@ -84,16 +84,16 @@ loop-read-preserved g c = let desk = g.D.Desk in let is = c.loop-read.invariant 
           c.loop-read.desk c.take_all.new.desk
           behind is.kind (rw c.deref.ensures.value c.in_ok-piece.ensures.taken)
           (is.shows bytes before all begun first kept)
-          (c.take_all.ensures.shows start (take c.loop-read.read bytes) before first behind.at (is.kept first kept));
-      kind = did.kind ∙ is.kind;
-      kept = λ first kept. did.kept first (is.kept first kept);
+          (c.take_all.ensures.takes.shows start (take c.loop-read.read bytes) before first behind.at (is.kept first kept));
+      kind = did.serves.kind ∙ is.kind;
+      kept = λ first kept. did.serves.kept first (is.kept first kept);
       in_limit = omega (arith, c.in_ok-piece.ensures.within, c.deref.ensures.len, ap length c.deref.ensures.value);
       no_read_fault = c.in_ok-piece.ensures.counted.stands (λ e. none-some _ (ap result_err e)) ∙ is.no_read_fault;
-      no_say_fault = did.says_counted.stands (λ e. none-some _ (ap result_err e)) ∙ is.no_say_fault;
-      no_device_fault = did.device_counted.stands (λ e. none-some _ (ap result_err e)) ∙ is.no_device_fault;
+      no_say_fault = did.counted.says.stands (λ e. none-some _ (ap result_err e)) ∙ is.no_say_fault;
+      no_device_fault = did.counted.device.stands (λ e. none-some _ (ap result_err e)) ∙ is.no_device_fault;
       alone =
           λ memory. alone_on desk c.args.desk.now c.loop-read.desk c.take_all.new.desk (is.alone memory)
-          (did.alone (is.kind ∙ memory));
+          (did.serves.alone (is.kind ∙ memory));
     }
 
 pub returns-clause-shows : goal.returns-clause-shows
@@ -142,7 +142,7 @@ returns-in_err-run-clause-ends g c =
     _ _ status p.2 ends behind is.kind
     (omega (arith, c.in_ok-piece.ensures.within, c.deref.ensures.len, ap length c.deref.ensures.value))
     (rw c.deref.ensures.value c.in_ok-piece.ensures.taken)
-    (c.in_err-run.ensures.ends start (take read bytes) before first behind.at (is.kept first kept)))
+    (c.in_err-run.ensures.takes.ends start (take read bytes) before first behind.at (is.kept first kept)))
 
 pub returns-then-is_empty-clause-ends : goal.returns-then-is_empty-clause-ends
 returns-then-is_empty-clause-ends g c =
@@ -158,7 +158,7 @@ returns-then-is_empty-clause-ends g c =
     status (keeper_store keeper) ends (is.told bytes before all begun) c.loop-read-test.true nothing
     c.in_ok-piece.ensures.taken (c.in_ok-piece.ensures.ended nothing)
     (did.ok start) (did.store start)
-    (rw (did.kind, is.kind) at (kept_keeps desk keeper first new (did.kept first (is.kept first kept)))))
+    (rw (did.serves.kind, is.kind) at (kept_keeps desk keeper first new (did.serves.kept first (is.kept first kept)))))
 
 pub returns-clause-ends : goal.returns-clause-ends
 returns-clause-ends g c =

@@ -9,7 +9,7 @@ pub returns-in_err-write_gate-clause-any_moment : goal.returns-in_err-write_gate
 returns-in_err-write_gate-clause-any_moment g c pages rests =
     let desk = g.D.Desk in let old = c.args.self.now.desk.now in let change = c.args.staged in
     from_rest desk old c.write_gate.new.desk (IsStaged change pages) (HoldsEither change pages) (Torn 0 1)
-    (g.met.D.Desk.told_together old) rests c.write_gate.ensures.moments
+    (g.met.D.Desk.told_together old) rests c.write_gate.ensures.torn.moments
     (λ file left next torn. torn_staged change pages file next
     (subst (IsStaged change pages) (sym (rests.only file left)) rests.has) torn)
 
@@ -17,6 +17,6 @@ pub returns-clause-any_moment : goal.returns-clause-any_moment
 returns-clause-any_moment g c pages rests =
     let desk = g.D.Desk in let old = c.args.self.now.desk.now in let change = c.args.staged in
     from_rest desk old c.write_gate.new.desk (IsStaged change pages) (HoldsEither change pages) (Torn 0 1)
-    (g.met.D.Desk.told_together old) rests c.write_gate.ensures.moments
+    (g.met.D.Desk.told_together old) rests c.write_gate.ensures.torn.moments
     (λ file left next torn. torn_staged change pages file next
     (subst (IsStaged change pages) (sym (rests.only file left)) rests.has) torn)

@@ -25,7 +25,7 @@ arm_shown g c pages (rests, len) =
     let desk = g.D.Desk in let old = c.args.self.now.desk.now in let change = c.args.touched.now in
     let mid = c.stage.new.self.desk.now in
     and_more desk old mid c.arm.new.self.desk.now (HoldsEither change pages) (HoldsEither c.in_ok-staged.staged pages)
-    c.stage.ensures.line.said
+    c.stage.ensures.calls.line.said
     (weaker desk old mid (Holds pages) (HoldsEither change pages) (c.stage.ensures.any_moment pages rests len)
     (λ file holds. inl holds))
     (c.arm.ensures.any_moment pages (is_staged g c pages (rests, len)))
@@ -59,7 +59,7 @@ install_shown : (g : Over) (c : After-install g) (pages : List ℕ) → Before g
 install_shown g c pages before =
     let desk = g.D.Desk in let change = c.args.touched.now in let first = c.before.before.before.before in
     and_more desk c.args.self.now.desk.now c.arm.new.self.desk.now c.install.new.self.desk.now
-    (HoldsEither change pages) (Holds (changed change pages)) (c.arm.ensures.line.said ∙ c.stage.ensures.line.said)
+    (HoldsEither change pages) (Holds (changed change pages)) (c.arm.ensures.calls.line.said ∙ c.stage.ensures.calls.line.said)
     (arm_shown g first pages before)
     (c.install.ensures.any_moment (changed change pages) (is_armed g c pages (is_staged g first pages before)))
     (λ file holds. inr holds)
@@ -71,7 +71,7 @@ disarm_shown g c pages before =
     let desk = g.D.Desk in let change = c.args.touched.now in let second = c.before.before.before.before in
     and_more desk c.args.self.now.desk.now c.install.new.self.desk.now c.disarm.new.self.desk.now
     (HoldsEither change pages) (Holds (changed change pages))
-    (c.install.ensures.line.said ∙ c.arm.ensures.line.said ∙ c.stage.ensures.line.said)
+    (c.install.ensures.calls.line.said ∙ c.arm.ensures.calls.line.said ∙ c.stage.ensures.calls.line.said)
     (install_shown g second pages before)
     (c.disarm.ensures.any_moment (changed change pages)
     (is_installed g c pages (is_staged g second.before.before.before.before pages before)))
@@ -86,14 +86,11 @@ returns-clause-any_moment g c pages rests len = disarm_shown g c pages (rests, l
 
 pub returns-clause-closed : goal.returns-clause-closed
 returns-clause-closed g c =
-    on_ok_weaker c.disarm.result
-    (λ closed pages rests len. closed (changed c.args.touched.now pages)
-    (is_installed g c pages (is_staged g c.before.before.before.before.before.before.before.before pages
-    (rests, len)))) c.disarm.ensures.closed
-
-pub returns-clause-closed_empty : goal.returns-clause-closed_empty
-returns-clause-closed_empty g c =
     let desk = g.D.Desk in let mid = c.stage.new.self.desk.now in
-    on_ok_weaker c.disarm.result (λ closed empty one some. closed (changed c.args.touched.now []) (is_installed g c []
-    (subst (λ (change : Change). Rests desk mid (IsStaged change [])) (sym c.in_ok-staged.ensures.change)
-    (c.in_ok-staged.ensures.staged_empty empty one some)))) c.disarm.ensures.closed
+    on_ok_weaker c.disarm.result (λ closed. record {
+      closed = λ pages rests len. closed (changed c.args.touched.now pages) (is_installed g c pages
+          (is_staged g c.before.before.before.before.before.before.before.before pages (rests, len)));
+      closed_empty = λ empty one some. closed (changed c.args.touched.now []) (is_installed g c []
+          (subst (λ (change : Change). Rests desk mid (IsStaged change [])) (sym c.in_ok-staged.ensures.change)
+          (c.in_ok-staged.ensures.staged_empty empty one some)));
+    }) c.disarm.ensures.closed

@@ -13,7 +13,7 @@ pub returns-in_err-write_gate-clause-any_moment : goal.returns-in_err-write_gate
 returns-in_err-write_gate-clause-any_moment g c pages rests =
     let desk = g.D.Desk in let old = c.args.self.now.desk.now in let change = c.args.installed in
     from_rest desk old c.write_gate.new.desk (IsInstalled change pages) (Holds pages) (Torn 0 1)
-    (g.met.D.Desk.told_together old) rests c.write_gate.ensures.moments
+    (g.met.D.Desk.told_together old) rests c.write_gate.ensures.torn.moments
     (λ file left next torn. torn_installed change pages file next
     (subst (IsInstalled change pages) (sym (rests.only file left)) rests.has) torn)
 
@@ -29,6 +29,6 @@ pub returns-clause-any_moment : goal.returns-clause-any_moment
 returns-clause-any_moment g c pages rests =
     let desk = g.D.Desk in let old = c.args.self.now.desk.now in let change = c.args.installed in
     from_rest desk old c.write_gate.new.desk (IsInstalled change pages) (Holds pages) (Torn 0 1)
-    (g.met.D.Desk.told_together old) rests c.write_gate.ensures.moments
+    (g.met.D.Desk.told_together old) rests c.write_gate.ensures.torn.moments
     (λ file left next torn. torn_installed change pages file next
     (subst (IsInstalled change pages) (sym (rests.only file left)) rests.has) torn)

@@ -29,7 +29,7 @@ written g c pages rests =
     from_rest desk old c.write_images.new.desk (IsArmed change pages) (Holds pages) (TornIn (image_ranges change.pages))
     (g.met.D.Desk.told_together old) rests
     (subst (λ (ch : Change). ShowsStep desk old c.write_images.new.desk (TornIn (image_ranges ch.pages)))
-    c.armed.view_is c.write_images.ensures.moments)
+    c.armed.view_is c.write_images.ensures.torn.moments)
     (λ file may next torn. (left g c pages rests file may next torn).holds)
 
 synced : (g : Over) (c : After-sync g) (pages : List ℕ)
@@ -37,12 +37,12 @@ synced : (g : Over) (c : After-sync g) (pages : List ℕ)
     → AtAnyMoment g.D.Desk c.args.self.now.desk.now c.sync.new.self (Holds pages)
 synced g c pages rests =
     let desk = g.D.Desk in let old = c.args.self.now.desk.now in let mid = c.write_images.new.desk in
-    and_call desk old mid c.sync.new.self (Holds pages) c.write_images.ensures.line.said
+    and_call desk old mid c.sync.new.self (Holds pages) c.write_images.ensures.calls.line.said
     (written g c.before.before.before.before pages rests) c.sync.ensures.time
     (λ file may.
     let leaves =
     subst (λ (ch : Change). Follows (TornIn (image_ranges ch.pages)) (desk.may_leave old) (desk.may_leave mid))
-    c.armed.view_is c.write_images.ensures.leaves in
+    c.armed.view_is c.write_images.ensures.torn.leaves in
     let from = leaves file (c.sync.ensures.leaves file may) in
     (left g c.before.before.before.before pages rests from.0 from.1 file from.2).holds)
 

@@ -54,12 +54,12 @@ entries_shown g c pages before =
     let desk = g.D.Desk in let old = c.args.self.now.desk.now in
     from_rest desk old c.write_entries.new.desk (IsClosed pages) (Holds pages)
     (TornIn (entry_ranges (page_size * c.max.result) c.args.touched.now.pages)) (g.met.D.Desk.told_together old)
-    before.0 c.write_entries.ensures.moments
+    before.0 c.write_entries.ensures.torn.moments
     (λ file may next torn. (entered g c.before.before pages before file may next torn).holds)
 
 entries_left : (g : Over) (c : After-write_entries g) (pages : List ℕ) → Before g c.before.before pages
     → (file : List ℕ) → g.D.Desk.may_leave c.write_entries.new.desk file → IsClosed pages file
-entries_left g c pages before file may = let from = c.write_entries.ensures.leaves file may in
+entries_left g c pages before file may = let from = c.write_entries.ensures.torn.leaves file may in
     entered g c.before.before pages before from.0 from.1 file from.2
 
 place_shown : (g : Over) (c : After-write_place g) (pages : List ℕ)
@@ -68,16 +68,16 @@ place_shown : (g : Over) (c : After-write_place g) (pages : List ℕ)
 place_shown g c pages before =
     let desk = g.D.Desk in let old = c.args.self.now.desk.now in let told = c.before.before.before.before in
     and_then desk old c.write_entries.new.desk c.write_place.new.desk (Holds pages) (Torn 8 16)
-    c.write_entries.ensures.line.said
+    c.write_entries.ensures.calls.line.said
     (some_said desk old before.0.file (g.met.D.Desk.told_together old) before.0.is_held)
-    (entries_shown g told pages before) c.write_place.ensures.moments
+    (entries_shown g told pages before) c.write_place.ensures.torn.moments
     (λ file may next torn. (closed_torn_place pages file (entries_left g told pages before file may) next torn).holds)
 
 place_left : (g : Over) (c : After-write_place g) (pages : List ℕ)
     → Before g c.before.before.before.before.before.before pages → (file : List ℕ)
     → g.D.Desk.may_leave c.write_place.new.desk file → IsClosed pages file
 place_left g c pages before file may =
-    let from = c.write_place.ensures.leaves file may in
+    let from = c.write_place.ensures.torn.leaves file may in
     closed_torn_place pages from.0 (entries_left g c.before.before.before.before pages before from.0 from.1) file
     from.2
 
@@ -87,7 +87,7 @@ sync_shown : (g : Over) (c : After-sync g) (pages : List ℕ)
 sync_shown g c pages before =
     let desk = g.D.Desk in let old = c.args.self.now.desk.now in let told = c.before.before.before.before in
     and_call desk old c.write_place.new.desk c.sync.new.self (Holds pages)
-    (c.write_place.ensures.line.said ∙ c.write_entries.ensures.line.said)
+    (c.write_place.ensures.calls.line.said ∙ c.write_entries.ensures.calls.line.said)
     (place_shown g told pages before) c.sync.ensures.time
     (λ file may. (place_left g told pages before file (c.sync.ensures.leaves file may)).holds)
 

@@ -56,7 +56,7 @@ returns-clause-settled g c before from settled =
     record {
       rests =
           subst (λ (bytes : List ℕ). Rests desk new (IsClosed bytes)) leads.0
-          (c.in_ok-write_change.ensures.closed (session_bytes before) settled.rests leads.1);
+          (c.in_ok-write_change.ensures.closed.closed (session_bytes before) settled.rests leads.1);
       stands = from.stands;
     }
 
@@ -82,12 +82,12 @@ returns-in_default-clause-left g c before from settled file left =
 
 pub returns-in_err-write_change-clause-left : goal.returns-in_err-write_change-clause-left
 returns-in_err-write_change-clause-left g c before from settled =
-    write_left g c.args.desk.now c.write_change.new.desk c.args.self before settled c.write_change.ensures.line.said
+    write_left g c.args.desk.now c.write_change.new.desk c.args.self before settled c.write_change.ensures.calls.line.said
     (write_shown g c.args.desk.now c.write_change.new.desk c.args.self c.in-Some.pending c.in-Some.is
     c.write_change.ensures.any_moment before from settled)
 
 pub returns-clause-left : goal.returns-clause-left
 returns-clause-left g c before from settled =
-    write_left g c.args.desk.now c.write_change.new.desk c.args.self before settled c.write_change.ensures.line.said
+    write_left g c.args.desk.now c.write_change.new.desk c.args.self before settled c.write_change.ensures.calls.line.said
     (write_shown g c.args.desk.now c.write_change.new.desk c.args.self c.in-Some.pending c.in-Some.is
     c.write_change.ensures.any_moment before from settled)

@@ -25,16 +25,16 @@ returns-in_err-commit-clause-left g c = let keeper = c.args.self.keeper in
     rw (p.1, p.2) (λ first kept file left.
     takes_either g.D.Desk keeper first c.args.command.now c.in_ok-ready.reply (ready_store c.in_ok-ready.ready) file
     c.requires.limit c.requires.file c.in_ok-ready.ensures.step
-    (c.in_err-commit.ensures.left keeper first file c.in_ok-ready.ensures.from kept left))
+    ((c.in_err-commit.ensures.taken keeper c.in_ok-ready.ensures.from).left first file kept left))
 
 pub returns-in_err-commit-clause-any_moment : goal.returns-in_err-commit-clause-any_moment
 returns-in_err-commit-clause-any_moment g c first before is kept = let keeper = c.args.self.keeper in
     at_command g.D.Desk keeper first c.args.desk.now c.commit.new.desk c.args.command.now c.in_ok-ready.reply
     (ready_store c.in_ok-ready.ready) c.requires.limit c.requires.file c.in_ok-ready.ensures.step
-    (c.commit.ensures.any_moment keeper first before c.in_ok-ready.ensures.from kept is)
+    ((c.commit.ensures.taken keeper c.in_ok-ready.ensures.from).any_moment first before kept is)
 
 pub returns-clause-any_moment : goal.returns-clause-any_moment
 returns-clause-any_moment g c first before is kept = let keeper = c.args.self.keeper in
     at_command g.D.Desk keeper first c.args.desk.now c.commit.new.desk c.args.command.now c.in_ok-ready.reply
     (ready_store c.in_ok-ready.ready) c.requires.limit c.requires.file c.in_ok-ready.ensures.step
-    (c.commit.ensures.any_moment keeper first before c.in_ok-ready.ensures.from kept is)
+    ((c.commit.ensures.taken keeper c.in_ok-ready.ensures.from).any_moment first before kept is)

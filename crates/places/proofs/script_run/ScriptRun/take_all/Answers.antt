@@ -13,24 +13,22 @@ use Rattle.places.proofs.ProgressLemmas.{taken_further}
 use Rattle.places.proofs.StopLemmas.{shows_here, shows_later, shows_taken}
 use Rattle.places.proofs.script_run.ScriptRun.take_all.Goals as goal
 
-pub returns-in_err-run-clause-ends : goal.returns-in_err-run-clause-ends
-returns-in_err-run-clause-ends g c =
+pub returns-in_err-run-clause-takes : goal.returns-in_err-run-clause-takes
+returns-in_err-run-clause-takes g c = let desk = g.D.Desk in let is = c.loop-byte.invariant in
+    let i = c.loop-byte.byte-index in let piece = c.args.piece.now in let kind = is_file c.args.self.keeper in
     let p = err_from_is_err_and c.from_residual.result c.from_residual.ensures.1 in
-    rw (p.1, p.2) (λ start bytes begun first at kept. let desk = g.D.Desk in let is = c.loop-byte.invariant in
-    let i = c.loop-byte.byte-index in let piece = c.args.piece.now in let new = c.take.new.desk in
-    leaves_within desk _ (is_file c.args.self.keeper) first start begun new bytes piece i c.loop-byte-test.true
-    (rw is.kind at (c.in_err-run.ensures.ends start (bytes ++ take i piece) begun first
-    (is.at start bytes (Some begun) at) (is.kept first kept))))
-
-pub returns-in_err-run-clause-shows : goal.returns-in_err-run-clause-shows
-returns-in_err-run-clause-shows g c = λ start bytes begun first at kept.
-    let desk = g.D.Desk in let is = c.loop-byte.invariant in let i = c.loop-byte.byte-index in
-    let piece = c.args.piece.now in
-    shows_taken desk first start bytes piece i begun (is_file c.args.self.keeper) c.loop-byte.run
-    c.args.desk.now c.loop-byte.desk c.take.new.desk c.loop-byte-test.true is.kind
-    (is.shows start bytes begun first at kept)
-    (c.take.ensures.shows start (bytes ++ take i piece) begun first (is.at start bytes (Some begun) at)
-    (is.kept first kept))
+    rw (p.1, p.2) (record {
+      goes_on = tt;
+      ends = λ start bytes begun first at kept.
+          leaves_within desk _ kind first start begun c.take.new.desk bytes piece i c.loop-byte-test.true
+          (rw is.kind at (c.in_err-run.ensures.takes.ends start (bytes ++ take i piece) begun first
+          (is.at start bytes (Some begun) at) (is.kept first kept)));
+      shows = λ start bytes begun first at kept.
+          shows_taken desk first start bytes piece i begun kind c.loop-byte.run c.args.desk.now c.loop-byte.desk
+          c.take.new.desk c.loop-byte-test.true is.kind (is.shows start bytes begun first at kept)
+          (c.take.ensures.takes.shows start (bytes ++ take i piece) begun first (is.at start bytes (Some begun) at)
+          (is.kept first kept));
+    })
 
 pub loop-byte-init : goal.loop-byte-init
 loop-byte-init g c = let desk = g.D.Desk in record {
@@ -55,19 +53,19 @@ loop-byte-preserved g c = let is = c.loop-byte.invariant in let did = c.in_ok-ru
       λ start bytes begun at. subst
       (λ (l : List ℕ). IsAt start l begun c.in_ok-run.run' (g.D.Desk.said c.take.new.desk))
       (taken_further bytes c.args.piece.now c.loop-byte.byte-index c.loop-byte-test.true)
-      (did.ok start (bytes ++ take c.loop-byte.byte-index c.args.piece.now) begun (is.at start bytes begun at));
-  kind = did.kind ∙ is.kind;
-  kept = λ first kept. did.kept first (is.kept first kept);
+      (did.takes.goes_on start (bytes ++ take c.loop-byte.byte-index c.args.piece.now) begun (is.at start bytes begun at));
+  kind = did.serves.kind ∙ is.kind;
+  kept = λ first kept. did.serves.kept first (is.kept first kept);
   shows = λ start bytes begun first at kept.
       let desk = g.D.Desk in let i = c.loop-byte.byte-index in let piece = c.args.piece.now in
       shows_taken desk first start bytes piece i begun (is_file c.args.self.keeper) c.loop-byte.run
       c.args.desk.now c.loop-byte.desk c.take.new.desk c.loop-byte-test.true is.kind
       (is.shows start bytes begun first at kept)
-      (c.take.ensures.shows start (bytes ++ take i piece) begun first (is.at start bytes (Some begun) at)
+      (c.take.ensures.takes.shows start (bytes ++ take i piece) begun first (is.at start bytes (Some begun) at)
       (is.kept first kept));
   alone =
       λ memory. alone_on g.D.Desk c.args.desk.now c.loop-byte.desk c.take.new.desk (is.alone memory)
-      (did.alone (is.kind ∙ memory));
-  no_say_fault = did.says_counted.stands (λ e. none-some _ (ap result_err e)) ∙ is.no_say_fault;
-  no_device_fault = did.device_counted.stands (λ e. none-some _ (ap result_err e)) ∙ is.no_device_fault;
+      (did.serves.alone (is.kind ∙ memory));
+  no_say_fault = did.counted.says.stands (λ e. none-some _ (ap result_err e)) ∙ is.no_say_fault;
+  no_device_fault = did.counted.device.stands (λ e. none-some _ (ap result_err e)) ∙ is.no_device_fault;
 }
