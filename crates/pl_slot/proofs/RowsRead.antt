@@ -1,32 +1,32 @@
 -- A row is read back from the bytes that it has.
 use Rattle.std.proofs.Common.{◌≡◌, ◌∙◌, ◌==◌, ◌||◌, ◌++◌, ◌+◌, ◌-◌, ◌≤◌, ◌&&◌, ℕ, ℤ, Bool, true, false, List, []}
-use Rattle.std.proofs.Common.{◌∷◌, arith, map, slice_range, take}
+use Rattle.std.proofs.Common.{◌∷◌, arith, cond, map, Option, slice_range, take}
+use Rattle.std.specs.Str.{bytes_eq}
+use Rattle.std.proofs.lemmas.Slice.Eq.{bytes_eq-Decides}
 use Rattle.std.specs.List.{list_all}
 use Rattle.std.proofs.Common.{None, Some, ap, drop, length, refl, replicate, slice_index, sym, w32, w64, if◌then◌else◌}
 use Rattle.std.specs.Int.{cast_signed, cast_unsigned, from_le_bytes, to_le_bytes}
-use Rattle.std.specs.Option.{option_map}
+use Rattle.std.specs.Option.{option_and_then, option_map}
 use Rattle.std.specs.Int.RustNames.{FitsSigned}
 use Rattle.std.proofs.Math.Facts.{Fits-lt-pow, Fits-of_z}
 use Rattle.std.proofs.lemmas.Int.{to_z-of_z}
 use Rattle.std.proofs.Math.Seq.{take-length}
 use Rattle.std.proofs.lemmas.Bool.{le-leb}
-use Rattle.std.proofs.lemmas.List.{append-nil, length-drop}
+use Rattle.std.proofs.lemmas.List.{append-nil, length-append, length-drop}
 use Rattle.std.proofs.lemmas.Nat.{from_le_bytes-to_le_bytes_4, from_le_bytes-to_le_bytes_8}
 use Rattle.pl_base.specs.declared.date.Micros.{Micros}
 use Rattle.pl_base.specs.declared.id.Slot.{Slot}
 use Rattle.pl_base.specs.declared.item.ItemKind.{ItemKind}
-use Rattle.pl_base.specs.declared.item.ItemKind.TheVariants.{Bookmark as BookmarkItem, Folder, Separator}
 use Rattle.pl_base.specs.declared.transition.Transition.{Transition}
-use Rattle.pl_base.specs.declared.transition.Transition.TheVariants.{Link, Typed, Bookmark, Embed, RedirectPermanent}
-use Rattle.pl_base.specs.declared.transition.Transition.TheVariants.{RedirectTemporary, Download, FramedLink, Reload}
-use Rattle.pl_base.specs.ItemKind.{item_kind_at, item_kind_number}
+use Rattle.pl_base.specs.ItemKind.{item_kind_at}
 use Rattle.pl_base.specs.Live.{slot_size}
-use Rattle.pl_base.specs.Transition.{transition_at, transition_number}
+use Rattle.pl_base.specs.Transition.{transition_at}
+use Rattle.pl_base.proofs.KindNumbers.{kind_again, transition_again}
 use Rattle.pl_slot.specs.declared.kind.SlotKind.TheVariants as kinds
 use Rattle.pl_slot.specs.declared.row.SlotRow.{SlotRow}
 use Rattle.pl_slot.specs.declared.row.SlotRow.TheVariants.{Free, Origin, Place, Visit, Item, Text}
 use Rattle.pl_slot.specs.Slot.{AreFours, IsSlotRow, is_payload, marks_byte, payload_size, slot_bytes}
-use Rattle.pl_slot.specs.SlotReading.{item_in, mark_in, row_in, row_of_kind, slot_in, text_in, visit_in}
+use Rattle.pl_slot.specs.SlotReading.{item_in, mark_in, row_in, row_of, row_of_kind, slot_in, text_in, visit_in}
 
 -- numbers as they are read from their 4 bytes
 again : List ℕ → List ℕ
@@ -46,22 +46,6 @@ signed_again : (z : ℤ) → FitsSigned w64 z
 signed_again z fits =
     let small = Fits-lt-pow {w = w64} {n = cast_unsigned w64 z} (Fits-of_z {w = w64} {z = z} fits) in
     ap (cast_signed w64) (from_le_bytes-to_le_bytes_8 (cast_unsigned w64 z) small) ∙ to_z-of_z w64 z fits
-
-transition_again : (t : Transition) → transition_at (transition_number t) ≡ Some t
-transition_again Link = refl
-transition_again Typed = refl
-transition_again Bookmark = refl
-transition_again Embed = refl
-transition_again RedirectPermanent = refl
-transition_again RedirectTemporary = refl
-transition_again Download = refl
-transition_again FramedLink = refl
-transition_again Reload = refl
-
-kind_again : (k : ItemKind) → item_kind_at (item_kind_number k) ≡ Some k
-kind_again BookmarkItem = refl
-kind_again Folder = refl
-kind_again Separator = refl
 
 -- the slot among numbers that were read
 abbrev named : List ℕ → ℕ → Slot
@@ -204,3 +188,47 @@ payload_with used from payload ok len same some few zeros =
     let rest = rest_of payload_size from payload len ∙ ap (λ (k : ℕ). drop k payload) same in
     zeros ∙ ap (list_all (λ b. b == 0)) rest
     ∙ λ i. (sym first i) && (sym last i) && list_all (λ b. b == 0) (drop used payload)
+
+-- ---- the row whose bytes these are
+
+abbrev spelled_as : List ℕ → SlotRow → Option SlotRow
+spelled_as bytes row = if bytes_eq (slot_bytes row) bytes then Some row else None
+
+pub row_told : (bytes : List ℕ) (row : SlotRow) → Some row ≡ row_in bytes
+    → bytes_eq (slot_bytes row) bytes ≡ true → Some row ≡ row_of bytes
+unfolding row_of
+row_told bytes row found same =
+    sym (ap (option_and_then (spelled_as bytes)) (sym found) ∙ ap (λ b. cond b (Some row) None) same)
+
+pub row_refused : (bytes : List ℕ) (row : SlotRow) → Some row ≡ row_in bytes
+    → bytes_eq (slot_bytes row) bytes ≡ false → None ≡ row_of bytes
+unfolding row_of
+row_refused bytes row found other =
+    sym (ap (option_and_then (spelled_as bytes)) (sym found) ∙ ap (λ b. cond b (Some row) None) other)
+
+pub row_missing : (bytes : List ℕ) → None ≡ row_in bytes → None ≡ row_of bytes
+unfolding row_of
+row_missing bytes none = sym (ap (option_and_then (spelled_as bytes)) (sym none))
+
+pub row_spelled : (row : SlotRow) → IsSlotRow row → row_of (slot_bytes row) ≡ Some row
+row_spelled row fits =
+    sym (row_told (slot_bytes row) row (sym (row_back row fits)) ((bytes_eq-Decides (slot_bytes row) (slot_bytes row)).1 refl))
+
+pub length-slot_bytes : (row : SlotRow) → IsSlotRow row → length (slot_bytes row) ≡ slot_size
+length-slot_bytes (Free next) fits = refl
+length-slot_bytes (Origin live_previous live_next first_page last_page total) fits = refl
+length-slot_bytes
+    (Place typed hidden live_previous live_next id origin origin_previous origin_next first_visit
+    last_visit first_reference last_reference url_text url_length title_text title_length frecency
+    count) fits = refl
+length-slot_bytes
+    (Visit transition live_previous live_next id page page_previous page_next source
+    target_previous target_next first_target last_target date) fits = refl
+length-slot_bytes
+    (Item kind live_previous live_next id parent sibling_previous sibling_next first_child
+    last_child page reference_previous reference_next title_text title_length added modified) fits = refl
+length-slot_bytes (Text used next payload) fits =
+    let head : List ℕ = 5 ∷ used ∷ 0 ∷ 0 ∷ to_le_bytes w32 next.0 in
+    ap (λ (l : List ℕ). length (head ++ l)) (payload_again payload fits.1)
+    ∙ length-append head payload
+    ∙ ap (λ (n : ℕ). 8 + n) fits.1

@@ -1,6 +1,6 @@
 -- The one row that the bytes of a slot may hold: its fields as they are read at their places.
 use Rattle.std.specs.Prelude.{ℕ, ◌+◌, ◌==◌, ◌||◌, List, Option, Some, None, drop}
-use Rattle.std.specs.Prelude.{slice_index, slice_range, if◌then◌else◌}
+use Rattle.std.specs.Prelude.{bytes_eq, slice_index, slice_range, if◌then◌else◌}
 use Rattle.std.specs.Int.{w32, w64, cast_signed, from_le_bytes}
 use Rattle.std.specs.Option.{option_and_then, option_map}
 use Rattle.pl_base.specs.declared.id.Slot.{Slot}
@@ -12,7 +12,7 @@ use Rattle.pl_slot.specs.declared.kind.SlotKind.{SlotKind}
 use Rattle.pl_slot.specs.declared.kind.SlotKind.TheVariants as kinds
 use Rattle.pl_slot.specs.declared.row.SlotRow.{SlotRow}
 use Rattle.pl_slot.specs.declared.row.SlotRow.TheVariants.{Free, Origin, Place, Visit, Item, Text}
-use Rattle.pl_slot.specs.Slot.{is_payload}
+use Rattle.pl_slot.specs.Slot.{is_payload, slot_bytes}
 use Rattle.pl_slot.specs.SlotKind.{slot_kind_at}
 
 -- the number of 4 bytes at this place
@@ -74,3 +74,10 @@ row_of_kind b kinds.Text = text_in b
 -- the row of the kind that byte 0 says
 abbrev pub row_in : List ℕ → Option SlotRow
 row_in b = option_and_then (row_of_kind b) (slot_kind_at (slice_index b 0))
+
+-- the row whose bytes these are, if they are those of one
+unfoldable pub row_of : List ℕ → Option SlotRow
+row_of bytes =
+    option_and_then
+    (λ (row : SlotRow). if bytes_eq (slot_bytes row) bytes then Some row else None)
+    (row_in bytes)

@@ -34,3 +34,13 @@ impl SlotKind {
         self as u8
     }
 }
+
+/// What a live slot holds whose chain the header has: all live slots of a kind but texts are in
+/// one.
+#[derive(Clone, Copy, Debug, PartialEq, Eq, Hash)]
+pub enum LiveKind {
+    Origin = 1,
+    Place = 2,
+    Visit = 3,
+    Item = 4,
+}

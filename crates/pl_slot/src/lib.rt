@@ -1,13 +1,19 @@
 //! The slots of a store's file: which bytes hold a row, and how rows are written and read.
 #![tactic(auto)]
 
+mod arena;
 mod bytes;
+mod checking;
+mod header;
 mod kind;
 mod reading;
 mod row;
+mod slots;
+mod taking;
 mod writing;
 
-pub use kind::SlotKind;
+pub use arena::Arena;
+pub use kind::{LiveKind, SlotKind};
 pub use reading::decode;
 pub use row::{PAYLOAD_SIZE, SLOT_SIZE, SlotRow};
 pub use writing::encode;

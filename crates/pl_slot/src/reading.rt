@@ -20,6 +20,7 @@ pub fn decode(bytes: &[u8; SLOT_SIZE]) -> Option<SlotRow>
     ensures bytes { IfSome result (λ row. bytes.now ≡ slot.slot_bytes row) }
     ensures whole { (row : rows.SlotRow) → slot.IsSlotRow row → bytes.now ≡ slot.slot_bytes row
         → result ≡ Some row }
+    ensures spelled { result ≡ reading.row_of bytes.now }
 {
     let row = read(bytes)?;
     if encode(&row) != *bytes {

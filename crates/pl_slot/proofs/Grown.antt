@@ -1,0 +1,516 @@
+-- What a page more makes of an arena that has no free slot.
+use Rattle.std.proofs.Common.{◌≡◌, ◌≢◌, ◌∙◌, ◌==◌, ◌+◌, ◌-◌, ◌*◌, ◌^◌, ◌<◌, ◌≤◌, ◌&&◌, ◌||◌, ◌⊎◌, ◌++◌, ◌∷◌, [], ℕ, List, Bool, ap}
+use Rattle.std.proofs.Common.{append_assoc, arith, cond, drop, eq-eqb, false, get_or, inl, inr, IsSome, is_some, length, ltb, leb}
+use Rattle.std.proofs.Common.{None, not, Option, refl, replicate, Some, subst, suc, sym, take, true, w32, zero}
+use Rattle.std.specs.Int.{to_le_bytes}
+use Rattle.std.specs.List.{range_with_len}
+use Rattle.std.specs.Option.{option_and_then}
+use Rattle.std.proofs.Math.Seq.{drop-append-add}
+use Rattle.std.proofs.lemmas.Bool.{and_from, and_parts, cases_Bool, cases_eq, cases_lt, le-leb, le-ltb, leb-true, or_right, lt-ltb, ltb-true}
+use Rattle.std.proofs.lemmas.Bool.{ne_eqb, not-true, true≢false}
+use Rattle.std.proofs.lemmas.List.{drop-append-le, drop-replicate, get_or_append_left, get_or_past, length-append}
+use Rattle.std.proofs.lemmas.List.{length-drop, length-replicate, length_push, take-append-le, take-replicate}
+use Rattle.pl_base.specs.declared.id.Slot.{Slot}
+use Rattle.pl_base.specs.Live.{slot_limit, slot_size}
+use Rattle.pl_base.specs.Touched.{page_size}
+use Rattle.pl_sheets.specs.Sheets.{ArePages, Pages, bytes_at, has_changed, image_of, page_count, place_in, with_blank}
+use Rattle.pl_sheets.specs.Sheets.{with_bytes}
+use Rattle.pl_slot.specs.declared.row.SlotRow.{SlotRow}
+use Rattle.pl_slot.specs.declared.row.SlotRow.TheVariants.{Free}
+use Rattle.pl_slot.specs.Arena.{AreLinked, ChangesOnly, HasFreeChain, IsArena, first_in, header_of, header_page, is_among}
+use Rattle.pl_slot.specs.Arena.{is_free, is_live, is_slot, live_at, live_count, live_row, row_at, slot_byte, slot_count}
+use Rattle.pl_slot.specs.Arena.{slot_page}
+use Rattle.pl_slot.specs.Header.{Header, header_in}
+use Rattle.pl_slot.specs.SlotReading.{row_of}
+use Rattle.pl_slot.specs.Taking.{IsGrown, IsLinked, MakesFree}
+use Rattle.pl_slot.proofs.ArenaLaws.{PutRow, PutWord, beside_header, free_slot, not_free, row_put, then_only}
+use Rattle.pl_slot.proofs.ArenaLaws.{word_put}
+use Rattle.pl_slot.proofs.CountLaws.{passed, passed_all, passed_past, passed_same}
+use Rattle.pl_slot.proofs.HeaderLaws.{first_free_set, keeps_fields, pages_set}
+use Rattle.pl_slot.proofs.RowLaws.{with_row}
+use Rattle.pl_slot.proofs.RowsRead.{row_spelled}
+use Rattle.pl_slot.proofs.SlotPlaces.{held, no_slot, place_is, place_within, same_slots, slot_bounds, slot_within}
+
+-- ---- a page of zeros more
+
+at_front : (p c : ℕ) (bytes more : List ℕ) → p + c ≤ length bytes → bytes_at p c (bytes ++ more) ≡ bytes_at p c bytes
+at_front p c bytes more within =
+    ap (take c) (drop-append-le p bytes more (omega arith))
+    ∙ take-append-le c (drop p bytes) more (omega (arith, length-drop p bytes))
+
+pub blank_count : (pages : Pages) → page_count (with_blank pages) ≡ page_count pages + 1
+blank_count pages = length_push pages.changed true
+
+still_slot : (n : ℕ) (pages : Pages) → is_slot n pages ≡ true → is_slot n (with_blank pages) ≡ true
+still_slot n pages there =
+    let bounds = slot_bounds n pages there in
+    slot_within n (with_blank pages) bounds.0 (longer n pages bounds.1)
+  where
+    longer : (n : ℕ) (pages : Pages) → n ≤ slot_count pages → n ≤ slot_count (with_blank pages)
+    longer n pages within = rw blank_count (omega arith)
+
+blank_old : (n : ℕ) (pages : Pages) → ArePages pages → is_slot n pages ≡ true
+    → row_at n (with_blank pages) ≡ row_at n pages
+blank_old n pages are there =
+    held n (with_blank pages) (still_slot n pages there)
+    ∙ ap row_of
+    (at_front (place_in (slot_page n) (slot_byte n)) slot_size pages.bytes (replicate page_size 0)
+    (place_within n pages are there))
+    ∙ sym (held n pages there)
+
+zeros_in : (place : ℕ) (bytes : List ℕ) → length bytes ≤ place → place + slot_size ≤ length bytes + page_size
+    → bytes_at place slot_size (bytes ++ replicate page_size 0) ≡ replicate slot_size 0
+zeros_in place bytes behind within =
+    let gap : ℕ = place - length bytes in
+    let place_is : place ≡ length bytes + gap = omega arith in
+    ap (λ k. take slot_size (drop k (bytes ++ replicate page_size 0))) place_is
+    ∙ ap (take slot_size) (drop-append-add bytes (replicate page_size 0) gap ∙ drop-replicate gap page_size 0)
+    ∙ take-replicate slot_size (page_size - gap) 0 (omega arith)
+
+zeros_free : row_of (replicate slot_size 0) ≡ Some (Free (record { 0 = 0 }))
+zeros_free = row_spelled (Free (record { 0 = 0 })) (omega arith, tt)
+
+blank_new : (n : ℕ) (pages : Pages) → ArePages pages → 2 ≤ page_count pages → slot_count pages < n
+    → n ≤ slot_count pages + 8 → row_at n (with_blank pages) ≡ Some (Free (record { 0 = 0 }))
+blank_new n pages are some above within =
+    let whole : length pages.bytes ≡ page_size * page_count pages = are.whole in
+    let first : 1 ≤ n = omega arith in
+    let inside : n ≤ slot_count (with_blank pages) = longer n pages some within in
+    held n (with_blank pages) (slot_within n (with_blank pages) first inside)
+    ∙ ap row_of
+    (zeros_in (place_in (slot_page n) (slot_byte n)) pages.bytes (omega (arith, place_is n first))
+    (omega (arith, place_is n first)))
+    ∙ zeros_free
+  where
+    longer : (n : ℕ) (pages : Pages) → 2 ≤ page_count pages → n ≤ slot_count pages + 8
+        → n ≤ slot_count (with_blank pages)
+    longer n pages some within = rw blank_count (omega arith)
+
+blank_header : (pages : Pages) → ArePages pages → 2 ≤ page_count pages
+    → header_of (with_blank pages) ≡ header_of pages
+unfolding header_of
+blank_header pages are some =
+    let whole : length pages.bytes ≡ page_size * page_count pages = are.whole in
+    ap header_in (at_front page_size page_size pages.bytes (replicate page_size 0) (omega arith))
+
+blank_only : (pages : Pages) → ArePages pages → ChangesOnly (page_count pages ∷ []) pages (with_blank pages)
+blank_only pages are =
+    let whole : length pages.bytes ≡ page_size * page_count pages = are.whole in
+    record {
+      before = refl;
+      marks = λ p other. elim (cases_lt p (page_count pages)) [
+        | inl there ↦ get_or_append_left pages.changed (true ∷ []) false p there
+        | inr past ↦
+            get_or_past (pages.changed ++ true ∷ []) p false
+            (rw length_push (behind p (page_count pages) past (apart p (page_count pages) other)))
+            ∙ sym (get_or_past pages.changed p false past)
+      ];
+      images = λ p other there.
+          ap (λ (l : List ℕ). record { page = p; image = l })
+          (at_front (page_size * p) page_size pages.bytes (replicate page_size 0) (inside p (page_count pages) (length pages.bytes) whole there));
+    }
+  where
+    apart : (p page : ℕ) → is_among p (page ∷ []) ≡ false → p ≢ page
+    apart p page other same = true≢false (sym (ap (λ b. b || false) (eq-eqb p page same)) ∙ other)
+
+    behind : (p count : ℕ) → count ≤ p → p ≢ count → count + 1 ≤ p
+    behind p count past other = elim (cases_lt count p) [ inl less ↦ omega arith | inr more ↦ absurd (other (omega arith)) ]
+
+    inside : (p count size : ℕ) → size ≡ page_size * count → p < count → page_size * p + page_size ≤ size
+    inside p count size whole there = omega arith
+
+-- ---- its slots are linked
+
+abbrev is_linked : ℕ → ℕ → ℕ → Bool
+is_linked count first n = leb first n && ltb n (first + count)
+
+abbrev linked_row : ℕ → ℕ → ℕ → Option SlotRow → Option SlotRow
+linked_row count first n row = cond (is_linked count first n) (Some (Free (record { 0 = n + 1 }))) row
+
+pub none_linked : (first : ℕ) (pages : Pages) → IsGrown first pages → IsLinked 0 first pages pages
+none_linked first pages grown =
+    record {
+      whole = grown.whole;
+      rows = λ n. sym (ap (λ b. cond b (Some (Free (record { 0 = n + 1 }))) (row_at n pages)) (no_one n first));
+      header = refl;
+      as_many = refl;
+      pages = record { before = refl; marks = λ p other. refl; images = λ p other there. refl };
+    }
+  where
+    never : (n first : ℕ) → first ≤ n → n < first + 0 → ⊥
+    never n first above below = omega arith
+
+    no_one : (n first : ℕ) → is_linked 0 first n ≡ false
+    no_one n first = elim (cases_Bool (is_linked 0 first n)) [
+      | inl both ↦
+          let parts = and_parts (leb first n) (ltb n (first + 0)) both in
+          absurd (never n first (leb-true first n parts.0) (ltb-true n (first + 0) parts.1))
+      | inr neither ↦ neither
+    ]
+
+pub one_linked : (count first : ℕ) (old middle new : Pages) → IsGrown first old → count < 8
+    → IsLinked count first old middle → PutRow (first + count) (Free (record { 0 = first + count + 1 })) middle new
+    → IsLinked (count + 1) first old new
+one_linked count first old middle new grown few before put =
+    record {
+      whole = put.whole;
+      rows = λ n. put.rows n ∙ each n;
+      header = put.header ∙ before.header;
+      as_many = put.as_many ∙ before.as_many;
+      pages =
+          then_only ((page_count old - 1) ∷ []) (slot_page (first + count) ∷ []) ((page_count old - 1) ∷ []) old middle new
+          (λ p other. (other, ap (λ k. (p == k) || false) (page_is count first (page_count old) few grown.some_slot grown.starts) ∙ other))
+          (as_long (page_count old) (page_count middle) before.as_many) before.pages put.pages;
+    }
+  where
+    as_long : (a b : ℕ) → b ≡ a → a ≤ b
+    as_long a b same = omega arith
+
+    page_is : (count first pages : ℕ) → count < 8 → 3 ≤ pages → first ≡ 8 * (pages - 3) + 1
+        → slot_page (first + count) ≡ pages - 1
+    page_is count first pages few some starts = omega arith
+
+    more : (n : ℕ) → n ≢ first + count → first + count ≤ n → first + (count + 1) ≤ n
+    more n apart above = elim (cases_lt (first + count) n) [ inl less ↦ omega arith | inr other ↦ absurd (apart (omega arith)) ]
+
+    one_further : (n : ℕ) → n ≢ first + count → is_linked (count + 1) first n ≡ is_linked count first n
+    one_further n apart = ap (λ b. leb first n && b) (elim (cases_lt n (first + count)) [
+      | inl below ↦ lt-ltb n (first + (count + 1)) (omega arith) ∙ sym (lt-ltb n (first + count) below)
+      | inr above ↦ le-ltb n (first + (count + 1)) (more n apart above) ∙ sym (le-ltb n (first + count) above)
+    ])
+
+    each : (n : ℕ) → cond (n == (first + count)) (Some (Free (record { 0 = first + count + 1 }))) (row_at n middle)
+        ≡ linked_row (count + 1) first n (row_at n old)
+    each n = elim (cases_eq n (first + count)) [
+      | inl here ↦
+          ap (λ b. cond b (Some (Free (record { 0 = first + count + 1 }))) (row_at n middle)) (eq-eqb n (first + count) here)
+          ∙ ap (λ k. Some (Free (record { 0 = k + 1 }))) (sym here)
+          ∙ sym (ap (λ b. cond b (Some (Free (record { 0 = n + 1 }))) (row_at n old))
+          (and_from (leb first n) (ltb n (first + (count + 1))) (le-leb first n (omega arith))
+          (lt-ltb n (first + (count + 1)) (omega arith))))
+      | inr apart ↦
+          ap (λ b. cond b (Some (Free (record { 0 = first + count + 1 }))) (row_at n middle)) (ne_eqb n (first + count) apart)
+          ∙ before.rows n
+          ∙ ap (λ b. cond b (Some (Free (record { 0 = n + 1 }))) (row_at n old)) (sym (one_further n apart))
+    ]
+
+-- ---- the pages then
+
+pub record GrownPages (first : ℕ) (old new : Pages) : Type 0 where
+  pub whole : ArePages new
+  pub longer : page_count new ≡ page_count old + 1
+  pub starts : first ≡ 8 * (page_count old - 2) + 1
+  pub header : header_of new ≡ record (header_of old) { pages = page_count old + 1; first_free = record { 0 = first } }
+  pub kept : (n : ℕ) → is_slot n old ≡ true → row_at n new ≡ row_at n old
+  pub linked : (n : ℕ) → first ≤ n → n < first + 7 → row_at n new ≡ Some (Free (record { 0 = n + 1 }))
+  pub last : row_at (first + 7) new ≡ Some (Free (record { 0 = 0 }))
+  pub pages : ChangesOnly (header_page ∷ page_count old ∷ []) old new
+
+pub grown_pages : (first count : ℕ) (old blank linked longer new : Pages) → ArePages old → 2 ≤ page_count old
+    → blank ≡ with_blank old → ArePages blank → count ≡ page_count blank → count < 2 ^ 32 → first < 2 ^ 32
+    → first ≡ 8 * (count - 3) + 1 → IsLinked 7 first blank linked
+    → longer ≡ with_bytes header_page (8 + 4 * 0) (to_le_bytes w32 count) linked
+    → new ≡ with_bytes header_page (8 + 4 * 5) (to_le_bytes w32 first) longer → GrownPages first old new
+grown_pages first count old blank linked longer new are some is whole count_is count_fits first_fits starts link
+    longer_is new_is =
+    let more : page_count blank ≡ page_count old + 1 = ap page_count is ∙ blank_count old in
+    let two : 2 ≤ page_count linked = omega (arith, link.as_many) in
+    let one : PutWord 0 count linked longer = word_put 0 count linked longer link.whole two (omega arith) count_fits longer_is in
+    let still : 2 ≤ page_count longer = omega (arith, one.as_many) in
+    let other : PutWord 5 first longer new = word_put 5 first longer new one.whole still (omega arith) first_fits new_is in
+    let rows : (n : ℕ) → row_at n new ≡ linked_row 7 first n (row_at n blank) =
+    λ n. other.rows n ∙ one.rows n ∙ link.rows n in
+    let header_one : header_of longer ≡ record (header_of linked) { pages = count } = one.header ∙ pages_set count linked in
+    let header_two : header_of new ≡ record (header_of longer) { first_free = record { 0 = first } } =
+    other.header ∙ first_free_set first longer in
+    let header_old : header_of linked ≡ header_of old =
+    link.header ∙ ap header_of is ∙ blank_header old are some in
+    let last_page : page_count blank - 1 ≡ page_count old = omega (arith, more) in
+    let first_is : first ≡ 8 * (page_count old - 2) + 1 = omega (arith, more, count_is) in
+    let count_more : count ≡ page_count old + 1 = count_is ∙ more in
+    record {
+      whole = other.whole;
+      longer = other.as_many ∙ one.as_many ∙ link.as_many ∙ more;
+      starts = first_is;
+      header =
+          header_two
+          ∙ ap (λ (h : Header). record h { first_free = record { 0 = first } }) header_one
+          ∙ ap (λ (h : Header). record h { pages = count; first_free = record { 0 = first } }) header_old
+          ∙ ap (λ k. record (header_of old) { pages = k; first_free = record { 0 = first } }) count_more;
+      kept = λ n there.
+          rows n ∙ ap (λ b. cond b (Some (Free (record { 0 = n + 1 }))) (row_at n blank))
+          (before n first (page_count old) first_is (slot_bounds n old there).1)
+          ∙ ap (row_at n) is ∙ blank_old n old are there;
+      linked = λ n above below.
+          rows n ∙ ap (λ b. cond b (Some (Free (record { 0 = n + 1 }))) (row_at n blank))
+          (and_from (leb first n) (ltb n (first + 7)) (le-leb first n above) (lt-ltb n (first + 7) below));
+      last =
+          rows (first + 7)
+          ∙ ap (λ b. cond b (Some (Free (record { 0 = first + 7 + 1 }))) (row_at (first + 7) blank)) (not_last first)
+          ∙ ap (row_at (first + 7)) is
+          ∙ blank_new (first + 7) old are some (omega (arith, first_is)) (omega (arith, first_is));
+      pages =
+          then_only (header_page ∷ page_count old ∷ []) (header_page ∷ []) (header_page ∷ page_count old ∷ []) old longer new
+          (λ p apart. (apart, (beside_header (page_count old) p apart).1))
+          (omega (arith, one.as_many, link.as_many, more))
+          (then_only (page_count old ∷ []) (header_page ∷ []) (header_page ∷ page_count old ∷ []) old linked longer
+          (beside_header (page_count old)) (omega (arith, link.as_many, more))
+          (then_only (page_count old ∷ []) (page_count old ∷ []) (page_count old ∷ []) old blank linked
+          (λ p apart. (apart, apart)) (omega (arith, more))
+          (subst (ChangesOnly (page_count old ∷ []) old) (sym is) (blank_only old are))
+          (subst (λ k. ChangesOnly (k ∷ []) blank linked) last_page link.pages))
+          one.pages)
+          other.pages;
+    }
+  where
+    never : (n first count : ℕ) → first ≡ count + 1 → n ≤ count → first ≤ n → ⊥
+    never n first count starts within above = omega arith
+
+    before : (n first count : ℕ) → first ≡ 8 * (count - 2) + 1 → n ≤ 8 * (count - 2) → is_linked 7 first n ≡ false
+    before n first count starts within = elim (cases_Bool (is_linked 7 first n)) [
+      | inl both ↦
+          let parts = and_parts (leb first n) (ltb n (first + 7)) both in
+          absurd (never n first (8 * (count - 2)) starts within (leb-true first n parts.0))
+      | inr neither ↦ neither
+    ]
+
+    same : (n : ℕ) → n < n → ⊥
+    same n less = omega arith
+
+    not_last : (first : ℕ) → is_linked 7 first (first + 7) ≡ false
+    not_last first = elim (cases_Bool (is_linked 7 first (first + 7))) [
+      | inl both ↦
+          let parts = and_parts (leb first (first + 7)) (ltb (first + 7) (first + 7)) both in
+          absurd (same (first + 7) (ltb-true (first + 7) (first + 7) parts.1))
+      | inr neither ↦ neither
+    ]
+
+-- ---- they make an arena
+
+chain_empty : (pages : Pages) (ns : List ℕ) → (header_of pages).first_free.0 ≡ 0
+    → (header_of pages).first_free ≡ first_in ns → AreLinked ns pages → (n : ℕ) → is_among n ns ≡ true → ⊥
+chain_empty pages [] full first linked n among = true≢false (sym among)
+chain_empty pages (m ∷ ns) full first linked n among =
+    let zero_is : m ≡ 0 = sym (ap (λ (s : Slot). s.0) first) ∙ full in
+    let none : Some (Free (first_in ns)) ≡ None = sym linked.0 ∙ ap (λ k. row_at k pages) zero_is ∙ no_slot 0 pages refl in
+    absurd (cc)
+
+-- where no slot is free each is live
+live_each : (n : ℕ) (pages : Pages) → IsArena pages → (header_of pages).first_free.0 ≡ 0 → is_slot n pages ≡ true
+    → is_live n pages ≡ true
+live_each n pages arena full there = elim (cases_Bool (is_live n pages)) [
+  | inl live ↦ live
+  | inr other ↦
+      let free : is_free n pages ≡ true =
+      and_from (is_some (row_at n pages)) (not (is_live n pages)) (arena.slots.rows n there) (ap not other) in
+      absurd (chain_empty pages arena.slots.free.chain full arena.slots.free.first arena.slots.free.linked n
+      (arena.slots.free.whole n free))
+]
+
+all_live : (pages : Pages) → IsArena pages → (header_of pages).first_free.0 ≡ 0 → live_count pages ≡ slot_count pages
+unfolding live_count
+all_live pages arena full =
+    passed_all (λ n. is_live n pages) 1 (slot_count pages)
+    (λ n above below. live_each n pages arena full (slot_within n pages above (within n (slot_count pages) below)))
+  where
+    within : (n count : ℕ) → n < 1 + count → n ≤ count
+    within n count below = omega arith
+
+linked_range : (k n : ℕ) (pages : Pages) → ((m : ℕ) → n ≤ m → m < n + k → row_at m pages ≡ Some (Free (record { 0 = m + 1 })))
+    → row_at (n + k) pages ≡ Some (Free (record { 0 = 0 })) → AreLinked (range_with_len n (suc k)) pages
+linked_range zero n pages linked last = (ap (λ m. row_at m pages) (sym (same n)) ∙ last, tt)
+  where
+    same : (n : ℕ) → n + 0 ≡ n
+    same n = omega arith
+linked_range (suc k) n pages linked last = (
+  linked n (omega arith) (omega arith),
+  linked_range k (n + 1) pages (λ m above below. linked m (omega arith) (omega arith))
+      (ap (λ m. row_at m pages) (same n k) ∙ last),
+)
+  where
+    same : (n k : ℕ) → n + 1 + k ≡ n + suc k
+    same n k = omega arith
+
+in_range : (n from count : ℕ) → from ≤ n → n < from + count → is_among n (range_with_len from count) ≡ true
+in_range n from zero above below = absurd (omega arith)
+in_range n from (suc count) above below = elim (cases_eq n from) [
+  | inl here ↦ ap (λ b. b || is_among n (range_with_len (from + 1) count)) (eq-eqb n from here)
+  | inr apart ↦
+      or_right (n == from) (is_among n (range_with_len (from + 1) count))
+      (in_range n (from + 1) count (more n from above apart) (omega arith))
+]
+  where
+    more : (n from : ℕ) → from ≤ n → n ≢ from → from + 1 ≤ n
+    more n from above apart = elim (cases_lt from n) [ inl less ↦ omega arith | inr other ↦ absurd (apart (omega arith)) ]
+
+-- the row of a slot that was added
+added_row : (n first : ℕ) (old new : Pages) → GrownPages first old new → first ≤ n → n < first + 8
+    → (next : Slot) × (row_at n new ≡ Some (Free next))
+added_row n first old new grown above below = elim (cases_lt n (first + 7)) [
+  | inl less ↦ (record { 0 = n + 1 }, grown.linked n above less)
+  | inr more ↦ (record { 0 = 0 }, ap (λ k. row_at k new) (last n first more below) ∙ grown.last)
+]
+  where
+    last : (n first : ℕ) → first + 7 ≤ n → n < first + 8 → n ≡ first + 7
+    last n first more below = omega arith
+
+-- a slot of more pages was one before, or was added
+old_or_new : (n first : ℕ) (old new : Pages) → GrownPages first old new → 2 ≤ page_count old → is_slot n new ≡ true
+    → (is_slot n old ≡ true) ⊎ ((first ≤ n) × (n < first + 8))
+old_or_new n first old new grown some there = elim (cases_lt n first) [
+  | inl less ↦ inl (slot_within n old (slot_bounds n new there).0 (within n first old grown.starts less))
+  | inr more ↦ inr (more, below n first (page_count old) (page_count new) some grown.starts grown.longer (slot_bounds n new there).1)
+]
+  where
+    within : (n first : ℕ) (old : Pages) → first ≡ 8 * (page_count old - 2) + 1 → n < first → n ≤ slot_count old
+    within n first old starts less = omega arith
+
+    below : (n first a b : ℕ) → 2 ≤ a → first ≡ 8 * (a - 2) + 1 → b ≡ a + 1 → n ≤ 8 * (b - 2) → n < first + 8
+    below n first a b some starts more bound = omega arith
+
+pub grown_arena : (first : ℕ) (old new : Pages) → IsArena old → (header_of old).first_free.0 ≡ 0
+    → live_count old < slot_limit → GrownPages first old new → IsArena new
+grown_arena first old new arena full few grown =
+    record {
+      whole = grown.whole;
+      some_page = more (page_count old) (page_count new) grown.longer arena.some_page;
+      few = room (page_count old) (page_count new) grown.longer arena.some_page
+          (subst (λ c. c < slot_limit) (all_live old arena full) few);
+      told = ap (λ (h : Header). h.pages) grown.header ∙ sym grown.longer;
+      slots = record {
+        rows = λ n there. elim (old_or_new n first old new grown arena.some_page there) [
+          | inl before ↦ subst IsSome (sym (grown.kept n before)) (arena.slots.rows n before)
+          | inr added ↦
+              let row = added_row n first old new grown added.0 added.1 in
+              subst IsSome (sym row.1) refl
+        ];
+        free = record {
+          chain = range_with_len first 8;
+          first = ap (λ (h : Header). h.first_free) grown.header;
+          linked = linked_range 7 first new grown.linked grown.last;
+          whole = λ n free. elim (old_or_new n first old new grown arena.some_page (free_slot n new free)) [
+            | inl before ↦
+                absurd (not_free n old (live_each n old arena full before)
+                (sym (ap (λ r. is_some r && not (is_some (option_and_then live_row r))) (grown.kept n before)) ∙ free))
+            | inr added ↦ in_range n first 8 added.0 added.1
+          ];
+        };
+      };
+    }
+  where
+    more : (a b : ℕ) → b ≡ a + 1 → 2 ≤ a → 2 ≤ b
+    more a b longer some = omega arith
+
+    room : (a b : ℕ) → b ≡ a + 1 → 2 ≤ a → 8 * (a - 2) < slot_limit → 8 * (b - 2) ≤ slot_limit
+    room a b longer some below = omega arith
+
+count_same : (first : ℕ) (old new : Pages) → GrownPages first old new → 2 ≤ page_count old
+    → ((n : ℕ) → live_at n new ≡ live_at n old) → ((n : ℕ) → 1 + slot_count old ≤ n → is_live n new ≡ false)
+    → live_count new ≡ live_count old
+unfolding live_count
+count_same first old new grown some live past =
+    ap (passed (λ n. is_live n new) 1) (size (page_count old) (page_count new) some grown.longer)
+    ∙ passed_past (λ n. is_live n new) 1 (slot_count old) 8 past
+    ∙ passed_same (λ n. is_live n old) (λ n. is_live n new) 1 (slot_count old) (λ n _. ap is_some (live n))
+  where
+    size : (a b : ℕ) → 2 ≤ a → b ≡ a + 1 → 8 * (b - 2) ≡ 8 * (a - 2) + 8
+    size a b some more = omega arith
+
+pub grown_makes : (first : ℕ) (old new : Pages) → IsArena old → (header_of old).first_free.0 ≡ 0
+    → GrownPages first old new → MakesFree old new
+grown_makes first old new arena full grown =
+    record {
+      free = λ none. some first (page_count old) grown.starts
+          (sym (ap (λ (h : Header). h.first_free.0) grown.header) ∙ none);
+      live = live;
+      rows = grown.kept;
+      still = λ n there.
+          slot_within n new (slot_bounds n old there).0
+          (further n (page_count old) (page_count new) grown.longer (slot_bounds n old there).1);
+      count = as_many;
+      header = keeps_fields old new (page_count old + 1) (record { 0 = first }) grown.header;
+      pages =
+          subst (λ p. ChangesOnly (header_page ∷ p ∷ []) old new)
+          (sym (ap (λ (h : Header). slot_page h.first_free.0) grown.header ∙ page first (page_count old) arena.some_page grown.starts))
+          grown.pages;
+      longer = longer (page_count old) (page_count new) grown.longer;
+    }
+  where
+    some : (first count : ℕ) → first ≡ 8 * (count - 2) + 1 → first ≡ 0 → ⊥
+    some first count starts none = omega arith
+
+    further : (n a b : ℕ) → b ≡ a + 1 → n ≤ 8 * (a - 2) → n ≤ 8 * (b - 2)
+    further n a b more within = omega arith
+
+    page : (first count : ℕ) → 2 ≤ count → first ≡ 8 * (count - 2) + 1 → slot_page first ≡ count
+    page first count some starts = omega arith
+
+    longer : (a b : ℕ) → b ≡ a + 1 → a ≤ b
+    longer a b more = omega arith
+
+    not_there : (n : ℕ) → is_slot n old ≡ false → live_at n new ≡ live_at n old
+    not_there n none = elim (cases_Bool (is_slot n new)) [
+      | inl there ↦ elim (old_or_new n first old new grown arena.some_page there) [
+        | inl before ↦ absurd (true≢false (sym before ∙ none))
+        | inr added ↦
+            let row = added_row n first old new grown added.0 added.1 in
+            ap (option_and_then live_row) row.1 ∙ sym (ap (option_and_then live_row) (no_slot n old none))
+      ]
+      | inr still_none ↦
+          ap (option_and_then live_row) (no_slot n new still_none)
+          ∙ sym (ap (option_and_then live_row) (no_slot n old none))
+    ]
+
+    live : (n : ℕ) → live_at n new ≡ live_at n old
+    live n = elim (cases_Bool (is_slot n old)) [
+      | inl there ↦ ap (option_and_then live_row) (grown.kept n there)
+      | inr none ↦ not_there n none
+    ]
+
+    past : (n : ℕ) → 1 + slot_count old ≤ n → is_live n new ≡ false
+    past n above =
+        let none : is_slot n old ≡ false = elim (cases_Bool (is_slot n old)) [
+          | inl there ↦ absurd (never n (slot_count old) above (slot_bounds n old there).1)
+          | inr none ↦ none
+        ] in
+        ap is_some (live n ∙ ap (option_and_then live_row) (no_slot n old none))
+      where
+        never : (n count : ℕ) → 1 + count ≤ n → n ≤ count → ⊥
+        never n count above within = omega arith
+
+    as_many : live_count new ≡ live_count old
+    as_many = count_same first old new grown arena.some_page live past
+
+-- no store has more slots than before a page more
+pub grown_few : (old blank : Pages) → IsArena old → (header_of old).first_free.0 ≡ 0 → live_count old < slot_limit
+    → blank ≡ with_blank old → slot_count blank ≤ slot_limit
+grown_few old blank arena full few is =
+    room (page_count old) (page_count blank) (ap page_count is ∙ blank_count old) arena.some_page
+    (subst (λ c. c < slot_limit) (all_live old arena full) few)
+  where
+    room : (a b : ℕ) → b ≡ a + 1 → 2 ≤ a → 8 * (a - 2) < slot_limit → 8 * (b - 2) ≤ slot_limit
+    room a b longer some below = omega arith
+
+-- one slot more is linked
+pub link_on : (slot first : ℕ) (old middle new : Pages) → IsGrown first old → first ≤ slot → slot < first + 7
+    → IsLinked (slot - first) first old middle → slot + 1 < 2 ^ 32
+    → new ≡ with_row slot (Free (record { 0 = slot + 1 })) middle → IsLinked (slot + 1 - first) first old new
+link_on slot first old middle new grown above below before small is =
+    let there : is_slot slot middle ≡ true =
+    slot_within slot middle (some slot first (page_count old) grown.starts above)
+    (within slot first (page_count old) (page_count middle) grown.some_slot grown.starts below before.as_many) in
+    let put : PutRow slot (Free (record { 0 = slot + 1 })) middle new =
+    row_put slot (Free (record { 0 = slot + 1 })) middle new before.whole there (small, tt) is in
+    let place : slot ≡ first + (slot - first) = omega arith in
+    subst (λ k. IsLinked k first old new) (size slot first above)
+    (one_linked (slot - first) first old middle new grown (omega arith) before
+    (subst (λ k. PutRow k (Free (record { 0 = k + 1 })) middle new) place put))
+  where
+    some : (slot first count : ℕ) → first ≡ 8 * (count - 3) + 1 → first ≤ slot → 1 ≤ slot
+    some slot first count starts above = omega arith
+
+    within : (slot first a b : ℕ) → 3 ≤ a → first ≡ 8 * (a - 3) + 1 → slot < first + 7 → b ≡ a → slot ≤ 8 * (b - 2)
+    within slot first a b some starts below same = omega arith
+
+    size : (slot first : ℕ) → first ≤ slot → slot - first + 1 ≡ slot + 1 - first
+    size slot first above = omega arith

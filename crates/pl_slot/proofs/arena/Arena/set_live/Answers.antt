@@ -1,0 +1,18 @@
+use Rattle.std.proofs.Common.{arith, refl, sym}
+use Rattle.pl_slot.specs.Header.{Header}
+use Rattle.pl_slot.proofs.FieldLaws.{FieldSet, field_set}
+use Rattle.pl_slot.proofs.HeaderLaws.{live_set}
+use Rattle.pl_slot.proofs.arena.Arena.set_live.Goals as goal
+use Rattle.pl_slot.proofs.arena.Arena.set_live.Goals.{After-put_four}
+
+set_there : (c : After-put_four)
+    → FieldSet (λ (h : Header). record h { live = c.args.live }) c.self.inside.sheets c.put_four.new.sheets
+set_there c =
+    field_set 14 c.args.live (λ (h : Header). record h { live = c.args.live }) c.self.inside.sheets c.put_four.new.sheets
+    c.self.invariant (omega arith) (omega arith) c.put_four.ensures (live_set c.args.live c.self.inside.sheets) refl refl
+
+pub invariant_of-self : goal.invariant_of-self
+invariant_of-self c = (set_there c).arena
+
+pub returns : goal.returns
+returns c = record { set = rw (sym c.self.view_is) ((set_there c).set) }
