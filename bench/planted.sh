@@ -1,8 +1,9 @@
 #!/bin/sh
 # Plants the bugs of planted/ again, each in a copy of its crate, and tells which of them the prover refuses:
-#     bench/planted.sh [-a] [CRATE | CRATE/BUG]..
+#     bench/planted.sh [-a] [-f] [CRATE | CRATE/BUG]..
 # With -a it plants those of crates/CRATE/must-fail/ too, and with no word those of every crate. It ends with 0 where
 # each is refused, but for those whose file has a line 'let through: REASON', which have to be let through.
+# With -f it plants none, and tells in seconds which bugs still fit: whose 'old:' lines stand once in the file they name.
 # RT_JOBS=1 before it keeps it to one processor; without, it takes all. It is no part of the gate. What rt ci passed on
 # this machine of the same files, proofs and bugs, is taken from there.
 fail() {
@@ -11,10 +12,12 @@ fail() {
 }
 
 both=
-while getopts a option; do
+fits=
+while getopts af option; do
     case $option in
     a) both=yes ;;
-    *) fail 'usage: bench/planted.sh [-a] [CRATE | CRATE/BUG]..' ;;
+    f) fits=yes ;;
+    *) fail 'usage: bench/planted.sh [-a] [-f] [CRATE | CRATE/BUG]..' ;;
     esac
 done
 shift $((OPTIND - 1))
@@ -55,6 +58,38 @@ for word; do
     done
     [ -n "$found" ] || fail "there is no bug $word"
 done >"$work/edits" || exit 1
+
+# ---- whether they fit
+
+# How often each old line stands in the file, as text.
+if [ -n "$fits" ]; then
+    while read -r crate edit; do
+        awk -v top="crates/$crate/" -v bug="${edit%.edit}" '
+            function times(whole, part,    n, at) {
+                while ((at = index(whole, part)) > 0) {
+                    n++
+                    whole = substr(whole, at + length(part))
+                }
+                return n + 0
+            }
+            sub(/^file: /, "") {
+                file = top $0
+                whole = ""
+                while ((getline line < file) > 0) whole = whole line "\n"
+                close(file)
+                next
+            }
+            sub(/^old: /, "") {
+                asked++
+                if (times(whole, $0) != 1) wrong++
+            }
+            END { print (asked && !wrong ? "fits" : "no longer fits") "  " bug }' "$edit"
+    done <"$work/edits" >"$work/all"
+    grep -v '^fits' "$work/all"
+    printf '%s of %s fit\n' "$(grep -c '^fits' "$work/all")" "$(grep -c . "$work/all")"
+    ! grep -qv '^fits' "$work/all"
+    exit
+fi
 
 # ---- the copy
 
