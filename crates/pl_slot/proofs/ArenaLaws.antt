@@ -9,7 +9,7 @@ use Rattle.pl_base.specs.Touched.{page_size}
 use Rattle.pl_sheets.specs.Sheets.{ArePages, Pages, page_count, with_bytes}
 use Rattle.pl_slot.specs.declared.row.SlotRow.{SlotRow}
 use Rattle.pl_slot.specs.declared.row.SlotRow.TheVariants.{Free}
-use Rattle.pl_slot.specs.Arena.{AreLinked, ChangesOnly, HasFreeChain, IsArena, IsLiveRow, IsSet, IsSetLive, KeepsRows}
+use Rattle.pl_slot.specs.Arena.{AreLinked, ChangesOnly, IsArena, IsLiveRow, IsSet, IsSetLive, KeepsRows}
 use Rattle.pl_slot.specs.Arena.{first_in, header_of, header_page, is_among, is_free, is_live, is_slot, live_at}
 use Rattle.pl_slot.specs.Arena.{live_count, live_row, row_at, slot_byte, slot_count, slot_page}
 use Rattle.pl_slot.specs.Slot.{IsSlotRow, slot_bytes}

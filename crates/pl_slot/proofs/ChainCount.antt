@@ -3,9 +3,8 @@ use Rattle.std.proofs.Common.{◌≡◌, ◌≢◌, ◌∙◌, ◌==◌, ◌+◌
 use Rattle.std.proofs.Common.{eq-eqb, eqb, eqb-true, false, filter, inl, inr, is_some, length, None, not, Option, refl, Some}
 use Rattle.std.proofs.Common.{subst, suc, sym, true, zero}
 use Rattle.std.specs.Cmp.{IsEquivalence}
-use Rattle.std.specs.List.{AllByRecursion, IsDistinct, list_any, range_with_len}
+use Rattle.std.specs.List.{AllByRecursion, IsDistinct, range_with_len}
 use Rattle.std.specs.Option.{option_and_then}
-use Rattle.std.specs.Set.{is_member}
 use Rattle.std.proofs.lemmas.Bool.{cases_Bool, cases_eq, ne_eqb, or_cases, or_parts, or_right, true≢false}
 use Rattle.std.proofs.lemmas.List.{drop-drop, length-drop}
 use Rattle.std.proofs.lemmas.Map.Keys.{IsDistinct-cons}
@@ -14,7 +13,7 @@ use Rattle.pl_base.specs.declared.id.Slot.{Slot}
 use Rattle.pl_sheets.specs.Sheets.{Pages}
 use Rattle.pl_slot.specs.declared.row.SlotRow.{SlotRow}
 use Rattle.pl_slot.specs.declared.row.SlotRow.TheVariants.{Free, Origin, Place, Visit, Item, Text}
-use Rattle.pl_slot.specs.Arena.{AreLinked, HasFreeChain, first_in, header_of, is_among, is_free, is_live, is_slot, live_row}
+use Rattle.pl_slot.specs.Arena.{AreLinked, HasFreeChain, first_in, header_of, is_among, is_free, is_slot, live_row}
 use Rattle.pl_slot.specs.Arena.{row_at, slot_count, slots_of}
 use Rattle.pl_slot.specs.Checking.{free_count, link_of, next_free}
 use Rattle.pl_slot.proofs.ArenaLaws.{free_slot}

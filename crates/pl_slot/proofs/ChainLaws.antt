@@ -1,13 +1,12 @@
 -- Chains of free slots.
-use Rattle.std.proofs.Common.{◌≡◌, ◌≢◌, ◌∙◌, ◌==◌, ◌+◌, ◌<◌, ◌≤◌, ◌∷◌, ◌||◌, [], ℕ, List, Bool, ap, arith, cond, false}
-use Rattle.std.proofs.Common.{eq-eqb, eqb-true, inl, inr, length, None, Option, refl, Some, suc, sym, true, zero}
-use Rattle.std.specs.List.{IsDistinct, list_any}
-use Rattle.std.proofs.lemmas.Bool.{cases_Bool, eqb-false, or_cases, true≢false}
+use Rattle.std.proofs.Common.{◌≡◌, ◌≢◌, ◌∙◌, ◌==◌, ◌<◌, ◌∷◌, ◌||◌, [], ℕ, List, ap, arith, false}
+use Rattle.std.proofs.Common.{eq-eqb, eqb-true, inl, inr, length, None, Option, refl, Some, suc, sym, true}
+use Rattle.std.proofs.lemmas.Bool.{cases_Bool, or_cases, true≢false}
 use Rattle.pl_base.specs.declared.id.Slot.{Slot}
 use Rattle.pl_sheets.specs.Sheets.{Pages}
 use Rattle.pl_slot.specs.declared.row.SlotRow.{SlotRow}
 use Rattle.pl_slot.specs.declared.row.SlotRow.TheVariants.{Free}
-use Rattle.pl_slot.specs.Arena.{AreLinked, first_in, is_among, is_slot, row_at}
+use Rattle.pl_slot.specs.Arena.{AreLinked, first_in, is_among, row_at}
 use Rattle.pl_slot.proofs.SlotPlaces.{no_slot}
 
 -- the slot that a free row names

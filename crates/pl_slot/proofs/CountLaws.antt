@@ -1,5 +1,5 @@
 -- How many numbers of a range pass a test.
-use Rattle.std.proofs.Common.{◌≡◌, ◌≢◌, ◌∙◌, ◌+◌, ◌-◌, ◌<◌, ◌≤◌, ◌∷◌, [], ℕ, List, Bool, ap, arith, cond, false}
+use Rattle.std.proofs.Common.{◌≡◌, ◌≢◌, ◌∙◌, ◌+◌, ◌-◌, ◌<◌, ◌≤◌, ◌∷◌, ℕ, Bool, ap, arith, cond, false}
 use Rattle.std.proofs.Common.{filter, inl, inr, length, refl, suc, sym, true, zero}
 use mir.Val.{bool_byte}
 use Rattle.std.specs.List.{range_with_len}

@@ -1,10 +1,9 @@
 -- What setting a field of the header makes of an arena.
-use Rattle.std.proofs.Common.{◌≡◌, ◌∙◌, ◌+◌, ◌*◌, ◌^◌, ◌<◌, ◌≤◌, ◌∷◌, ◌&&◌, [], ℕ, ap, arith, false, sym, w32, refl}
+use Rattle.std.proofs.Common.{◌≡◌, ◌∙◌, ◌+◌, ◌*◌, ◌^◌, ◌<◌, ◌≤◌, ◌∷◌, [], ℕ, ap, arith, w32}
 use Rattle.std.specs.Int.{to_le_bytes}
-use Rattle.pl_base.specs.declared.id.Slot.{Slot}
 use Rattle.pl_sheets.specs.Sheets.{Pages, page_count, with_bytes}
 use Rattle.pl_slot.specs.declared.kind.LiveKind.{LiveKind}
-use Rattle.pl_slot.specs.Arena.{ChangesOnly, IsArena, SetsHeader, header_of, header_page, is_among}
+use Rattle.pl_slot.specs.Arena.{IsArena, SetsHeader, header_of, header_page}
 use Rattle.pl_slot.specs.Header.{Header, ends_place, with_first, with_last}
 use Rattle.pl_slot.proofs.ArenaLaws.{PutWord, arena_kept, same_rows, then_only, word_put}
 use Rattle.pl_slot.proofs.HeaderLaws.{first_keeps, first_place, first_set, first_word, last_keeps, last_set, with_word}

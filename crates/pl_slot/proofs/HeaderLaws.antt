@@ -1,5 +1,5 @@
 -- What the header and slots hold after a field of the header was put.
-use Rattle.std.proofs.Common.{◌≡◌, ◌≢◌, ◌∙◌, ◌+◌, ◌-◌, ◌*◌, ◌^◌, ◌<◌, ◌≤◌, ◌∷◌, [], ℕ, List, ap, arith, cond, drop}
+use Rattle.std.proofs.Common.{◌≡◌, ◌≢◌, ◌∙◌, ◌+◌, ◌-◌, ◌*◌, ◌^◌, ◌<◌, ◌≤◌, ℕ, List, ap, arith, drop}
 use Rattle.std.proofs.Common.{ext_get_or, get_or, inl, inr, length, length-set, map, refl, set, slice_index, sym, take, w32}
 use Rattle.std.specs.Int.{from_le_bytes, to_le_bytes}
 use Rattle.std.specs.List.{range_with_len}

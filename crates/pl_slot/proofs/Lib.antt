@@ -6,8 +6,12 @@ pub mod ChainLaws
 pub mod CountLaws
 pub mod FieldLaws
 pub mod Fields
+mod FitsLaws
 pub mod Grown
 pub mod HeaderLaws
+pub mod LinkLaws
+pub mod LinkPlaces
+pub mod LinkRows
 pub mod RowLaws
 pub mod RowsRead
 pub mod Settled

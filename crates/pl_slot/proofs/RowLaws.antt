@@ -1,10 +1,10 @@
 -- What slots and the header hold after a row was put into a slot.
-use Rattle.std.proofs.Common.{◌≡◌, ◌≢◌, ◌∙◌, ◌==◌, ◌+◌, ◌-◌, ◌*◌, ◌<◌, ◌≤◌, ◌∷◌, [], ℕ, List, Bool, ap, arith, cond}
-use Rattle.std.proofs.Common.{eq-eqb, false, inl, inr, length, None, Option, Some, sym, true}
-use Rattle.std.proofs.lemmas.Bool.{cases_Bool, cases_eq, cases_lt, ne_eqb, true≢false}
+use Rattle.std.proofs.Common.{◌≡◌, ◌≢◌, ◌∙◌, ◌==◌, ◌+◌, ◌*◌, ◌<◌, ◌≤◌, ℕ, ap, arith, cond}
+use Rattle.std.proofs.Common.{eq-eqb, inl, inr, length, Some, sym, true}
+use Rattle.std.proofs.lemmas.Bool.{cases_Bool, cases_eq, cases_lt, ne_eqb}
 use Rattle.pl_base.specs.Live.{slot_size}
 use Rattle.pl_base.specs.Touched.{page_size}
-use Rattle.pl_sheets.specs.Sheets.{ArePages, Pages, bytes_at, image_of, overwritten, page_count, place_in, with_bytes}
+use Rattle.pl_sheets.specs.Sheets.{ArePages, Pages, bytes_at, overwritten, place_in, with_bytes}
 use Rattle.pl_slot.specs.declared.row.SlotRow.{SlotRow}
 use Rattle.pl_slot.specs.Arena.{header_of, header_page, is_slot, row_at, slot_byte, slot_page}
 use Rattle.pl_slot.specs.Header.{header_in}

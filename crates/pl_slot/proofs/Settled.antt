@@ -1,12 +1,10 @@
 -- What listing the changed pages leaves of an arena.
-use Rattle.std.proofs.Common.{◌≡◌, ◌∙◌, ◌⊎◌, ◌≤◌, ◌<◌, ◌*◌, ℕ, Bool, ap, arith, Err, false, inl, inr, length, Ok, OnErr, OnOk, refl, replicate}
-use Rattle.std.proofs.Common.{Result, subst, sym, true, get_or}
-use Rattle.std.proofs.lemmas.Bool.{cases_Bool, cases_lt}
+use Rattle.std.proofs.Common.{◌≡◌, ◌∙◌, ◌⊎◌, ◌≤◌, ◌<◌, ◌*◌, ℕ, ap, arith, Err, false, inl, inr, Ok, OnErr, OnOk, refl}
+use Rattle.std.proofs.Common.{Result, subst, sym}
+use Rattle.std.proofs.lemmas.Bool.{cases_Bool}
 use Rattle.std.proofs.lemmas.List.{get_or-replicate, length-replicate}
-use Rattle.pl_base.specs.Live.{slot_size}
-use Rattle.pl_sheets.specs.Sheets.{ArePages, Pages, bytes_at, page_count, place_in, settled}
-use Rattle.pl_slot.specs.Arena.{IsArena, KeepsRows, header_of, is_slot, live_count, row_at, slot_byte, slot_page}
-use Rattle.pl_slot.specs.SlotReading.{row_of}
+use Rattle.pl_sheets.specs.Sheets.{ArePages, Pages, page_count, settled}
+use Rattle.pl_slot.specs.Arena.{IsArena, KeepsRows, header_of, is_slot, live_count}
 use Rattle.pl_slot.proofs.ArenaLaws.{arena_kept, same_rows}
 use Rattle.pl_slot.proofs.SlotPlaces.{held, no_slot, same_slots}
 

@@ -1,19 +1,18 @@
 -- Where slots lie, and what bytes that are put into a page leave of the others.
-use Rattle.std.proofs.Common.{◌≡◌, ◌≢◌, ◌∙◌, ◌==◌, ◌+◌, ◌-◌, ◌*◌, ◌/◌, ◌%◌, ◌^◌, ◌<◌, ◌≤◌, ◌++◌, ◌∷◌, [], ℕ, List, Bool}
-use Rattle.std.proofs.Common.{◌&&◌, ◌||◌, ap, arith, cond, eqb-true, false, get_or, inl, inr, leb-true, length, nat_le, None, Option}
-use Rattle.std.proofs.Common.{refl, set, Some, sym, true, is_some}
+use Rattle.std.proofs.Common.{◌≡◌, ◌≢◌, ◌∙◌, ◌+◌, ◌-◌, ◌*◌, ◌<◌, ◌≤◌, ◌∷◌, [], ℕ, List, Bool}
+use Rattle.std.proofs.Common.{◌&&◌, ◌||◌, ap, arith, cond, false, get_or, inl, inr, leb-true, length, nat_le, None}
+use Rattle.std.proofs.Common.{refl, set, sym, true}
 use Rattle.std.proofs.lemmas.Bool.{and_from, and_parts, cases_eq, cases_lt, le-leb, true≢false}
 use Rattle.std.proofs.Common.{eq-eqb}
 use Rattle.std.proofs.lemmas.List.{get_or-set_other, get_or-set_same}
 use Rattle.std.proofs.Math.ListN.{length-set}
-use Rattle.pl_base.specs.Live.{slot_limit, slot_size}
+use Rattle.pl_base.specs.Live.{slot_size}
 use Rattle.pl_base.specs.Touched.{page_size}
-use Rattle.pl_sheets.specs.Sheets.{ArePages, Pages, bytes_at, has_changed, image_of, overwritten, page_count, place_in}
+use Rattle.pl_sheets.specs.Sheets.{ArePages, Pages, bytes_at, page_count, place_in}
 use Rattle.pl_sheets.specs.Sheets.{stand_at, with_bytes}
-use Rattle.pl_slot.specs.declared.row.SlotRow.{SlotRow}
 use Rattle.pl_slot.specs.Arena.{ChangesOnly, is_among, is_slot, row_at, slot_byte, slot_count, slot_page}
 use Rattle.pl_slot.specs.SlotReading.{row_of}
-use Rattle.pl_slot.proofs.BytesAt.{around_place, at_place, before_place, behind_place, length-overwritten}
+use Rattle.pl_slot.proofs.BytesAt.{before_place, behind_place, length-overwritten}
 
 -- what a slot holds is read from its bytes
 pub held : (n : ℕ) (pages : Pages) → is_slot n pages ≡ true

@@ -1,11 +1,11 @@
 -- A slot is free, and then it is taken.
-use Rattle.std.proofs.Common.{◌≡◌, ◌≢◌, ◌∙◌, ◌==◌, ◌+◌, ◌≤◌, ◌∷◌, [], ℕ, ap, cond, false, is_some, not, refl, rules, Some, subst, sym, true}
+use Rattle.std.proofs.Common.{◌≡◌, ◌≢◌, ◌∙◌, ◌==◌, ◌+◌, ◌∷◌, [], ap, cond, is_some, not, refl, rules, Some, subst, sym}
 use Rattle.std.proofs.lemmas.Bool.{and_parts, not-true}
 use Rattle.pl_base.specs.declared.id.Slot.{Slot}
 use Rattle.pl_sheets.specs.Sheets.{Pages}
 use Rattle.pl_slot.specs.declared.row.SlotRow.{SlotRow}
 use Rattle.pl_slot.specs.Arena.{ChangesOnly, IsArena, IsLiveRow, IsSet, IsTaken, KeepsFields, header_of, header_page, is_live}
-use Rattle.pl_slot.specs.Arena.{live_at, live_count, row_at, slot_page}
+use Rattle.pl_slot.specs.Arena.{live_count, row_at, slot_page}
 use Rattle.pl_slot.specs.Header.{Header}
 use Rattle.pl_slot.specs.Taking.{MakesFree}
 use Rattle.pl_slot.proofs.ArenaLaws.{row_elsewhere, sets_live, then_only}

@@ -1,6 +1,6 @@
 -- What taking a slot and giving one back make of an arena.
-use Rattle.std.proofs.Common.{◌≡◌, ◌≢◌, ◌∙◌, ◌+◌, ◌*◌, ◌^◌, ◌<◌, ◌≤◌, ◌∷◌, ◌&&◌, [], ℕ, List, ap, arith, false, None, Some, subst, sym}
-use Rattle.std.proofs.Common.{true, w32, is_some, not, refl, Option}
+use Rattle.std.proofs.Common.{◌≡◌, ◌≢◌, ◌∙◌, ◌+◌, ◌*◌, ◌^◌, ◌<◌, ◌≤◌, ◌∷◌, ◌&&◌, [], ℕ, List, ap, arith, Some, subst, sym}
+use Rattle.std.proofs.Common.{true, w32, is_some, not}
 use Rattle.std.specs.Int.{to_le_bytes}
 use Rattle.std.specs.Option.{option_and_then}
 use Rattle.pl_base.specs.declared.id.Slot.{Slot}
@@ -8,13 +8,12 @@ use Rattle.pl_sheets.specs.Sheets.{Pages, page_count, with_bytes}
 use Rattle.pl_slot.specs.declared.row.SlotRow.{SlotRow}
 use Rattle.pl_slot.specs.declared.row.SlotRow.TheVariants.{Free}
 use Rattle.pl_slot.specs.Arena.{AreLinked, ChangesOnly, IsArena, IsLiveRow, IsSet, KeepsFields, first_in, header_of}
-use Rattle.pl_slot.specs.Arena.{header_page, is_free, is_live, is_slot, live_count, live_row, row_at, slot_page}
+use Rattle.pl_slot.specs.Arena.{header_page, is_free, is_live, live_count, live_row, row_at, slot_page}
 use Rattle.pl_slot.specs.Header.{Header}
 use Rattle.pl_slot.proofs.ArenaLaws.{PutRow, PutWord, arena_freed, arena_taken, beside_header, free_slot, live_here}
 use Rattle.pl_slot.proofs.ArenaLaws.{live_slot, live_there, one_less, one_more, row_put, then_only, word_put}
 use Rattle.pl_slot.proofs.HeaderLaws.{first_free_set, keeps_fields}
 use Rattle.pl_slot.proofs.RowLaws.{with_row}
-use Rattle.pl_slot.proofs.SlotPlaces.{same_slots}
 
 -- ---- a slot is given back
 

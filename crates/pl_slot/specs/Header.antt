@@ -1,11 +1,10 @@
 -- The header of a store's file: page 1, of which each field has its place.
-use Rattle.std.specs.Prelude.{ℕ, ◌+◌, List, [], ◌∷◌, drop, take}
+use Rattle.std.specs.Prelude.{ℕ, ◌+◌, List, drop, take}
 use Rattle.pl_base.specs.declared.date.Day.{Day}
 use Rattle.pl_base.specs.declared.id.Ids.{Ids}
 use Rattle.pl_base.specs.declared.id.Slot.{Slot}
 use Rattle.pl_slot.specs.declared.kind.LiveKind.{LiveKind}
 use Rattle.pl_slot.specs.declared.kind.LiveKind.TheVariants.{Origin, Place, Visit, Item}
-use Rattle.pl_slot.specs.Slot.{Field, four_at}
 use Rattle.pl_slot.specs.SlotReading.{four_in, slot_in}
 
 -- the first and the last slot of a chain, 0 where it has none

@@ -1,6 +1,7 @@
 pub mod Arena
 pub mod Checking
 pub mod Header
+pub mod Links
 pub mod Slot
 pub mod SlotKind
 pub mod SlotReading

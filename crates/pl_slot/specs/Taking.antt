@@ -1,6 +1,6 @@
 -- How a page of free slots is added.
 use Rattle.std.specs.Prelude.{◌≡◌, ◌≢◌, ℕ, ◌+◌, ◌-◌, ◌*◌, ◌≤◌, ◌&&◌, true, [], ◌∷◌, nat_le, nat_lt}
-use Rattle.std.specs.Prelude.{Option, Some, None, if◌then◌else◌}
+use Rattle.std.specs.Prelude.{Some, if◌then◌else◌}
 use Rattle.pl_base.specs.Live.{slot_limit}
 use Rattle.pl_sheets.specs.Sheets.{ArePages, Pages, page_count}
 use Rattle.pl_slot.specs.declared.row.SlotRow.TheVariants.{Free}

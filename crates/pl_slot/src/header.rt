@@ -117,12 +117,14 @@ impl Arena {
 
     pub fn set_first_of(&mut self, kind: LiveKind, slot: Slot)
         ensures set { arena.SetsHeader (header.with_first kind slot) self.old self.new }
+        ensures as_many { page_count self.new ≡ page_count self.old }
     {
         put_four(&mut self.sheets, ends_at(kind), slot.0);
     }
 
     pub fn set_last_of(&mut self, kind: LiveKind, slot: Slot)
         ensures set { arena.SetsHeader (header.with_last kind slot) self.old self.new }
+        ensures as_many { page_count self.new ≡ page_count self.old }
     {
         put_four(&mut self.sheets, ends_at(kind) + 4, slot.0);
     }

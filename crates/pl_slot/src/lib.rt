@@ -6,6 +6,7 @@ mod bytes;
 mod checking;
 mod header;
 mod kind;
+mod links;
 mod reading;
 mod row;
 mod slots;
@@ -14,6 +15,7 @@ mod writing;
 
 pub use arena::Arena;
 pub use kind::{LiveKind, SlotKind};
+pub use links::{Link, Rail};
 pub use reading::decode;
 pub use row::{PAYLOAD_SIZE, SLOT_SIZE, SlotRow};
 pub use writing::encode;

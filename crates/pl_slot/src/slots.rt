@@ -20,15 +20,15 @@ pub const HEADER_PAGE: u32 = 1;
 pub const SLOTS_A_PAGE: u32 = (PAGE_SIZE / SLOT_SIZE) as u32;
 
 /// The page of a slot.
-fn page_of(slot: Slot) -> u32
+pub fn page_of(slot: Slot) -> u32
     requires { 1 ≤ slot.0 }
     ensures { result ≡ arena.slot_page slot.0 }
 {
     HEADER_PAGE + 1 + (slot.0 - 1) / SLOTS_A_PAGE
 }
 
-// The byte of its page at which a slot begins.
-fn byte_of(slot: Slot) -> usize
+/// The byte of its page at which a slot begins.
+pub fn byte_of(slot: Slot) -> usize
     requires { 1 ≤ slot.0 }
     ensures { result ≡ arena.slot_byte slot.0 }
 {

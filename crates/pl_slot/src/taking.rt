@@ -1,7 +1,6 @@
 // Free slots, which are taken and given back.
 ghost use Rattle.std.specs.Prelude.{◌≡◌, ◌≢◌, ◌+◌, ◌<◌, ◌∷◌, [], true, OnErr, OnOk};
 ghost use Rattle.pl_base.specs.Live.{slot_limit};
-ghost use Rattle.pl_sheets.specs.Sheets.{page_count, with_blank};
 ghost use Rattle.pl_slot.specs.declared.row.SlotRow.TheVariants.{Free};
 ghost use Rattle.pl_slot.specs.Arena as arena;
 ghost use Rattle.pl_slot.specs.Taking as taking;

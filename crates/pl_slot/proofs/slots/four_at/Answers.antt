@@ -1,4 +1,4 @@
-use Rattle.std.proofs.Common.{◌≡◌, ◌∙◌, ◌+◌, ◌-◌, List, ap, arith, drop, length, sym, take, w32, ℕ}
+use Rattle.std.proofs.Common.{◌≡◌, ◌∙◌, ◌+◌, ◌-◌, List, ap, arith, drop, sym, take, w32, ℕ}
 use Rattle.std.specs.Int.{from_le_bytes}
 use Rattle.pl_base.specs.Touched.{page_size}
 use Rattle.pl_slot.proofs.BytesAt.{part_of_part}

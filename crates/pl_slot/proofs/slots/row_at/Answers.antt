@@ -1,4 +1,4 @@
-use Rattle.std.proofs.Common.{◌≡◌, ◌∙◌, ap, cond, sym}
+use Rattle.std.proofs.Common.{◌∙◌, ap, sym}
 use Rattle.pl_base.specs.Live.{slot_size}
 use Rattle.pl_sheets.specs.Sheets.{bytes_at, place_in}
 use Rattle.pl_slot.specs.Arena.{slot_page}

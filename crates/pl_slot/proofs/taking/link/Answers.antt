@@ -1,4 +1,4 @@
-use Rattle.std.proofs.Common.{◌≡◌, ◌+◌, ◌-◌, ◌*◌, arith}
+use Rattle.std.proofs.Common.{arith}
 use Rattle.pl_slot.proofs.Grown.{link_on}
 use Rattle.pl_slot.proofs.taking.link.Goals as goal
 

@@ -1,4 +1,4 @@
-use Rattle.std.proofs.Common.{◌≡◌, ◌∙◌, ap, arith, sym}
+use Rattle.std.proofs.Common.{◌≡◌, ap, arith}
 use Rattle.pl_base.specs.declared.id.Slot.{Slot}
 use Rattle.pl_slot.specs.Arena.{header_of}
 use Rattle.pl_slot.proofs.HeaderLaws.{first_free_told}

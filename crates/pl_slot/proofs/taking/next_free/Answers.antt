@@ -1,4 +1,3 @@
-use Rattle.std.proofs.Common.{◌&&◌, is_some, not}
 use Rattle.pl_slot.proofs.ArenaLaws.{free_slot}
 use Rattle.pl_slot.proofs.taking.next_free.Goals as goal
 

@@ -1,6 +1,6 @@
 use Rattle.std.proofs.Common.{◌≡◌, ap, arith, sym, true, ◌∙◌}
 use Rattle.pl_base.specs.declared.id.Slot.{Slot}
-use Rattle.pl_slot.specs.Arena.{header_of, is_free}
+use Rattle.pl_slot.specs.Arena.{is_free}
 use Rattle.pl_slot.proofs.ArenaLaws.{free_slot}
 use Rattle.pl_slot.proofs.HeaderLaws.{first_free_told}
 use Rattle.pl_slot.proofs.SlotPlaces.{count_put}

@@ -13,5 +13,8 @@ set_there c =
 pub invariant_of-self : goal.invariant_of-self
 invariant_of-self c = (set_there c).arena
 
-pub returns : goal.returns
-returns c = record { set = rw (sym c.self.view_is) ((set_there c).set) }
+pub returns-clause-set : goal.returns-clause-set
+returns-clause-set c = rw (sym c.self.view_is) ((set_there c).set)
+
+pub returns-clause-as_many : goal.returns-clause-as_many
+returns-clause-as_many c = rw (sym c.self.view_is) ((set_there c).as_many)

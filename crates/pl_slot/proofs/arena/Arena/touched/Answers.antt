@@ -1,5 +1,4 @@
-use Rattle.std.proofs.Common.{◌≡◌, sym}
-use Rattle.pl_sheets.specs.Sheets.{settled}
+use Rattle.std.proofs.Common.{sym}
 use Rattle.pl_slot.proofs.Settled.{either, Settles, settles}
 use Rattle.pl_slot.proofs.arena.Arena.touched.Goals as goal
 use Rattle.pl_slot.proofs.arena.Arena.touched.Goals.{After-touched}

@@ -1,6 +1,5 @@
-use Rattle.std.proofs.Common.{◌≡◌, ◌∙◌, ap, is_some, sym, true}
-use Rattle.pl_sheets.specs.Sheets.{Pages}
-use Rattle.pl_slot.specs.Arena.{is_live, is_slot, live_row}
+use Rattle.std.proofs.Common.{◌≡◌, ◌∙◌, ap, sym, true}
+use Rattle.pl_slot.specs.Arena.{is_live}
 use Rattle.pl_slot.proofs.ArenaLaws.{arena_written, live_slot, PutRow, row_put, same_written}
 use Rattle.pl_slot.proofs.arena.Arena.write.Goals as goal
 use Rattle.pl_slot.proofs.arena.Arena.write.Goals.{After-put_row}
