@@ -1,5 +1,5 @@
 -- Chains of free slots.
-use Rattle.std.proofs.Common.{◌≡◌, ◌≢◌, ◌∙◌, ◌==◌, ◌<◌, ◌∷◌, ◌||◌, [], ℕ, List, ap, arith, false}
+use Rattle.std.proofs.Common.{◌≡◌, ◌∙◌, ◌==◌, ◌<◌, ◌∷◌, ◌||◌, [], ℕ, List, ap, arith, false}
 use Rattle.std.proofs.Common.{eq-eqb, eqb-true, inl, inr, length, None, Option, refl, Some, suc, sym, true}
 use Rattle.std.proofs.lemmas.Bool.{cases_Bool, or_cases, true≢false}
 use Rattle.pl_base.specs.declared.id.Slot.{Slot}

@@ -8,6 +8,7 @@ pub mod FieldLaws
 pub mod Fields
 mod FitsLaws
 pub mod Grown
+pub mod GrownArena
 pub mod HeaderLaws
 pub mod LinkLaws
 pub mod LinkPlaces

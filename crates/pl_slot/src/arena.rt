@@ -100,6 +100,7 @@ impl Arena {
         ensures header { arena.KeepsFields self.old self.new }
         ensures pages { IfOk result (λ slot.
             arena.ChangesOnly (arena.header_page ∷ arena.slot_page slot.0 ∷ []) self.old self.new) }
+        ensures longer { page_count self.old ≤ page_count self.new }
         ensures err { OnErr result (self.new ≡ self.old) }
     {
         make_free(&mut self.sheets)?;
@@ -116,6 +117,7 @@ impl Arena {
         ensures count { arena.live_count self.new + 1 ≡ arena.live_count self.old }
         ensures pages { arena.ChangesOnly (arena.header_page ∷ arena.slot_page slot.0 ∷ [])
             self.old self.new }
+        ensures as_many { page_count self.new ≡ page_count self.old }
     {
         give_back(&mut self.sheets, slot);
     }

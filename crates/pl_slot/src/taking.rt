@@ -1,6 +1,7 @@
 // Free slots, which are taken and given back.
 ghost use Rattle.std.specs.Prelude.{◌≡◌, ◌≢◌, ◌+◌, ◌<◌, ◌∷◌, [], true, OnErr, OnOk};
 ghost use Rattle.pl_base.specs.Live.{slot_limit};
+ghost use Rattle.pl_sheets.specs.Sheets.{page_count, with_blank};
 ghost use Rattle.pl_slot.specs.declared.row.SlotRow.TheVariants.{Free};
 ghost use Rattle.pl_slot.specs.Arena as arena;
 ghost use Rattle.pl_slot.specs.Taking as taking;
@@ -67,6 +68,7 @@ pub fn take_free(sheets: &mut Sheets, row: &SlotRow) -> Slot
     ensures count { arena.live_count sheets.new ≡ arena.live_count sheets.old + 1 }
     ensures pages { arena.ChangesOnly (arena.header_page ∷ arena.slot_page result.0 ∷ [])
         sheets.old sheets.new }
+    ensures as_many { page_count sheets.new ≡ page_count sheets.old }
 {
     let slot = Slot(four_at(sheets, FIRST_FREE));
     let next = next_free(sheets, slot);
@@ -98,6 +100,7 @@ pub fn give_back(sheets: &mut Sheets, slot: Slot)
     ensures count { arena.live_count sheets.new + 1 ≡ arena.live_count sheets.old }
     ensures pages { arena.ChangesOnly (arena.header_page ∷ arena.slot_page slot.0 ∷ [])
         sheets.old sheets.new }
+    ensures as_many { page_count sheets.new ≡ page_count sheets.old }
 {
     let next = Slot(four_at(sheets, FIRST_FREE));
     put_row(sheets, slot, &SlotRow::Free { next });

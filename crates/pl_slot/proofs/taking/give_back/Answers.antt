@@ -32,3 +32,6 @@ returns-clause-count c = (given c).count
 
 pub returns-clause-pages : goal.returns-clause-pages
 returns-clause-pages c = (given c).pages
+
+pub returns-clause-as_many : goal.returns-clause-as_many
+returns-clause-as_many c = rw (c.put_four.ensures, count_put, c.put_row.ensures, count_put)

@@ -2,7 +2,8 @@ use Rattle.std.proofs.Common.{◌≡◌, ◌∙◌, ◌+◌, ◌-◌, ◌*◌, �
 use Rattle.pl_base.specs.Live.{slot_limit}
 use Rattle.pl_sheets.specs.Sheets.{page_count}
 use Rattle.pl_slot.specs.Arena.{slot_count}
-use Rattle.pl_slot.proofs.Grown.{GrownPages, blank_count, grown_arena, grown_few, grown_makes, grown_pages}
+use Rattle.pl_slot.proofs.Grown.{GrownPages, blank_count, grown_pages}
+use Rattle.pl_slot.proofs.GrownArena.{grown_arena, grown_few, grown_makes}
 use Rattle.pl_slot.proofs.SlotPlaces.{count_put}
 use Rattle.pl_slot.proofs.taking.grow.Goals as goal
 use Rattle.pl_slot.proofs.taking.grow.Goals.{After-put_four-2}
