@@ -1,10 +1,10 @@
 -- Facts of lists.
-use Rattle.std.proofs.Common.{Some, append_assoc, find}
+use Rattle.std.proofs.Common.{Some, ◌==◌, append_assoc, eqb-true, find, replicate, suc, zero}
 use Rattle.std.proofs.Common.{◌≡◌, ◌+◌, ◌<◌, ◌≤◌, ◌++◌, ◌&&◌, ◌||◌, ◌∙◌, ℕ, All, Bool, true, false, List}
 use Rattle.std.proofs.Common.{[], ◌∷◌, ap, arith, count_by, filter, if◌then◌else◌, length, map, refl, subst}
 use Rattle.std.specs.List.{AllByRecursion, AllPairs, list_all, list_any, sum_by}
 use Rattle.std.specs.Option.{IsSome, option_map}
-use Rattle.std.proofs.lemmas.Bool.{or_left, or_right}
+use Rattle.std.proofs.lemmas.Bool.{and_parts, or_left, or_right}
 use Rattle.std.proofs.lemmas.List.{get_or-map, length-map}
 use Rattle.std.proofs.lemmas.List.Elements.{All-head, All-tail}
 use Rattle.std.proofs.lemmas.List.Folds.{fold-map, list_any-append}
@@ -201,3 +201,22 @@ regroup_four a b c d = simp append_assoc
 pub regroup_seven : {X : Type 0} (a b c d e f g : List X)
     → (((((a ++ b) ++ c) ++ d) ++ e) ++ f) ++ g ≡ a ++ (b ++ (c ++ (d ++ (e ++ (f ++ g)))))
 regroup_seven a b c d e f g = simp append_assoc
+
+-- ---- bytes that are 0
+
+zeros_cons : (b : ℕ) (bs : List ℕ) → (b == 0) ≡ true → bs ≡ replicate (length bs) 0
+    → b ∷ bs ≡ replicate (length (b ∷ bs)) 0
+zeros_cons b bs is_zero rest =
+    let first : b ≡ 0 = eqb-true b 0 is_zero in
+    cc
+
+-- bytes that all are 0 are so many zeros
+pub zeros_are : (bs : List ℕ) → list_all (λ b. b == 0) bs ≡ true → bs ≡ replicate (length bs) 0
+zeros_are [] all = refl
+zeros_are (b ∷ bs) all =
+    let parts = and_parts (b == 0) (list_all (λ b. b == 0) bs) all in
+    zeros_cons b bs parts.0 (zeros_are bs parts.1)
+
+pub all_zeros : (n : ℕ) → list_all (λ b. b == 0) (replicate n 0) ≡ true
+all_zeros zero = refl
+all_zeros (suc n) = all_zeros n

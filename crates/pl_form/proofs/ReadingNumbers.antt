@@ -1,14 +1,15 @@
 -- Numbers, marks and constant bytes at the beginning of bytes.
-use Rattle.std.proofs.Common.{◌≡◌, ◌≢◌, ◌∙◌, ℕ, ◌<◌, ◌^◌, List, [], ◌∷◌, ◌++◌, true, false, Ok, Err}
-use Rattle.std.proofs.Common.{w32, w64, length, take, drop, replicate, zero, suc, ◌==◌, sym, ap, refl}
+use Rattle.std.proofs.Common.{◌≡◌, ◌≢◌, ◌∙◌, ℕ, ◌<◌, ◌^◌, List, ◌++◌, true, false, Ok, Err}
+use Rattle.std.proofs.Common.{w32, w64, length, take, drop, replicate, ◌==◌, sym, ap, refl}
 use Rattle.std.specs.List.{list_all}
-use Rattle.std.proofs.lemmas.Bool.{and_parts, true≢false, eqb-true}
+use Rattle.std.proofs.lemmas.Bool.{true≢false}
 use Rattle.std.proofs.lemmas.List.{length-replicate}
 use Rattle.std.specs.Int.{from_le_bytes}
 use Rattle.std.proofs.Math.Seq.{take-append_seam, drop-append_seam}
 use Rattle.std.proofs.lemmas.List.{take-append-drop}
 use Rattle.std.proofs.lemmas.Nat.{from_le_bytes-to_le_bytes_4, from_le_bytes-to_le_bytes_8}
 use Rattle.pl_base.specs.declared.check_error.CheckError.{CheckError}
+use Rattle.pl_base.proofs.ListLaws.{all_zeros, zeros_are}
 use Rattle.pl_form.specs.Form.{four, eight}
 use Rattle.pl_form.specs.Reading.{IsAny, Reads}
 use Rattle.pl_stored.specs.Fits.{IsFour, IsEight}
@@ -80,23 +81,6 @@ not_constant bytes part left form e len differs begins =
     }
 
 -- ---- bytes that are 0
-
-zeros_cons : (b : ℕ) (bs : List ℕ) → (b == 0) ≡ true → bs ≡ replicate (length bs) 0
-    → b ∷ bs ≡ replicate (length (b ∷ bs)) 0
-zeros_cons b bs is_zero rest =
-    let first : b ≡ 0 = eqb-true b 0 is_zero in
-    cc
-
--- bytes that all are 0 are so many zeros
-pub zeros_are : (bs : List ℕ) → list_all (λ b. b == 0) bs ≡ true → bs ≡ replicate (length bs) 0
-zeros_are [] all = refl
-zeros_are (b ∷ bs) all =
-    let parts = and_parts (b == 0) (list_all (λ b. b == 0) bs) all in
-    zeros_cons b bs parts.0 (zeros_are bs parts.1)
-
-pub all_zeros : (n : ℕ) → list_all (λ b. b == 0) (replicate n 0) ≡ true
-all_zeros zero = refl
-all_zeros (suc n) = all_zeros n
 
 pub reads_zeros : (bytes part left : List ℕ) (n : ℕ) → length part ≡ n → list_all (λ b. b == 0) part ≡ true
     → bytes ≡ part ++ left → Reads {A = Unit {0}} (λ _. replicate n 0) IsAny bytes (Ok tt) left

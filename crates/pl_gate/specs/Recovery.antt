@@ -1,5 +1,6 @@
 -- What a recovery reads, and what it leaves.
-use Rattle.std.specs.Prelude.{◌≡◌, ◌≤◌, ℕ, ◌+◌, ◌*◌, false, true, List, Result, Err, Some, IfSome, OnOk}
+use Rattle.std.specs.Prelude.{◌≡◌, ◌≤◌, ℕ, ◌+◌, ◌*◌, false, true, List, Result, Err}
+use Rattle.std.specs.Prelude.{Some, IfSome, OnOk}
 use Rattle.std.specs.Prelude.{if◌then◌else◌}
 use Rattle.pl_base.specs.Touched.{page_size}
 use Rattle.pl_desk.specs.Shown.{Rests}

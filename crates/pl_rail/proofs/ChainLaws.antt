@@ -1,5 +1,5 @@
 -- What a member that comes or goes leaves of the lists of owners.
-use Rattle.std.proofs.Common.{◌≡◌, ◌≢◌, ◌∙◌, ◌==◌, ◌+◌, ◌||◌, ◌∷◌, [], ◌++◌, ℕ, List, Bool, ap, append_assoc}
+use Rattle.std.proofs.Common.{◌≡◌, ◌≢◌, ◌∙◌, ◌==◌, ◌||◌, ◌∷◌, [], ◌++◌, ℕ, List, Bool, ap, append_assoc}
 use Rattle.std.proofs.Common.{false, Option, refl, Some, subst, sym, true}
 use Rattle.std.proofs.lemmas.Bool.{or_parts}
 use Rattle.pl_base.specs.declared.id.Slot.{Slot}

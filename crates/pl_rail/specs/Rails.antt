@@ -53,8 +53,8 @@ abbrev pub with_end : Side → LiveKind → Slot → Header → Header
 with_end Behind kind slot header = with_first kind slot header
 with_end Before kind slot header = with_last kind slot header
 
--- the slot that one names at a side. The owner stands there as 0: behind it is the first member, and
--- it is behind the last
+-- the slot that one names at a side. The owner stands there as 0: behind it is the first member,
+-- and it is behind the last
 abbrev pub neighbour : Side → Rail → Owner → Pages → Slot → Option Slot
 neighbour side rail owner pages slot =
     if slot.0 == 0 then end_at side rail owner pages else link_at rail (side_link side) slot.0 pages
@@ -130,11 +130,12 @@ or_none None = none
 or_none (Some slot) = slot
 
 -- a list of the owner has an end of its front here
-pub record HasPlace (rail : Rail) (owner : Owner) (after : Option Slot) (pages : Pages) : Type 0 where
-  pub front : List Slot
-  pub back : List Slot
-  pub lists : Lists rail owner (front ++ back) pages
-  pub last : last_of front ≡ after
+pub record HasPlace (rail : Rail) (owner : Owner) (after : Option Slot) (pages : Pages) : Type 0
+  where
+    pub front : List Slot
+    pub back : List Slot
+    pub lists : Lists rail owner (front ++ back) pages
+    pub last : last_of front ≡ after
 
 -- a list of the owner has this member
 pub record HasMember (rail : Rail) (owner : Owner) (slot : Slot) (pages : Pages) : Type 0 where
@@ -160,7 +161,8 @@ KeepsHeader (owners.At slot) old new = header_of new ≡ header_of old
 pub record KeepsRest (rail : Rail) (owner : Owner) (old new : Pages) : Type 0 where
   pub kinds : (n : ℕ) → kind_at n new ≡ kind_at n old
   pub fields : (n : ℕ) → others_at rail n new ≡ others_at rail n old
-  pub links : (r : Rail) (l : Link) (n : ℕ) → is_rail r rail ≡ false → link_at r l n new ≡ link_at r l n old
+  pub links : (r : Rail) (l : Link) (n : ℕ) → is_rail r rail ≡ false
+      → link_at r l n new ≡ link_at r l n old
   pub ends : (r : Rail) (side : Side) (o : Owner) → is_rail r rail ≡ false
       → end_at side r o new ≡ end_at side r o old
   pub header : KeepsHeader owner old new
@@ -170,7 +172,8 @@ pub record KeepsRest (rail : Rail) (owner : Owner) (old new : Pages) : Type 0 wh
 -- every chain of the other rails is as it was
 abbrev pub KeepsRails : Rail → Pages → Pages → Type 0
 KeepsRails rail old new =
-    (r : Rail) (o : Owner) (slots : List Slot) → r ≢ rail → Lists r o slots old → Lists r o slots new
+    (r : Rail) (o : Owner) (slots : List Slot) → r ≢ rail → Lists r o slots old
+    → Lists r o slots new
 
 -- so is every chain of other owners that has no slot of this one
 abbrev pub KeepsOwners : Rail → Owner → List Slot → Pages → Pages → Type 0
@@ -189,9 +192,11 @@ ChangesAround owner front slot back old new =
 -- ---- steps of a change
 
 -- a slot names another at a side. All else is as it was
-pub record SetsSide (side : Side) (rail : Rail) (owner : Owner) (slot to : Slot) (old new : Pages) : Type 0 where
+pub record SetsSide (side : Side) (rail : Rail) (owner : Owner) (slot to : Slot) (old new : Pages)
+    : Type 0 where
   pub here : neighbour side rail owner new slot ≡ Some to
-  pub there : (n : Slot) → n ≢ slot → neighbour side rail owner new n ≡ neighbour side rail owner old n
+  pub there : (n : Slot) → n ≢ slot
+      → neighbour side rail owner new n ≡ neighbour side rail owner old n
   pub opposite : (other : Side) (n : Slot) → other ≢ side
       → neighbour other rail owner new n ≡ neighbour other rail owner old n
   pub elsewhere : (o : Owner) (other : Side) (n : Slot) → o ≢ owner → (n ≡ slot → n ≡ none)
@@ -203,8 +208,10 @@ pub record SetsSide (side : Side) (rail : Rail) (owner : Owner) (slot to : Slot)
 pub record Joins (rail : Rail) (owner : Owner) (slot next : Slot) (old new : Pages) : Type 0 where
   pub forth : neighbour Behind rail owner new slot ≡ Some next
   pub back : neighbour Before rail owner new next ≡ Some slot
-  pub behind : (n : Slot) → n ≢ slot → neighbour Behind rail owner new n ≡ neighbour Behind rail owner old n
-  pub before : (n : Slot) → n ≢ next → neighbour Before rail owner new n ≡ neighbour Before rail owner old n
+  pub behind : (n : Slot) → n ≢ slot
+      → neighbour Behind rail owner new n ≡ neighbour Behind rail owner old n
+  pub before : (n : Slot) → n ≢ next
+      → neighbour Before rail owner new n ≡ neighbour Before rail owner old n
   pub elsewhere : (o : Owner) (side : Side) (n : Slot) → o ≢ owner → (n ≡ slot → n ≡ none)
       → (n ≡ next → n ≡ none) → neighbour side rail o new n ≡ neighbour side rail o old n
   pub rest : KeepsRest rail owner old new

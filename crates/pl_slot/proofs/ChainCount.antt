@@ -35,7 +35,7 @@ equal_numbers =
       | inr apart ↦ ne_eqb x y apart ∙ sym (ne_eqb y x (λ same. apart (sym same)))
     ]
 
-none_equal : (n : ℕ) (ns : List ℕ) → is_among n ns ≡ false → AllByRecursion (λ m. eqb n m ≡ false) ns
+pub none_equal : (n : ℕ) (ns : List ℕ) → is_among n ns ≡ false → AllByRecursion (λ m. eqb n m ≡ false) ns
 none_equal n [] none = tt
 none_equal n (m ∷ ns) none =
     let parts = or_parts (n == m) (is_among n ns) none in

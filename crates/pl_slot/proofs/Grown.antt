@@ -1,35 +1,31 @@
 -- What a page more makes of an arena that has no free slot.
-use Rattle.std.proofs.Common.{◌≡◌, ◌≢◌, ◌∙◌, ◌==◌, ◌+◌, ◌-◌, ◌*◌, ◌^◌, ◌<◌, ◌≤◌, ◌&&◌, ◌||◌, ◌⊎◌, ◌++◌, ◌∷◌, [], ℕ, List, Bool, ap}
-use Rattle.std.proofs.Common.{arith, cond, drop, eq-eqb, false, inl, inr, IsSome, is_some, length, ltb, leb}
-use Rattle.std.proofs.Common.{None, not, Option, refl, replicate, Some, subst, suc, sym, take, true, w32, zero}
+use Rattle.std.proofs.Common.{◌≡◌, ◌≢◌, ◌∙◌, ◌==◌, ◌+◌, ◌-◌, ◌*◌, ◌^◌, ◌<◌, ◌≤◌, ◌&&◌, ◌||◌, ◌++◌, ◌∷◌, [], ℕ, List, Bool, ap}
+use Rattle.std.proofs.Common.{arith, cond, drop, eq-eqb, false, inl, inr, length, ltb, leb}
+use Rattle.std.proofs.Common.{Option, refl, replicate, Some, subst, sym, take, true, w32}
 use Rattle.std.specs.Int.{to_le_bytes}
-use Rattle.std.specs.List.{range_with_len}
-use Rattle.std.specs.Option.{option_and_then}
 use Rattle.std.proofs.Math.Seq.{drop-append-add}
-use Rattle.std.proofs.lemmas.Bool.{and_from, and_parts, cases_Bool, cases_eq, cases_lt, le-leb, le-ltb, leb-true, or_right, lt-ltb, ltb-true}
+use Rattle.std.proofs.lemmas.Bool.{and_from, and_parts, cases_Bool, cases_eq, cases_lt, le-leb, le-ltb, leb-true, lt-ltb, ltb-true}
 use Rattle.std.proofs.lemmas.Bool.{ne_eqb, true≢false}
 use Rattle.std.proofs.lemmas.List.{drop-append-le, drop-replicate, get_or_append_left, get_or_past}
 use Rattle.std.proofs.lemmas.List.{length-drop, length_push, take-append-le, take-replicate}
-use Rattle.pl_base.specs.declared.id.Slot.{Slot}
-use Rattle.pl_base.specs.Live.{slot_limit, slot_size}
+use Rattle.pl_base.specs.Live.{slot_size}
 use Rattle.pl_base.specs.Touched.{page_size}
 use Rattle.pl_sheets.specs.Sheets.{ArePages, Pages, bytes_at, page_count, place_in, with_blank}
 use Rattle.pl_sheets.specs.Sheets.{with_bytes}
 use Rattle.pl_slot.specs.declared.row.SlotRow.{SlotRow}
 use Rattle.pl_slot.specs.declared.row.SlotRow.TheVariants.{Free}
-use Rattle.pl_slot.specs.Arena.{AreLinked, ChangesOnly, IsArena, first_in, header_of, header_page, is_among}
-use Rattle.pl_slot.specs.Arena.{is_free, is_live, is_slot, live_at, live_count, live_row, row_at, slot_byte, slot_count}
+use Rattle.pl_slot.specs.Arena.{ChangesOnly, header_of, header_page, is_among}
+use Rattle.pl_slot.specs.Arena.{is_slot, row_at, slot_byte, slot_count}
 use Rattle.pl_slot.specs.Arena.{slot_page}
 use Rattle.pl_slot.specs.Header.{Header, header_in}
 use Rattle.pl_slot.specs.SlotReading.{row_of}
-use Rattle.pl_slot.specs.Taking.{IsGrown, IsLinked, MakesFree}
-use Rattle.pl_slot.proofs.ArenaLaws.{PutRow, PutWord, beside_header, free_slot, not_free, row_put, then_only}
+use Rattle.pl_slot.specs.Taking.{IsGrown, IsLinked}
+use Rattle.pl_slot.proofs.ArenaLaws.{PutRow, PutWord, beside_header, row_put, then_only}
 use Rattle.pl_slot.proofs.ArenaLaws.{word_put}
-use Rattle.pl_slot.proofs.CountLaws.{passed, passed_all, passed_past, passed_same}
-use Rattle.pl_slot.proofs.HeaderLaws.{first_free_set, keeps_fields, pages_set}
+use Rattle.pl_slot.proofs.HeaderLaws.{first_free_set, pages_set}
 use Rattle.pl_slot.proofs.RowLaws.{with_row}
 use Rattle.pl_slot.proofs.RowsRead.{row_spelled}
-use Rattle.pl_slot.proofs.SlotPlaces.{held, no_slot, place_is, place_within, slot_bounds, slot_within}
+use Rattle.pl_slot.proofs.SlotPlaces.{held, place_is, place_within, slot_bounds, slot_within}
 
 -- ---- a page of zeros more
 

@@ -1,5 +1,5 @@
 -- A link of a row that is set: the row that it makes, with its bytes.
-use Rattle.std.proofs.Common.{◌≡◌, ◌^◌, ◌<◌, ℕ, true, false, Some, is_some, refl, sym, w32}
+use Rattle.std.proofs.Common.{◌≡◌, ◌^◌, ◌<◌, ℕ, true, Some, is_some, refl, sym, w32}
 use Rattle.std.specs.Int.{to_le_bytes}
 use Rattle.std.proofs.lemmas.Bool.{true≢false}
 use Rattle.pl_base.specs.declared.id.Slot.{Slot}

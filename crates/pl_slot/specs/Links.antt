@@ -102,8 +102,8 @@ is_link Previous Previous = true
 is_link Next Next = true
 is_link link other = false
 
--- a link of a slot names another slot. Every other link of it, its other fields, and all other slots
--- are as they were
+-- a link of a slot names another slot. Every other link of it, its other fields, and all other
+-- slots are as they were
 pub record SetsLink (rail : Rail) (link : Link) (slot to : Slot) (old new : Pages) : Type 0 where
   pub links : (r : Rail) (l : Link) (n : ℕ) → link_at r l n new
       ≡ (if is_link l link && is_rail r rail && n == slot.0 then Some to else link_at r l n old)

@@ -1,6 +1,6 @@
 -- The row of a part of a text, made and read.
 use Rattle.std.proofs.Common.{◌≡◌, ◌∙◌, ◌==◌, ◌+◌, ◌-◌, ◌^◌, ◌<◌, ◌≤◌, ◌∷◌, ◌++◌, ◌&&◌, [], ℕ, List, ap, arith}
-use Rattle.std.proofs.Common.{drop, eqb-true, is_some, leb-true, length, length-append, length-drop, nat_le, refl, replicate}
+use Rattle.std.proofs.Common.{drop, is_some, leb-true, length, length-append, length-drop, nat_le, refl, replicate}
 use Rattle.std.proofs.Common.{Some, suc, sym, take, true, zero}
 use Rattle.std.proofs.lemmas.Bool.{and_from, and_parts, le-leb}
 use Rattle.std.proofs.lemmas.List.{length-replicate, length-take-le, take-append-drop}
@@ -8,6 +8,7 @@ use Rattle.std.proofs.Math.Seq.{drop-append_seam}
 use Rattle.std.specs.List.{list_all}
 use Rattle.std.specs.Option.{option_and_then}
 use Rattle.pl_base.specs.declared.id.Slot.{Slot}
+use Rattle.pl_base.proofs.ListLaws.{all_zeros, zeros_are}
 use Rattle.pl_sheets.specs.Sheets.{Pages}
 use Rattle.pl_slot.specs.declared.row.SlotRow.{SlotRow}
 use Rattle.pl_slot.specs.declared.row.SlotRow.TheVariants.{Free, Origin, Place, Visit, Item, Text}
@@ -18,10 +19,6 @@ use Rattle.pl_text.specs.Chunks.{chunk_row, HoldsPart, IsPart}
 
 -- ---- made
 
-zeros : (n : ℕ) → list_all (λ b. b == 0) (replicate n 0) ≡ true
-zeros zero = refl
-zeros (suc n) = zeros n
-
 pub row_fits : (part : List ℕ) (next : Slot) → 1 ≤ length part → length part ≤ payload_size → next.0 < 2 ^ 32
     → IsLiveRow (chunk_row part next)
 row_fits part next some few there =
@@ -29,7 +26,7 @@ row_fits part next some few there =
     let long : length (part ++ rest) ≡ payload_size =
     length-append part rest ∙ ap (λ n. length part + n) (length-replicate (payload_size - length part) 0) ∙ filled few in
     let behind : list_all (λ b. b == 0) (drop (length part) (part ++ rest)) ≡ true =
-    ap (λ (l : List ℕ). list_all (λ b. b == 0) l) (drop-append_seam part rest) ∙ zeros (payload_size - length part) in
+    ap (λ (l : List ℕ). list_all (λ b. b == 0) l) (drop-append_seam part rest) ∙ all_zeros (payload_size - length part) in
     let bounds =
     and_from (nat_le 1 (length part)) (nat_le (length part) payload_size) (le-leb 1 (length part) some)
     (le-leb (length part) payload_size few) in (
@@ -62,14 +59,6 @@ over_zeros (b ∷ part) (suc n) = over_zeros part n ∙ ap (λ (k : ℕ). replic
     less n k = omega arith
 
 -- ---- read
-
-zeros_are : (bytes : List ℕ) → list_all (λ b. b == 0) bytes ≡ true → bytes ≡ replicate (length bytes) 0
-zeros_are [] all = refl
-zeros_are (b ∷ bytes) all =
-    let parts = and_parts (b == 0) (list_all (λ k. k == 0) bytes) all in
-    let first : b ≡ 0 = eqb-true b 0 parts.0 in
-    let rest : bytes ≡ replicate (length bytes) 0 = zeros_are bytes parts.1 in
-    λ i. first i ∷ rest i
 
 whole_row : (used : ℕ) (next : Slot) (payload : List ℕ) → IsSlotRow (Text used next payload)
     → chunk_row (take used payload) next ≡ Text used next payload

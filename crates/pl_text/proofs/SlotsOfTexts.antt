@@ -1,34 +1,23 @@
 -- That no text has more slots than there are.
-use Rattle.std.proofs.Common.{◌≡◌, ◌==◌, ◌+◌, ◌<◌, ◌≤◌, ◌∷◌, ◌||◌, [], ℕ, List, Bool, arith, eqb}
-use Rattle.std.proofs.Common.{drop, eqb-true, false, inl, inr, length, refl, suc, true}
-use Rattle.std.proofs.lemmas.Bool.{cases_Bool, or_cases, true≢false}
+use Rattle.std.proofs.Common.{◌≡◌, ◌==◌, ◌+◌, ◌<◌, ◌≤◌, ◌∷◌, [], ℕ, List, arith, eqb}
+use Rattle.std.proofs.Common.{drop, eqb-true, false, inl, inr, length, suc, true}
+use Rattle.std.proofs.lemmas.Bool.{cases_Bool, or_cases}
 use Rattle.std.proofs.lemmas.Map.Steps.{length-le_from_distinct_below}
-use Rattle.std.specs.List.{AllByRecursion, IsDistinct}
+use Rattle.std.specs.List.{IsDistinct}
 use Rattle.pl_sheets.specs.Sheets.{Pages}
 use Rattle.pl_slot.specs.Arena.{is_among, slot_count}
 use Rattle.pl_slot.specs.Slot.{payload_size}
 use Rattle.pl_slot.proofs.SlotPlaces.{slot_bounds}
 use Rattle.pl_slot.proofs.ArenaLaws.{live_slot}
+use Rattle.pl_slot.proofs.ChainCount.{none_equal}
 use Rattle.pl_text.specs.Chunks.{Hold}
 use Rattle.pl_text.proofs.HeldTexts.{held_once, member_live}
-
-apart : (n : ℕ) (ns : List ℕ) → is_among n ns ≡ false → AllByRecursion (λ m. eqb n m ≡ false) ns
-apart n [] none = tt
-apart n (m ∷ ns) none = (here (n == m) (is_among n ns) none, apart n ns (rest (n == m) (is_among n ns) none))
-  where
-    here : (a b : Bool) → (a || b) ≡ false → a ≡ false
-    here true b none = absurd (true≢false none)
-    here false b none = refl
-
-    rest : (a b : Bool) → (a || b) ≡ false → b ≡ false
-    rest true b none = absurd (true≢false none)
-    rest false b none = none
 
 distinct : (ns t : List ℕ) (pages : Pages) → Hold ns t pages → IsDistinct eqb ns
 unfolding IsDistinct
 distinct [] t pages held = tt
 distinct (n ∷ ns) t pages held =
-    (apart n ns (held_once n ns t pages held), distinct ns (drop payload_size t) pages held.2)
+    (none_equal n ns (held_once n ns t pages held), distinct ns (drop payload_size t) pages held.2)
 
 -- the number of a member, from 1 to that of slots
 member_bounds : (n : ℕ) (ns t : List ℕ) (pages : Pages) → Hold ns t pages → is_among n ns ≡ true
@@ -48,7 +37,7 @@ unfolding IsDistinct
 held_few ns t pages held =
     let most : length (0 ∷ ns) ≤ slot_count pages + 1 =
     length-le_from_distinct_below (0 ∷ ns) (slot_count pages + 1)
-    (apart 0 ns (zero_apart ns t pages held), distinct ns t pages held)
+    (none_equal 0 ns (zero_apart ns t pages held), distinct ns t pages held)
     (λ n among. elim (or_cases (n == 0) (is_among n ns) among) [
       | inl zero ↦ below_zero n (slot_count pages) (eqb-true n 0 zero)
       | inr member ↦ below n (slot_count pages) (member_bounds n ns t pages held member).1

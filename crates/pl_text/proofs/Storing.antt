@@ -113,11 +113,6 @@ module _ (slot : Slot) (text : List ℕ) (old middle new : Pages) (stored : Stor
   pub given_up_count : live_count new ≡ live_count old
   given_up_count = omega (arith, freed.count, stored.count)
 
-pub fields_then : (old middle new : Pages) → KeepsFields old middle → KeepsFields middle new → KeepsFields old new
-fields_then old middle new first second =
-    second
-    ∙ ap (λ (h : Header). record h { pages = (header_of new).pages; first_free = (header_of new).first_free }) first
-
 pub fields_freed : (slots : List ℕ) (old new : Pages) → FreesSlots slots old new → KeepsFields old new
 fields_freed slots old new freed =
     let pages_are : (header_of new).pages ≡ (header_of old).pages = ap (λ (h : Header). h.pages) freed.header in

@@ -12,8 +12,8 @@ use std::sync::ledger::Ledger;
 const SLOTS_A_PAGE: u32 = (PAGE_SIZE / SLOT_SIZE) as u32;
 
 /// The slots of the text of so many bytes that begins in a slot, in order; for an empty one, which
-/// begins at slot 0, there are none. `None` comes exactly where there is no such text, at once where
-/// it would want more slots than there are. It counts a record for each slot that it reads.
+/// begins at slot 0, there are none. `None` comes exactly where there is no such text, at once
+/// where it would want more slots than there are. It counts a record for each slot that it reads.
 pub fn chunks<L: Ledger>(
     alloc: Global,
     arena: &Arena,
@@ -56,7 +56,7 @@ fn slot_count(arena: &Arena) -> u32
     SLOTS_A_PAGE * (arena.pages() - 2)
 }
 
-// The slot behind a part of a text of so many bytes, if the number is that of a slot that holds one.
+// The slot behind a part of a text of so many bytes, if the number is that of a slot with one.
 fn behind<L: Ledger>(arena: &Arena, slot: Slot, size: u32, steps: &mut Steps<L>) -> Option<Slot>
     ensures some { IfSome result (λ next. spec.HoldsSize slot.0 size next arena.now) }
     ensures none { result ≡ None

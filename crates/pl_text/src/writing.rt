@@ -37,8 +37,8 @@ pub fn store<L: Ledger>(
     }
 }
 
-// Stores the parts of a text, the last one first. An `Err` has the slot in which the last parts that
-// were stored begin.
+// Stores the parts of a text, the last one first. An `Err` has the slot in which the last parts
+// that were stored begin.
 fn put_parts(arena: &mut Arena, text: &[u8]) -> Result<Slot, Slot>
     requires few { slots.live_count arena.old + chunks text.now ≤ slot_limit }
     ensures ok { IfOk result (λ slot. spec.StoresText slot text.now arena.old arena.new) }

@@ -2,9 +2,10 @@ use Rattle.std.proofs.Common.{◌≡◌, ◌∙◌, ◌-◌, ◌*◌, ℕ, List,
 use Rattle.std.proofs.Common.{refl, subst, sym, take}
 use Rattle.pl_slot.specs.Arena.{IsTaken, KeepsFields}
 use Rattle.pl_slot.specs.Slot.{payload_size}
+use Rattle.pl_slot.proofs.TakenLaws.{keeps_both}
 use Rattle.pl_text.specs.Chunks.{chunk_row, StoresText}
 use Rattle.pl_text.proofs.FrontParts.{next_part, none_behind, some_there}
-use Rattle.pl_text.proofs.Storing.{fields_then, stored_count, stores_more, stores_none}
+use Rattle.pl_text.proofs.Storing.{stored_count, stores_more, stores_none}
 use Rattle.pl_text.proofs.writing.put_parts.Goals as goal
 
 pub row-requires-clause-room : goal.row-requires-clause-room
@@ -56,7 +57,7 @@ loop-place-preserved c =
           c.loop-place.auto.place c.loop-place-test.true)
           stored taken c.loop-place.invariant.longer c.in-Ok.ensures.pages;
       fields =
-          fields_then c.args.arena.now c.loop-place.arena c.take.new.self c.loop-place.invariant.fields
+          keeps_both c.args.arena.now c.loop-place.arena c.take.new.self c.loop-place.invariant.fields
           c.in-Ok.ensures.header;
       longer = omega (arith, c.loop-place.invariant.longer, c.in-Ok.ensures.longer);
     }

@@ -1,6 +1,7 @@
 use Rattle.std.proofs.Common.{arith}
+use Rattle.pl_slot.proofs.TakenLaws.{keeps_both}
 use Rattle.pl_text.specs.Chunks.{FreesSlots, StoresText}
-use Rattle.pl_text.proofs.Storing.{fields_freed, fields_then, given_up, given_up_count, stored_count}
+use Rattle.pl_text.proofs.Storing.{fields_freed, given_up, given_up_count, stored_count}
 use Rattle.pl_text.proofs.writing.store.Given.{Over}
 use Rattle.pl_text.proofs.writing.store.Goals as goal
 use Rattle.pl_text.proofs.writing.store.Goals.{After-free}
@@ -25,7 +26,7 @@ returns-in-Err-clause-count g c =
 
 pub returns-in-Err-clause-header : goal.returns-in-Err-clause-header
 returns-in-Err-clause-header g c =
-    fields_then c.args.arena.now c.put_parts.new.arena c.free.new.arena c.in-Err.ensures.header
+    keeps_both c.args.arena.now c.put_parts.new.arena c.free.new.arena c.in-Err.ensures.header
     (fields_freed (stored_part g c).slots c.put_parts.new.arena c.free.new.arena (freed g c))
 
 pub returns-in-Err-clause-few_read : goal.returns-in-Err-clause-few_read
