@@ -2,7 +2,6 @@
 ghost use Rattle.std.specs.Prelude.{◌≡◌, ◌<◌};
 
 use crate::items::{check_same_file, insert, move_item, remove, set, set_modified};
-use crate::tree_file::{BOOKMARK, FOLDER, Item, file};
 use pl_base::{ItemId, ItemKind, ItemRow, Micros, NoMemory, PageId, Rows, Steps};
 use pl_plain::Flat;
 use std::alloc::Global;
@@ -10,6 +9,7 @@ use std::marker::Brand;
 use std::process::Abort;
 use std::sync::ledger::{Blank, Ledger};
 use std::test::Fail;
+use trials_trees::{BOOKMARK, FOLDER, Item, file};
 
 // How many items there are beside the roots and folder 7.
 const COUNT: u32 = 10_000;

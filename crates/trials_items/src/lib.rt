@@ -9,7 +9,3 @@ mod items;
 mod large_trees;
 #[cfg(test)]
 mod tree;
-#[cfg(test)]
-mod tree_damages;
-#[cfg(test)]
-mod tree_file;

@@ -6,7 +6,6 @@ use crate::items::{
     check_children, check_references, check_same_file, insert, move_item, remove, set,
     set_modified, touched_bytes,
 };
-use crate::tree_file::{ITEMS, Item, NEXT, ROWS, file};
 use ItemKind::{Bookmark, Folder, Separator};
 use pl_base::{ItemId, ItemKind, ItemRow, Mark, Micros, PageId, Rows, Steps, Txt, VisitId};
 use pl_link::Canon;
@@ -30,6 +29,7 @@ enum Change<'a> {
 }
 
 use Change::{Insert, Move, Remove, Set, SetModified};
+use trials_trees::{ITEMS, Item, NEXT, ROWS, file};
 
 // The dates of each new item.
 const ADDED: Micros = Micros(5);

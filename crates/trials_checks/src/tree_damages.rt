@@ -1,11 +1,11 @@
 // Files with bookmarks and tags, and those that stand for no store.
 
-use crate::tree_file::{BOOKMARK, FOLDER, ITEMS, Item, LAST, NEXT, ROWS, SEPARATOR, file};
 use pl_base::{CheckError, NoMemory};
 use pl_plain::Flat;
 use std::alloc::Global;
 use std::process::Abort;
 use std::test::Fail;
+use trials_trees::{BOOKMARK, FOLDER, ITEMS, Item, LAST, NEXT, ROWS, SEPARATOR, file};
 
 // What is changed, and the items that stand at these places of the list in the place of its own.
 // One at the end of the list is added.
