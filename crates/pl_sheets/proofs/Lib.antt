@@ -1,5 +1,5 @@
 mod Bits
 mod Flags
 mod Levels
-mod Listing
+pub mod Listing
 mod PagesLaws

@@ -11,7 +11,7 @@ use Rattle.pl_sheets.specs.Sheets.{change_of, changed_below, has_changed, image_
 
 -- ---- the changed pages below a number
 
-below_more : (n : ℕ) (pages : Pages)
+pub below_more : (n : ℕ) (pages : Pages)
     → changed_below (n + 1) pages ≡ changed_below n pages ++ cond (has_changed n pages) (n ∷ []) []
 below_more n pages =
     let p : ℕ → Bool = λ k. has_changed k pages in
@@ -68,7 +68,7 @@ ascend_from n pages gate =
     ap (λ b. ascends_above 0 (cond b (0 ∷ rest) rest)) gate
     ∙ filter_ascends (λ k. has_changed k pages) 0 (0 + 1) n (omega arith)
 
-numbers_same : (pages : Pages) (ns : List ℕ) → page_numbers (map (image_of pages) ns) ≡ ns
+pub numbers_same : (pages : Pages) (ns : List ℕ) → page_numbers (map (image_of pages) ns) ≡ ns
 numbers_same pages [] = refl
 numbers_same pages (n ∷ ns) = ap (λ ms. n ∷ ms) (numbers_same pages ns)
 

@@ -18,7 +18,7 @@ use Rattle.pl_slot.proofs.CountLaws.{passed, passed_le, passed_more, passed_same
 use Rattle.pl_slot.proofs.HeaderLaws.{rows_behind, with_word, word_count, word_set}
 use Rattle.pl_slot.proofs.RowLaws.{header_in_front, row_set, with_row}
 use Rattle.pl_slot.proofs.RowsRead.{length-slot_bytes}
-use Rattle.pl_slot.proofs.SlotPlaces.{count_put, inside_page, no_slot, page_there, put_are, put_only, same_slots, slot_bounds}
+use Rattle.pl_slot.proofs.SlotPlaces.{count_put, inside_page, no_slot, page_there, put_are, put_only, row_slot, same_slots, slot_bounds}
 
 -- ---- a row that is put
 
@@ -334,14 +334,12 @@ same_written slot row old new live fits put =
       | inr apart ↦ live_there n slot row old new put.rows apart
     ]) put.as_many
 
--- a free slot is one
+-- a free slot holds a row, and is one
+pub free_held : (n : ℕ) (pages : Pages) → is_free n pages ≡ true → IsSome (row_at n pages)
+free_held n pages free = (and_parts (is_some (row_at n pages)) (not (is_live n pages)) free).0
+
 pub free_slot : (n : ℕ) (pages : Pages) → is_free n pages ≡ true → is_slot n pages ≡ true
-free_slot n pages free = elim (cases_Bool (is_slot n pages)) [
-  | inl there ↦ there
-  | inr none ↦
-      absurd (true≢false (sym free
-      ∙ ap (λ r. is_some r && not (is_some (option_and_then live_row r))) (no_slot n pages none)))
-]
+free_slot n pages free = row_slot n pages (free_held n pages free)
 
 pub live_few : (pages : Pages) → live_count pages ≤ slot_count pages
 unfolding live_count

@@ -3,11 +3,9 @@ use Rattle.std.proofs.Common.{◌≡◌, ◌≢◌, ◌∙◌, ◌==◌, ◌+◌
 use Rattle.std.proofs.Common.{eq-eqb, false, inl, inr, IsSome, is_some, length, None, Option, refl, Some, subst, sym, true, w32}
 use Rattle.std.specs.Int.{from_le_bytes, to_le_bytes}
 use Rattle.std.specs.Option.{IfSome, option_and_then, option_map}
-use Rattle.std.specs.Str.{bytes_eq}
 use Rattle.std.proofs.lemmas.Bool.{and_parts, cases_Bool, cases_eq, cases_lt, ne_eqb, true≢false}
 use Rattle.std.proofs.lemmas.Option.{MatchOption-at_some}
 use Rattle.std.proofs.lemmas.Nat.{from_le_bytes-to_le_bytes_4}
-use Rattle.std.proofs.lemmas.Slice.Eq.{bytes_eq-Decides}
 use Rattle.pl_base.specs.declared.id.Slot.{Slot}
 use Rattle.pl_base.specs.Live.{slot_size}
 use Rattle.pl_base.specs.Touched.{page_size}
@@ -28,46 +26,14 @@ use Rattle.pl_slot.proofs.BytesAt.{around_place, at_place, before_place, behind_
 use Rattle.pl_slot.proofs.FitsLaws.{free_has, row_fits}
 use Rattle.pl_slot.proofs.LinkPlaces.{places_apart, same_link, same_rail}
 use Rattle.pl_slot.proofs.LinkRows.{SetRow, set_row}
-use Rattle.pl_slot.proofs.RowsRead.{length-slot_bytes, row_spelled}
-use Rattle.pl_slot.proofs.SlotPlaces.{count_put, held, inside_page, no_slot, page_there, place_is, place_within, put_are, put_only, same_slots, slot_bounds}
+use Rattle.pl_slot.proofs.RowsRead.{length-slot_bytes, row_bytes, row_spelled}
+use Rattle.pl_slot.proofs.SlotPlaces.{count_put, held, inside_page, no_slot, page_there, place_is, place_within, put_are, put_only, row_slot, same_slots, slot_bounds}
 
 -- ---- the row that a slot holds
 
 -- a slot that holds a row is one
 pub holds_slot : (n : ℕ) (row : SlotRow) (pages : Pages) → row_at n pages ≡ Some row → is_slot n pages ≡ true
-holds_slot n row pages is = elim (cases_Bool (is_slot n pages)) [
-  | inl there ↦ there
-  | inr missing ↦ absurd (none (row_at n pages) row is (no_slot n pages missing))
-]
-  where
-    none : (held : Option SlotRow) (row : SlotRow) → held ≡ Some row → held ≡ None → ⊥
-    none held row some missing = cc
-
--- its bytes are those of the row, and give it when they are read
-spelled : (bytes : List ℕ) (read : Option SlotRow) (row : SlotRow)
-    → option_and_then (λ (r : SlotRow). cond (bytes_eq (slot_bytes r) bytes) (Some r) None) read ≡ Some row
-    → (bytes ≡ slot_bytes row) × (read ≡ Some row)
-spelled bytes None row is = absurd (nothing row is)
-  where
-    nothing : (b : SlotRow) → None ≡ Some b → ⊥
-    nothing b same = cc
-spelled bytes (Some read) row is = elim (cases_Bool (bytes_eq (slot_bytes read) bytes)) [
-  | inl same ↦
-      let here : Some read ≡ Some row = sym (ap (λ b. cond b (Some read) None) same) ∙ is in
-      (sym ((bytes_eq-Decides (slot_bytes read) bytes).0 same) ∙ ap slot_bytes (unwrapped read row here), here)
-  | inr other ↦ absurd (nothing row (sym (ap (λ b. cond b (Some read) None) other) ∙ is))
-]
-  where
-    unwrapped : (a b : SlotRow) → Some a ≡ Some b → a ≡ b
-    unwrapped a b same = cc
-
-    nothing : (b : SlotRow) → None ≡ Some b → ⊥
-    nothing b same = cc
-
-row_bytes : (bytes : List ℕ) (row : SlotRow) → row_of bytes ≡ Some row
-    → (bytes ≡ slot_bytes row) × (row_in bytes ≡ Some row)
-unfolding row_of
-row_bytes bytes row is = spelled bytes (row_in bytes) row is
+holds_slot n row pages is = row_slot n pages (ap is_some is)
 
 abbrev slot_place : ℕ → ℕ
 slot_place n = place_in (slot_page n) (slot_byte n)

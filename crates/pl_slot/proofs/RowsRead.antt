@@ -4,14 +4,14 @@ use Rattle.std.proofs.Common.{◌∷◌, arith, cond, map, Option, slice_range, 
 use Rattle.std.specs.Str.{bytes_eq}
 use Rattle.std.proofs.lemmas.Slice.Eq.{bytes_eq-Decides}
 use Rattle.std.specs.List.{list_all}
-use Rattle.std.proofs.Common.{None, Some, ap, drop, length, refl, replicate, slice_index, sym, w32, w64, if◌then◌else◌}
+use Rattle.std.proofs.Common.{IsSome, None, Some, ap, drop, inl, inr, length, refl, replicate, slice_index, sym, w32, w64, if◌then◌else◌}
 use Rattle.std.specs.Int.{cast_signed, cast_unsigned, from_le_bytes, to_le_bytes}
 use Rattle.std.specs.Option.{option_and_then, option_map}
 use Rattle.std.specs.Int.RustNames.{FitsSigned}
 use Rattle.std.proofs.Math.Facts.{Fits-lt-pow, Fits-of_z}
 use Rattle.std.proofs.lemmas.Int.{to_z-of_z}
 use Rattle.std.proofs.Math.Seq.{take-length}
-use Rattle.std.proofs.lemmas.Bool.{le-leb}
+use Rattle.std.proofs.lemmas.Bool.{cases_Bool, le-leb, true≢false}
 use Rattle.std.proofs.lemmas.List.{append-nil, length-append, length-drop}
 use Rattle.std.proofs.lemmas.Nat.{from_le_bytes-to_le_bytes_4, from_le_bytes-to_le_bytes_8}
 use Rattle.pl_base.specs.declared.date.Micros.{Micros}
@@ -213,6 +213,40 @@ row_missing bytes none = sym (ap (option_and_then (spelled_as bytes)) (sym none)
 pub row_spelled : (row : SlotRow) → IsSlotRow row → row_of (slot_bytes row) ≡ Some row
 row_spelled row fits =
     sym (row_told (slot_bytes row) row (sym (row_back row fits)) ((bytes_eq-Decides (slot_bytes row) (slot_bytes row)).1 refl))
+
+-- bytes of a row are those that it has, and give it when they are read
+found_in : (bytes : List ℕ) (read : Option SlotRow) (row : SlotRow)
+    → option_and_then (spelled_as bytes) read ≡ Some row
+    → (bytes ≡ slot_bytes row) × (read ≡ Some row)
+found_in bytes None row is = absurd (nothing row is)
+  where
+    nothing : (b : SlotRow) → None ≡ Some b → ⊥
+    nothing b same = cc
+found_in bytes (Some read) row is = elim (cases_Bool (bytes_eq (slot_bytes read) bytes)) [
+  | inl same ↦
+      let here : Some read ≡ Some row = sym (ap (λ b. cond b (Some read) None) same) ∙ is in
+      (sym ((bytes_eq-Decides (slot_bytes read) bytes).0 same) ∙ ap slot_bytes (unwrapped read row here), here)
+  | inr other ↦ absurd (nothing row (sym (ap (λ b. cond b (Some read) None) other) ∙ is))
+]
+  where
+    unwrapped : (a b : SlotRow) → Some a ≡ Some b → a ≡ b
+    unwrapped a b same = cc
+
+    nothing : (b : SlotRow) → None ≡ Some b → ⊥
+    nothing b same = cc
+
+pub row_bytes : (bytes : List ℕ) (row : SlotRow) → row_of bytes ≡ Some row
+    → (bytes ≡ slot_bytes row) × (row_in bytes ≡ Some row)
+unfolding row_of
+row_bytes bytes row is = found_in bytes (row_in bytes) row is
+
+-- bytes of a row are read without comparing
+pub row_known : (bytes : List ℕ) → IsSome (row_of bytes) → row_of bytes ≡ row_in bytes
+row_known bytes some = known (row_of bytes) refl some
+  where
+    known : (found : Option SlotRow) → row_of bytes ≡ found → IsSome found → row_of bytes ≡ row_in bytes
+    known None is some = absurd (true≢false (sym some))
+    known (Some row) is some = is ∙ sym (row_bytes bytes row is).1
 
 pub length-slot_bytes : (row : SlotRow) → IsSlotRow row → length (slot_bytes row) ≡ slot_size
 length-slot_bytes (Free next) fits = refl

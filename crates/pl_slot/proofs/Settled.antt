@@ -12,10 +12,10 @@ pub either : {T E : Type 0} (r : Result T E) (P Q : Type 0) → OnOk r P → OnE
 either (Ok x) P Q holds other = inl holds
 either (Err e) P Q other holds = inr holds
 
-settled_count : (pages : Pages) → page_count (settled pages) ≡ page_count pages
+pub settled_count : (pages : Pages) → page_count (settled pages) ≡ page_count pages
 settled_count pages = length-replicate (page_count pages) false
 
-settled_are : (pages : Pages) → ArePages pages → ArePages (settled pages)
+pub settled_are : (pages : Pages) → ArePages pages → ArePages (settled pages)
 settled_are pages are =
     let count = settled_count pages in
     record {

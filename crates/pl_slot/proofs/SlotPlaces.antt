@@ -1,8 +1,8 @@
 -- Where slots lie, and what bytes that are put into a page leave of the others.
 use Rattle.std.proofs.Common.{◌≡◌, ◌≢◌, ◌∙◌, ◌+◌, ◌-◌, ◌*◌, ◌<◌, ◌≤◌, ◌∷◌, [], ℕ, List, Bool}
-use Rattle.std.proofs.Common.{◌&&◌, ◌||◌, ap, arith, cond, false, get_or, inl, inr, leb-true, length, nat_le, None}
+use Rattle.std.proofs.Common.{◌&&◌, ◌||◌, ap, arith, cond, false, get_or, inl, inr, IsSome, is_some, leb-true, length, nat_le, None}
 use Rattle.std.proofs.Common.{refl, set, sym, true}
-use Rattle.std.proofs.lemmas.Bool.{and_from, and_parts, cases_eq, cases_lt, le-leb, true≢false}
+use Rattle.std.proofs.lemmas.Bool.{and_from, and_parts, cases_Bool, cases_eq, cases_lt, le-leb, true≢false}
 use Rattle.std.proofs.Common.{eq-eqb}
 use Rattle.std.proofs.lemmas.List.{get_or-set_other, get_or-set_same}
 use Rattle.std.proofs.Math.ListN.{length-set}
@@ -11,8 +11,9 @@ use Rattle.pl_base.specs.Touched.{page_size}
 use Rattle.pl_sheets.specs.Sheets.{ArePages, Pages, bytes_at, page_count, place_in}
 use Rattle.pl_sheets.specs.Sheets.{stand_at, with_bytes}
 use Rattle.pl_slot.specs.Arena.{ChangesOnly, is_among, is_slot, row_at, slot_byte, slot_count, slot_page}
-use Rattle.pl_slot.specs.SlotReading.{row_of}
+use Rattle.pl_slot.specs.SlotReading.{row_in, row_of}
 use Rattle.pl_slot.proofs.BytesAt.{before_place, behind_place, length-overwritten}
+use Rattle.pl_slot.proofs.RowsRead.{row_known}
 
 -- what a slot holds is read from its bytes
 pub held : (n : ℕ) (pages : Pages) → is_slot n pages ≡ true
@@ -25,6 +26,20 @@ pub no_slot : (n : ℕ) (pages : Pages) → is_slot n pages ≡ false → row_at
 unfolding row_at
 no_slot n pages missing =
     ap (λ b. cond b (row_of (bytes_at (place_in (slot_page n) (slot_byte n)) slot_size pages.bytes)) None) missing
+
+-- a slot that holds a row is one
+pub row_slot : (n : ℕ) (pages : Pages) → IsSome (row_at n pages) → is_slot n pages ≡ true
+row_slot n pages some = elim (cases_Bool (is_slot n pages)) [
+  | inl there ↦ there
+  | inr missing ↦ absurd (true≢false (sym some ∙ ap is_some (no_slot n pages missing)))
+]
+
+-- its row is read without comparing the bytes
+pub read_known : (n : ℕ) (pages : Pages) → IsSome (row_at n pages)
+    → row_at n pages ≡ row_in (bytes_at (place_in (slot_page n) (slot_byte n)) slot_size pages.bytes)
+read_known n pages some =
+    let is = held n pages (row_slot n pages some) in
+    is ∙ row_known (bytes_at (place_in (slot_page n) (slot_byte n)) slot_size pages.bytes) (ap is_some (sym is) ∙ some)
 
 -- ---- numbers of slots
 

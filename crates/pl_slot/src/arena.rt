@@ -10,7 +10,7 @@ ghost use Rattle.pl_slot.specs.Slot.{IsSlotRow};
 use crate::checking::check;
 use crate::header::PAGES;
 use crate::row::SlotRow;
-use crate::slots::{four_at, put_row, row_at};
+use crate::slots::{four_at, known_row, put_row};
 use crate::taking::{give_back, make_free, take_free};
 use pl_base::{CheckError, NoMemory, Slot, Steps, Touched};
 use pl_sheets::Sheets;
@@ -73,10 +73,7 @@ impl Arena {
         ensures counted { steps.new ≡ steps.old + 1 }
     {
         steps.tick();
-        match row_at(&self.sheets, slot) {
-            Some(row) => row,
-            None => unreachable!(),
-        }
+        known_row(&self.sheets, slot)
     }
 
     /// Puts a row into a live slot, in place of the one that it holds.

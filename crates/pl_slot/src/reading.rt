@@ -29,8 +29,8 @@ pub fn decode(bytes: &[u8; SLOT_SIZE]) -> Option<SlotRow>
     Some(row)
 }
 
-// The only row that may have these bytes.
-fn read(bytes: &[u8; SLOT_SIZE]) -> Option<SlotRow>
+/// The only row that may have these bytes, whatever those beside its fields are.
+pub fn read(bytes: &[u8; SLOT_SIZE]) -> Option<SlotRow>
     ensures row { result ≡ reading.row_in bytes.now }
     ensures fits { IfSome result slot.IsSlotRow }
 {

@@ -1,13 +1,14 @@
 // Slots and fields of the header in pages, whatever else the pages hold.
-ghost use Rattle.std.specs.Prelude.{◌≡◌, ◌+◌, ◌<◌, ◌≤◌, true, IfSome};
+ghost use Rattle.std.specs.Prelude.{◌≡◌, ◌+◌, ◌<◌, ◌≤◌, true, IfSome, IsSome, Some};
 ghost use Rattle.std.specs.Int.{w32, to_le_bytes};
+ghost use Rattle.pl_base.specs.Live.{slot_size};
 ghost use Rattle.pl_base.specs.Touched.{page_size};
-ghost use Rattle.pl_sheets.specs.Sheets.{image_of, page_count, with_bytes};
+ghost use Rattle.pl_sheets.specs.Sheets.{bytes_at, image_of, page_count, place_in, with_bytes};
 ghost use Rattle.pl_slot.specs.Arena as arena;
 ghost use Rattle.pl_slot.specs.Slot.{IsSlotRow, slot_bytes};
 ghost use Rattle.pl_slot.specs.SlotReading.{four_in};
 
-use crate::reading::decode;
+use crate::reading::{decode, read};
 use crate::row::{SLOT_SIZE, SlotRow};
 use crate::writing::encode;
 use pl_base::{PAGE_SIZE, Slot};
@@ -35,15 +36,38 @@ pub fn byte_of(slot: Slot) -> usize
     SLOT_SIZE * ((slot.0 - 1) % SLOTS_A_PAGE) as usize
 }
 
+// The bytes of a slot.
+fn bytes_of(sheets: &Sheets, slot: Slot) -> [u8; SLOT_SIZE]
+    requires there { arena.is_slot slot.0 sheets.now ≡ true }
+    ensures { result ≡ bytes_at (place_in (arena.slot_page slot.0) (arena.slot_byte slot.0))
+        slot_size sheets.now.bytes }
+{
+    let mut bytes = [0; SLOT_SIZE];
+    sheets.get(page_of(slot), byte_of(slot), &mut bytes);
+    bytes
+}
+
 /// The row that a slot holds. `None` comes exactly where its bytes are those of no row.
 pub fn row_at(sheets: &Sheets, slot: Slot) -> Option<SlotRow>
     requires there { arena.is_slot slot.0 sheets.now ≡ true }
     ensures row { result ≡ arena.row_at slot.0 sheets.now }
     ensures fits { IfSome result IsSlotRow }
 {
-    let mut bytes = [0; SLOT_SIZE];
-    sheets.get(page_of(slot), byte_of(slot), &mut bytes);
+    let bytes = bytes_of(sheets, slot);
     decode(&bytes)
+}
+
+/// The same of a slot that holds a row: its fields are read, and its other bytes are not asked.
+pub fn known_row(sheets: &Sheets, slot: Slot) -> SlotRow
+    requires there { IsSome (arena.row_at slot.0 sheets.now) }
+    ensures row { arena.row_at slot.0 sheets.now ≡ Some result }
+    ensures fits { IsSlotRow result }
+{
+    let bytes = bytes_of(sheets, slot);
+    match read(&bytes) {
+        Some(row) => row,
+        None => unreachable!(),
+    }
 }
 
 /// Puts a row into a slot.

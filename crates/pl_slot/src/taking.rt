@@ -8,7 +8,7 @@ ghost use Rattle.pl_slot.specs.Taking as taking;
 
 use crate::header::{FIRST_FREE, PAGES};
 use crate::row::SlotRow;
-use crate::slots::{SLOTS_A_PAGE, four_at, put_four, put_row, row_at};
+use crate::slots::{SLOTS_A_PAGE, four_at, known_row, put_four, put_row};
 use pl_base::{NoMemory, Slot};
 use pl_sheets::Sheets;
 
@@ -82,8 +82,8 @@ fn next_free(sheets: &Sheets, slot: Slot) -> Slot
     requires there { arena.is_free slot.0 sheets.now ≡ true }
     ensures { arena.row_at slot.0 sheets.now ≡ Some (Free result) }
 {
-    match row_at(sheets, slot) {
-        Some(SlotRow::Free { next }) => next,
+    match known_row(sheets, slot) {
+        SlotRow::Free { next } => next,
         _ => unreachable!(),
     }
 }

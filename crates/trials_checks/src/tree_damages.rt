@@ -363,11 +363,7 @@ const BYTES: &[Overwritten] = &[
 ];
 
 // The file of the items with the changes.
-fn changed(
-    rt: &impl Abort,
-    alloc: Global,
-    changes: &[(usize, Item<'static>)],
-) -> Result<Vec<u8>, NoMemory> {
+fn changed(alloc: Global, changes: &[(usize, Item<'static>)]) -> Result<Vec<u8>, Fail> {
     let mut items: Vec<Item<'static>> = Vec::from_slice(alloc, ITEMS)?;
     for (place, item) in changes {
         if *place < items.len() {
@@ -376,7 +372,7 @@ fn changed(
             items.push(*item)?;
         }
     }
-    file(rt, alloc, NEXT, ROWS, &items)
+    file(alloc, NEXT, ROWS, &items)
 }
 
 // The bytes with others from this place on.
@@ -401,9 +397,9 @@ fn expect_refusal(rt: &impl Abort, alloc: Global, bytes: &[u8], what: &str) {
 }
 
 // The file of the items with each of the changes.
-fn expect_refusals(rt: &impl Abort, alloc: Global, changes: &[Change]) -> Result<(), NoMemory> {
+fn expect_refusals(rt: &impl Abort, alloc: Global, changes: &[Change]) -> Result<(), Fail> {
     for (what, change) in changes {
-        let bytes = changed(rt, alloc, change)?;
+        let bytes = changed(alloc, change)?;
         expect_refusal(rt, alloc, &bytes, what);
     }
     Ok(())
@@ -427,7 +423,7 @@ fn expect_refused_bytes(
 fn accepts_trees(rt: HostRuntime) -> Result<(), Fail> {
     let alloc = rt.alloc();
     for (what, changes) in ACCEPTED {
-        let bytes = changed(&rt, alloc, changes)?;
+        let bytes = changed(alloc, changes)?;
         assert!(rt; Flat::check(alloc, &bytes).is_ok(), "{what}");
     }
     Ok(())
@@ -466,7 +462,7 @@ fn refuses_bad_tags(rt: HostRuntime) -> Result<(), Fail> {
 #[test]
 fn refuses_bad_bytes(rt: HostRuntime) -> Result<(), Fail> {
     let alloc = rt.alloc();
-    let good = file(&rt, alloc, NEXT, ROWS, ITEMS)?;
+    let good = file(alloc, NEXT, ROWS, ITEMS)?;
     expect_refused_bytes(&rt, alloc, &good, BYTES)?;
     Ok(())
 }

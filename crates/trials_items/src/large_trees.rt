@@ -214,14 +214,14 @@ fn keep_file<L: Ledger>(
 ) -> Result<Flat, Fail> {
     let ids = ids(alloc)?;
     let items = wide(alloc, &ids, kind, page)?;
-    let bytes = file(rt, alloc, NEXT_IDS, rows, &items)?;
+    let bytes = file(alloc, NEXT_IDS, rows, &items)?;
     keep_wide(rt, alloc, &bytes, steps)
 }
 
 fn keep_chain<L: Ledger>(rt: &impl Abort, alloc: Global, steps: &mut Steps<L>) -> Result<(), Fail> {
     let ids = ids(alloc)?;
     let items = deep(alloc, &ids)?;
-    let bytes = file(rt, alloc, NEXT_IDS, NO_PAGES, &items)?;
+    let bytes = file(alloc, NEXT_IDS, NO_PAGES, &items)?;
     keep_deep(rt, alloc, &bytes, steps)
 }
 

@@ -478,7 +478,7 @@ fn keep_tree<L: Ledger>(rt: &impl Abort, alloc: Global, blank: Blank) -> Result<
     requires some { 0 < blank.parts }
 {
     let steps = &mut Steps::<L>::none(blank);
-    let bytes = file(rt, alloc, NEXT, ROWS, ITEMS)?;
+    let bytes = file(alloc, NEXT, ROWS, ITEMS)?;
     keep_rows(rt, alloc, &bytes, steps)
 }
 

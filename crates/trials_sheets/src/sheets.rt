@@ -48,24 +48,24 @@ const ENDS: &[u32] = &[
 const MOST_PAGES: u32 = 524_290;
 
 // So many pages of zeros.
-fn zeros(rt: &impl Abort, alloc: Global, pages: u32) -> Result<Sheets, NoMemory> {
+pub fn zeros(rt: &impl Abort, alloc: Global, pages: u32) -> Result<Sheets, NoMemory> {
     assert!(rt; pages > 0);
     Sheets::from_bytes(vec![in alloc; 0; PAGE_SIZE * pages as usize]?)
 }
 
-fn put(rt: &impl Abort, sheets: &mut Sheets, page: u32, at: usize, bytes: &[u8]) {
+pub fn put(rt: &impl Abort, sheets: &mut Sheets, page: u32, at: usize, bytes: &[u8]) {
     assert!(rt; page > 0 && page < sheets.pages());
     assert!(rt; at <= PAGE_SIZE && bytes.len() <= PAGE_SIZE - at);
     sheets.put(page, at, bytes);
 }
 
-fn grow(rt: &impl Abort, sheets: &mut Sheets) -> Result<u32, NoMemory> {
+pub fn grow(rt: &impl Abort, sheets: &mut Sheets) -> Result<u32, NoMemory> {
     assert!(rt; sheets.pages() < u32::MAX);
     sheets.grow()
 }
 
 // What a page holds.
-fn page_of(rt: &impl Abort, sheets: &Sheets, page: u32) -> [u8; PAGE_SIZE] {
+pub fn page_of(rt: &impl Abort, sheets: &Sheets, page: u32) -> [u8; PAGE_SIZE] {
     assert!(rt; page < sheets.pages());
     let mut bytes = [0; PAGE_SIZE];
     sheets.get(page, 0, &mut bytes);

@@ -1,18 +1,16 @@
 // Which pages make an arena, by hand; and slots that are taken and given back.
-ghost use Rattle.std.specs.Prelude.{◌≡◌, true, IfOk};
-ghost use Rattle.pl_slot.specs.Arena.{IsLiveRow, is_live};
 
-use pl_base::{CheckError, Micros, NoMemory, PAGE_SIZE, Slot, Transition, VisitId};
-use pl_sheets::Sheets;
+use pl_base::{Micros, Slot, Transition, VisitId};
 use pl_slot::{Arena, SLOT_SIZE, SlotRow, encode};
 use std::alloc::Global;
 use std::process::Abort;
 use std::test::Fail;
+use trials_arenas::{blank, over, put, sheets_of, take};
 
-const NONE: Slot = Slot(0);
+pub const NONE: Slot = Slot(0);
 
 // The visit 1 by typing, to the page in slot 7.
-const VISIT: SlotRow = SlotRow::Visit {
+pub const VISIT: SlotRow = SlotRow::Visit {
     transition: Transition::Typed,
     live_previous: NONE,
     live_next: Slot(9),
@@ -161,54 +159,45 @@ fn row_of(held: Held) -> SlotRow {
     }
 }
 
-fn put(rt: &impl Abort, bytes: &mut [u8], at: usize, field: &[u8]) {
-    assert!(rt; at <= bytes.len() && field.len() <= bytes.len() - at);
-    bytes[at..at + field.len()].copy_from_slice(field);
-}
-
 // The bytes of pages whose slots hold this, beside a header that names the first free one.
 fn bytes_of(
     rt: &impl Abort,
     alloc: Global,
     first_free: u32,
     held: &[Held],
-) -> Result<Vec<u8>, NoMemory> {
+) -> Result<Vec<u8>, Fail> {
     assert!(rt; held.len() <= 64);
-    let pages = 2 + held.len() / 8;
-    let mut bytes = vec![in alloc; 0; PAGE_SIZE * pages]?;
-    put(rt, &mut bytes, 1032, &(pages as u32).to_le_bytes());
-    put(rt, &mut bytes, 1052, &first_free.to_le_bytes());
+    let pages = 2 + (held.len() / 8) as u32;
+    let mut bytes = blank(alloc, pages, first_free)?;
     for (n, held) in held.iter().enumerate() {
-        put(
-            rt,
-            &mut bytes,
-            2048 + SLOT_SIZE * n,
-            &encode(&row_of(*held)),
-        );
+        put(&mut bytes, 2048 + SLOT_SIZE * n, &encode(&row_of(*held)))?;
     }
     Ok(bytes)
 }
 
-fn sheets_of(rt: &impl Abort, bytes: Vec<u8>) -> Result<Sheets, NoMemory> {
-    let len = bytes.len();
-    assert!(rt; PAGE_SIZE <= len && len % PAGE_SIZE == 0 && len < 1 << 30);
-    Sheets::from_bytes(bytes)
+// An arena whose slots hold this.
+fn arena_of(
+    rt: &impl Abort,
+    alloc: Global,
+    first_free: u32,
+    held: &[Held],
+) -> Result<Option<Arena>, Fail> {
+    over(sheets_of(bytes_of(rt, alloc, first_free, held)?)?)
 }
 
-// An arena over pages whose header has their number.
-fn over(rt: &impl Abort, sheets: Sheets) -> Result<Arena, CheckError> {
-    let pages = sheets.pages();
-    assert!(rt; 2 <= pages && pages <= 1_000);
-    assert!(rt; Arena::length_in(&sheets) == pages);
-    Arena::over(sheets)
+// An arena without a slot.
+fn none(alloc: Global) -> Result<Arena, Fail> {
+    match over(sheets_of(blank(alloc, 2, 0)?)?)? {
+        Some(arena) => Ok(arena),
+        None => Err(Fail::new("no arena")),
+    }
 }
 
 #[test]
 fn a_chain_of_all_free_slots_makes_an_arena(rt: HostRuntime) -> Result<(), Fail> {
     for (told, first_free, held, is_arena) in CASES {
-        let sheets = sheets_of(&rt, bytes_of(&rt, rt.alloc(), *first_free, held)?)?;
-        let answer = over(&rt, sheets);
-        assert!(rt; answer.is_ok() == *is_arena, "{told}");
+        let arena = arena_of(&rt, rt.alloc(), *first_free, held)?;
+        assert!(rt; arena.is_some() == *is_arena, "{told}");
     }
     Ok(())
 }
@@ -217,30 +206,19 @@ fn a_chain_of_all_free_slots_makes_an_arena(rt: HostRuntime) -> Result<(), Fail>
 fn a_byte_beside_the_fields_makes_none(rt: HostRuntime) -> Result<(), Fail> {
     let held = [Live; 8];
     let mut bytes = bytes_of(&rt, rt.alloc(), 0, &held)?;
-    put(&rt, &mut bytes, 2050, &[1]);
-    let sheets = sheets_of(&rt, bytes)?;
-    assert!(rt; over(&rt, sheets).is_err());
+    put(&mut bytes, 2050, &[1])?;
+    assert!(rt; over(sheets_of(bytes)?)?.is_none());
     Ok(())
-}
-
-// Takes a slot of an arena that has few pages.
-fn take(rt: &impl Abort, arena: &mut Arena, row: &SlotRow) -> Result<Slot, NoMemory>
-    requires row { IsLiveRow row.now }
-    ensures live { IfOk result (λ slot. is_live slot.0 arena.new ≡ true) }
-{
-    assert!(rt; arena.pages() < 1_000);
-    arena.take(row)
 }
 
 #[test]
 fn a_slot_that_is_given_back_is_taken_again(rt: HostRuntime) -> Result<(), Fail> {
-    let sheets = sheets_of(&rt, bytes_of(&rt, rt.alloc(), 0, &[])?)?;
-    let mut arena = over(&rt, sheets)?;
-    let first = take(&rt, &mut arena, &VISIT)?;
+    let mut arena = none(rt.alloc())?;
+    let first = take(&mut arena, &VISIT)?;
     assert!(rt; arena.pages() == 3 && first == Slot(1) && arena.first_free() == Slot(2));
     arena.give_back(first);
     assert!(rt; arena.pages() == 3 && arena.first_free() == Slot(1));
-    let again = take(&rt, &mut arena, &VISIT)?;
+    let again = take(&mut arena, &VISIT)?;
     assert!(rt; again == first && arena.first_free() == Slot(2));
     let touched = arena.touched()?;
     assert!(rt; touched.before() == 2 && touched.after() == 3 && touched.count() == 2);
@@ -252,10 +230,9 @@ fn a_slot_that_is_given_back_is_taken_again(rt: HostRuntime) -> Result<(), Fail>
 
 #[test]
 fn a_page_is_added_for_each_eight_slots(rt: HostRuntime) -> Result<(), Fail> {
-    let sheets = sheets_of(&rt, bytes_of(&rt, rt.alloc(), 0, &[])?)?;
-    let mut arena = over(&rt, sheets)?;
+    let mut arena = none(rt.alloc())?;
     for taken in 0..40 {
-        take(&rt, &mut arena, &VISIT)?;
+        take(&mut arena, &VISIT)?;
         assert!(rt; arena.pages() == 3 + taken / 8);
     }
     assert!(rt; arena.first_free() == NONE);

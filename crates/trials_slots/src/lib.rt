@@ -8,3 +8,7 @@ mod arena;
 mod changes;
 #[cfg(test)]
 mod fields;
+#[cfg(test)]
+mod header;
+#[cfg(test)]
+mod rows;

@@ -2,7 +2,7 @@
 
 use pl_base::{NoMemory, PAGE_SIZE};
 use std::alloc::Global;
-use std::process::Abort;
+use std::test::Fail;
 
 /// An item as a file has it: its id, its kind, its page or 0, when it was added and modified, its
 /// title, and the ids of its children.
@@ -57,21 +57,20 @@ pub const ITEMS: &[Item] = &[
 
 /// The file with these next ids, these bytes of pages and visits, and these items.
 pub fn file(
-    rt: &impl Abort,
     alloc: Global,
     next: [u32; 3],
     rows: &[u8],
     items: &[Item<'_>],
-) -> Result<Vec<u8>, NoMemory> {
+) -> Result<Vec<u8>, Fail> {
     let mut plain = Vec::new(alloc);
     plain.extend_from_slice(&[0; 4])?;
     put_numbers(&mut plain, &next)?;
     plain.extend_from_slice(rows)?;
-    put_count(rt, &mut plain, items.len())?;
+    put_count(&mut plain, items.len())?;
     for item in items {
-        put_item(rt, &mut plain, item)?;
+        put_item(&mut plain, item)?;
     }
-    in_pages(rt, alloc, &plain)
+    in_pages(alloc, &plain)
 }
 
 fn put_numbers(out: &mut Vec<u8>, numbers: &[u32]) -> Result<(), NoMemory> {
@@ -81,26 +80,30 @@ fn put_numbers(out: &mut Vec<u8>, numbers: &[u32]) -> Result<(), NoMemory> {
     Ok(())
 }
 
-fn put_count(rt: &impl Abort, out: &mut Vec<u8>, count: usize) -> Result<(), NoMemory> {
-    assert!(rt; count < 100_000_000);
-    put_numbers(out, &[count as u32])
+fn put_count(out: &mut Vec<u8>, count: usize) -> Result<(), Fail> {
+    let Ok(count) = u32::try_from(count) else {
+        return Err(Fail::new("too many for a test"));
+    };
+    Ok(put_numbers(out, &[count])?)
 }
 
-fn put_item(rt: &impl Abort, out: &mut Vec<u8>, item: &Item<'_>) -> Result<(), NoMemory> {
+fn put_item(out: &mut Vec<u8>, item: &Item<'_>) -> Result<(), Fail> {
     let (id, kind, page, (added, modified), title, children) = *item;
     put_numbers(out, &[id, page])?;
     out.push(kind)?;
     out.extend_from_slice(&added.to_le_bytes())?;
     out.extend_from_slice(&modified.to_le_bytes())?;
-    put_count(rt, out, title.len())?;
+    put_count(out, title.len())?;
     out.extend_from_slice(title)?;
-    put_count(rt, out, children.len())?;
-    put_numbers(out, children)
+    put_count(out, children.len())?;
+    Ok(put_numbers(out, children)?)
 }
 
 // The plain bytes behind a gate's page and their header.
-fn in_pages(rt: &impl Abort, alloc: Global, plain: &[u8]) -> Result<Vec<u8>, NoMemory> {
-    assert!(rt; plain.len() < 100_000_000);
+fn in_pages(alloc: Global, plain: &[u8]) -> Result<Vec<u8>, Fail> {
+    if plain.len() >= 100_000_000 {
+        return Err(Fail::new("too many bytes for a test"));
+    }
     let filled = plain.len().div_ceil(PAGE_SIZE);
     let mut bytes = Vec::new(alloc);
     bytes.resize(PAGE_SIZE, 0x5a)?;

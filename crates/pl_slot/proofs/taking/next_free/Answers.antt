@@ -1,5 +1,5 @@
-use Rattle.pl_slot.proofs.ArenaLaws.{free_slot}
+use Rattle.pl_slot.proofs.ArenaLaws.{free_held}
 use Rattle.pl_slot.proofs.taking.next_free.Goals as goal
 
-pub row_at-requires : goal.row_at-requires
-row_at-requires c = record { there = free_slot c.args.slot.0 c.args.sheets.now c.requires.there }
+pub known_row-requires : goal.known_row-requires
+known_row-requires c = record { there = free_held c.args.slot.0 c.args.sheets.now c.requires.there }
