@@ -1,17 +1,18 @@
 -- What the calls of rails ask of each other.
 use Rattle.std.proofs.Common.{◌≡◌, ◌≢◌, ◌∙◌, ◌==◌, ◌++◌, ◌∷◌, ap, eq-eqb, eqb-true, false, IsSome, is_some, List, Option, refl, Some, subst, sym, true}
-use Rattle.std.proofs.lemmas.Bool.{true≢false}
+use Rattle.std.proofs.Common.{None, if◌then◌else◌, []}
+use Rattle.std.proofs.lemmas.Bool.{ne_eqb, true≢false}
 use Rattle.pl_base.specs.declared.id.Slot.{Slot}
 use Rattle.pl_rail.specs.declared.owner.Owner.{Owner}
 use Rattle.pl_rail.specs.declared.owner.Owner.TheVariants as owners
 use Rattle.pl_rail.specs.declared.owner.Side.{Side}
 use Rattle.pl_rail.specs.declared.owner.Side.TheVariants.{Before, Behind}
 use Rattle.pl_rail.specs.Rails.{HasMember, HasPlace, Joins, Lists, SetsSide, end_at, first_of, is_in, is_member}
-use Rattle.pl_rail.specs.Rails.{end_in, end_link, named, neighbour, none, or_none, side_link, with_end}
+use Rattle.pl_rail.specs.Rails.{end_in, end_link, last_from, last_of, named, neighbour, none, or_none, side_link, with_end}
 use Rattle.pl_rail.proofs.ChainLaws.{around, place_around, place_links, stands}
 use Rattle.pl_rail.proofs.ListLaws.{all_last, before_in, behind_in, differs_in, first_behind, first_differs, last_differs, last_is}
 use Rattle.pl_rail.proofs.ListLaws.{member_link, member_some, members_some, named_first, same_slot}
-use Rattle.pl_rail.proofs.Rings.{differ_parts}
+use Rattle.pl_rail.proofs.Rings.{Differ, Ends, Named, differ_parts}
 use Rattle.pl_rail.proofs.SideLaws.{at_end, at_link, end_by_header, end_by_link, numbered, one_side, other_number, side_by_link}
 use Rattle.pl_sheets.specs.Sheets.{Pages, page_count}
 use Rattle.pl_slot.specs.declared.kind.LiveKind.{LiveKind}
@@ -31,6 +32,26 @@ first_told rail owner pages slot slots read lists =
     named_first slots slot (members_some rail owner pages slots lists.members)
     (same_slot slot (or_none (first_of slots))
     (sym read ∙ first_behind (behind_in rail owner pages) (before_in rail owner pages) none slots lists.linked))
+
+-- the last slot of a chain names its owner
+last_before : (f b : Named) (a : Slot) (xs : List Slot) → Ends f b a xs → b none ≡ Some (last_from a xs)
+last_before f b a [] linked = linked.1
+last_before f b a (x ∷ xs) linked = last_before f b x xs linked.2
+
+named_last : (xs : List Slot) (slot : Slot) → Differ none xs → slot ≡ or_none (last_of xs) → named slot ≡ last_of xs
+named_last [] slot some same = ap named same
+named_last (x ∷ xs) slot some same =
+    ap named same
+    ∙ ap (λ b. if b then None else Some (last_from x xs))
+    (ne_eqb (last_from x xs).0 0 (λ zero_is. last_differs none x xs some.0 some.1 (ap numbered zero_is)))
+
+pub last_told : (rail : Rail) (owner : Owner) (pages : Pages) (slot : Slot) (slots : List Slot)
+    → end_at Before rail owner pages ≡ Some slot → Lists rail owner slots pages → named slot ≡ last_of slots
+last_told rail owner pages slot slots read lists =
+    named_last slots slot (members_some rail owner pages slots lists.members)
+    (same_slot slot (last_from none slots)
+    (sym read ∙ last_before (behind_in rail owner pages) (before_in rail owner pages) none slots lists.linked)
+    ∙ sym (last_is slots))
 
 pub next_told : (rail : Rail) (owner : Owner) (pages : Pages) (slot next : Slot) (front back : List Slot)
     → link_at rail Next slot.0 pages ≡ Some next → Lists rail owner (front ++ slot ∷ back) pages

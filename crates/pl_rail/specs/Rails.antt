@@ -99,6 +99,13 @@ pub record Lists (rail : Rail) (owner : Owner) (slots : List Slot) (pages : Page
   pub linked : AreLinked (neighbour Behind rail owner pages) (neighbour Before rail owner pages)
       none (slots ++ none ∷ [])
 
+-- the slot is a member, and stands between these two
+pub record IsBetween (rail : Rail) (owner : Owner) (before slot behind : Slot) (pages : Pages)
+    : Type 0 where
+  pub member : is_member rail owner pages slot ≡ true
+  pub back : neighbour Before rail owner pages slot ≡ Some before
+  pub forth : neighbour Behind rail owner pages slot ≡ Some behind
+
 -- one of the slots is this one
 abbrev pub is_in : Slot → List Slot → Bool
 is_in slot slots = list_any (λ (other : Slot). other.0 == slot.0) slots

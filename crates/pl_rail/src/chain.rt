@@ -28,6 +28,21 @@ pub fn first<L: Ledger>(
     named(end(arena, rail, owner, Side::Behind, steps))
 }
 
+/// The last member of an owner's chain. The rail has this owner.
+pub fn last<L: Ledger>(
+    arena: &Arena,
+    rail: Rail,
+    owner: Owner,
+    steps: &mut Steps<L>,
+) -> Option<Slot>
+    requires owner { IsSome (rails.end_at sides.Before rail owner arena.now) }
+    ensures last { (slots : List Number) → rails.Lists rail owner slots arena.now
+        → result ≡ rails.last_of slots }
+    ensures counted { steps.new ≡ steps.old + 1 }
+{
+    named(end(arena, rail, owner, Side::Before, steps))
+}
+
 /// The member behind another one of its chain. The slot is one that may be a member.
 pub fn next<L: Ledger>(arena: &Arena, rail: Rail, slot: Slot, steps: &mut Steps<L>) -> Option<Slot>
     requires member { IsSome (links.link_at rail link.Next slot.0 arena.now) }
