@@ -1,0 +1,5 @@
+use Rattle.slots_main.specs.Places.{ArePlaces}
+use Rattle.slots_main.proofs.changes.touch.Given as goal
+
+abbrev pub invariant-loop-turn : goal.invariant-loop-turn
+invariant-loop-turn l = ArePlaces l.count l.arena
