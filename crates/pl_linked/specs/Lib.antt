@@ -1,0 +1,11 @@
+pub mod Chains
+pub mod Form
+pub mod Linked
+pub mod LinkedRows
+pub mod Named
+pub mod OneForm
+pub mod OneKept
+pub mod OneRows
+pub mod Opening
+pub mod Records
+pub mod Rows
