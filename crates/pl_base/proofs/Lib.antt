@@ -1,5 +1,6 @@
 mod AddressRows
 pub mod Among
+pub mod ChangedPages
 pub mod ChildrenRun
 mod ConstantRows
 mod HistoryRows

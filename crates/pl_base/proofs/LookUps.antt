@@ -60,6 +60,16 @@ none_pass test (x ∷ xs) none =
 pub none_at : {X : Type 0} (test : X → Bool) (xs : List X) → list_any test xs ≡ false → All (λ x. test x ≡ false) xs
 none_at test xs none = All-from_recursion (λ x. test x ≡ false) xs (none_pass test xs none)
 
+pub any_none : {X : Type 0} (test : X → Bool) (xs : List X) → AllByRecursion (λ x. test x ≡ false) xs
+    → list_any test xs ≡ false
+any_none test [] all = refl
+any_none test (x ∷ xs) all = ap (λ b. b || list_any test xs) all.0 ∙ any_none test xs all.1
+
+pub none_kept : {X : Type 0} (test : X → Bool) (xs : List X) → AllByRecursion (λ x. test x ≡ false) xs
+    → filter test xs ≡ []
+none_kept test [] all = refl
+none_kept test (x ∷ xs) all = rw all.0 (none_kept test xs all.1)
+
 -- ---- what is found
 
 pub find-alike : {X : Type 0} (p q : X → Bool) (xs : List X) → ((x : X) → p x ≡ q x) → find p xs ≡ find q xs

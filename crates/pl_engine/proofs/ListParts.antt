@@ -1,5 +1,5 @@
 -- Lists by their parts, and lists of which no member passes a test.
-use Rattle.std.proofs.Common.{◌≡◌, ◌+◌, ◌++◌, ℕ, All, Bool, false, List, [], ◌∷◌, ap, arith, count_by, filter}
+use Rattle.std.proofs.Common.{◌≡◌, ◌+◌, ◌++◌, ℕ, All, Bool, false, List, [], ◌∷◌, ap, arith, count_by}
 use Rattle.std.proofs.Common.{get_or, if◌then◌else◌, length, refl, subst, suc}
 use Rattle.std.specs.List.{AllByRecursion, AllPairs}
 use Rattle.std.proofs.lemmas.List.{get_or-append-add, get_or_append_left, length-append}
@@ -18,11 +18,6 @@ right P xs ys all k d within =
     subst P (get_or-append-add xs ys k d) (all (length xs + k) d (omega (arith, length-append xs ys)))
 
 -- ---- none
-
-pub none_left : {X : Type 0} (test : X → Bool) (xs : List X) → AllByRecursion (λ x. test x ≡ false) xs
-    → filter test xs ≡ []
-none_left test [] all = refl
-none_left test (x ∷ xs) all = rw all.0 (none_left test xs all.1)
 
 pub none_counted : {X : Type 0} (test : X → Bool) (xs : List X) → AllByRecursion (λ x. test x ≡ false) xs
     → count_by test xs ≡ 0

@@ -24,14 +24,14 @@ use Rattle.pl_base.specs.Store.{Page, Store, Visit}
 use Rattle.pl_base.specs.Visits.{sample_of, visits_of}
 use Rattle.pl_base.proofs.IdsLaws.{same_page}
 use Rattle.pl_base.proofs.ListLaws.{All-from_map, list_any-map, weaker}
-use Rattle.pl_base.proofs.LookUps.{found_holds, found_where, none_pass}
+use Rattle.pl_base.proofs.LookUps.{found_holds, found_where, none_kept, none_pass}
 use Rattle.pl_marks.specs.Refreshed.{HaveCounts, Refreshes}
 use Rattle.pl_history.specs.Settled.{AreSettledBut}
 use Rattle.pl_history.proofs.KeptMark.{IsMarkAt, count_at, mark_at}
 use Rattle.pl_history.proofs.Settled.{refreshed_settled}
 use Rattle.pl_history.proofs.VisitRows.{store_same}
 use Rattle.pl_engine.specs.NewPage.{IsNew, new_mark}
-use Rattle.pl_engine.proofs.ListParts.{left, none_counted, none_left, right, swapped}
+use Rattle.pl_engine.proofs.ListParts.{left, none_counted, right, swapped}
 
 -- ---- a page without visits
 
@@ -67,7 +67,7 @@ module _ (store : Store) (page : PageId) (n : IsNew store page) where
   shown p is_place of place =
       place
       ∙ sym (without_visits store p
-      (ap (visits_of store) of ∙ none_left (λ (v : Visit). v.page.0 == page.0) store.visits no_visit))
+      (ap (visits_of store) of ∙ none_kept (λ (v : Visit). v.page.0 == page.0) store.visits no_visit))
 
   stands : is_standing store page ≡ true
   stands = or_right (is_visited store page) (is_referenced store page) n.referenced

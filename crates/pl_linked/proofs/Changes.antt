@@ -14,11 +14,12 @@ use Rattle.std.proofs.lemmas.List.{get_or-replicate, get_or_past, length-map, le
 use Rattle.std.proofs.lemmas.List.Elements.{All-from_recursion, All-same}
 use Rattle.pl_base.specs.Touched.{IsWithin, MayDiffer, PageImage, bytes_before, changed, page_numbers, page_of, page_size, with_page, with_pages}
 use Rattle.pl_base.proofs.ListLaws.{everyone}
-use Rattle.pl_base.proofs.LookUps.{where_passes}
+use Rattle.pl_base.proofs.ChangedPages.{with_more}
+use Rattle.pl_base.proofs.LookUps.{none_kept, where_passes}
 use Rattle.pl_linked.specs.Form.{bytes_in}
 use Rattle.pl_linked.specs.LinkedRows.{IsBaseOf}
 use Rattle.pl_sheets.specs.Sheets.{ArePages, Pages, change_of, changed_below, has_changed, image_of, page_count, settled}
-use Rattle.pl_linked.proofs.Splits.{any_kept, none_kept}
+use Rattle.pl_linked.proofs.Splits.{any_kept}
 use Rattle.pl_slot.proofs.Settled.{settled_are, settled_count}
 use Rattle.pl_sheets.proofs.Listing.{below_more, numbers_same}
 
@@ -90,11 +91,6 @@ module _ (pages : Pages) (are : ArePages pages) where
       ∙ ap (λ (l : List ℕ). l ++ drop (bytes_before (k + 1)) base) (sym (grown k some))
 
   -- ---- the change
-
-  with_more : (xs : List PageImage) (p : PageImage) (bytes : List ℕ)
-      → with_pages (xs ++ p ∷ []) bytes ≡ with_page p (with_pages xs bytes)
-  with_more [] p bytes = refl
-  with_more (x ∷ xs) p bytes = with_more xs p (with_page x bytes)
 
   -- a page that has not changed was there
   there_before : (k : ℕ) → has_changed k pages ≡ false → k < page_count pages → k < pages.before

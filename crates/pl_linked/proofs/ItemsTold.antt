@@ -19,7 +19,7 @@ use Rattle.pl_base.specs.Tree.{is_page, parent_of, reference_behind, references,
 use Rattle.pl_base.proofs.IdsLaws.{same_page}
 use Rattle.pl_base.proofs.ItemLookUps.{same_item}
 use Rattle.pl_base.proofs.ListLaws.{list_any-map, to_map, weaker}
-use Rattle.pl_base.proofs.LookUps.{found_any, found_holds, found_passes, found_some, rest_of}
+use Rattle.pl_base.proofs.LookUps.{found_any, found_holds, found_passes, found_some, none_kept, rest_of}
 use Rattle.pl_base.proofs.PageLaws.{id_at}
 use Rattle.pl_base.proofs.ReferencesRun.{IsItemOf, having, items_found, items_stand}
 use Rattle.pl_linked.specs.declared.rows.Item.{Item as Row}
@@ -31,7 +31,7 @@ use Rattle.pl_linked.specs.Rows as spec
 use Rattle.pl_linked.proofs.LookUps.{Found, finds, finds_none}
 use Rattle.pl_linked.specs.Named.{found_all, found_of, item_named, item_row_is, page_named}
 use Rattle.pl_linked.proofs.PagesTold.{kind_told, named_slot, page_found}
-use Rattle.pl_linked.proofs.Splits.{any_kept, behind_item, none_kept, not_there, split}
+use Rattle.pl_linked.proofs.Splits.{any_kept, behind_item, not_there, split}
 use Rattle.pl_linked.proofs.VisitsTold.{page_slot_kind}
 use Rattle.pl_rail.specs.declared.owner.Owner.{Owner}
 use Rattle.pl_rail.specs.declared.owner.Owner.TheVariants.{At}

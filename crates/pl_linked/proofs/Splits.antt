@@ -5,7 +5,7 @@ use Rattle.std.proofs.lemmas.Bool.{cases_Bool, or_right, true≢false}
 use Rattle.std.proofs.lemmas.List.Elements.{recursion_from_All}
 use Rattle.std.specs.List.Sorted.{IsPermutation}
 use Rattle.std.proofs.lemmas.List.Sorted.{All-permutation}
-use Rattle.pl_base.proofs.LookUps.{none_at}
+use Rattle.pl_base.proofs.LookUps.{any_none, none_at}
 use Rattle.std.proofs.Common.{refl, sym, true}
 use Rattle.std.specs.List.{AllByRecursion, list_any}
 use Rattle.pl_base.specs.declared.id.ItemId.{ItemId}
@@ -88,11 +88,6 @@ not_there test xs none = elim (cases_Bool (list_any test xs)) [
   | inr none_passes ↦ none_passes
 ]
 
-pub any_none : {X : Type 0} (test : X → Bool) (xs : List X) → AllByRecursion (λ x. test x ≡ false) xs
-    → list_any test xs ≡ false
-any_none test [] all = refl
-any_none test (x ∷ xs) all = ap (λ b. b || list_any test xs) all.0 ∙ any_none test xs all.1
-
 -- some that are the same in another order
 pub any_permuted : {X : Type 0} (test : X → Bool) (xs ys : List X) → IsPermutation xs ys → list_any test ys ≡ true
     → list_any test xs ≡ true
@@ -104,9 +99,3 @@ any_permuted test xs ys same any = elim (cases_Bool (list_any test xs)) [
       (recursion_from_All (λ x. test x ≡ false) ys
       (All-permutation (λ x. test x ≡ false) xs ys same (none_at test xs nothing)))))
 ]
-
-pub none_kept : {X : Type 0} (test : X → Bool) (xs : List X) → AllByRecursion (λ x. test x ≡ false) xs
-    → filter test xs ≡ []
-none_kept test [] all = refl
-none_kept test (x ∷ xs) all =
-    ap (λ b. if b then x ∷ filter test xs else filter test xs) all.0 ∙ none_kept test xs all.1

@@ -21,7 +21,7 @@ use Rattle.std.proofs.Common.{inl, inr}
 use Rattle.std.proofs.lemmas.List.Elements.{recursion_from_All}
 use Rattle.pl_base.proofs.IdsLaws.{same_page}
 use Rattle.pl_base.proofs.ListLaws.{weaker}
-use Rattle.pl_base.proofs.LookUps.{found_some, rest_of}
+use Rattle.pl_base.proofs.LookUps.{found_some, none_kept, rest_of}
 use Rattle.pl_base.proofs.PageLaws.{id_at}
 use Rattle.pl_base.proofs.TargetsRun.{IsAny, all_any, targets_of}
 use Rattle.pl_base.proofs.VisitLists.{any-latest_first}
@@ -35,7 +35,7 @@ use Rattle.pl_linked.proofs.LookUps.{Found, finds, finds_none}
 use Rattle.pl_linked.specs.Named.{found_all, found_of, page_named, page_row_is, visit_named, visit_row_is}
 use Rattle.pl_linked.specs.OneForm.{no_targets}
 use Rattle.pl_linked.proofs.PagesTold.{kind_told, named_slot, no_page, page_found}
-use Rattle.pl_linked.proofs.Splits.{any_kept, any_permuted, none_kept, not_there, split, visit_behind}
+use Rattle.pl_linked.proofs.Splits.{any_kept, any_permuted, not_there, split, visit_behind}
 use Rattle.pl_rail.specs.declared.owner.Owner.{Owner}
 use Rattle.pl_rail.specs.declared.owner.Owner.TheVariants.{At}
 use Rattle.pl_rail.specs.Rails.{Lists, first_of, named, none}

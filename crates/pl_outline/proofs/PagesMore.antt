@@ -23,7 +23,7 @@ use Rattle.pl_base.specs.Tree.{child_items, children_of, is_page, item_at}
 use Rattle.pl_base.specs.Visiting.{find_page, new_page, page_for, with_page_for}
 use Rattle.pl_base.proofs.IdsLaws.{same_page}
 use Rattle.pl_base.proofs.ListLaws.{list_any-map, weaker}
-use Rattle.pl_base.proofs.LookUps.{Apart, apart_ascending, both, found_holds, found_passes}
+use Rattle.pl_base.proofs.LookUps.{Apart, any_none, apart_ascending, both, found_holds, found_passes}
 use Rattle.pl_base.proofs.Truths.{same_tests}
 use Rattle.pl_tree.proofs.GoodStores.{ascends_push}
 use Rattle.pl_graft.specs.Ready.{IsReady}
@@ -32,11 +32,6 @@ use Rattle.pl_outline.proofs.Bare.{HasPages}
 use Rattle.pl_outline.proofs.TagMarks.{marks}
 
 -- ---- tests
-
-none_of : {X : Type 0} (test : X → Bool) (xs : List X) → AllByRecursion (λ x. test x ≡ false) xs
-    → list_any test xs ≡ false
-none_of test [] all = refl
-none_of test (x ∷ xs) all = ap (λ (b : Bool). b || list_any test xs) all.0 ∙ none_of test xs all.1
 
 none_left : {X : Type 0} (test : X → Bool) (xs : List X) → find test xs ≡ None
     → AllByRecursion (λ x. test x ≡ false) xs
@@ -217,7 +212,7 @@ of_looked_up P items all (id ∷ ids) = choose (item_at items id) refl (of_looke
 module _ (store : Store) (ready : IsReady store) (h : HasPages store) (id : PageId) (late : store.ids.page ≤ id.0) where
   not_there : has_page_at store id ≡ false
   not_there =
-      none_of (λ (p : Page). p.id.0 == id.0) store.pages
+      any_none (λ (p : Page). p.id.0 == id.0) store.pages
       (weaker (λ (p : Page). p.id.0 < store.ids.page) (λ (p : Page). (p.id.0 == id.0) ≡ false) store.pages
       (λ p lower. ne_eqb p.id.0 id.0 (λ same. omega arith)) (below store h))
 
@@ -236,7 +231,7 @@ module _ (store : Store) (ready : IsReady store) (h : HasPages store) (id : Page
   held_by_none : (t : Item) → holds id (tag_row store.items t) ≡ false
   held_by_none t =
       list_any-map (λ (e : TagEntry). is_page id e.page) entry_row (child_items store.items t.id)
-      ∙ none_of (λ (i : Item). is_page id i.page) (child_items store.items t.id)
+      ∙ any_none (λ (i : Item). is_page id i.page) (child_items store.items t.id)
       (of_looked_up (λ (i : Item). is_page id i.page ≡ false) store.items items_unlike (children_of store.items t.id))
 
   pub unmarked : (title : List ℕ) → marks id title (tag_rows store.items) ≡ false

@@ -14,6 +14,7 @@ use Rattle.pl_base.specs.Touched.{bytes_before, page_numbers, page_size, with_on
 use Rattle.pl_form.specs.Form.{filled_pages, in_pages}
 use Rattle.pl_plain.specs.Images.{images_of, whole_change, image_at}
 use Rattle.pl_form.proofs.FormLengths.{length-in_pages}
+use Rattle.pl_base.proofs.ChangedPages.{with_more}
 use Rattle.pl_base.proofs.ListLaws.{map-map}
 
 -- one page more
@@ -67,11 +68,6 @@ push_more before after page len at bytes change new some is whole place pushed =
 
 -- ---- the bytes after the change
 
-with_pages-push : (pages : List PageImage) (p : PageImage) (bytes : List ℕ)
-    → with_pages (pages ++ p ∷ []) bytes ≡ with_page p (with_pages pages bytes)
-with_pages-push [] p bytes = refl
-with_pages-push (q ∷ pages) p bytes = with_pages-push pages p (with_page q bytes)
-
 one_page : (n : ℕ) (bytes base : List ℕ) → page_size * n + page_size ≤ length bytes
     → with_page (image_at bytes (n + 1)) (take (page_size * n) bytes ++ drop (page_size * n) base)
     ≡ take (page_size * n + page_size) bytes ++ drop (page_size * n + page_size) base
@@ -95,7 +91,7 @@ with_pages_of (suc n) bytes base within =
     let next : n + 1 ≡ suc n = omega arith in
     subst (λ m. with_pages (images_of m bytes) base ≡ take (page_size * m) bytes ++ drop (page_size * m) base) next
     (ap (λ pages. with_pages pages base) (images_of_more n bytes)
-    ∙ with_pages-push (images_of n bytes) (image_at bytes (n + 1)) base
+    ∙ with_more (images_of n bytes) (image_at bytes (n + 1)) base
     ∙ ap (with_page (image_at bytes (n + 1))) (with_pages_of n bytes base (omega arith))
     ∙ one_page n bytes base (omega arith)
     ∙ ap (λ m. take m bytes ++ drop m base) (sym size))
