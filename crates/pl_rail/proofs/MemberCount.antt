@@ -1,16 +1,13 @@
 -- That members which differ are no more than the live slots.
 use Rattle.std.proofs.Common.{◌≡◌, ◌∙◌, ◌+◌, ◌-◌, ◌<◌, ◌≤◌, ◌∷◌, [], ℕ, List, Bool, ap, arith}
-use Rattle.std.proofs.Common.{eq-eqb, eqb, eqb-true, false, filter, get_or, inl, inr, is_some, length, map, None, Option, refl, Some}
+use Rattle.std.proofs.Common.{eqb, eqb-true, false, filter, inl, inr, is_some, length, map, None, Option, refl, Some}
 use Rattle.std.proofs.Common.{sym, true}
-use Rattle.std.specs.List.{AllByRecursion, IsDistinct, list_all, list_any, range_with_len}
+use Rattle.std.specs.List.{AllByRecursion, IsDistinct, list_all, list_any}
 use Rattle.std.specs.Option.{option_and_then, option_map}
 use Rattle.std.proofs.lemmas.Bool.{and_parts, ne_eqb, or_cases, true≢false}
 use Rattle.std.proofs.lemmas.Cmp.{nat_eq_equiv}
 use Rattle.std.proofs.lemmas.List.{length-map}
-use Rattle.std.proofs.lemmas.List.Folds.{list_any_at}
-use Rattle.std.proofs.lemmas.List.FromFn.{get_or-range_with_len, length-range_with_len}
 use Rattle.std.proofs.lemmas.Map.Made.{length-le_from_is_member}
-use Rattle.std.proofs.lemmas.Map.Views.{any-filter_same}
 use Rattle.pl_base.specs.declared.id.Slot.{Slot}
 use Rattle.pl_rail.specs.declared.owner.Owner.{Owner}
 use Rattle.pl_rail.specs.declared.owner.Owner.TheVariants as owners
@@ -29,6 +26,7 @@ use Rattle.pl_slot.specs.Arena.{is_live, is_slot, live_count, live_row, row_at, 
 use Rattle.pl_slot.specs.Links.{kind_at}
 use Rattle.pl_slot.specs.Slot.{slot_kind}
 use Rattle.pl_slot.proofs.ArenaLaws.{live_slot}
+use Rattle.pl_slot.proofs.ChainCount.{among_range}
 use Rattle.pl_slot.proofs.SlotPlaces.{no_slot, slot_bounds}
 
 -- ---- members are live slots
@@ -52,7 +50,7 @@ member_told rail owner pages slot row kind wanted result row_is kind_is wanted_i
     is ∙ same ∙ ap (λ r. is_kind (option_map slot_kind r) (member_kind rail owner)) (sym row_is)
 
 -- no free slot is a member
-never_free : (rail : Rail) (owner : Owner) → is_kind (Some kinds.Free) (member_kind rail owner) ≡ false
+pub never_free : (rail : Rail) (owner : Owner) → is_kind (Some kinds.Free) (member_kind rail owner) ≡ false
 never_free Live (owners.Header live.Origin) = refl
 never_free Live (owners.Header live.Place) = refl
 never_free Live (owners.Header live.Visit) = refl
@@ -69,10 +67,10 @@ row_live : (rail : Rail) (owner : Owner) (row : SlotRow)
 row_live rail owner (Free next) is = absurd (true≢false (sym is ∙ never_free rail owner))
 row_live rail owner row is = refl
 
-member_live : (rail : Rail) (owner : Owner) (pages : Pages) (slot : Slot) → is_member rail owner pages slot ≡ true
+pub live_member : (rail : Rail) (owner : Owner) (pages : Pages) (slot : Slot) → is_member rail owner pages slot ≡ true
     → is_live slot.0 pages ≡ true
 unfolding kind_at
-member_live rail owner pages slot member = of_row (row_at slot.0 pages) member
+live_member rail owner pages slot member = of_row (row_at slot.0 pages) member
   where
     of_row : (row : Option SlotRow) → is_kind (option_map slot_kind row) (member_kind rail owner) ≡ true
         → is_some (option_and_then live_row row) ≡ true
@@ -91,26 +89,14 @@ differ_numbers a (x ∷ xs) apart = (
   differ_numbers a xs apart.1,
 )
 
-live_among : (n : ℕ) (pages : Pages) → is_live n pages ≡ true
+pub live_among : (n : ℕ) (pages : Pages) → is_live n pages ≡ true
     → list_any (eqb n) (filter (λ k. is_live k pages) (slots_of pages)) ≡ true
 live_among n pages is =
     let bounds = slot_bounds n pages (live_slot n pages is) in
-    let here : get_or (range_with_len 1 (slot_count pages)) (n - 1) 0 ≡ n =
-    get_or-range_with_len 1 (slot_count pages) (n - 1) 0 (before n (slot_count pages) bounds.0 bounds.1)
-    ∙ from_one n bounds.0 in
-    let among : list_any (eqb n) (slots_of pages) ≡ true =
-    list_any_at (eqb n) (range_with_len 1 (slot_count pages)) (n - 1) 0
-    (rw (length-range_with_len 1 (slot_count pages)) (before n (slot_count pages) bounds.0 bounds.1))
-    (eq-eqb n (get_or (range_with_len 1 (slot_count pages)) (n - 1) 0) (sym here)) in
-    any-filter_same (eqb n) (λ k. is_live k pages) true
-    (λ k same. ap (λ m. is_live m pages) (sym (eqb-true n k same)) ∙ is) (slots_of pages)
-    ∙ among
+    among_range (λ k. is_live k pages) n 1 (slot_count pages) bounds.0 (below n (slot_count pages) bounds.1) is
   where
-    before : (n count : ℕ) → 1 ≤ n → n ≤ count → n - 1 < count
-    before n count some within = omega arith
-
-    from_one : (n : ℕ) → 1 ≤ n → 1 + (n - 1) ≡ n
-    from_one n some = omega arith
+    below : (n count : ℕ) → n ≤ count → n < 1 + count
+    below n count within = omega arith
 
 among_live : (rail : Rail) (owner : Owner) (pages : Pages) (xs : List Slot) (q : ℕ)
     → list_all (is_member rail owner pages) xs ≡ true → list_any (eqb q) (numbers xs) ≡ true → is_live q pages ≡ true
@@ -118,7 +104,7 @@ among_live rail owner pages [] q members among = absurd (true≢false (sym among
 among_live rail owner pages (x ∷ xs) q members among =
     let parts = and_parts (is_member rail owner pages x) (list_all (is_member rail owner pages) xs) members in
     elim (or_cases (eqb q x.0) (list_any (eqb q) (numbers xs)) among) [
-      | inl here ↦ ap (λ n. is_live n pages) (eqb-true q x.0 here) ∙ member_live rail owner pages x parts.0
+      | inl here ↦ ap (λ n. is_live n pages) (eqb-true q x.0 here) ∙ live_member rail owner pages x parts.0
       | inr there ↦ among_live rail owner pages xs q parts.1 there
     ]
 

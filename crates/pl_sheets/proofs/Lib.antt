@@ -2,4 +2,4 @@ mod Bits
 mod Flags
 mod Levels
 pub mod Listing
-mod PagesLaws
+pub mod PagesLaws

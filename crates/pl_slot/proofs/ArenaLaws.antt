@@ -70,7 +70,16 @@ word_put k v old new are some there fits is =
     } in
     subst (PutWord k v old) (sym is) made
 
--- ---- pages that change one after another
+-- ---- pages that stay, and that change one after another
+
+pub only_itself : (these : List ℕ) (pages : Pages) → ChangesOnly these pages pages
+only_itself these pages =
+    record {
+      before = refl;
+      marks = λ p other. refl;
+      images = λ p other there. refl;
+      unmarked = λ p there none. (none, refl);
+    }
 
 pub then_only : (xs ys zs : List ℕ) (old middle new : Pages)
     → ((p : ℕ) → is_among p zs ≡ false → (is_among p xs ≡ false) × (is_among p ys ≡ false))
@@ -82,6 +91,10 @@ then_only xs ys zs old middle new apart longer first second =
       marks = λ p other. second.marks p (apart p other).1 ∙ first.marks p (apart p other).0;
       images = λ p other there.
           second.images p (apart p other).1 (within p there) ∙ first.images p (apart p other).0 there;
+      unmarked = λ p there none.
+          let last = second.unmarked p (within p there) none in
+          let front = first.unmarked p there last.0 in
+          (front.0, last.1 ∙ front.1);
     }
   where
     within : (p : ℕ) → p < page_count old → p < page_count middle

@@ -43,7 +43,7 @@ none_equal n (m ∷ ns) none =
 
 -- ---- numbers of a range that pass
 
-among_range : (p : ℕ → Bool) (n from count : ℕ) → from ≤ n → n < from + count → p n ≡ true
+pub among_range : (p : ℕ → Bool) (n from count : ℕ) → from ≤ n → n < from + count → p n ≡ true
     → is_among n (filter p (range_with_len from count)) ≡ true
 among_range p n from zero above below passes = absurd (omega arith)
 among_range p n from (suc count) above below passes = elim (cases_eq n from) [
@@ -64,7 +64,7 @@ among_range p n from (suc count) above below passes = elim (cases_eq n from) [
     more : (from n : ℕ) → from ≤ n → n ≢ from → from + 1 ≤ n
     more from n above apart = elim (cases_eq n from) [ inl is ↦ absurd (apart is) | inr other ↦ omega arith ]
 
-passes_within : (p : ℕ → Bool) (n from count : ℕ) → is_among n (filter p (range_with_len from count)) ≡ true
+pub passes_within : (p : ℕ → Bool) (n from count : ℕ) → is_among n (filter p (range_with_len from count)) ≡ true
     → (p n ≡ true) × (from ≤ n)
 passes_within p n from zero among = absurd (true≢false (sym among))
 passes_within p n from (suc count) among = elim (cases_Bool (p from)) [
@@ -85,7 +85,7 @@ passes_within p n from (suc count) among = elim (cases_Bool (p from)) [
       (found.0, omega (arith, found.1))
 ]
 
-range_distinct : (p : ℕ → Bool) (from count : ℕ) → IsDistinct eqb (filter p (range_with_len from count))
+pub range_distinct : (p : ℕ → Bool) (from count : ℕ) → IsDistinct eqb (filter p (range_with_len from count))
 unfolding IsDistinct
 range_distinct p from zero = tt
 range_distinct p from (suc count) =

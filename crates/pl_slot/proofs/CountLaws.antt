@@ -1,9 +1,10 @@
 -- How many numbers of a range pass a test.
-use Rattle.std.proofs.Common.{◌≡◌, ◌≢◌, ◌∙◌, ◌+◌, ◌-◌, ◌<◌, ◌≤◌, ◌∷◌, ℕ, Bool, ap, arith, cond, false}
-use Rattle.std.proofs.Common.{filter, inl, inr, length, refl, suc, sym, true, zero}
+use Rattle.std.proofs.Common.{◌≡◌, ◌≢◌, ◌∙◌, ◌==◌, ◌||◌, ◌+◌, ◌-◌, ◌<◌, ◌≤◌, ◌∷◌, [], ℕ, Bool, List, ap, arith, cond}
+use Rattle.std.proofs.Common.{eq-eqb, false, filter, inl, inr, length, refl, suc, sym, true, zero}
 use mir.Val.{bool_byte}
 use Rattle.std.specs.List.{range_with_len}
-use Rattle.std.proofs.lemmas.Bool.{cases_eq}
+use Rattle.std.proofs.lemmas.Bool.{cases_eq, ne_eqb}
+use Rattle.pl_slot.specs.Arena.{is_among}
 
 abbrev pub passed : (ℕ → Bool) → ℕ → ℕ → ℕ
 passed p from n = length (filter p (range_with_len from n))
@@ -125,3 +126,47 @@ count_on p slot free more b some counted more_is is =
   where
     sum : {a b c d : ℕ} → a ≡ b → c ≡ d → a + c ≡ b + d
     sum same too = omega (arith, same, too)
+
+-- tests that differ for one number at most
+one_apart : (p q : ℕ → Bool) (x from n : ℕ) → ((k : ℕ) → k ≢ x → q k ≡ p k) → passed q from n ≤ passed p from n + 1
+one_apart p q x from zero same = omega arith
+one_apart p q x from (suc n) same = elim (cases_eq from x) [
+  | inl here ↦
+      let rest : passed q (from + 1) n ≡ passed p (from + 1) n =
+      passed_same p q (from + 1) n (λ k past. same k (past_is k from x here past)) in
+      omega (arith, step q from n, step p from n, rest, one_at_most (q from))
+  | inr there ↦
+      omega (
+        arith,
+        step q from n,
+        step p from n,
+        ap {B = ℕ} (λ (b : Bool). cond b 1 0) (same from there),
+        one_apart p q x (from + 1) n same,
+      )
+]
+  where
+    past_is : (k from x : ℕ) → from ≡ x → from + 1 ≤ k → k ≢ x
+    past_is k from x here past is = absurd (omega arith)
+
+-- the one test where a number is this, and the other elsewhere
+abbrev mixed : (ℕ → Bool) → (ℕ → Bool) → ℕ → ℕ → Bool
+mixed p q x k = cond (k == x) (q k) (p k)
+
+-- tests that differ for so many numbers
+pub passed_few : (p q : ℕ → Bool) (these : List ℕ) (from n : ℕ)
+    → ((k : ℕ) → is_among k these ≡ false → q k ≡ p k) → passed q from n ≤ passed p from n + length these
+passed_few p q [] from n same = omega (arith, passed_same p q from n (λ k _. same k refl))
+passed_few p q (x ∷ these) from n same =
+    omega (
+      arith,
+      one_apart p (mixed p q x) x from n (λ k apart. ap (λ b. cond b (q k) (p k)) (ne_eqb k x apart)),
+      passed_few (mixed p q x) q these from n mixed_is,
+    )
+  where
+    mixed_is : (k : ℕ) → is_among k these ≡ false → q k ≡ mixed p q x k
+    mixed_is k other = elim (cases_eq k x) [
+      | inl here ↦ sym (ap (λ b. cond b (q k) (p k)) (eq-eqb k x here))
+      | inr apart ↦
+          same k (ap (λ b. b || is_among k these) (ne_eqb k x apart) ∙ other)
+          ∙ sym (ap (λ b. cond b (q k) (p k)) (ne_eqb k x apart))
+    ]

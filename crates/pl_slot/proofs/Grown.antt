@@ -10,7 +10,7 @@ use Rattle.std.proofs.lemmas.List.{drop-append-le, drop-replicate, get_or_append
 use Rattle.std.proofs.lemmas.List.{length-drop, length_push, take-append-le, take-replicate}
 use Rattle.pl_base.specs.Live.{slot_size}
 use Rattle.pl_base.specs.Touched.{page_size}
-use Rattle.pl_sheets.specs.Sheets.{ArePages, Pages, bytes_at, page_count, place_in, with_blank}
+use Rattle.pl_sheets.specs.Sheets.{ArePages, Pages, bytes_at, image_of, page_count, place_in, with_blank}
 use Rattle.pl_sheets.specs.Sheets.{with_bytes}
 use Rattle.pl_slot.specs.declared.row.SlotRow.{SlotRow}
 use Rattle.pl_slot.specs.declared.row.SlotRow.TheVariants.{Free}
@@ -20,7 +20,7 @@ use Rattle.pl_slot.specs.Arena.{slot_page}
 use Rattle.pl_slot.specs.Header.{Header, header_in}
 use Rattle.pl_slot.specs.SlotReading.{row_of}
 use Rattle.pl_slot.specs.Taking.{IsGrown, IsLinked}
-use Rattle.pl_slot.proofs.ArenaLaws.{PutRow, PutWord, beside_header, row_put, then_only}
+use Rattle.pl_slot.proofs.ArenaLaws.{PutRow, PutWord, beside_header, only_itself, row_put, then_only}
 use Rattle.pl_slot.proofs.ArenaLaws.{word_put}
 use Rattle.pl_slot.proofs.HeaderLaws.{first_free_set, pages_set}
 use Rattle.pl_slot.proofs.RowLaws.{with_row}
@@ -91,7 +91,6 @@ blank_header pages are some =
 
 blank_only : (pages : Pages) → ArePages pages → ChangesOnly (page_count pages ∷ []) pages (with_blank pages)
 blank_only pages are =
-    let whole : length pages.bytes ≡ page_size * page_count pages = are.whole in
     record {
       before = refl;
       marks = λ p other. elim (cases_lt p (page_count pages)) [
@@ -101,9 +100,9 @@ blank_only pages are =
             (rw length_push (behind p (page_count pages) past (apart p (page_count pages) other)))
             ∙ sym (get_or_past pages.changed p false past)
       ];
-      images = λ p other there.
-          ap (λ (l : List ℕ). record { page = p; image = l })
-          (at_front (page_size * p) page_size pages.bytes (replicate page_size 0) (inside p (page_count pages) (length pages.bytes) whole there));
+      images = λ p other there. image p there;
+      unmarked = λ p there none.
+          (sym (get_or_append_left pages.changed (true ∷ []) false p there) ∙ none, image p there);
     }
   where
     apart : (p page : ℕ) → is_among p (page ∷ []) ≡ false → p ≢ page
@@ -114,6 +113,12 @@ blank_only pages are =
 
     inside : (p count size : ℕ) → size ≡ page_size * count → p < count → page_size * p + page_size ≤ size
     inside p count size whole there = omega arith
+
+    image : (p : ℕ) → p < page_count pages → image_of (with_blank pages) p ≡ image_of pages p
+    image p there =
+        ap (λ (l : List ℕ). record { page = p; image = l })
+        (at_front (page_size * p) page_size pages.bytes (replicate page_size 0)
+        (inside p (page_count pages) (length pages.bytes) are.whole there))
 
 -- ---- its slots are linked
 
@@ -130,7 +135,7 @@ none_linked first pages grown =
       rows = λ n. sym (ap (λ b. cond b (Some (Free (record { 0 = n + 1 }))) (row_at n pages)) (no_one n first));
       header = refl;
       as_many = refl;
-      pages = record { before = refl; marks = λ p other. refl; images = λ p other there. refl };
+      pages = only_itself ((page_count pages - 1) ∷ []) pages;
     }
   where
     never : (n first : ℕ) → first ≤ n → n < first + 0 → ⊥

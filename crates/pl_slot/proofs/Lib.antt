@@ -6,10 +6,11 @@ pub mod ChainLaws
 pub mod CountLaws
 pub mod FieldLaws
 pub mod Fields
-mod FitsLaws
+pub mod FitsLaws
 pub mod Grown
 pub mod GrownArena
 pub mod HeaderLaws
+pub mod LinkFields
 pub mod LinkLaws
 pub mod LinkPlaces
 pub mod LinkRows

@@ -8,8 +8,9 @@ use Rattle.std.proofs.lemmas.List.{get_or-set_other, get_or-set_same}
 use Rattle.std.proofs.Math.ListN.{length-set}
 use Rattle.pl_base.specs.Live.{slot_size}
 use Rattle.pl_base.specs.Touched.{page_size}
-use Rattle.pl_sheets.specs.Sheets.{ArePages, Pages, bytes_at, page_count, place_in}
+use Rattle.pl_sheets.specs.Sheets.{ArePages, Pages, bytes_at, has_changed, image_of, page_count, place_in}
 use Rattle.pl_sheets.specs.Sheets.{stand_at, with_bytes}
+use Rattle.pl_sheets.proofs.PagesLaws.{same_put}
 use Rattle.pl_slot.specs.Arena.{ChangesOnly, is_among, is_slot, row_at, slot_byte, slot_count, slot_page}
 use Rattle.pl_slot.specs.SlotReading.{row_in, row_of}
 use Rattle.pl_slot.proofs.BytesAt.{before_place, behind_place, length-overwritten}
@@ -139,20 +140,19 @@ not_among page other apart same =
 pub put_only : (page at : ℕ) (new : List ℕ) (pages : Pages) → ArePages pages → page < page_count pages
     → at + length new ≤ page_size → ChangesOnly (page ∷ []) pages (with_bytes page at new pages)
 put_only page at new pages are there within =
-    let kept : Bool = stand_at (place_in page at) new pages.bytes in
-    let reach = put_within page at new pages are there within in
     record {
       before = refl;
-      marks = λ p apart. other_mark pages.changed page p kept (not_among page p apart);
-      images = λ p apart below.
-          ap (λ (l : List ℕ). record { page = p; image = l })
-          (elim (cases_lt p page) [
-            | inl front ↦
-                before_place (page_size * p) page_size (place_in page at) new pages.bytes (omega arith) (omega (arith, reach))
-            | inr back ↦
-                behind_place (page_size * p) page_size (place_in page at) new pages.bytes
-                (past p page at new back (not_among page p apart) within) (omega (arith, reach))
-          ]);
+      marks = λ p other. mark p (not_among page p other);
+      images = λ p other below. image p (not_among page p other);
+      unmarked = λ p below none. elim (cases_Bool (stand_at (place_in page at) new pages.bytes)) [
+        | inl same ↦
+            let is : pages ≡ with_bytes page at new pages = same_put page at new pages same in
+            (ap (has_changed p) is ∙ none, ap (λ q. image_of q p) (sym is))
+        | inr differs ↦ elim (cases_eq p page) [
+          | inl here ↦ absurd (true≢false (sym (marked p differs here) ∙ none))
+          | inr apart ↦ (sym (mark p apart) ∙ none, image p apart)
+        ]
+      ];
     }
   where
     past : (p page at : ℕ) (new : List ℕ) → page ≤ p → p ≢ page → at + length new ≤ page_size
@@ -160,3 +160,25 @@ put_only page at new pages are there within =
     past p page at new back apart within =
         let more : page < p = elim (cases_lt page p) [ inl more ↦ more | inr less ↦ absurd (apart (omega arith)) ] in
         omega arith
+
+    mark : (p : ℕ) → p ≢ page → has_changed p (with_bytes page at new pages) ≡ has_changed p pages
+    mark p apart = other_mark pages.changed page p (stand_at (place_in page at) new pages.bytes) apart
+
+    marked : (p : ℕ) → stand_at (place_in page at) new pages.bytes ≡ false → p ≡ page
+        → has_changed p (with_bytes page at new pages) ≡ true
+    marked p differs here =
+        ap (λ b. get_or (cond b pages.changed (set pages.changed page true)) p false) differs
+        ∙ ap (λ k. get_or (set pages.changed page true) k false) here
+        ∙ get_or-set_same pages.changed page true false there
+
+    image : (p : ℕ) → p ≢ page → image_of (with_bytes page at new pages) p ≡ image_of pages p
+    image p apart =
+        let reach = put_within page at new pages are there within in
+        ap (λ (l : List ℕ). record { page = p; image = l })
+        (elim (cases_lt p page) [
+          | inl front ↦
+              before_place (page_size * p) page_size (place_in page at) new pages.bytes (omega arith) (omega (arith, reach))
+          | inr back ↦
+              behind_place (page_size * p) page_size (place_in page at) new pages.bytes
+              (past p page at new back apart within) (omega (arith, reach))
+        ])

@@ -8,7 +8,7 @@ use Rattle.pl_slot.specs.Arena.{ChangesOnly, IsArena, IsLiveRow, IsSet, IsTaken,
 use Rattle.pl_slot.specs.Arena.{live_count, row_at, slot_page}
 use Rattle.pl_slot.specs.Header.{Header}
 use Rattle.pl_slot.specs.Taking.{MakesFree}
-use Rattle.pl_slot.proofs.ArenaLaws.{row_elsewhere, sets_live, then_only}
+use Rattle.pl_slot.proofs.ArenaLaws.{only_itself, row_elsewhere, sets_live, then_only}
 use Rattle.pl_slot.proofs.TakingLaws.{first_is_free}
 
 -- a slot is free already
@@ -21,7 +21,7 @@ free_already pages some =
       still = λ n there. there;
       count = refl;
       header = refl;
-      pages = record { before = refl; marks = λ p other. refl; images = λ p other there. refl };
+      pages = only_itself (header_page ∷ slot_page (header_of pages).first_free.0 ∷ []) pages;
       longer = search rules;
     }
 

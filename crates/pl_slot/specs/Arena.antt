@@ -139,13 +139,16 @@ KeepsOthers slot old new =
 abbrev pub KeepsRows : Pages → Pages → Type 0
 KeepsRows old new = (n : ℕ) → row_at n new ≡ row_at n old
 
--- no other pages than these have changed, nor whether they had
+-- no other pages than these have changed, nor whether they had, and a page that is not marked as
+-- changed is as it was
 pub record ChangesOnly (these : List ℕ) (old new : Pages) : Type 0 where
   pub before : new.before ≡ old.before
   pub marks : (page : ℕ) → is_among page these ≡ false
       → has_changed page new ≡ has_changed page old
   pub images : (page : ℕ) → is_among page these ≡ false → page < page_count old
       → image_of new page ≡ image_of old page
+  pub unmarked : (page : ℕ) → page < page_count old → has_changed page new ≡ false
+      → (has_changed page old ≡ false) × (image_of new page ≡ image_of old page)
 
 -- the header but for its length in pages and its first free slot
 abbrev pub KeepsFields : Pages → Pages → Type 0

@@ -80,6 +80,7 @@ impl Arena {
     pub fn write(&mut self, slot: Slot, row: &SlotRow)
         requires live { arena.is_live slot.0 self.old ≡ true }
         requires row { arena.IsLiveRow row.now }
+        ensures arena { arena.IsArena self.new }
         ensures rows { arena.IsSet slot.0 row.now self.old self.new }
         ensures header { arena.header_of self.new ≡ arena.header_of self.old }
         ensures count { arena.live_count self.new ≡ arena.live_count self.old }
@@ -93,6 +94,7 @@ impl Arena {
     pub fn take(&mut self, row: &SlotRow) -> Result<Slot, NoMemory>
         requires row { arena.IsLiveRow row.now }
         requires few { arena.live_count self.old < slot_limit }
+        ensures arena { arena.IsArena self.new }
         ensures taken { IfOk result (λ slot. arena.IsTaken slot.0 row.now self.old self.new) }
         ensures header { arena.KeepsFields self.old self.new }
         ensures pages { IfOk result (λ slot.
@@ -107,6 +109,7 @@ impl Arena {
     /// Frees a live slot. It holds no byte of its row any more.
     pub fn give_back(&mut self, slot: Slot)
         requires live { arena.is_live slot.0 self.old ≡ true }
+        ensures arena { arena.IsArena self.new }
         ensures rows { arena.IsSet slot.0 (Free (arena.header_of self.old).first_free)
             self.old self.new }
         ensures header { arena.header_of self.new

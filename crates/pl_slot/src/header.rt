@@ -95,6 +95,7 @@ impl Arena {
     pub fn set_day(&mut self, day: Day)
         ensures set { arena.SetsHeader
             (λ h. record h { day = day }) self.old self.new }
+        ensures arena { arena.IsArena self.new }
     {
         put_four(&mut self.sheets, DAY, day.0);
     }
@@ -102,6 +103,7 @@ impl Arena {
     pub fn set_ids(&mut self, ids: &Ids)
         ensures set { arena.SetsHeader
             (λ h. record h { ids = ids.now }) self.old self.new }
+        ensures arena { arena.IsArena self.new }
     {
         put_four(&mut self.sheets, NEXT_PAGE, ids.page);
         put_four(&mut self.sheets, NEXT_VISIT, ids.visit);
@@ -111,6 +113,7 @@ impl Arena {
     pub fn set_live(&mut self, live: u32)
         ensures set { arena.SetsHeader
             (λ h. record h { live = live }) self.old self.new }
+        ensures arena { arena.IsArena self.new }
     {
         put_four(&mut self.sheets, LIVE, live);
     }

@@ -13,16 +13,12 @@ use Rattle.pl_slot.specs.Arena.{ChangesOnly, first_in, header_of, header_page, i
 use Rattle.pl_slot.specs.Arena.{live_count, live_row, row_at, slot_page}
 use Rattle.pl_slot.specs.Header.{Header}
 use Rattle.pl_slot.specs.Slot.{payload_size}
-use Rattle.pl_slot.proofs.ArenaLaws.{row_elsewhere, row_here, then_only}
+use Rattle.pl_slot.proofs.ArenaLaws.{only_itself, row_elsewhere, row_here, then_only}
 use Rattle.pl_text.specs.Chunks.{chunk_row, FreesSlots, Hold, HoldsPart, HoldsText, IsPart, pages_of}
 use Rattle.pl_text.proofs.HeldTexts.{held_kept, held_once, not_zero, number_of, one_text}
 use Rattle.pl_text.proofs.ReadTexts.{here}
 
 -- ---- pages
-
-pub changes_none : (these : List ℕ) (pages : Pages) → ChangesOnly these pages pages
-changes_none these pages =
-    record { before = refl; marks = λ p other. refl; images = λ p other there. refl }
 
 pub neither : (a b : Bool) → (a || b) ≡ false → (a ≡ false) × (b ≡ false)
 neither true b none = absurd (true≢false none)
@@ -129,7 +125,7 @@ frees_none slot pages text holds =
         others = λ n other. refl;
         count = omega arith;
         header = refl;
-        pages = changes_none (pages_of []) pages;
+        pages = only_itself (pages_of []) pages;
       };
     }
 

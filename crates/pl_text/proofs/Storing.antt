@@ -10,9 +10,9 @@ use Rattle.pl_slot.specs.Arena.{ChangesOnly, first_in, header_of, header_page, i
 use Rattle.pl_slot.specs.Arena.{KeepsFields, live_at, live_count, row_at, slot_page}
 use Rattle.pl_slot.specs.Header.{Header}
 use Rattle.pl_slot.specs.Slot.{payload_size}
-use Rattle.pl_slot.proofs.ArenaLaws.{then_only}
+use Rattle.pl_slot.proofs.ArenaLaws.{only_itself, then_only}
 use Rattle.pl_text.specs.Chunks.{chunk_count, chunk_row, FreesSlots, KeepsLive, pages_of, StoresText}
-use Rattle.pl_text.proofs.Freeing.{beside, changes_none, neither}
+use Rattle.pl_text.proofs.Freeing.{beside, neither}
 use Rattle.pl_text.proofs.HeldTexts.{held_count, held_kept, member_live}
 
 none_live : (n : ℕ) (pages : Pages) → is_live n pages ≡ false → live_at n pages ≡ None
@@ -31,7 +31,7 @@ stores_none pages =
       fresh = λ n among. absurd (true≢false (sym among));
       others = λ n other. refl;
       count = omega arith;
-      pages = changes_none (pages_of []) pages;
+      pages = only_itself (pages_of []) pages;
     }
 
 -- a page that is none of these is none of those behind, nor that of the first

@@ -20,6 +20,7 @@ pub fn store<L: Ledger>(
     steps: &mut Steps<L>,
 ) -> Result<Slot, NoMemory>
     requires few { slots.live_count arena.old + chunks text.now ≤ slot_limit }
+    ensures arena { slots.IsArena arena.old → slots.IsArena arena.new }
     ensures stored { IfOk result (λ slot.
         spec.StoresText slot text.now arena.old arena.new) }
     ensures header { slots.KeepsFields arena.old arena.new }
@@ -41,6 +42,7 @@ pub fn store<L: Ledger>(
 // that were stored begin.
 fn put_parts(arena: &mut Arena, text: &[u8]) -> Result<Slot, Slot>
     requires few { slots.live_count arena.old + chunks text.now ≤ slot_limit }
+    ensures arena { slots.IsArena arena.old → slots.IsArena arena.new }
     ensures ok { IfOk result (λ slot. spec.StoresText slot text.now arena.old arena.new) }
     ensures err { IfErr result (λ slot. (rest : List ℕ)
         × spec.StoresText slot rest arena.old arena.new × (length rest ≤ length text.now)) }
@@ -68,6 +70,7 @@ fn part_at(text: &[u8], place: usize) -> &[u8]
 /// Frees the slots of the text that begins in a slot, if it is not 0. It counts a record for each.
 pub fn free<L: Ledger>(arena: &mut Arena, slot: Slot, steps: &mut Steps<L>)
     requires text { (text : List ℕ) × spec.HoldsText slot text arena.old }
+    ensures arena { slots.IsArena arena.old → slots.IsArena arena.new }
     ensures freed { (chunks text : List ℕ) → slot ≡ slots.first_in chunks
         → spec.Hold chunks text arena.old → spec.FreesSlots chunks arena.old arena.new }
     ensures counted { steps.new + slots.live_count arena.new

@@ -8,6 +8,7 @@ use Rattle.pl_text.proofs.writing.free.Goals as goal
 pub loop-next-init : goal.loop-next-init
 loop-next-init g c =
     record {
+      arena = λ is. is;
       frees = frees_none c.args.slot c.args.arena.now c.requires.text.0 c.requires.text.1;
       as_many = refl;
       counted = refl;
@@ -38,6 +39,7 @@ loop-next-preserved g c =
     let longer : page_count c.args.arena.now ≤ page_count c.loop-next.arena =
     omega (arith, c.loop-next.invariant.as_many) in
     record {
+      arena = λ _. c.give_back.ensures.arena;
       frees =
           frees_on c.args.slot c.loop-next.next c.behind-next.result c.args.arena.now c.loop-next.arena
           c.give_back.new.self longer c.loop-next.invariant.frees c.loop-next-test.true c.behind-next.ensures.next

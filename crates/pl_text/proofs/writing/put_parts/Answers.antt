@@ -32,6 +32,7 @@ take-requires-clause-few c =
 pub loop-place-init : goal.loop-place-init
 loop-place-init c =
     record {
+      arena = λ is. is;
       stored =
           subst (λ text. StoresText (record { 0 = 0 }) text c.args.arena.now c.args.arena.now)
           (sym (none_behind c.args.text.now c.div_ceil-place.result c.div_ceil-place.ensures))
@@ -51,6 +52,7 @@ loop-place-preserved c =
     subst (λ row. IsTaken c.in-Ok.slot.0 row c.loop-place.arena c.take.new.self)
     (c.row.ensures.row ∙ ap (λ part. chunk_row part c.loop-place.next) c.part_at.ensures) c.in-Ok.ensures.taken in
     record {
+      arena = λ _. c.take.ensures.arena;
       stored =
           stores_more c.in-Ok.slot.0 text c.loop-place.next c.args.arena.now c.loop-place.arena c.take.new.self
           (some_there c.args.text.now c.div_ceil-place.result c.loop-place.place c.div_ceil-place.ensures
@@ -65,6 +67,7 @@ loop-place-preserved c =
 pub returns-in-Err : goal.returns-in-Err
 returns-in-Err c =
     record {
+      arena = λ _. c.take.ensures.arena;
       ok = tt;
       err = (
         drop (payload_size * c.loop-place.place) c.args.text.now,
@@ -81,6 +84,7 @@ pub returns : goal.returns
 returns c =
     let none : payload_size * c.loop-place.place ≡ 0 = omega (arith, c.loop-place-test.false) in
     record {
+      arena = c.loop-place.invariant.arena;
       ok =
           subst (λ (k : ℕ). StoresText c.loop-place.next (drop k c.args.text.now) c.args.arena.now c.loop-place.arena)
           none c.loop-place.invariant.stored;

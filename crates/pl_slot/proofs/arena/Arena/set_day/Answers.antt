@@ -15,4 +15,4 @@ pub invariant_of-self : goal.invariant_of-self
 invariant_of-self c = (set_there c).arena
 
 pub returns : goal.returns
-returns c = record { set = rw (sym c.self.view_is) ((set_there c).set) }
+returns c = record { set = rw (sym c.self.view_is) ((set_there c).set); arena = (set_there c).arena }

@@ -37,3 +37,6 @@ returns-clause-count c =
 
 pub returns-clause-pages : goal.returns-clause-pages
 returns-clause-pages c = rw (sym c.self.view_is) ((put_there c).pages)
+
+pub returns-clause-arena : goal.returns-clause-arena
+returns-clause-arena c = invariant_of-self c
