@@ -40,7 +40,7 @@ use Rattle.pl_text.specs.Chunks.{HasText, Hold, HoldsText}
 -- ---- kinds
 
 -- a row is of the same kind without its links
-unlinked_kind : (row : SlotRow) → slot_kind (unlinked row) ≡ slot_kind row
+pub unlinked_kind : (row : SlotRow) → slot_kind (unlinked row) ≡ slot_kind row
 unlinked_kind (rows.Free next) = refl
 unlinked_kind (rows.Origin lp ln fp la total) = refl
 unlinked_kind (rows.Place typed hidden lp ln id origin op on fv lv fr lr ut ul tt' tl frecency count) = refl
@@ -103,7 +103,7 @@ module _ (kept : Kept) (targets : VisitId → List Visit) (sheets : Pages) (page
   -- the row of a page, as it was read
   module _ (id : PageId) (slot : Slot) (place : Place) (some : slot_at pages id.0 ≡ Some slot)
       (read : row_in slot sheets ≡ Some (place_row place)) where
-    same_row : place_row place ≡ (page_record l.at (page_found id slot some).row).row
+    pub same_row : place_row place ≡ (page_record l.at (page_found id slot some).row).row
     same_row =
         let both : Some (place_row place) ≡ Some (page_record l.at (page_found id slot some).row).row =
         sym read ∙ page_row id slot (page_found id slot some) in

@@ -1,18 +1,21 @@
 -- What a map of slots by ids finds, and which id is next.
-use Rattle.std.proofs.Common.{◌≡◌, ◌∙◌, ◌==◌, ◌∷◌, ◌&&◌, [], ℕ, Bool, List, Some, None, ap, cond, eq-eqb, false, filter, find}
-use Rattle.std.proofs.Common.{arith, if◌then◌else◌, inl, inr, nat_lt, refl, sym, true}
+use Rattle.std.proofs.Common.{◌≡◌, ◌∙◌, ◌==◌, ◌∷◌, ◌&&◌, [], ℕ, Bool, List, Some, None, ap, cond, eq-eqb, false}
+use Rattle.std.proofs.Common.{arith, filter, find, if◌then◌else◌, inl, inr, map, nat_lt, not, refl, suc, sym, true}
+use Rattle.std.specs.List.{AllPairs}
 use Rattle.std.specs.Option.{option_map}
 use Rattle.std.specs.declared.ops.Bound.TheVariants.{Excluded, Unbounded}
 use Rattle.std.specs.BTreeMap.{is_at}
 use Rattle.std.specs.BTreeMap.Range.{entries_between, range_contains}
-use Rattle.std.specs.Map.{lookup}
+use Rattle.std.specs.Map.{lookup, remove_entry}
 use Rattle.std.specs.declared.cmp.Ordering.TheVariants.{Less, Equal, Greater}
 use Rattle.std.specs.Ordering.{is_eq, is_lt, nat_cmp}
 use Rattle.std.proofs.lemmas.Bool.{cases_eq, le-ltb, ne_eqb}
+use Rattle.std.proofs.lemmas.List.Elements.{recursion_from_All}
 use Rattle.pl_base.specs.declared.id.Slot.{Slot}
+use Rattle.pl_base.proofs.ListLaws.{all_stay, weaker}
 use Rattle.pl_linked.specs.LinkedRows.{Entries, id_behind, slot_at}
 
-same_key : (id k : ℕ) → is_eq (nat_cmp id k) ≡ (k == id)
+pub same_key : (id k : ℕ) → is_eq (nat_cmp id k) ≡ (k == id)
 same_key id k = elim (cases_eq k id) [
   | inl same ↦
       ap (λ b. is_eq (cond b Less (cond (id == k) Equal Greater))) (le-ltb id k (omega (arith, same)))
@@ -84,3 +87,32 @@ behind_none entries id kept =
     sym (ap (option_map (λ (e : ℕ × Slot). e.0))
     (none_kept (λ (e : ℕ × Slot). range_contains nat_cmp (Excluded id) Unbounded e.0)
     (λ (e : ℕ × Slot). nat_lt id e.0) entries (λ e. above_key id e.0) kept))
+
+-- ---- an entry goes
+
+-- the entries without the one at an id, where no two have it
+pub removed : {X : Type 0} (key : X → ℕ) (at : X → Slot) (id : ℕ) (xs : List X)
+    → AllPairs (λ a b. (key a == id) ≡ true → (key b == id) ≡ false) xs
+    → remove_entry (is_at (nat_cmp id)) (map (λ x. (key x, at x)) xs)
+    ≡ map (λ x. (key x, at x)) (filter (λ x. not (key x == id)) xs)
+removed key at id [] once = refl
+removed {X} key at id (x ∷ xs) once =
+    ap (λ b. cond b (map (λ y. (key y, at y)) xs)
+    ((key x, at x) ∷ remove_entry (is_at (nat_cmp id)) (map (λ y. (key y, at y)) xs))) (same_key id (key x))
+    ∙ choose (key x == id) refl
+    (removed key at id xs (λ i j d before within. once (suc i) (suc j) d (omega arith) (omega arith)))
+  where
+    choose : (b : Bool) → (key x == id) ≡ b
+        → remove_entry (is_at (nat_cmp id)) (map (λ y. (key y, at y)) xs)
+        ≡ map (λ y. (key y, at y)) (filter (λ y. not (key y == id)) xs)
+        → cond b (map (λ y. (key y, at y)) xs)
+        ((key x, at x) ∷ remove_entry (is_at (nat_cmp id)) (map (λ y. (key y, at y)) xs))
+        ≡ map (λ y. (key y, at y))
+        (if not b then x ∷ filter (λ y. not (key y == id)) xs else filter (λ y. not (key y == id)) xs)
+    choose true is rest =
+        sym (ap (map (λ y. (key y, at y)))
+        (all_stay (λ y. not (key y == id)) xs
+        (weaker (λ y. (key y == id) ≡ false) (λ y. not (key y == id) ≡ true) xs (λ y fails. ap not fails)
+        (recursion_from_All (λ y. (key y == id) ≡ false) xs
+        (λ k d within. once 0 (suc k) d (omega arith) (omega arith) is)))))
+    choose false is rest = ap (λ (es : Entries). (key x, at x) ∷ es) rest

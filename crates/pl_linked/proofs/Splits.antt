@@ -1,18 +1,21 @@
 -- Lists, split where an element passes first.
-use Rattle.std.proofs.Common.{◌≡◌, ◌∙◌, ◌∷◌, ◌++◌, ◌||◌, ◌==◌, [], Bool, List, Some, None, ap, false, filter, if◌then◌else◌}
-use Rattle.std.proofs.Common.{find, inl, inr}
+use Rattle.std.proofs.Common.{◌≡◌, ◌∙◌, ◌∷◌, ◌++◌, ◌||◌, ◌==◌, ◌≤◌, [], ℕ, Bool, List, Some, None, ap, arith, eqb-true}
+use Rattle.std.proofs.Common.{false, filter, find, get_or, if◌then◌else◌, inl, inr, not, suc}
 use Rattle.std.proofs.lemmas.Bool.{cases_Bool, or_right, true≢false}
 use Rattle.std.proofs.lemmas.List.Elements.{recursion_from_All}
 use Rattle.std.specs.List.Sorted.{IsPermutation}
 use Rattle.std.proofs.lemmas.List.Sorted.{All-permutation}
 use Rattle.pl_base.proofs.LookUps.{any_none, none_at}
 use Rattle.std.proofs.Common.{refl, sym, true}
-use Rattle.std.specs.List.{AllByRecursion, list_any}
+use Rattle.std.specs.List.{AllByRecursion, AllPairs, list_any}
 use Rattle.pl_base.specs.declared.id.ItemId.{ItemId}
 use Rattle.pl_base.specs.declared.id.VisitId.{VisitId}
 use Rattle.pl_base.specs.Rows.{first_id, id_behind}
 use Rattle.pl_base.specs.Store.{Visit}
 use Rattle.pl_base.specs.Tree.{first_item, item_behind}
+use Rattle.pl_base.proofs.KeyCounts.{count, pairs_from_once}
+use Rattle.pl_base.proofs.ListLaws.{all_stay, weaker}
+use Rattle.pl_base.proofs.Truths.{no_test}
 use Rattle.pl_linked.specs.Named.{found_of}
 
 pub record Split {X : Type 0} (test : X → Bool) (xs : List X) : Type 0 where
@@ -57,6 +60,59 @@ behind_item id [] c rest none is = ap (λ b. if b then first_item rest else item
 behind_item id (d ∷ front) c rest none is =
     ap (λ b. if b then first_item (front ++ c ∷ rest) else item_behind id (front ++ c ∷ rest)) none.0
     ∙ behind_item id front c rest none.1 is
+
+-- ---- the only one that passes, and the others
+
+pub record Only {X : Type 0} (test : X → Bool) (xs : List X) (x : X) : Type 0 where
+  pub front : List X
+  pub back : List X
+  pub whole : xs ≡ front ++ x ∷ back
+  pub others : filter (λ y. not (test y)) xs ≡ front ++ back
+
+pub only : {X : Type 0} (test : X → Bool) (xs : List X) (x : X) → AllPairs (λ a b. test a ≡ true → test b ≡ false) xs
+    → find test xs ≡ Some x → Only test xs x
+only test [] x once found = absurd (cc)
+only {X} test (y ∷ ys) x once found =
+    choose (test y) refl found
+    (only test ys x (λ i j d before within. once (suc i) (suc j) d (omega arith) (omega arith)))
+  where
+    choose : (b : Bool) → test y ≡ b → (if b then Some y else find test ys) ≡ Some x
+        → (find test ys ≡ Some x → Only test ys x) → Only test (y ∷ ys) x
+    choose true passes here rest =
+        let same : y ≡ x = cc in
+        record {
+          front = [];
+          back = ys;
+          whole = ap (λ z. z ∷ ys) same;
+          others =
+              ap (λ b. if not b then y ∷ filter (λ z. not (test z)) ys else filter (λ z. not (test z)) ys) passes
+              ∙ all_stay (λ z. not (test z)) ys
+              (weaker (λ z. test z ≡ false) (λ z. not (test z) ≡ true) ys (λ z fails. ap not fails)
+              (recursion_from_All (λ z. test z ≡ false) ys
+              (λ k d within. once 0 (suc k) d (omega arith) (omega arith) passes)));
+        }
+    choose false fails here rest =
+        let s = rest here in
+        record {
+          front = y ∷ s.front;
+          back = s.back;
+          whole = ap (λ (zs : List X). y ∷ zs) s.whole;
+          others =
+              ap (λ b. if not b then y ∷ filter (λ z. not (test z)) ys else filter (λ z. not (test z)) ys) fails
+              ∙ ap (λ (zs : List X). y ∷ zs) s.others;
+        }
+
+-- those with one number are one, where their slots tell so
+pub only_slot : {X : Type 0} (key slot : X → ℕ) (n : ℕ) (xs : List X) (x : X) → ((m : ℕ) → count slot m xs ≤ 1)
+    → ((a b : X) → key a ≡ key b → slot a ≡ slot b) → find (λ y. key y == n) xs ≡ Some x
+    → Only (λ y. key y == n) xs x
+only_slot key slot n xs x few same found =
+    only (λ y. key y == n) xs x
+    (λ i j d before within passes.
+    no_test (key (get_or xs j d) == n) (λ also.
+    pairs_from_once slot xs few i j d before within
+    (same (get_or xs i d) (get_or xs j d)
+    (eqb-true (key (get_or xs i d)) n passes ∙ sym (eqb-true (key (get_or xs j d)) n also))))) found
 
 -- ---- what passes among some
 

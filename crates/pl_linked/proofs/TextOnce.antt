@@ -9,7 +9,7 @@ use Rattle.pl_slot.specs.Slot.{payload_size}
 use Rattle.pl_text.specs.Chunks.{HasText, Hold, HoldsPart, HoldsText}
 use Rattle.pl_text.proofs.HeldTexts.{one_text}
 
-Hold-prop : (ns text : List ℕ) (pages : Pages) → IsProp (Hold ns text pages)
+pub Hold-prop : (ns text : List ℕ) (pages : Pages) → IsProp (Hold ns text pages)
 Hold-prop [] text pages a b = empty_once a b
   where
     empty_once : IsProp (text ≡ [])

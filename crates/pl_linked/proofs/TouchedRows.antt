@@ -1,15 +1,16 @@
 -- What listing the changed pages leaves of the rows, and tells of the bytes.
-use Rattle.std.proofs.Common.{◌≡◌, ◌↔◌, ◌⊎◌, ◌≤◌, ℕ, List, ap, length}
-use Rattle.std.proofs.Math.Logic.{∥∥₁_elim, ∥∥₁_prop}
+use Rattle.std.proofs.Common.{◌≡◌, ◌↔◌, ◌⊎◌, ◌≤◌, ℕ, List, length}
+use Rattle.std.proofs.Math.Logic.{∥∥₁_elim}
 use Rattle.std.proofs.Props.{props}
 use Rattle.std.specs.List.{All}
 use Rattle.pl_base.specs.Touched.{IsWithin, MayDiffer, bytes_before, changed, page_numbers}
 use Rattle.pl_linked.specs.Form.{bytes_in}
 use Rattle.pl_linked.specs.LinkedRows.{AreLinked, Entries, IsBaseOf, Keeps}
-use Rattle.pl_linked.specs.OneKept.{keeps_once}
 use Rattle.pl_linked.proofs.Changes as changes
+use Rattle.pl_linked.proofs.Moves.{then_kept, then_keeps}
 use Rattle.pl_linked.proofs.SameRows.{laid_kept}
 use Rattle.pl_sheets.specs.Sheets.{ArePages, Pages, change_of, page_count, settled}
+use Rattle.pl_slot.specs.Arena.{header_of}
 use Rattle.pl_slot.proofs.Settled.{settles}
 
 module _ (old new : Pages) (pages visits items : Entries) (told : (new ≡ settled old) ⊎ (new ≡ old))
@@ -20,27 +21,26 @@ module _ (old new : Pages) (pages visits items : Entries) (told : (new ≡ settl
       record {
         at = l.at;
         rows = l.rows;
-        laid = laid_kept old new s.rows s.header l.at k.kept k.targets s.arena l.laid;
+        laid = laid_kept old new s.rows l.at k.kept k.targets s.header s.arena l.laid;
         indexed = l.indexed;
       }
 
   -- the pages keep what they kept
   pub still_keeps : Keeps new pages visits items
-  still_keeps =
-      record {
-        kept = k.kept;
-        targets = k.targets;
-        linked = ∥∥₁_elim k.linked ∥∥₁_prop (λ l. ∣ moved l ∣₁);
-      }
+  still_keeps = then_keeps old new pages visits items pages visits items k k.kept k.targets moved
 
   pub still_kept : (j : Keeps new pages visits items) → j.kept ≡ k.kept
-  unfolding still_keeps
-  still_kept j =
-      ap (λ (i : Keeps new pages visits items). i.kept) (keeps_once new pages visits items j still_keeps)
+  still_kept = then_kept old new pages visits items pages visits items k k.kept k.targets moved
 
 module _ (sheets : Pages) (pages visits items : Entries) (k : Keeps sheets pages visits items) where
   so : {P : Type 0} → IsProp P → (ArePages sheets → P) → P
   so prop from = ∥∥₁_elim k.linked prop (λ l. from l.laid.arena.whole)
+
+  pub are_pages : ArePages sheets
+  are_pages = so (Prim.hlevel props) (λ are. are)
+
+  pub pages_told : (header_of sheets).pages ≡ page_count sheets
+  pages_told = ∥∥₁_elim k.linked (Prim.hlevel props) (λ l. l.laid.arena.told)
 
   pub whole : (bytes : List ℕ) → IsBaseOf sheets bytes → changed (change_of sheets) bytes ≡ bytes_in sheets
   whole bytes base = so (Prim.hlevel props) (λ are. changes.changed_all sheets are bytes base)

@@ -1,6 +1,8 @@
+pub mod ChainMap
 pub mod Chains
 pub mod Form
 pub mod Linked
+pub mod LastPage
 pub mod LinkedRows
 pub mod Named
 pub mod OneForm
@@ -9,3 +11,4 @@ pub mod OneRows
 pub mod Opening
 pub mod Records
 pub mod Rows
+pub mod SlotChanges

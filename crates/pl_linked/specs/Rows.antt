@@ -1,23 +1,33 @@
 -- What rows say beside their links, as the code has it.
-use Rattle.std.specs.Prelude.{ℕ, Option, Some, None}
+use Rattle.std.specs.Prelude.{◌≡◌, ◌==◌, ℕ, [], ◌∷◌, Option, Some, None, if◌then◌else◌}
 use Rattle.std.specs.Option.{option_and_then, option_map}
 use Rattle.pl_base.specs.declared.id.ItemId.{ItemId}
 use Rattle.pl_base.specs.declared.id.PageId.{PageId}
 use Rattle.pl_base.specs.declared.id.Slot.{Slot}
 use Rattle.pl_base.specs.declared.id.VisitId.{VisitId}
+use Rattle.pl_base.specs.declared.row.Mark.{Mark}
 use Rattle.pl_linked.specs.declared.rows.Item.{Item}
 use Rattle.pl_linked.specs.declared.rows.Place.{Place}
+use Rattle.pl_linked.specs.declared.rows.TextAt.{TextAt}
 use Rattle.pl_linked.specs.declared.rows.Visit.{Visit}
 use Rattle.pl_linked.specs.Records.{unlinked}
 use Rattle.pl_rail.specs.Rails.{none}
 use Rattle.pl_sheets.specs.Sheets.{Pages}
+use Rattle.pl_slot.specs.declared.links.Link.{Link}
+use Rattle.pl_slot.specs.declared.links.Rail.{Rail}
 use Rattle.pl_slot.specs.declared.row.SlotRow.{SlotRow}
 use Rattle.pl_slot.specs.declared.row.SlotRow.TheVariants as rows
-use Rattle.pl_slot.specs.Arena.{row_at}
+use Rattle.pl_slot.specs.Arena.{ChangesOnly, IsArena, header_of, live_at, live_count, row_at}
+use Rattle.pl_slot.specs.Arena.{slot_page}
+use Rattle.pl_slot.specs.Links.{kind_at, link_at}
 
 -- the row of a slot but for its links
 abbrev pub row_in : Slot → Pages → Option SlotRow
 row_in slot pages = option_map unlinked (row_at slot.0 pages)
+
+-- the row of a live slot but for its links
+abbrev pub record_at : ℕ → Pages → Option SlotRow
+record_at n pages = option_map unlinked (live_at n pages)
 
 abbrev pub place_row : Place → SlotRow
 place_row p =
@@ -36,6 +46,47 @@ item_row i =
 -- the row of an origin with this total
 abbrev pub origin_row : ℕ → SlotRow
 origin_row total = rows.Origin none none none none total
+
+-- ---- rows that are written
+
+-- the row of a page with another mark, with another origin or title, and that of an origin with
+-- another total
+abbrev pub with_mark : Mark → SlotRow → SlotRow
+with_mark mark
+    (rows.Place typed hidden live_previous live_next id origin origin_previous origin_next
+    first_visit last_visit first_reference last_reference url_text url_length title_text
+    title_length frecency count) =
+    rows.Place mark.typed mark.hidden live_previous live_next id origin origin_previous origin_next
+    first_visit last_visit first_reference last_reference url_text url_length title_text
+    title_length mark.frecency mark.count
+with_mark mark row = row
+
+abbrev pub with_title : TextAt → SlotRow → SlotRow
+with_title text
+    (rows.Place typed hidden live_previous live_next id origin origin_previous origin_next
+    first_visit last_visit first_reference last_reference url_text url_length title_text
+    title_length frecency count) =
+    rows.Place typed hidden live_previous live_next id origin origin_previous origin_next
+    first_visit last_visit first_reference last_reference url_text url_length text.slot
+    text.length frecency count
+with_title text row = row
+
+abbrev pub with_total : ℕ → SlotRow → SlotRow
+with_total total (rows.Origin live_previous live_next first_page last_page old) =
+    rows.Origin live_previous live_next first_page last_page total
+with_total total row = row
+
+-- a slot holds the row that was made of its own, with the links that it had. All else is as it was
+pub record SetsRow (slot : Slot) (change : SlotRow → SlotRow) (old new : Pages) : Type 0 where
+  pub rows : (n : ℕ) → row_at n new
+      ≡ (if n == slot.0 then option_map change (row_at n old) else row_at n old)
+  pub kinds : (n : ℕ) → kind_at n new ≡ kind_at n old
+  pub links : (rail : Rail) (link : Link) (n : ℕ) → link_at rail link n new
+      ≡ link_at rail link n old
+  pub header : header_of new ≡ header_of old
+  pub count : live_count new ≡ live_count old
+  pub pages : ChangesOnly (slot_page slot.0 ∷ []) old new
+  pub arena : IsArena new
 
 -- ---- the ids of rows
 

@@ -6,9 +6,11 @@ mod index;
 mod items;
 mod linked;
 mod opening;
+mod page_slots;
 mod pages;
 mod rows;
 mod visits;
 mod whole;
+mod writing;
 
 pub use linked::Linked;

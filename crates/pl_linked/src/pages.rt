@@ -1,4 +1,9 @@
 // Pages and their origins, read.
+mod insert;
+mod marks;
+mod remove;
+mod titles;
+
 ghost use Rattle.std.specs.Prelude.{◌≡◌, ◌≤◌, ◌+◌, true, IfOk, IsSomeAnd, Some};
 ghost use Rattle.std.specs.Option.{option_map};
 ghost use Rattle.pl_base.specs.Rows.{has_origin, has_page, mark_of, most_reads, origin_of};
@@ -15,6 +20,17 @@ use std::sync::ledger::Ledger;
 
 impl Linked {
     ghost use Rattle.pl_linked.specs.Linked.{kept_of};
+
+    // The slot of a page that is there.
+    fn page_slot(&self, page: PageId) -> Slot
+        requires { has_page (kept_of self.now) page ≡ true }
+        ensures { index.slot_at self.now.pages.entries page.0 ≡ Some result }
+    {
+        match slot_at(&self.pages, page.0) {
+            Some(slot) => slot,
+            None => unreachable!(),
+        }
+    }
 
     // The row of a page that is there.
     fn place_of<L: Ledger>(&self, page: PageId, steps: &mut Steps<L>) -> Place

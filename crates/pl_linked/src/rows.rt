@@ -4,9 +4,10 @@ ghost use Rattle.pl_linked.specs.Rows as spec;
 ghost use Rattle.pl_rail.specs.Rails as rails;
 ghost use Rattle.pl_slot.specs.declared.kind.SlotKind.TheVariants as kinds;
 ghost use Rattle.pl_slot.specs.Links.{kind_at};
+ghost use Rattle.pl_text.specs.Chunks.{chunk_count};
 
 use pl_base::{ItemId, ItemKind, Mark, Micros, PageId, Slot, Steps, Transition, VisitId};
-use pl_slot::{Arena, SlotRow};
+use pl_slot::{Arena, PAYLOAD_SIZE, SlotRow};
 use std::sync::ledger::Ledger;
 
 /// A text: the slot of its first part, 0 for an empty one, and its length in bytes.
@@ -14,6 +15,21 @@ use std::sync::ledger::Ledger;
 pub struct TextAt {
     pub slot: Slot,
     pub length: u32,
+}
+
+impl TextAt {
+    /// An empty one.
+    pub const NONE: TextAt = TextAt {
+        slot: Slot(0),
+        length: 0,
+    };
+
+    /// How many slots it takes.
+    pub fn slots(self) -> u32
+        ensures { result ≡ chunk_count self.length }
+    {
+        self.length.div_ceil(PAYLOAD_SIZE as u32)
+    }
 }
 
 /// A page, the slot of its origin, and its texts.

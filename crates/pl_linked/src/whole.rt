@@ -1,8 +1,9 @@
 // The opening store, the day, the next ids and the pages that changed.
 ghost use Rattle.std.specs.Prelude.{◌≡◌, ◌↔◌, ◌≤◌, ◌+◌, ℕ, List, [], Some, IfOk, IfSome, OnOk, length};
 ghost use Rattle.std.specs.List.{All};
+ghost use Rattle.pl_base.specs.Date.{IsDay};
 ghost use Rattle.pl_base.specs.Live.{live_slots};
-ghost use Rattle.pl_base.specs.Rows.{IsSound, most_reads, opening_with, store_of};
+ghost use Rattle.pl_base.specs.Rows.{IsSound, most_reads, opening_with, store_of, with_day};
 ghost use Rattle.pl_base.specs.Touched.{IsWithin, MayDiffer, bytes_before, changed, page_numbers};
 
 use crate::linked::Linked;
@@ -36,6 +37,15 @@ impl Linked {
         ensures cost { steps.new ≤ steps.old + most_reads }
     {
         self.arena.day()
+    }
+
+    pub fn set_day<L: Ledger>(&mut self, day: Day, steps: &mut Steps<L>)
+        requires { IsDay day }
+        ensures kept { kept_of self.new ≡ with_day day (kept_of self.old) }
+        ensures base { (bytes : List ℕ) → IsBase self.old bytes → IsBase self.new bytes }
+        ensures cost { steps.new ≤ steps.old + most_reads }
+    {
+        self.arena.set_day(day);
     }
 
     /// The next ids.
