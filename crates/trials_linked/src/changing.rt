@@ -50,7 +50,28 @@ fn change_page<L: Ledger>(rt: &impl Abort, alloc: Global, blank: Blank) -> Resul
     check_page(rt, &linked, &flat, page, steps)
 }
 
+// Both texts of a page are read back.
+fn read_texts<L: Ledger>(rt: &impl Abort, alloc: Global, blank: Blank) -> Result<(), Fail>
+    requires name { blank.name ≡ L.name }
+    requires parts { blank.parts ≡ L.parts }
+    requires some { 0 < blank.parts }
+{
+    let steps = &mut Steps::<L>::none(blank);
+    let mut linked = Linked::opening(alloc)?;
+    let url = Canon::read(alloc, URL)?;
+    let page = linked.insert_page(url.text(), None, steps)?;
+    assert_eq!(rt; linked.url(page, steps)?.as_str(), url.text());
+    linked.set_title(page, "A title", steps)?;
+    assert_eq!(rt; linked.title(page, steps)?.as_str(), "A title");
+    Ok(())
+}
+
 #[test]
 fn a_page_comes_and_goes_as_over_vectors(rt: HostRuntime) -> Result<(), Fail> {
     change_page::<Brand>(&rt, rt.alloc(), Blank::new(1))
+}
+
+#[test]
+fn the_texts_of_a_page_are_read_back(rt: HostRuntime) -> Result<(), Fail> {
+    read_texts::<Brand>(&rt, rt.alloc(), Blank::new(1))
 }
