@@ -2,10 +2,14 @@
 use Rattle.std.proofs.Common.{◌≡◌, ◌+◌, ◌<◌, ◌==◌, ℕ, List, true, ap, arith, get_or, length, subst, suc, zero}
 use Rattle.std.proofs.lemmas.Bool.{eqb-true}
 use Rattle.pl_base.specs.declared.id.PageId.{PageId}
+use Rattle.pl_base.specs.declared.id.Slot.{Slot}
 use Rattle.pl_base.specs.Good.{AreIds, end_of_ids}
 
 pub same_page : (a b : PageId) → (a.0 == b.0) ≡ true → a ≡ b
 same_page a b h = ap (λ (n : ℕ). record { 0 = n }) (eqb-true a.0 b.0 h)
+
+pub same_slot : (a b : Slot) → a.0 ≡ b.0 → a ≡ b
+same_slot a b same = ap (λ (n : ℕ). record { 0 = n }) same
 
 pub climbs : (ids : List ℕ) (next k : ℕ) → AreIds 1 next ids → k < length ids → k < get_or ids k 0
 climbs ids next zero h within = (h.given 0 0 within).0

@@ -210,6 +210,17 @@ length-sum : {X : Type 0} (xs : List X) → length xs ≡ sum_by (λ x. 1) xs
 length-sum [] = refl
 length-sum (x ∷ xs) = omega (arith, sum_by-cons (λ y. 1) x xs, length-sum xs)
 
+-- a list without the only element that passes is one shorter
+pub one_less : {X : Type 0} (q : X → Bool) (xs : List X) (x : X) → AtMostOne q xs → find q xs ≡ Some x
+    → length (filter (λ y. not (q y)) xs) + 1 ≡ length xs
+one_less q xs x once found =
+    omega (
+      arith,
+      length-sum (filter (λ y. not (q y)) xs),
+      length-sum xs,
+      sum_without q (λ y. 1) xs x once found,
+    )
+
 pub once : (id : ItemId) (items : List Item) → IsStrictlyIncreasing (ids_of items)
     → AtMostOne (λ (i : Item). i.id.0 == id.0) items
 once id items ascending i j d before within passes =
@@ -238,7 +249,5 @@ count_removed id items i ascending found =
     omega (
       arith,
       length-map (filter (λ (x : Item). not (x.id.0 == id.0)) items) (leaving id),
-      length-sum (filter (λ (x : Item). not (x.id.0 == id.0)) items),
-      length-sum items,
-      sum_without (λ (x : Item). x.id.0 == id.0) (λ x. 1) items i (once id items ascending) found,
+      one_less (λ (x : Item). x.id.0 == id.0) items i (once id items ascending) found,
     )

@@ -14,15 +14,13 @@ use Rattle.pl_base.specs.Address.{same_origin}
 use Rattle.pl_base.specs.Live.{chunks, live_slots, new_origins, origin_count}
 use Rattle.pl_base.specs.Rows.{AreAlike, Kept, KeptOrigin, KeptPage, NamesOrigins, has_origin, store_of}
 use Rattle.pl_base.specs.Store.{Item, Page}
+use Rattle.pl_base.proofs.IdsLaws.{same_slot}
 use Rattle.pl_base.proofs.KeyCounts.{count, count-cons, once_from_pairs, tick}
 use Rattle.pl_base.proofs.ListLaws.{all_stay, any-where, list_any-map, map-map, sum_by-agree, sum_by-map, weaker}
 use Rattle.pl_base.proofs.LookUps.{front, part}
 use Rattle.pl_base.proofs.Truths.{same_tests}
 
 -- ---- names
-
-pub same_slot : (a b : Slot) → a.0 ≡ b.0 → a ≡ b
-same_slot a b same = ap (λ (n : ℕ). record { 0 = n }) same
 
 -- a number of a list is that of one of those that it was made of
 pub numbered : {X : Type 0} (f : X → ℕ) (xs : List X) (n : ℕ) → Contains (map f xs) n

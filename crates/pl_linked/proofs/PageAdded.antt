@@ -19,11 +19,12 @@ use Rattle.pl_base.specs.Rows.{AreAlike, IsOriginOf, IsWellKept, Kept, KeptOrigi
 use Rattle.pl_base.specs.Rows.{has_origin, live_with_page, next_page, origin_names, page_origins, store_of}
 use Rattle.pl_base.specs.Rows.{with_new_page, with_origin, with_origins}
 use Rattle.pl_base.specs.Store.{Page, Store, Visit}
+use Rattle.pl_base.proofs.IdsLaws.{same_slot}
 use Rattle.pl_base.proofs.ListLaws.{list_any_push}
 use Rattle.pl_base.proofs.LookUps.{none_at}
 use Rattle.pl_base.proofs.OriginLaws.{same_origin-self, same_origin-sym, same_origin-trans}
 use Rattle.pl_linked.specs.Form.{AreRows}
-use Rattle.pl_linked.proofs.OriginsCounted.{all_named, same_slot, slots_of, texts_of}
+use Rattle.pl_linked.proofs.OriginsCounted.{all_named, slots_of, texts_of}
 use Rattle.pl_linked.proofs.PagesChanged.{own_still, rows_still, visits_still}
 
 -- ---- the names of origins

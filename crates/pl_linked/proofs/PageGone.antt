@@ -21,7 +21,7 @@ use Rattle.pl_base.specs.Rows.{has_origin, has_page, origin_names, other_pages, 
 use Rattle.pl_base.specs.Rows.{totals_of}
 use Rattle.pl_base.specs.Store.{Item, Visit}
 use Rattle.pl_base.specs.Tree.{is_page}
-use Rattle.pl_base.proofs.ItemLaws.{map-filter, sum_without}
+use Rattle.pl_base.proofs.ItemLaws.{map-filter, one_less, sum_without}
 use Rattle.pl_base.proofs.ListLaws.{everyone, found_in, some_in, weaker}
 use Rattle.pl_base.proofs.LookUps.{found_one, none_at, none_pass}
 use Rattle.pl_base.proofs.OneChanged.{once_by_number}
@@ -51,21 +51,6 @@ any_left : {X : Type 0} (p q : X → Bool) (xs : List X) → AllByRecursion (λ 
     → list_any p xs ≡ true → list_any p (filter q xs) ≡ true
 any_left p q xs stays some =
     some_in p (filter q xs) (subst IsSome (sym (find_left p q xs stays)) (found_in p xs some))
-
-length-sum : {X : Type 0} (xs : List X) → length xs ≡ sum_by (λ x. 1) xs
-length-sum [] = refl
-length-sum (x ∷ xs) = omega (arith, sum_by-cons (λ y. 1) x xs, length-sum xs)
-
--- a list without the only element that passes is one shorter
-one_less : {X : Type 0} (p : X → Bool) (xs : List X) (x : X) → AllPairs (λ a b. p a ≡ true → p b ≡ false) xs
-    → find p xs ≡ Some x → length (filter (λ y. not (p y)) xs) + 1 ≡ length xs
-one_less p xs x once found =
-    omega (
-      arith,
-      length-sum xs,
-      length-sum (filter (λ y. not (p y)) xs),
-      sum_without p (λ x. 1) xs x once found,
-    )
 
 -- ---- the rows without the page
 

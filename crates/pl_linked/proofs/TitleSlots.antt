@@ -9,7 +9,7 @@ use Rattle.std.proofs.lemmas.List.Sums.{sum_by-cons}
 use Rattle.pl_base.specs.declared.id.PageId.{PageId}
 use Rattle.pl_base.specs.Rows.{IsWellKept, Kept, KeptPage, page_at, titled, with_title}
 use Rattle.pl_base.proofs.KeyCounts.{count-append}
-use Rattle.pl_base.proofs.OneChanged.{once_by_number}
+use Rattle.pl_base.proofs.OneChanged.{once_by_number, sum_moved}
 use Rattle.pl_base.proofs.PageLaws.{id_at}
 use Rattle.pl_linked.specs.Records.{Layout, row_slots}
 use Rattle.pl_linked.proofs.PageMaps.{numbers_same}
@@ -19,43 +19,6 @@ use Rattle.pl_linked.proofs.SlotCounts.{page_texts, slot_times, texts_times, tim
 -- the layout in which the title of a page lies in these slots
 abbrev pub with_title_at : PageId → List ℕ → Layout → Layout
 with_title_at id slots at = record at { title = λ i. if i.0 == id.0 then slots else at.title i }
-
--- ---- a sum in which one member counts otherwise
-
-module _ {X : Type 0} (q : X → Bool) (f : X → X) (n g : X → ℕ) (same : (y : X) → q y ≡ false → g (f y) ≡ n y) where
-  none_moved : (xs : List X) → All (λ y. q y ≡ false) xs → sum_by g (map f xs) ≡ sum_by n xs
-  none_moved [] none = refl
-  none_moved (x ∷ xs) none =
-      omega (
-        arith,
-        sum_by-cons g (f x) (map f xs),
-        sum_by-cons n x xs,
-        same x (All-head (λ y. q y ≡ false) x xs none),
-        none_moved xs (All-tail (λ y. q y ≡ false) x xs none),
-      )
-
-  pub sum_moved : (xs : List X) (x : X) → AllPairs (λ a b. q a ≡ true → q b ≡ false) xs → find q xs ≡ Some x
-      → sum_by g (map f xs) + n x ≡ sum_by n xs + g (f x)
-  sum_moved [] x once found = absurd (cc)
-  sum_moved (y ∷ ys) x once found =
-      choose (q y) refl found
-      (sum_moved ys x (λ i j d before within. once (suc i) (suc j) d (omega arith) (omega arith)))
-    where
-      choose : (b : Bool) → q y ≡ b → (if b then Some y else find q ys) ≡ Some x
-          → (find q ys ≡ Some x → sum_by g (map f ys) + n x ≡ sum_by n ys + g (f x))
-          → sum_by g (f y ∷ map f ys) + n x ≡ sum_by n (y ∷ ys) + g (f x)
-      choose true passes here rest =
-          let is : y ≡ x = cc in
-          omega (
-            arith,
-            sum_by-cons g (f y) (map f ys),
-            sum_by-cons n y ys,
-            none_moved ys (λ k d within. once 0 (suc k) d (omega arith) (omega arith) passes),
-            ap n is,
-            ap (λ z. g (f z)) is,
-          )
-      choose false fails here rest =
-          omega (arith, sum_by-cons g (f y) (map f ys), sum_by-cons n y ys, same y fails, rest here)
 
 -- ---- a page with another title
 

@@ -22,6 +22,7 @@ use Rattle.pl_base.specs.Rows.{AreAlike, HasSource, HaveTotals, IsRight, Kept, K
 use Rattle.pl_base.specs.Store.{Item, Page, Store, Visit}
 use Rattle.pl_base.specs.Totals.{Origin, scored_pages, total_of}
 use Rattle.pl_base.specs.Touched.{bytes_before}
+use Rattle.pl_base.proofs.IdsLaws.{same_slot}
 use Rattle.pl_base.proofs.ListLaws.{All-from_map, AllPairs-from_map, list_any-map, map-map, some_in}
 use Rattle.pl_base.proofs.OriginLaws.{origins_equal}
 use Rattle.pl_stored.specs.declared.stored.StoredPage.{StoredPage}
@@ -181,9 +182,6 @@ each_named : (ps : List StoredPage) (found : List AssessedPage) (keys : List Ori
     → AreNamed (named_urls ps found) keys → All (λ (q : FlatPage). HasName keys (url_of q)) (flat_pages ps found)
 each_named ps found keys named =
     All-from_map (HasName keys) url_of (flat_pages ps found) (flat_named ps found keys named).named
-
-same_slot : (a b : Slot) → a.0 ≡ b.0 → a ≡ b
-same_slot a b h = ap (λ (n : ℕ). record { 0 = n }) h
 
 alike : (keys : List Origin) (p q : FlatPage) → AllPairs (λ a b. a ≢ b) keys → HasName keys (url_of p)
     → HasName keys (url_of q) → (p.origin ≡ q.origin) ↔ IsTrue (same_origin p.url q.url)

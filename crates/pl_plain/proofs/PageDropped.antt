@@ -16,6 +16,7 @@ use Rattle.pl_base.specs.Live.{chunks, live_slots, origin_count}
 use Rattle.pl_base.specs.Rows.{AreAlike, Kept, KeptOrigin, KeptPage, WithoutPage, has_page, other_pages, page_at}
 use Rattle.pl_base.specs.Rows.{store_of, total_at, totals_of, unnamed}
 use Rattle.pl_base.specs.Store.{Visit}
+use Rattle.pl_base.proofs.IdsLaws.{same_slot}
 use Rattle.pl_base.proofs.ItemLaws.{map-filter}
 use Rattle.pl_base.proofs.ListLaws.{AllPairs-map, list_any-map, map-map, sum_by-map}
 use Rattle.pl_base.proofs.LookUps.{found_passes, none_at}
@@ -28,7 +29,7 @@ use Rattle.pl_plain.proofs.OriginTotals.{length-swap_remove, swapped_here, swapp
 use Rattle.pl_plain.proofs.OriginsLeft.{is_new}
 use Rattle.pl_plain.proofs.PagesButOne.{AreWithin, IsFree}
 use Rattle.pl_plain.proofs.PagesButOne.{IsSplit, split, any_split, length_split, sum_split, urls}
-use Rattle.pl_plain.proofs.PagesButOne.{count_split, names_left, renamed, in_use, left_within, same_slot, left_apart, free, any_where}
+use Rattle.pl_plain.proofs.PagesButOne.{count_split, names_left, renamed, in_use, left_within, left_apart, free, any_where}
 use Rattle.pl_plain.proofs.PagesButOne.{found_holds}
 
 -- ---- what is left

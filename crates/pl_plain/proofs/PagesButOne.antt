@@ -13,6 +13,7 @@ use Rattle.pl_base.specs.declared.id.Slot.{Slot}
 use Rattle.pl_base.specs.Address.{same_origin}
 use Rattle.pl_base.specs.Live.{origin_count}
 use Rattle.pl_base.specs.Rows.{KeptPage, other_pages}
+use Rattle.pl_base.proofs.IdsLaws.{same_slot}
 use Rattle.pl_base.proofs.ListLaws.{list_any-map}
 use Rattle.pl_plain.specs.FlatRows.{name_left}
 use Rattle.pl_plain.proofs.OriginsLeft.{is_new, origins_without}
@@ -151,9 +152,6 @@ left_within name origin last some within apart bounds = choose (origin.0 == last
     choose false is =
         let other : origin.0 ≢ last = λ same. false≢true (sym is ∙ eq-eqb origin.0 last same) in
         (bounds.0, omega (arith, bounds.1, other))
-
-pub same_slot : (a b : Slot) → a.0 ≡ b.0 → a ≡ b
-same_slot a b same = ap (λ n. record { 0 = n }) same
 
 pub left_apart : (name a b : Slot) (last : ℕ) → a.0 ≢ name.0 → b.0 ≢ name.0
     → name_left false last name a ≡ name_left false last name b → a ≡ b
