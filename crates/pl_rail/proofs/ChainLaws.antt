@@ -1,23 +1,27 @@
 -- What a member that comes or goes leaves of the lists of owners.
 use Rattle.std.proofs.Common.{◌≡◌, ◌≢◌, ◌∙◌, ◌==◌, ◌||◌, ◌∷◌, [], ◌++◌, ℕ, List, Bool, ap, append_assoc}
-use Rattle.std.proofs.Common.{false, Option, refl, Some, subst, sym, true}
-use Rattle.std.proofs.lemmas.Bool.{or_parts}
+use Rattle.std.proofs.Common.{false, inl, inr, Option, refl, Some, subst, sym, true}
+use Rattle.std.specs.Option.{option_and_then}
+use Rattle.std.proofs.lemmas.Bool.{cases_eq, or_parts}
 use Rattle.pl_base.specs.declared.id.Slot.{Slot}
 use Rattle.pl_rail.specs.declared.owner.Owner.{Owner}
 use Rattle.pl_rail.specs.declared.owner.Side.{Side}
 use Rattle.pl_rail.specs.declared.owner.Side.TheVariants.{Before, Behind}
-use Rattle.pl_rail.specs.Rails.{AreLinked, ChangesAround, Joins, KeepsOwners, KeepsRest, Lists, SetsSide}
+use Rattle.pl_rail.specs.Rails.{AreLinked, ChangesAround, Joins, KeepsBeside, KeepsOwners, KeepsRest, Lists}
 use Rattle.pl_rail.specs.Rails.{are_apart, first_of, is_in, is_member, last_from, last_of, neighbour, none, or_none, page_by}
+use Rattle.pl_rail.specs.Rails.{SetsSide, side_link}
 use Rattle.pl_rail.proofs.ListLaws.{all_with, all_without, apart_first, apart_last, apart_member, back_is, before_in}
 use Rattle.pl_rail.proofs.ListLaws.{behind_in, differs_in, first_behind, first_differs, in_front, last_differs, last_is, member_some}
 use Rattle.pl_rail.proofs.ListLaws.{members_some, same_members, same_slot, tail_of}
 use Rattle.pl_rail.proofs.Rings.{AreSame, Differ, Ends, Named, With, Without, before_member, differ_parts, from_member}
 use Rattle.pl_rail.proofs.Rings.{kept_links, once, once_in_front, parted, with_member, without}
-use Rattle.pl_rail.proofs.SideLaws.{one_side, only_then, other_side, rest_then}
+use Rattle.pl_rail.proofs.SideLaws.{at_link, one_side, only_then, other_side, rest_then}
 use Rattle.pl_sheets.specs.Sheets.{Pages}
 use Rattle.pl_slot.specs.declared.links.Rail.{Rail}
 use Rattle.pl_slot.specs.Arena.{ChangesOnly, is_among}
-use Rattle.pl_slot.specs.Links.{kind_at}
+use Rattle.pl_slot.specs.Links.{kind_at, link_at, link_in}
+use Rattle.pl_slot.specs.declared.links.Link.{Link}
+use Rattle.pl_slot.proofs.SlotPlaces.{no_slot}
 
 -- ---- where a member stands
 
@@ -223,6 +227,54 @@ unlinked_owners rail owner slot before behind front back old new made read_befor
         apart_first (front ++ slot ∷ []) back others some
         (ap (are_apart others) (append_assoc front (slot ∷ []) back) ∙ clear)
 
+-- ---- slots beside a chain
+
+no_link : (rail : Rail) (link : Link) (n : ℕ) (old new : Pages) → n ≡ 0
+    → link_at rail link n new ≡ link_at rail link n old
+unfolding link_at
+no_link rail link n old new zero_is =
+    ap (λ k. link_at rail link k new) zero_is
+    ∙ ap (option_and_then (link_in rail link)) (no_slot 0 new refl ∙ sym (no_slot 0 old refl))
+    ∙ ap (λ k. link_at rail link k old) (sym zero_is)
+
+-- a slot other than 0 that has the neighbours it had has its links, and 0 has none
+links_kept : (rail : Rail) (owner : Owner) (other : Slot) (old new : Pages)
+    → ((side : Side) → other ≢ none → neighbour side rail owner new other ≡ neighbour side rail owner old other)
+    → (side : Side) → link_at rail (side_link side) other.0 new ≡ link_at rail (side_link side) other.0 old
+links_kept rail owner other old new same side = elim (cases_eq other.0 0) [
+  | inl zero_is ↦ no_link rail (side_link side) other.0 old new zero_is
+  | inr some ↦
+      sym (at_link side rail owner new other some) ∙ same side (λ is. some (ap (λ (s : Slot). s.0) is))
+      ∙ at_link side rail owner old other some
+]
+
+pub unlinked_beside : (rail : Rail) (owner : Owner) (slot before behind : Slot) (front back : List Slot)
+    (old new : Pages)
+    → Unlinks rail owner slot before behind old new → neighbour Before rail owner old slot ≡ Some before
+    → neighbour Behind rail owner old slot ≡ Some behind → Lists rail owner (front ++ slot ∷ back) old
+    → KeepsBeside rail slot (front ++ slot ∷ back) old new
+unlinked_beside
+    rail owner slot before behind front back old new made read_before read_behind lists side other apart never =
+    links_kept rail owner other old new sides side
+  where
+    differ : Differ other front × Differ other (slot ∷ back)
+    differ = differ_parts other front (slot ∷ back) (differs_in other (front ++ slot ∷ back) never)
+
+    are : (last_from none front ≡ before) × (or_none (first_of back) ≡ behind)
+    are =
+        around (behind_in rail owner old) (before_in rail owner old) front slot back before behind
+        (stands rail owner front slot back old lists) read_before read_behind
+
+    sides : (side : Side) → other ≢ none → neighbour side rail owner new other ≡ neighbour side rail owner old other
+    sides Behind some =
+        made.second.there other apart ∙ made.first.opposite Behind other one_side
+        ∙ made.joins.behind other
+        (λ same. last_differs other none front (λ is. some (sym is)) differ.0 (are.0 ∙ sym same))
+    sides Before some =
+        made.second.opposite Before other other_side ∙ made.first.there other apart
+        ∙ made.joins.before other
+        (λ same. first_differs other back (λ is. some (sym is)) differ.1.1 (are.1 ∙ sym same))
+
 -- ---- pages
 
 three_pages : (p a s b : ℕ) → is_among p (a ∷ s ∷ b ∷ []) ≡ false
@@ -405,3 +457,27 @@ inserted_pages rail owner after slot behind front back old new made read lists l
     (two_of p a s parts.0 parts.1, two_of p s b parts.1 parts.2)) made.first.pages made.second.pages in
     subst (λ k. ChangesOnly (page_by owner (or_none (last_of front)) ∷ s ∷ page_by owner k ∷ []) old new) (sym are.1)
     (subst (λ k. ChangesOnly (page_by owner (or_none k) ∷ s ∷ b ∷ []) old new) (sym last) all)
+
+pub inserted_beside : (rail : Rail) (owner : Owner) (after : Option Slot) (slot behind : Slot) (front back : List Slot)
+    (old new : Pages) → Inserts rail owner (or_none after) slot behind old new
+    → neighbour Behind rail owner old (or_none after) ≡ Some behind → Lists rail owner (front ++ back) old
+    → last_of front ≡ after → KeepsBeside rail slot (front ++ back) old new
+inserted_beside rail owner after slot behind front back old new made read lists last side other apart never =
+    links_kept rail owner other old new sides side
+  where
+    differ : Differ other front × Differ other back
+    differ = differ_parts other front back (differs_in other (front ++ back) never)
+
+    are : (last_from none front ≡ or_none after) × (or_none (first_of back) ≡ behind)
+        × (neighbour Before rail owner old behind ≡ Some (or_none after))
+    are = place_around rail owner front back after behind old lists last read
+
+    sides : (side : Side) → other ≢ none → neighbour side rail owner new other ≡ neighbour side rail owner old other
+    sides Behind some =
+        made.second.behind other apart
+        ∙ made.first.behind other
+        (λ same. last_differs other none front (λ is. some (sym is)) differ.0 (are.0 ∙ sym same))
+    sides Before some =
+        made.second.before other
+        (λ same. first_differs other back (λ is. some (sym is)) differ.1 (are.1 ∙ sym same))
+        ∙ made.first.before other apart

@@ -1,5 +1,5 @@
 -- That members which differ are no more than the live slots.
-use Rattle.std.proofs.Common.{◌≡◌, ◌∙◌, ◌+◌, ◌-◌, ◌<◌, ◌≤◌, ◌∷◌, [], ℕ, List, Bool, ap, arith}
+use Rattle.std.proofs.Common.{◌≡◌, ◌∙◌, ◌+◌, ◌<◌, ◌≤◌, ◌∷◌, [], ℕ, List, Bool, ap, arith}
 use Rattle.std.proofs.Common.{eqb, eqb-true, false, filter, inl, inr, is_some, length, map, None, Option, refl, Some}
 use Rattle.std.proofs.Common.{sym, true}
 use Rattle.std.specs.List.{AllByRecursion, IsDistinct, list_all, list_any}

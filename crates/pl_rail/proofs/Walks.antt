@@ -11,7 +11,7 @@ use Rattle.pl_rail.specs.declared.owner.Owner.{Owner}
 use Rattle.pl_rail.specs.declared.owner.Owner.TheVariants as owners
 use Rattle.pl_rail.specs.declared.owner.Side.TheVariants.{Before, Behind}
 use Rattle.pl_rail.specs.Rails.{AreLinked, IsBetween, Lists, end_at, first_of, is_member, last_from}
-use Rattle.pl_rail.specs.Rails.{none, or_none}
+use Rattle.pl_rail.specs.Rails.{none, or_none, last_of}
 use Rattle.pl_rail.proofs.ListLaws.{all_with, before_in, behind_in, first_behind, members_some, same_slot}
 use Rattle.pl_rail.proofs.MemberCount.{differ_numbers, distinct_few, numbers}
 use Rattle.pl_rail.proofs.Rings.{Differ, Ends, Named, once, together}
@@ -133,6 +133,10 @@ pub record Walks (rail : Rail) (owner : Owner) (met : List Slot) (last next : Sl
 pub last_added : (a : Slot) (xs : List Slot) (m : Slot) → last_from a (xs ++ m ∷ []) ≡ m
 last_added a [] m = refl
 last_added a (x ∷ xs) m = last_added x xs m
+
+pub last_of_added : (xs : List Slot) (m : Slot) → last_of (xs ++ m ∷ []) ≡ Some m
+last_of_added [] m = refl
+last_of_added (x ∷ xs) m = ap Some (last_added x xs m)
 
 -- the rest of a list that goes on behind what was met
 record GoesOn (f b : Named) (a : Slot) (met xs : List Slot) : Type 0 where

@@ -188,6 +188,12 @@ KeepsOwners rail owner slots old new =
     (o : Owner) (others : List Slot) → o ≢ owner → are_apart others slots ≡ true
     → Lists rail o others old → Lists rail o others new
 
+-- every slot but this one and the members names the neighbours that it named
+abbrev pub KeepsBeside : Rail → Slot → List Slot → Pages → Pages → Type 0
+KeepsBeside rail slot slots old new =
+    (side : Side) (other : Slot) → other ≢ slot → is_in other slots ≡ false
+    → link_at rail (side_link side) other.0 new ≡ link_at rail (side_link side) other.0 old
+
 -- the pages of a slot, of its neighbours or the owner, and no others have changed
 abbrev pub ChangesAround : Owner → List Slot → Slot → List Slot → Pages → Pages → Type 0
 ChangesAround owner front slot back old new =

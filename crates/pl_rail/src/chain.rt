@@ -90,6 +90,8 @@ pub fn insert_after<L: Ledger>(
         → rails.KeepsOwners rail owner slots arena.old arena.new }
     ensures others { rails.KeepsRails rail arena.old arena.new }
     ensures rest { rails.KeepsRest rail owner arena.old arena.new }
+    ensures beside { (slots : List Number) → rails.Lists rail owner slots arena.old
+        → rails.KeepsBeside rail slot slots arena.old arena.new }
     ensures pages { (front back : List Number) → rails.Lists rail owner (front ++ back) arena.old
         → rails.last_of front ≡ after
         → rails.ChangesAround owner front slot back arena.old arena.new }
@@ -120,6 +122,8 @@ pub fn unlink<L: Ledger>(
         → rails.KeepsOwners rail owner slots arena.old arena.new }
     ensures others { rails.KeepsRails rail arena.old arena.new }
     ensures rest { rails.KeepsRest rail owner arena.old arena.new }
+    ensures beside { (slots : List Number) → rails.Lists rail owner slots arena.old
+        → rails.KeepsBeside rail slot slots arena.old arena.new }
     ensures pages { (front back : List Number)
         → rails.Lists rail owner (front ++ slot ∷ back) arena.old
         → rails.ChangesAround owner front slot back arena.old arena.new }

@@ -1,17 +1,17 @@
 -- What was asked before a call on rails holds.
-use Rattle.std.proofs.Common.{◌≡◌, ◌≢◌, ◌∙◌, ◌==◌, ◌+◌, ◌∷◌, [], ◌++◌, ℕ, List, ap, append_assoc}
-use Rattle.std.proofs.Common.{eqb-true, false, inl, inr, IsSome, is_some, None, Option, refl, Some, subst, sym, true}
+use Rattle.std.proofs.Common.{◌≡◌, ◌≢◌, ◌∙◌, ◌==◌, ◌∷◌, [], ◌++◌, ℕ, List, ap, append_assoc}
+use Rattle.std.proofs.Common.{eqb-true, inl, inr, IsSome, is_some, None, Option, refl, Some, subst, sym, true}
 use Rattle.std.specs.Option.{option_and_then, option_map}
 use Rattle.std.proofs.lemmas.Bool.{cases_Bool, or_cases, true≢false}
 use Rattle.pl_base.specs.declared.id.Slot.{Slot}
 use Rattle.pl_rail.specs.declared.owner.Owner.{Owner}
 use Rattle.pl_rail.specs.declared.owner.Side.{Side}
 use Rattle.pl_rail.specs.declared.owner.Side.TheVariants.{Before, Behind}
-use Rattle.pl_rail.specs.Rails.{HasMember, HasPlace, Lists, is_in, is_member, last_from, last_of, none, side_link}
+use Rattle.pl_rail.specs.Rails.{HasMember, HasPlace, Lists, is_in, is_member, last_from, none, side_link}
 use Rattle.pl_rail.proofs.ChainLaws.{stands}
 use Rattle.pl_rail.proofs.ListLaws.{before_in, behind_in, member_link, member_some, same_slot}
 use Rattle.pl_rail.proofs.SideLaws.{at_link, numbered, other_number}
-use Rattle.pl_rail.proofs.Walks.{last_added}
+use Rattle.pl_rail.proofs.Walks.{last_of_added}
 use Rattle.pl_sheets.specs.Sheets.{Pages}
 use Rattle.pl_slot.specs.declared.links.Link.{Link}
 use Rattle.pl_slot.specs.declared.links.Link.TheVariants.{First, Next, Previous}
@@ -69,10 +69,6 @@ member_of rail owner slot slots pages lists among =
       back = parts.back;
       lists = subst (λ l. Lists rail owner l pages) (sym parts.whole) lists;
     }
-
-last_of_added : (xs : List Slot) (m : Slot) → last_of (xs ++ m ∷ []) ≡ Some m
-last_of_added [] m = refl
-last_of_added (x ∷ xs) m = ap Some (last_added x xs m)
 
 pub front_to : (slot : Slot) (slots : List Slot) → is_in slot slots ≡ true → HasFront (Some slot) slots
 front_to slot slots among =

@@ -1,8 +1,8 @@
 use Rattle.std.proofs.Common.{◌≡◌, ◌∙◌, ◌++◌, ap, is_some, Some, subst, sym}
 use Rattle.pl_rail.specs.declared.owner.Side.TheVariants.{Before, Behind}
-use Rattle.pl_rail.specs.Rails.{KeepsOwners, neighbour, or_none}
+use Rattle.pl_rail.specs.Rails.{KeepsBeside, KeepsOwners, neighbour, or_none}
 use Rattle.pl_rail.proofs.CallLaws.{insert_next, insert_read, member_there}
-use Rattle.pl_rail.proofs.ChainLaws.{Inserts, inserted, inserted_owners, inserted_pages, inserted_rest}
+use Rattle.pl_rail.proofs.ChainLaws.{Inserts, inserted, inserted_beside, inserted_owners, inserted_pages, inserted_rest}
 use Rattle.pl_rail.proofs.ListLaws.{one_list, rails_kept}
 use Rattle.pl_rail.proofs.chain.insert_after.Goals as goal
 use Rattle.pl_rail.proofs.chain.insert_after.Given.{Over}
@@ -73,6 +73,14 @@ pub returns-clause-rest : goal.returns-clause-rest
 returns-clause-rest g c =
     inserted_rest c.args.rail c.args.owner (or_none c.args.after) c.args.slot c.neighbour-behind.result c.args.arena.now
     c.join-2.new.arena (made g c)
+
+pub returns-clause-beside : goal.returns-clause-beside
+returns-clause-beside g c slots lists =
+    let has = c.requires.place in
+    subst (λ k. KeepsBeside c.args.rail c.args.slot k c.args.arena.now c.join-2.new.arena)
+    (one_list c.args.rail c.args.owner (has.front ++ has.back) slots c.args.arena.now has.lists lists)
+    (inserted_beside c.args.rail c.args.owner c.args.after c.args.slot c.neighbour-behind.result has.front has.back
+    c.args.arena.now c.join-2.new.arena (made g c) (read g c) has.lists has.last)
 
 pub returns-clause-pages : goal.returns-clause-pages
 returns-clause-pages g c front back lists last =

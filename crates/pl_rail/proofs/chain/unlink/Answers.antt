@@ -1,8 +1,8 @@
 use Rattle.std.proofs.Common.{◌∙◌, ◌++◌, ◌∷◌, ap, is_some, subst}
 use Rattle.pl_rail.specs.declared.owner.Side.TheVariants.{Before, Behind}
-use Rattle.pl_rail.specs.Rails.{KeepsOwners}
+use Rattle.pl_rail.specs.Rails.{KeepsBeside, KeepsOwners}
 use Rattle.pl_rail.proofs.CallLaws.{MayGo, cleared, may_go, member_read, still_there, unlink_next}
-use Rattle.pl_rail.proofs.ChainLaws.{Unlinks, unlinked, unlinked_owners, unlinked_pages, unlinked_rest}
+use Rattle.pl_rail.proofs.ChainLaws.{Unlinks, unlinked, unlinked_beside, unlinked_owners, unlinked_pages, unlinked_rest}
 use Rattle.pl_rail.proofs.ListLaws.{one_list, rails_kept}
 use Rattle.pl_rail.proofs.SideLaws.{other_side}
 use Rattle.pl_rail.proofs.chain.unlink.Goals as goal
@@ -102,6 +102,15 @@ pub returns-clause-rest : goal.returns-clause-rest
 returns-clause-rest g c =
     unlinked_rest c.args.rail c.args.owner c.args.slot c.neighbour-before.result c.neighbour-behind.result
     c.args.arena.now c.set_neighbour-2.new.arena (made g c)
+
+pub returns-clause-beside : goal.returns-clause-beside
+returns-clause-beside g c slots lists =
+    let has = c.requires.member in
+    subst (λ k. KeepsBeside c.args.rail c.args.slot k c.args.arena.now c.set_neighbour-2.new.arena)
+    (one_list c.args.rail c.args.owner (has.front ++ c.args.slot ∷ has.back) slots c.args.arena.now has.lists lists)
+    (unlinked_beside c.args.rail c.args.owner c.args.slot c.neighbour-before.result c.neighbour-behind.result has.front
+    has.back c.args.arena.now c.set_neighbour-2.new.arena (made g c) c.neighbour-before.ensures.named
+    c.neighbour-behind.ensures.named has.lists)
 
 pub returns-clause-pages : goal.returns-clause-pages
 returns-clause-pages g c front back lists =
