@@ -1,14 +1,2 @@
-pub mod ChainMap
-pub mod Chains
-pub mod Form
 pub mod Linked
-pub mod LastPage
-pub mod LinkedRows
-pub mod Named
-pub mod OneForm
-pub mod OneKept
-pub mod OneRows
-pub mod Opening
-pub mod Records
-pub mod Rows
-pub mod SlotChanges
+pub mod LinkedLaws

@@ -4,8 +4,8 @@ use Rattle.pl_base.specs.declared.id.VisitId.{VisitId}
 use Rattle.pl_base.specs.Rows.{Kept}
 use Rattle.pl_base.specs.Store.{Visit}
 use Rattle.pl_linked.specs.declared.linked.Linked.{Linked}
-use Rattle.pl_linked.specs.Form as form
-use Rattle.pl_linked.specs.LinkedRows.{IsBaseOf, changes}
+use Rattle.pl_record.specs.Form as form
+use Rattle.pl_record.specs.LinkedRows.{IsBaseOf, changes}
 
 -- the rows, and the visits that came from each visit
 abbrev pub kept_of : Linked → Kept

@@ -1,6 +1,6 @@
 // The slots of rows by the numbers of their ids.
 ghost use Rattle.std.specs.Prelude.{◌≡◌};
-ghost use Rattle.pl_linked.specs.LinkedRows as index;
+ghost use Rattle.pl_record.specs.LinkedRows as index;
 
 use pl_base::Slot;
 use std::collections::BTreeMap;

@@ -1,20 +1,26 @@
 // Items, read.
+mod changes;
+mod insert;
+mod moves;
+mod remove;
+
 ghost use Rattle.std.specs.Prelude.{◌≡◌, ◌≤◌, ◌+◌, length, true, IfOk, IfSome, IsSomeAnd, Some};
 ghost use Rattle.std.specs.Option.{option_and_then, option_map};
+ghost use Rattle.pl_base.specs.declared.id.ItemId.{ItemId as Number};
 ghost use Rattle.pl_base.specs.Rows.{most_reads};
 ghost use Rattle.pl_base.specs.Tree.{children_of, first_item, has_item, item_at, item_row};
 ghost use Rattle.pl_base.specs.Tree.{item_title, last_item, reference_behind, references};
 ghost use Rattle.pl_base.specs.Tree.{sibling_behind};
-ghost use Rattle.pl_linked.specs.LinkedRows as index;
-ghost use Rattle.pl_linked.specs.Rows as spec;
+ghost use Rattle.pl_record.specs.LinkedRows as index;
+ghost use Rattle.pl_record.specs.Rows as spec;
 ghost use Rattle.pl_slot.specs.declared.kind.SlotKind.TheVariants as kinds;
 ghost use Rattle.pl_slot.specs.Links.{kind_at};
 
 use crate::index::slot_at;
 use crate::linked::Linked;
-use crate::rows::{Item, named, read_item, read_place};
 use pl_base::{ItemId, ItemRow, NoMemory, PageId, Slot, Steps, Txt};
 use pl_rail::{Owner, first, last, next};
+use pl_record::{Item, named, read_item, read_place};
 use pl_slot::{Arena, Rail};
 use pl_text::load;
 use std::sync::ledger::Ledger;
@@ -45,6 +51,29 @@ fn page_in<L: Ledger>(arena: &Arena, slot: Option<Slot>, steps: &mut Steps<L>) -
 
 impl Linked {
     ghost use Rattle.pl_linked.specs.Linked.{kept_of};
+
+    // The slot of an item that is there.
+    pub(crate) fn item_slot(&self, item: ItemId) -> Slot
+        requires { has_item (kept_of self.now).items item ≡ true }
+        ensures { index.slot_at self.now.items.entries item.0 ≡ Some result }
+    {
+        match slot_at(&self.items, item.0) {
+            Some(slot) => slot,
+            None => unreachable!(),
+        }
+    }
+
+    // The slot of an item that is there, if one is named.
+    pub(crate) fn slot_after(&self, after: Option<ItemId>) -> Option<Slot>
+        requires { IfSome after (λ id. has_item (kept_of self.now).items id ≡ true) }
+        ensures { result ≡ option_and_then (λ (id : Number). index.slot_at
+            self.now.items.entries id.0) after }
+    {
+        match after {
+            Some(after) => Some(self.item_slot(after)),
+            None => None,
+        }
+    }
 
     /// How many items there are, the roots among them.
     pub fn items<L: Ledger>(&self, steps: &mut Steps<L>) -> u32

@@ -2,15 +2,13 @@
 //! chains of those that it belongs to.
 #![tactic(auto)]
 
+mod as_rows;
 mod index;
 mod items;
 mod linked;
 mod opening;
-mod page_slots;
 mod pages;
-mod rows;
 mod visits;
 mod whole;
-mod writing;
 
 pub use linked::Linked;

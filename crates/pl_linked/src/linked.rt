@@ -1,6 +1,6 @@
 // The rows of a store in linked slots.
-ghost use Rattle.pl_linked.specs.LinkedRows.{Keeps};
-ghost use Rattle.pl_linked.specs.OneKept.{keeps_once};
+ghost use Rattle.pl_record.specs.LinkedRows.{Keeps};
+ghost use Rattle.pl_record.proofs.OneKept.{keeps_once};
 
 use pl_base::Slot;
 use pl_slot::Arena;

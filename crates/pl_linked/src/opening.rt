@@ -2,7 +2,7 @@
 ghost use Rattle.std.specs.Prelude.{◌≡◌, ◌≤◌, ◌<◌, ◌*◌, replicate, IfOk};
 ghost use Rattle.pl_base.specs.Live.{slot_size};
 ghost use Rattle.pl_base.specs.Touched.{page_size};
-ghost use Rattle.pl_linked.specs.Opening as opening;
+ghost use Rattle.pl_record.specs.Opening as opening;
 ghost use Rattle.pl_sheets.specs.Sheets.{page_count, unchanged, with_blank, with_bytes};
 ghost use Rattle.pl_slot.specs.Slot.{slot_bytes};
 

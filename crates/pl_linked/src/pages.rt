@@ -8,13 +8,13 @@ ghost use Rattle.std.specs.Prelude.{◌≡◌, ◌≤◌, ◌+◌, true, IfOk, I
 ghost use Rattle.std.specs.Option.{option_map};
 ghost use Rattle.pl_base.specs.Rows.{has_origin, has_page, mark_of, most_reads, origin_of};
 ghost use Rattle.pl_base.specs.Rows.{page_at, page_behind, title_of, total_at, url_of};
-ghost use Rattle.pl_linked.specs.LinkedRows as index;
-ghost use Rattle.pl_linked.specs.Rows as spec;
+ghost use Rattle.pl_record.specs.LinkedRows as index;
+ghost use Rattle.pl_record.specs.Rows as spec;
 
 use crate::index::{id_behind, slot_at};
 use crate::linked::Linked;
-use crate::rows::{Place, read_place, read_total};
 use pl_base::{Mark, NoMemory, OriginRow, PageId, Slot, Steps, Txt};
+use pl_record::{Place, read_place, read_total};
 use pl_text::load;
 use std::sync::ledger::Ledger;
 
@@ -22,7 +22,7 @@ impl Linked {
     ghost use Rattle.pl_linked.specs.Linked.{kept_of};
 
     // The slot of a page that is there.
-    fn page_slot(&self, page: PageId) -> Slot
+    pub(crate) fn page_slot(&self, page: PageId) -> Slot
         requires { has_page (kept_of self.now) page ≡ true }
         ensures { index.slot_at self.now.pages.entries page.0 ≡ Some result }
     {

@@ -1,17 +1,21 @@
-// Visits, read.
-ghost use Rattle.std.specs.Prelude.{◌≡◌, ◌≢◌, ◌≤◌, ◌+◌, length, IfSome, Some};
+// Visits and their targets, read.
+mod insert;
+mod remove;
+
+ghost use Rattle.std.specs.Prelude.{◌≡◌, ◌≢◌, ◌≤◌, ◌+◌, length, true, IfSome, Some};
 ghost use Rattle.std.specs.Option.{option_and_then, option_map};
-ghost use Rattle.pl_base.specs.Rows.{first_id, most_reads, older_visit, page_visits, row_of};
-ghost use Rattle.pl_base.specs.Rows.{target_behind, visit_at};
-ghost use Rattle.pl_linked.specs.Rows as spec;
+ghost use Rattle.pl_base.specs.Rows.{first_id, has_visit, most_reads, older_visit, page_visits};
+ghost use Rattle.pl_base.specs.Rows.{row_of, target_behind, visit_at};
+ghost use Rattle.pl_record.specs.LinkedRows as index;
+ghost use Rattle.pl_record.specs.Rows as spec;
 ghost use Rattle.pl_slot.specs.declared.kind.SlotKind.TheVariants as kinds;
 ghost use Rattle.pl_slot.specs.Links.{kind_at};
 
 use crate::index::slot_at;
 use crate::linked::Linked;
-use crate::rows::{named, read_place, read_visit};
 use pl_base::{PageId, Slot, Steps, VisitId, VisitRow};
 use pl_rail::{Owner, first, next};
+use pl_record::{named, read_place, read_visit};
 use pl_slot::{Arena, Rail};
 use std::sync::ledger::Ledger;
 
@@ -29,6 +33,17 @@ fn id_in<L: Ledger>(arena: &Arena, slot: Option<Slot>, steps: &mut Steps<L>) -> 
 
 impl Linked {
     ghost use Rattle.pl_linked.specs.Linked.{kept_of, targets_of};
+
+    // The slot of a visit that is there.
+    fn visit_slot(&self, visit: VisitId) -> Slot
+        requires { has_visit (kept_of self.now) visit ≡ true }
+        ensures { index.slot_at self.now.visits.entries visit.0 ≡ Some result }
+    {
+        match slot_at(&self.visits, visit.0) {
+            Some(slot) => slot,
+            None => unreachable!(),
+        }
+    }
 
     pub fn visit_at<L: Ledger>(&self, visit: VisitId, steps: &mut Steps<L>) -> Option<VisitRow>
         ensures row { result ≡ option_map row_of (visit_at (kept_of self.now) visit) }

@@ -1,5 +1,6 @@
 // The opening store, the day, the next ids and the pages that changed.
-ghost use Rattle.std.specs.Prelude.{◌≡◌, ◌↔◌, ◌≤◌, ◌+◌, ℕ, List, [], Some, IfOk, IfSome, OnOk, length};
+ghost use Rattle.std.specs.Prelude.{◌≡◌, ◌↔◌, ◌≤◌, ◌+◌, ℕ, List, [], Some, IfOk, IfSome, OnOk};
+ghost use Rattle.std.specs.Prelude.{length};
 ghost use Rattle.std.specs.List.{All};
 ghost use Rattle.pl_base.specs.Date.{IsDay};
 ghost use Rattle.pl_base.specs.Live.{live_slots};

@@ -4,8 +4,8 @@ ghost use Rattle.pl_base.specs.Rows.{has_origin, has_page, most_reads, with_mark
 ghost use Rattle.pl_base.specs.Touched.{IsAtMostMore};
 
 use crate::linked::Linked;
-use crate::writing::{put_mark, put_total};
 use pl_base::{Mark, PageId, Slot, Steps};
+use pl_record::{put_mark, put_total};
 use std::sync::ledger::Ledger;
 
 impl Linked {

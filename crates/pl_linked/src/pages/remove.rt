@@ -4,8 +4,8 @@ ghost use Rattle.pl_base.specs.declared.id.Slot.{Slot as Number};
 ghost use Rattle.pl_base.specs.Good.{is_visited};
 ghost use Rattle.pl_base.specs.Marks.{is_referenced};
 ghost use Rattle.pl_base.specs.Rows.{WithoutPage, has_page, other_pages, store_of};
-ghost use Rattle.pl_linked.specs.ChainMap as maps;
-ghost use Rattle.pl_linked.specs.LastPage.{LeavesOrigin};
+ghost use Rattle.pl_record.specs.ChainMap as maps;
+ghost use Rattle.pl_record.specs.LastPage.{LeavesOrigin};
 ghost use Rattle.pl_rail.specs.declared.owner.Owner.TheVariants as owners;
 ghost use Rattle.pl_rail.specs.declared.owner.Side.TheVariants as sides;
 ghost use Rattle.pl_rail.specs.Rails as rails;
@@ -13,10 +13,9 @@ ghost use Rattle.pl_slot.specs.declared.kind.LiveKind.TheVariants as live;
 ghost use Rattle.pl_slot.specs.declared.links.Rail.TheVariants.{Live, OriginPages};
 
 use crate::linked::Linked;
-use crate::page_slots::{remove_origin, remove_place};
-use crate::rows::read_place;
 use pl_base::{PageId, Slot, Steps};
 use pl_rail::{Owner, first};
+use pl_record::{read_place, remove_origin, remove_place};
 use pl_slot::{Arena, Rail};
 use std::sync::ledger::Ledger;
 

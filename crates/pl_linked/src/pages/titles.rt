@@ -5,9 +5,8 @@ ghost use Rattle.pl_base.specs.Live.{slot_limit};
 ghost use Rattle.pl_base.specs.Rows.{has_page, live_with_title, title_of, with_title};
 
 use crate::linked::Linked;
-use crate::rows::{TextAt, read_place};
-use crate::writing::put_title;
 use pl_base::{NoMemory, PageId, Steps};
+use pl_record::{TextAt, put_title, read_place};
 use pl_text::{free, store};
 use std::sync::ledger::Ledger;
 

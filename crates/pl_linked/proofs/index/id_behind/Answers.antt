@@ -1,5 +1,5 @@
 use Rattle.std.proofs.Common.{◌∙◌, sym}
-use Rattle.pl_linked.proofs.SlotsById.{behind_none, behind_some}
+use Rattle.pl_record.proofs.SlotsById.{behind_none, behind_some}
 use Rattle.pl_linked.proofs.index.id_behind.Goals as goal
 
 pub returns-in-Some : goal.returns-in-Some

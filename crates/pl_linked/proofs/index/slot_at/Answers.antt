@@ -1,5 +1,5 @@
 use Rattle.std.proofs.Common.{◌∙◌}
-use Rattle.pl_linked.proofs.SlotsById.{looked_up}
+use Rattle.pl_record.proofs.SlotsById.{looked_up}
 use Rattle.pl_linked.proofs.index.slot_at.Goals as goal
 
 pub returns : goal.returns

@@ -1,5 +1,5 @@
 use Rattle.std.proofs.Common.{◌∙◌, ap}
-use Rattle.pl_linked.specs.Opening.{opening_header, opening_rows, with_rows}
+use Rattle.pl_record.specs.Opening.{opening_header, opening_rows, with_rows}
 use Rattle.pl_sheets.specs.Sheets.{with_bytes}
 use Rattle.pl_linked.proofs.opening.opening_sheets.Goals as goal
 

@@ -1,5 +1,5 @@
 use Rattle.std.proofs.Common.{◌∙◌}
-use Rattle.pl_linked.proofs.Kept.{day_told}
+use Rattle.pl_record.proofs.Kept.{day_told}
 use Rattle.pl_linked.proofs.linked.Linked.day.Goals as goal
 
 pub returns-clause-day : goal.returns-clause-day

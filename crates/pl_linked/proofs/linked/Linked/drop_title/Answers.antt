@@ -2,10 +2,10 @@ use Rattle.std.proofs.Common.{[], refl}
 use Rattle.std.proofs.Math.Logic.{∥∥₁_elim}
 use Rattle.std.proofs.Props.{props}
 use Rattle.pl_base.specs.Rows.{with_title}
-use Rattle.pl_linked.specs.LinkedRows.{AreLinked}
-use Rattle.pl_linked.proofs.Kept.{page_kind, title_text}
-use Rattle.pl_linked.proofs.Moves.{then_kept, then_keeps}
-use Rattle.pl_linked.proofs.TitleCalls.{drop_base, drop_few, drop_moves, empty_title, freed_kind}
+use Rattle.pl_record.specs.LinkedRows.{AreLinked}
+use Rattle.pl_record.proofs.Kept.{page_kind, title_text}
+use Rattle.pl_record.proofs.Moves.{then_kept, then_keeps}
+use Rattle.pl_record.proofs.TitleCalls.{drop_base, drop_few, drop_moves, empty_title, freed_kind}
 use Rattle.pl_linked.proofs.linked.Linked.drop_title.Given.{Over}
 use Rattle.pl_linked.proofs.linked.Linked.drop_title.Goals as goal
 use Rattle.pl_linked.proofs.linked.Linked.drop_title.Goals.{After-set_live}

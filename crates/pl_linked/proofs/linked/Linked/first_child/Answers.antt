@@ -3,8 +3,8 @@ use Rattle.pl_base.specs.Tree.{first_item}
 use Rattle.pl_slot.specs.declared.kind.SlotKind.TheVariants as kinds
 use Rattle.pl_slot.specs.declared.links.Link.TheVariants.{First}
 use Rattle.pl_slot.specs.declared.links.Rail.TheVariants.{Children}
-use Rattle.pl_linked.proofs.Kept.{first_child_told_kind, first_child_told_named, item_kind, no_children}
-use Rattle.pl_linked.proofs.RowKinds.{link_there}
+use Rattle.pl_record.proofs.Kept.{first_child_told_kind, first_child_told_named, item_kind, no_children}
+use Rattle.pl_record.proofs.RowKinds.{link_there}
 use Rattle.pl_linked.proofs.linked.Linked.first_child.Goals as goal
 
 pub returns-in_err-slot-clause-first : goal.returns-in_err-slot-clause-first

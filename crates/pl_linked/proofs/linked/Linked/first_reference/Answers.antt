@@ -3,8 +3,8 @@ use Rattle.pl_base.specs.Tree.{first_item}
 use Rattle.pl_slot.specs.declared.kind.SlotKind.TheVariants as kinds
 use Rattle.pl_slot.specs.declared.links.Link.TheVariants.{First}
 use Rattle.pl_slot.specs.declared.links.Rail.TheVariants.{References}
-use Rattle.pl_linked.proofs.Kept.{first_reference_told_kind, first_reference_told_named, no_page, no_references, page_kind}
-use Rattle.pl_linked.proofs.RowKinds.{link_there}
+use Rattle.pl_record.proofs.Kept.{first_reference_told_kind, first_reference_told_named, no_page, no_references, page_kind}
+use Rattle.pl_record.proofs.RowKinds.{link_there}
 use Rattle.pl_linked.proofs.linked.Linked.first_reference.Goals as goal
 
 pub returns-in_err-slot-clause-first : goal.returns-in_err-slot-clause-first

@@ -2,8 +2,8 @@ use Rattle.std.proofs.Common.{◌∙◌, refl, sym}
 use Rattle.pl_slot.specs.declared.kind.SlotKind.TheVariants as kinds
 use Rattle.pl_slot.specs.declared.links.Link.TheVariants.{First}
 use Rattle.pl_slot.specs.declared.links.Rail.TheVariants.{Targets}
-use Rattle.pl_linked.proofs.Kept.{first_target_told_kind, first_target_told_named, no_first_target, visit_kind}
-use Rattle.pl_linked.proofs.RowKinds.{link_there}
+use Rattle.pl_record.proofs.Kept.{first_target_told_kind, first_target_told_named, no_first_target, visit_kind}
+use Rattle.pl_record.proofs.RowKinds.{link_there}
 use Rattle.pl_linked.proofs.linked.Linked.first_target.Goals as goal
 
 pub returns-in_err-slot-clause-first : goal.returns-in_err-slot-clause-first

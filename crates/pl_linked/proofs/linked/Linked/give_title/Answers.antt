@@ -4,11 +4,11 @@ use Rattle.std.proofs.Props.{props}
 use Rattle.pl_base.specs.declared.id.Slot.{Slot}
 use Rattle.pl_base.specs.Live.{chunks, slot_limit}
 use Rattle.pl_base.specs.Rows.{with_title}
-use Rattle.pl_linked.specs.LinkedRows.{AreLinked}
-use Rattle.pl_linked.proofs.FreeMoved.{free_moved}
-use Rattle.pl_linked.proofs.Moves.{then_kept, then_keeps}
-use Rattle.pl_linked.proofs.TitleCalls.{give_base, give_few, give_moves, stored_kind, titled_there}
-use Rattle.pl_linked.proofs.TitleLinked.{given_room}
+use Rattle.pl_record.specs.LinkedRows.{AreLinked}
+use Rattle.pl_record.proofs.FreeMoved.{free_moved}
+use Rattle.pl_record.proofs.Moves.{then_kept, then_keeps}
+use Rattle.pl_record.proofs.TitleCalls.{give_base, give_few, give_moves, stored_kind, titled_there}
+use Rattle.pl_record.proofs.TitleLinked.{given_room}
 use Rattle.pl_linked.proofs.linked.Linked.give_title.Given.{Over}
 use Rattle.pl_linked.proofs.linked.Linked.give_title.Goals as goal
 use Rattle.pl_linked.proofs.linked.Linked.give_title.Goals.{After-set_live}

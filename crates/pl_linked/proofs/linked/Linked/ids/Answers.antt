@@ -1,5 +1,5 @@
 use Rattle.std.proofs.Common.{◌∙◌}
-use Rattle.pl_linked.proofs.Kept.{ids_told}
+use Rattle.pl_record.proofs.Kept.{ids_told}
 use Rattle.pl_linked.proofs.linked.Linked.ids.Goals as goal
 
 pub returns-clause-ids : goal.returns-clause-ids

@@ -2,14 +2,14 @@ use Rattle.std.proofs.Common.{[], arith}
 use Rattle.std.proofs.Math.Logic.{∥∥₁_elim}
 use Rattle.std.proofs.Props.{props}
 use Rattle.pl_base.specs.Rows.{with_new_page, with_origin}
-use Rattle.pl_linked.specs.LinkedRows.{AreLinked}
-use Rattle.pl_linked.proofs.LastEntry.{below_once}
-use Rattle.pl_linked.proofs.Moves.{then_kept, then_keeps}
-use Rattle.pl_linked.proofs.OneChains.{apart_map_once, lists_once, map_once, member_once}
-use Rattle.pl_linked.proofs.PageApart.{apart_chains, apart_few, apart_fits, apart_id, apart_kind, apart_moves, apart_room}
-use Rattle.pl_linked.proofs.PageApart.{apart_undone, undo_empty, undo_member}
-use Rattle.pl_linked.proofs.PageBounds.{apart_base, apart_pages}
-use Rattle.pl_linked.proofs.PageCalls.{last_id, next_page_id, page_chains}
+use Rattle.pl_record.specs.LinkedRows.{AreLinked}
+use Rattle.pl_record.proofs.LastEntry.{below_once}
+use Rattle.pl_record.proofs.Moves.{then_kept, then_keeps}
+use Rattle.pl_record.proofs.OneChains.{apart_map_once, lists_once, map_once, member_once}
+use Rattle.pl_record.proofs.PageApart.{apart_chains, apart_few, apart_fits, apart_id, apart_kind, apart_moves, apart_room}
+use Rattle.pl_record.proofs.PageApart.{apart_undone, undo_empty, undo_member}
+use Rattle.pl_record.proofs.PageBounds.{apart_base, apart_pages}
+use Rattle.pl_record.proofs.PageCalls.{last_id, next_page_id, page_chains}
 use Rattle.pl_linked.proofs.linked.Linked.insert_apart.Given.{Over}
 use Rattle.pl_linked.proofs.linked.Linked.insert_apart.Goals as goal
 use Rattle.pl_linked.proofs.linked.Linked.insert_apart.Goals.{After-count_page}

@@ -2,14 +2,14 @@ use Rattle.std.proofs.Common.{arith}
 use Rattle.std.proofs.Math.Logic.{∥∥₁_elim}
 use Rattle.std.proofs.Props.{props}
 use Rattle.pl_base.specs.Rows.{with_new_page}
-use Rattle.pl_linked.specs.LinkedRows.{AreLinked}
-use Rattle.pl_linked.proofs.FreeMoved.{free_moved}
-use Rattle.pl_linked.proofs.LastEntry.{below_once}
-use Rattle.pl_linked.proofs.Moves.{then_kept, then_keeps}
-use Rattle.pl_linked.proofs.OneChains.{apart_map_once}
-use Rattle.pl_linked.proofs.PageBounds.{known_base, known_pages}
-use Rattle.pl_linked.proofs.PageCalls.{known_few, known_id, known_kind, known_moves, known_room, last_id}
-use Rattle.pl_linked.proofs.PageCalls.{next_page_id, page_chains}
+use Rattle.pl_record.specs.LinkedRows.{AreLinked}
+use Rattle.pl_record.proofs.FreeMoved.{free_moved}
+use Rattle.pl_record.proofs.LastEntry.{below_once}
+use Rattle.pl_record.proofs.Moves.{then_kept, then_keeps}
+use Rattle.pl_record.proofs.OneChains.{apart_map_once}
+use Rattle.pl_record.proofs.PageBounds.{known_base, known_pages}
+use Rattle.pl_record.proofs.PageCalls.{known_few, known_id, known_kind, known_moves, known_room, last_id}
+use Rattle.pl_record.proofs.PageCalls.{next_page_id, page_chains}
 use Rattle.pl_linked.proofs.linked.Linked.insert_in.Given.{Over}
 use Rattle.pl_linked.proofs.linked.Linked.insert_in.Goals as goal
 use Rattle.pl_linked.proofs.linked.Linked.insert_in.Goals.{After-count_page}

@@ -4,8 +4,8 @@ use Rattle.pl_base.specs.declared.id.Slot.{Slot}
 use Rattle.pl_base.specs.Tree.{item_row}
 use Rattle.pl_slot.specs.declared.kind.SlotKind.TheVariants as kinds
 use Rattle.pl_slot.specs.Links.{kind_at}
-use Rattle.pl_linked.specs.Rows.{item_in, page_in}
-use Rattle.pl_linked.proofs.Kept.{item_kind, item_page_kind, item_told, no_item, parent_kind}
+use Rattle.pl_record.specs.Rows.{item_in, page_in}
+use Rattle.pl_record.proofs.Kept.{item_kind, item_page_kind, item_told, no_item, parent_kind}
 use Rattle.pl_linked.proofs.linked.Linked.item_at.Goals as goal
 
 pub returns-in_err-slot-clause-row : goal.returns-in_err-slot-clause-row

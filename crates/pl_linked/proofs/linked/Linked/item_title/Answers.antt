@@ -2,9 +2,9 @@ use Rattle.std.proofs.Common.{◌≡◌, ℕ, List, Some}
 use Rattle.std.proofs.lemmas.Result.{IfOk-weaker}
 use Rattle.pl_base.specs.Tree.{item_title}
 use Rattle.pl_text.specs.Chunks.{HoldsText}
-use Rattle.pl_linked.specs.LinkedRows.{slot_at}
-use Rattle.pl_linked.specs.Rows.{item_row, row_in}
-use Rattle.pl_linked.proofs.Kept.{item_title_text, item_title_told, item_title_utf8, some_and}
+use Rattle.pl_record.specs.LinkedRows.{slot_at}
+use Rattle.pl_record.specs.Rows.{item_row, row_in}
+use Rattle.pl_record.proofs.Kept.{item_title_text, item_title_told, item_title_utf8, some_and}
 use Rattle.pl_linked.proofs.linked.Linked.item_title.Goals as goal
 
 pub load-requires-clause-text : goal.load-requires-clause-text

@@ -3,8 +3,8 @@ use Rattle.pl_base.specs.Tree.{last_item}
 use Rattle.pl_slot.specs.declared.kind.SlotKind.TheVariants as kinds
 use Rattle.pl_slot.specs.declared.links.Link.TheVariants.{Last}
 use Rattle.pl_slot.specs.declared.links.Rail.TheVariants.{Children}
-use Rattle.pl_linked.proofs.Kept.{item_kind, last_child_told_kind, last_child_told_named, no_children}
-use Rattle.pl_linked.proofs.RowKinds.{link_there}
+use Rattle.pl_record.proofs.Kept.{item_kind, last_child_told_kind, last_child_told_named, no_children}
+use Rattle.pl_record.proofs.RowKinds.{link_there}
 use Rattle.pl_linked.proofs.linked.Linked.last_child.Goals as goal
 
 pub returns-in_err-slot-clause-last : goal.returns-in_err-slot-clause-last

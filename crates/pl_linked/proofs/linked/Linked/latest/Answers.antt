@@ -2,8 +2,8 @@ use Rattle.std.proofs.Common.{◌∙◌, refl, sym}
 use Rattle.pl_slot.specs.declared.kind.SlotKind.TheVariants as kinds
 use Rattle.pl_slot.specs.declared.links.Link.TheVariants.{First}
 use Rattle.pl_slot.specs.declared.links.Rail.TheVariants.{PageVisits}
-use Rattle.pl_linked.proofs.Kept.{latest_told_kind, latest_told_named, no_latest, page_kind}
-use Rattle.pl_linked.proofs.RowKinds.{link_there}
+use Rattle.pl_record.proofs.Kept.{latest_told_kind, latest_told_named, no_latest, page_kind}
+use Rattle.pl_record.proofs.RowKinds.{link_there}
 use Rattle.pl_linked.proofs.linked.Linked.latest.Goals as goal
 
 pub returns-in_err-slot-clause-latest : goal.returns-in_err-slot-clause-latest

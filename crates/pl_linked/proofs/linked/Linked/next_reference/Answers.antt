@@ -5,8 +5,8 @@ use Rattle.pl_base.specs.Tree.{item_behind, references}
 use Rattle.pl_slot.specs.declared.kind.SlotKind.TheVariants as kinds
 use Rattle.pl_slot.specs.declared.links.Link.TheVariants.{Next}
 use Rattle.pl_slot.specs.declared.links.Rail.TheVariants.{References}
-use Rattle.pl_linked.proofs.Kept.{item_kind, next_reference_told_kind, next_reference_told_named, no_item, no_reference}
-use Rattle.pl_linked.proofs.RowKinds.{link_there}
+use Rattle.pl_record.proofs.Kept.{item_kind, next_reference_told_kind, next_reference_told_named, no_item, no_reference}
+use Rattle.pl_record.proofs.RowKinds.{link_there}
 use Rattle.pl_linked.proofs.linked.Linked.next_reference.Goals as goal
 
 pub returns-in_err-slot-clause-next : goal.returns-in_err-slot-clause-next

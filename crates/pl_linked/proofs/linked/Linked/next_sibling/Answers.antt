@@ -2,8 +2,8 @@ use Rattle.std.proofs.Common.{◌∙◌, ap, is_some, refl, sym}
 use Rattle.pl_slot.specs.declared.kind.SlotKind.TheVariants as kinds
 use Rattle.pl_slot.specs.declared.links.Link.TheVariants.{Next}
 use Rattle.pl_slot.specs.declared.links.Rail.TheVariants.{Children}
-use Rattle.pl_linked.proofs.Kept.{item_kind, next_sibling_told_kind, next_sibling_told_named, no_item_sibling, no_sibling}
-use Rattle.pl_linked.proofs.RowKinds.{link_there}
+use Rattle.pl_record.proofs.Kept.{item_kind, next_sibling_told_kind, next_sibling_told_named, no_item_sibling, no_sibling}
+use Rattle.pl_record.proofs.RowKinds.{link_there}
 use Rattle.pl_linked.proofs.linked.Linked.next_sibling.Goals as goal
 
 pub returns-in_err-slot-clause-next : goal.returns-in_err-slot-clause-next

@@ -5,8 +5,8 @@ use Rattle.pl_base.specs.Store.{Visit}
 use Rattle.pl_slot.specs.declared.kind.SlotKind.TheVariants as kinds
 use Rattle.pl_slot.specs.declared.links.Link.TheVariants.{Next}
 use Rattle.pl_slot.specs.declared.links.Rail.TheVariants.{PageVisits}
-use Rattle.pl_linked.proofs.Kept.{no_visit, older_told_kind, older_told_named, visit_kind}
-use Rattle.pl_linked.proofs.RowKinds.{link_there}
+use Rattle.pl_record.proofs.Kept.{no_visit, older_told_kind, older_told_named, visit_kind}
+use Rattle.pl_record.proofs.RowKinds.{link_there}
 use Rattle.pl_linked.proofs.linked.Linked.older.Goals as goal
 
 pub returns-in_err-slot-clause-older : goal.returns-in_err-slot-clause-older

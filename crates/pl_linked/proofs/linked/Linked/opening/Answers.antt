@@ -1,7 +1,7 @@
 use Rattle.std.proofs.Common.{◌≡◌, subst, sym}
 use Rattle.pl_base.specs.Rows.{IsSound}
-use Rattle.pl_linked.proofs.OpeningKept.{only_roots, opening_keeps, opening_sound}
-use Rattle.pl_linked.proofs.OpeningRows.{opening_kept}
+use Rattle.pl_record.proofs.OpeningKept.{only_roots, opening_keeps, opening_sound}
+use Rattle.pl_record.proofs.OpeningRows.{opening_kept}
 use Rattle.pl_linked.proofs.linked.Linked.opening.Goals as goal
 use Rattle.pl_linked.proofs.linked.Linked.opening.Goals.{After-result-2-1}
 

@@ -1,4 +1,4 @@
-use Rattle.pl_linked.proofs.Kept.{origin_kind, total_told}
+use Rattle.pl_record.proofs.Kept.{origin_kind, total_told}
 use Rattle.pl_linked.proofs.linked.Linked.origin_at.Goals as goal
 
 pub read_total-requires : goal.read_total-requires

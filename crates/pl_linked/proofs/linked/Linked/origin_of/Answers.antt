@@ -1,7 +1,7 @@
 use Rattle.std.proofs.Common.{◌≡◌, Some}
-use Rattle.pl_linked.specs.LinkedRows.{slot_at}
-use Rattle.pl_linked.specs.Rows.{place_row, row_in}
-use Rattle.pl_linked.proofs.Kept.{origin_told, some_and}
+use Rattle.pl_record.specs.LinkedRows.{slot_at}
+use Rattle.pl_record.specs.Rows.{place_row, row_in}
+use Rattle.pl_record.proofs.Kept.{origin_told, some_and}
 use Rattle.pl_linked.proofs.linked.Linked.origin_of.Goals as goal
 
 pub returns-clause-origin : goal.returns-clause-origin

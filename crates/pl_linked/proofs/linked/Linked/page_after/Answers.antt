@@ -1,7 +1,7 @@
 use Rattle.std.proofs.Common.{◌∙◌, ap, sym}
 use Rattle.std.specs.Option.{option_map}
-use Rattle.pl_linked.proofs.Kept.{next_none, next_some}
-use Rattle.pl_linked.proofs.PagesTold.{page_numbered}
+use Rattle.pl_record.proofs.Kept.{next_none, next_some}
+use Rattle.pl_record.proofs.PagesTold.{page_numbered}
 use Rattle.pl_linked.proofs.linked.Linked.page_after.Goals as goal
 use Rattle.pl_linked.proofs.linked.Linked.page_after.Goals.{in-Some, in-None}
 

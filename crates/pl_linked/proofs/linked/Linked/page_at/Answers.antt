@@ -1,7 +1,7 @@
 use Rattle.std.proofs.Common.{◌∙◌, ap, sym}
 use Rattle.std.specs.Option.{option_map}
 use Rattle.pl_base.specs.Rows.{mark_of}
-use Rattle.pl_linked.proofs.Kept.{mark_told, no_page, page_kind}
+use Rattle.pl_record.proofs.Kept.{mark_told, no_page, page_kind}
 use Rattle.pl_linked.proofs.linked.Linked.page_at.Goals as goal
 
 pub returns-in_err-slot-clause-mark : goal.returns-in_err-slot-clause-mark

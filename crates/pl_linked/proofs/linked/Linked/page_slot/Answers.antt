@@ -1,5 +1,5 @@
 use Rattle.std.proofs.Common.{◌∙◌, sym}
-use Rattle.pl_linked.proofs.Kept.{page_missing}
+use Rattle.pl_record.proofs.Kept.{page_missing}
 use Rattle.pl_linked.proofs.linked.Linked.page_slot.Goals as goal
 
 pub unreachable-requires : goal.unreachable-requires

@@ -1,5 +1,5 @@
 use Rattle.std.proofs.Common.{◌∙◌, sym}
-use Rattle.pl_linked.proofs.Kept.{page_kind, page_missing}
+use Rattle.pl_record.proofs.Kept.{page_kind, page_missing}
 use Rattle.pl_linked.proofs.linked.Linked.place_of.Goals as goal
 
 pub read_place-requires : goal.read_place-requires

@@ -3,12 +3,12 @@ use Rattle.std.proofs.Math.Logic.{∥∥₁_elim}
 use Rattle.std.proofs.Props.{props}
 use Rattle.pl_base.specs.Live.{slot_limit}
 use Rattle.pl_base.specs.Rows.{Kept, WithoutPage}
-use Rattle.pl_linked.specs.LinkedRows.{AreLinked}
-use Rattle.pl_linked.proofs.Kept.{page_kind}
-use Rattle.pl_linked.proofs.Moves.{then_kept, then_keeps}
-use Rattle.pl_linked.proofs.OneChains.{bare_once, map_once, member_once}
-use Rattle.pl_linked.proofs.PageRemoved.{asked, bare, chained_then, member}
-use Rattle.pl_linked.proofs.PageWithout.{base_without, few_gone, linked_without, page_without, without}
+use Rattle.pl_record.specs.LinkedRows.{AreLinked}
+use Rattle.pl_record.proofs.Kept.{page_kind}
+use Rattle.pl_record.proofs.Moves.{then_kept, then_keeps}
+use Rattle.pl_record.proofs.OneChains.{bare_once, map_once, member_once}
+use Rattle.pl_record.proofs.PageRemoved.{asked, bare, chained_then, member}
+use Rattle.pl_record.proofs.PageWithout.{base_without, few_gone, linked_without, page_without, without}
 use Rattle.pl_linked.proofs.linked.Linked.remove_page.Given.{Over}
 use Rattle.pl_linked.proofs.linked.Linked.remove_page.Goals as goal
 use Rattle.pl_linked.proofs.linked.Linked.remove_page.Goals.{After-remove, After-slots-2}

@@ -1,5 +1,5 @@
 use Rattle.std.proofs.Common.{◌∙◌, sym}
-use Rattle.pl_linked.proofs.Kept.{item_kind, item_missing}
+use Rattle.pl_record.proofs.Kept.{item_kind, item_missing}
 use Rattle.pl_linked.proofs.linked.Linked.row_of.Goals as goal
 
 pub read_item-requires : goal.read_item-requires

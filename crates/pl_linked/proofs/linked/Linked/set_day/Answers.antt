@@ -1,9 +1,9 @@
 use Rattle.std.proofs.Common.{◌∷◌, []}
 use Rattle.pl_base.specs.Rows.{with_day}
-use Rattle.pl_linked.proofs.Bases.{base_kept}
-use Rattle.pl_linked.proofs.Moves.{then_kept, then_keeps}
-use Rattle.pl_linked.proofs.TotalSet.{day_set}
-use Rattle.pl_linked.proofs.TouchedRows.{are_pages}
+use Rattle.pl_record.proofs.Bases.{base_kept}
+use Rattle.pl_record.proofs.Moves.{then_kept, then_keeps}
+use Rattle.pl_record.proofs.TotalSet.{day_set}
+use Rattle.pl_record.proofs.TouchedRows.{are_pages}
 use Rattle.pl_linked.proofs.linked.Linked.set_day.Goals as goal
 use Rattle.pl_slot.specs.Arena.{header_page}
 

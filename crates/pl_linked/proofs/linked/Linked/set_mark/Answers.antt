@@ -1,11 +1,11 @@
 use Rattle.std.proofs.Common.{◌≡◌, ◌∷◌, [], arith}
 use Rattle.pl_base.specs.Rows.{with_mark}
-use Rattle.pl_linked.specs.LinkedRows.{AreLinked}
-use Rattle.pl_linked.proofs.Bases.{at_most, base_kept, same_count}
-use Rattle.pl_linked.proofs.Kept.{page_kind}
-use Rattle.pl_linked.proofs.MarkSet.{mark_set}
-use Rattle.pl_linked.proofs.Moves.{then_kept, then_keeps}
-use Rattle.pl_linked.proofs.TouchedRows.{are_pages, pages_told}
+use Rattle.pl_record.specs.LinkedRows.{AreLinked}
+use Rattle.pl_record.proofs.Bases.{at_most, base_kept, same_count}
+use Rattle.pl_record.proofs.Kept.{page_kind}
+use Rattle.pl_record.proofs.MarkSet.{mark_set}
+use Rattle.pl_record.proofs.Moves.{then_kept, then_keeps}
+use Rattle.pl_record.proofs.TouchedRows.{are_pages, pages_told}
 use Rattle.pl_linked.proofs.linked.Linked.set_mark.Given.{Over}
 use Rattle.pl_linked.proofs.linked.Linked.set_mark.Goals as goal
 use Rattle.pl_linked.proofs.linked.Linked.set_mark.Goals.{After-put_mark}

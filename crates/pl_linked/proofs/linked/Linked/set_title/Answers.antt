@@ -3,8 +3,8 @@ use Rattle.std.proofs.lemmas.Result.{on_ok_weaker}
 use Rattle.pl_base.specs.Live.{live_slots, slot_limit}
 use Rattle.pl_base.specs.Rows.{live_with_title, store_of, title_of, with_title}
 use Rattle.pl_linked.specs.Linked.{kept_of}
-use Rattle.pl_linked.proofs.PagesChanged.{titled_twice}
-use Rattle.pl_linked.proofs.TitleCalls.{bare_then}
+use Rattle.pl_record.proofs.PagesChanged.{titled_twice}
+use Rattle.pl_record.proofs.TitleCalls.{bare_then}
 use Rattle.pl_linked.proofs.linked.Linked.set_title.Goals as goal
 
 pub give_title-requires-clause-bare : goal.give_title-requires-clause-bare

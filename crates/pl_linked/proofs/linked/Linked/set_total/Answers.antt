@@ -1,11 +1,11 @@
 use Rattle.std.proofs.Common.{◌≡◌, ◌∷◌, [], arith}
 use Rattle.pl_base.specs.Rows.{with_total}
-use Rattle.pl_linked.specs.LinkedRows.{AreLinked}
-use Rattle.pl_linked.proofs.Bases.{at_most, base_kept, same_count}
-use Rattle.pl_linked.proofs.Kept.{origin_kind}
-use Rattle.pl_linked.proofs.TotalSet.{total_set}
-use Rattle.pl_linked.proofs.Moves.{then_kept, then_keeps}
-use Rattle.pl_linked.proofs.TouchedRows.{are_pages, pages_told}
+use Rattle.pl_record.specs.LinkedRows.{AreLinked}
+use Rattle.pl_record.proofs.Bases.{at_most, base_kept, same_count}
+use Rattle.pl_record.proofs.Kept.{origin_kind}
+use Rattle.pl_record.proofs.TotalSet.{total_set}
+use Rattle.pl_record.proofs.Moves.{then_kept, then_keeps}
+use Rattle.pl_record.proofs.TouchedRows.{are_pages, pages_told}
 use Rattle.pl_linked.proofs.linked.Linked.set_total.Given.{Over}
 use Rattle.pl_linked.proofs.linked.Linked.set_total.Goals as goal
 use Rattle.pl_linked.proofs.linked.Linked.set_total.Goals.{After-put_total}

@@ -2,9 +2,9 @@ use Rattle.std.proofs.Common.{◌≡◌, ℕ, List, Some}
 use Rattle.std.proofs.lemmas.Result.{IfOk-weaker}
 use Rattle.pl_base.specs.Rows.{title_of}
 use Rattle.pl_text.specs.Chunks.{HoldsText}
-use Rattle.pl_linked.specs.LinkedRows.{slot_at}
-use Rattle.pl_linked.specs.Rows.{place_row, row_in}
-use Rattle.pl_linked.proofs.Kept.{some_and, title_text, title_told, title_utf8}
+use Rattle.pl_record.specs.LinkedRows.{slot_at}
+use Rattle.pl_record.specs.Rows.{place_row, row_in}
+use Rattle.pl_record.proofs.Kept.{some_and, title_text, title_told, title_utf8}
 use Rattle.pl_linked.proofs.linked.Linked.title.Goals as goal
 
 pub load-requires-clause-text : goal.load-requires-clause-text

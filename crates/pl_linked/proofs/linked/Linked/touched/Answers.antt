@@ -2,10 +2,10 @@ use Rattle.std.proofs.Common.{◌≡◌, ◌∙◌, ◌↔◌, ◌≤◌, ◌⊎
 use Rattle.std.specs.List.{All}
 use Rattle.std.proofs.lemmas.Result.{IfOk-weaker, on_ok_weaker}
 use Rattle.pl_base.specs.Touched.{Change, IsWithin, MayDiffer, bytes_before, changed, page_numbers}
-use Rattle.pl_linked.specs.Form.{bytes_in}
-use Rattle.pl_linked.specs.LinkedRows.{IsBaseOf, changes}
-use Rattle.pl_linked.proofs.Changes.{none_listed}
-use Rattle.pl_linked.proofs.TouchedRows.{after, needed, settled_base, some, still_keeps, still_kept, whole, within}
+use Rattle.pl_record.specs.Form.{bytes_in}
+use Rattle.pl_record.specs.LinkedRows.{IsBaseOf, changes}
+use Rattle.pl_record.proofs.Changes.{none_listed}
+use Rattle.pl_record.proofs.TouchedRows.{after, needed, settled_base, some, still_keeps, still_kept, whole, within}
 use Rattle.pl_linked.proofs.linked.Linked.touched.Given.{Over}
 use Rattle.pl_linked.proofs.linked.Linked.touched.Goals as goal
 use Rattle.pl_linked.proofs.linked.Linked.touched.Goals.{After-touched}

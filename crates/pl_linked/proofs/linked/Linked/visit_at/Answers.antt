@@ -4,8 +4,8 @@ use Rattle.pl_base.specs.declared.id.Slot.{Slot}
 use Rattle.pl_base.specs.Rows.{row_of}
 use Rattle.pl_slot.specs.declared.kind.SlotKind.TheVariants as kinds
 use Rattle.pl_slot.specs.Links.{kind_at}
-use Rattle.pl_linked.specs.Rows.{page_id, visit_in}
-use Rattle.pl_linked.proofs.Kept.{no_visit, own_page_kind, source_kind, visit_kind, visit_told}
+use Rattle.pl_record.specs.Rows.{page_id, visit_in}
+use Rattle.pl_record.proofs.Kept.{no_visit, own_page_kind, source_kind, visit_kind, visit_told}
 use Rattle.pl_linked.proofs.linked.Linked.visit_at.Goals as goal
 
 pub returns-in_err-slot-clause-row : goal.returns-in_err-slot-clause-row

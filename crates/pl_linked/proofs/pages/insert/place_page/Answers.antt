@@ -4,8 +4,8 @@ use Rattle.std.specs.Map.{remove_entry}
 use Rattle.std.specs.Ordering.{nat_cmp}
 use Rattle.std.proofs.lemmas.Result.{err_from_is_err_and}
 use Rattle.pl_base.specs.declared.id.Slot.{Slot}
-use Rattle.pl_linked.specs.LinkedRows.{Entries}
-use Rattle.pl_linked.proofs.LastEntry.{inserted_again, inserted_last, removed_last}
+use Rattle.pl_record.specs.LinkedRows.{Entries}
+use Rattle.pl_record.proofs.LastEntry.{inserted_again, inserted_last, removed_last}
 use Rattle.pl_linked.proofs.pages.insert.place_page.Goals as goal
 
 zero : Slot

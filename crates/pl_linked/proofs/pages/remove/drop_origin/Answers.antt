@@ -1,5 +1,5 @@
 use Rattle.std.proofs.Common.{◌∙◌, sym}
-use Rattle.pl_linked.proofs.PageRemoved.{emptied}
+use Rattle.pl_record.proofs.PageRemoved.{emptied}
 use Rattle.pl_linked.proofs.pages.remove.drop_origin.Goals as goal
 
 pub remove_origin-requires-clause-empty : goal.remove_origin-requires-clause-empty

@@ -1,0 +1,12 @@
+pub mod ChainMap
+pub mod Chains
+pub mod Form
+pub mod ItemChanges
+pub mod ItemTitles
+pub mod LastPage
+pub mod LinkedRows
+pub mod Opening
+pub mod Records
+pub mod Rows
+pub mod SlotChanges
+pub mod VisitChanges
