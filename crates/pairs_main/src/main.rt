@@ -1,0 +1,86 @@
+//! Performs the lines of a script on two engines, one over rows in linked slots and one over rows
+//! in vectors, and prints whether they reply the same; or performs them on one of the two, and
+//! prints its replies. `bench/pairs.py` writes scripts for it.
+#![tactic(auto)]
+
+ghost use Rattle.std.specs.Prelude.{◌≡◌, ◌<◌};
+
+mod choice;
+mod fault;
+mod outcome;
+mod pair;
+mod replies;
+mod run;
+
+use choice::Choice;
+use fault::Fault;
+use pl_base::Steps;
+use run::{both, flat, linked};
+use std::env::{self, Env};
+use std::io::{self, Read};
+use std::marker::Brand;
+use std::process::ExitCode;
+use std::sync::ledger::{Blank, Ledger};
+
+fn main(rt: HostRuntime) -> ExitCode {
+    let status = match answer(&rt) {
+        Ok(status) => status,
+        Err(fault) => told(&rt, fault),
+    };
+    ExitCode::from(status)
+}
+
+// Says why the script was not performed to its end, and gives the exit status for that.
+fn told(rt: &impl Eprint, fault: Fault) -> u8 {
+    let _ = eprintln!(rt; "pairs_main: {fault}");
+    fault.status()
+}
+
+// The exit status of what the words ask for.
+fn answer(rt: &HostRuntime) -> Result<u8, Fault> {
+    let words = words(rt)?;
+    let Some(choice) = Choice::of(&words) else {
+        return Err(Fault::Usage);
+    };
+    let script = script(rt)?;
+    perform::<Brand>(rt, choice, &script, Blank::new(1))
+}
+
+// The words behind the program's name.
+fn words(rt: &(impl Env + AllocGlobal)) -> Result<Vec<String>, Fault> {
+    match env::args(rt) {
+        Ok(args) => args
+            .skip(1)
+            .collect(rt.alloc())
+            .map_err(|_| Fault::NoMemory),
+        Err(_) => Err(Fault::Usage),
+    }
+}
+
+// The bytes of standard input.
+fn script(rt: &HostRuntime) -> Result<Vec<u8>, Fault> {
+    let mut bytes = Vec::new(rt.alloc());
+    match rt.stdin().read_to_end(&mut bytes) {
+        Ok(_) => Ok(bytes),
+        Err(error) if error.kind() == io::ErrorKind::OutOfMemory => Err(Fault::NoMemory),
+        Err(_) => Err(Fault::NotRead),
+    }
+}
+
+fn perform<L: Ledger>(
+    rt: &HostRuntime,
+    choice: Choice,
+    script: &[u8],
+    blank: Blank,
+) -> Result<u8, Fault>
+    requires name { blank.name ≡ L.name }
+    requires parts { blank.parts ≡ L.parts }
+    requires some { 0 < blank.parts }
+{
+    let steps = &mut Steps::<L>::none(blank);
+    match choice {
+        Choice::Both => both(rt, script, steps),
+        Choice::Linked => linked(rt, script, steps),
+        Choice::Flat => flat(rt, script, steps),
+    }
+}
