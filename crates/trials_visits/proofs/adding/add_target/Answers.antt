@@ -1,0 +1,14 @@
+use Rattle.std.proofs.Common.{◌∙◌, ap, sym}
+use Rattle.std.specs.Result.{result_ok}
+use Rattle.trials_visits.proofs.Found.{page_there, visit_there}
+use Rattle.trials_visits.proofs.adding.add_target.Goals as goal
+
+pub insert_visit-requires-clause-page : goal.insert_visit-requires-clause-page
+insert_visit-requires-clause-page g c =
+    page_there (g.R.Rows.kept c.args.rows.now) c.args.page c.in_ok-ok_or.field-0
+    (ap result_ok (sym c.in_ok-ok_or.was) ∙ sym c.ok_or.ensures.ok_part ∙ c.page_at.ensures.mark)
+
+pub insert_visit-requires-clause-source : goal.insert_visit-requires-clause-source
+insert_visit-requires-clause-source g c =
+    visit_there (g.R.Rows.kept c.args.rows.now) c.args.visit.2 c.in_ok-ok_or-2.field-0
+    (ap result_ok (sym c.in_ok-ok_or-2.was) ∙ sym c.ok_or-2.ensures.ok_part ∙ c.visit_at.ensures.row)

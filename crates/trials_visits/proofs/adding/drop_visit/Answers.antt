@@ -1,0 +1,9 @@
+use Rattle.std.proofs.Common.{◌∙◌, ap, sym}
+use Rattle.std.specs.Result.{result_ok}
+use Rattle.trials_visits.proofs.Found.{visit_there}
+use Rattle.trials_visits.proofs.adding.drop_visit.Goals as goal
+
+pub remove_visit-requires : goal.remove_visit-requires
+remove_visit-requires g c =
+    visit_there (g.R.Rows.kept c.args.rows.now) c.args.visit c.in_ok-ok_or.field-0
+    (ap result_ok (sym c.in_ok-ok_or.was) ∙ sym c.ok_or.ensures.ok_part ∙ c.visit_at.ensures.row)
