@@ -175,6 +175,35 @@ fn is_hidden_by_visits<R: Rows, L: Ledger>(rows: &R, page: PageId, steps: &mut S
     latest.is_some()
 }
 
+/// The mark of a page with this count and typed mark, with its frecency and hidden mark computed
+/// afresh.
+pub fn computed_mark<R: Rows, L: Ledger>(
+    alloc: Global,
+    rows: &R,
+    page: PageId,
+    told: Mark,
+    is_place: bool,
+    steps: &mut Steps<L>,
+) -> Result<Mark, NoMemory>
+    requires count { told.count ≡ marks.visit_count (store_of (R.kept rows.now)) page }
+    ensures told { IfOk result (λ mark.
+        mark ≡ record told { frecency = mark.frecency; hidden = mark.hidden }) }
+    ensures frecency { IfOk result (λ mark. (p : Page) → p.id ≡ page
+        → told.typed ≡ p.typed → is_place ≡ is_place_url p.url
+        → mark.frecency ≡ frecency_of (store_of (R.kept rows.now)) p) }
+    ensures small { IfOk result (λ mark. share mark.frecency ≤ most_share) }
+    ensures hidden { IfOk result (λ mark. (p : Page) → p.id ≡ page → is_place ≡ is_place_url p.url
+        → mark.hidden ≡ marks.is_hidden (store_of (R.kept rows.now)) p) }
+{
+    let frecency = frecency(alloc, rows, page, told, is_place, steps)?;
+    let hidden = is_place || is_hidden_by_visits(rows, page, steps);
+    Ok(Mark {
+        frecency,
+        hidden,
+        ..told
+    })
+}
+
 /// The page has this count and typed mark, and its frecency, which is the answer, and its hidden
 /// mark are computed afresh.
 pub fn refresh<R: Rows, L: Ledger>(
@@ -195,13 +224,7 @@ pub fn refresh<R: Rows, L: Ledger>(
         (R.pending rows.old) (R.pending rows.new)) }
     ensures base { OnOk result ((bytes : List ℕ) → R.base rows.old bytes → R.base rows.new bytes) }
 {
-    let frecency = frecency(alloc, rows, page, told, is_place, steps)?;
-    let hidden = is_place || is_hidden_by_visits(rows, page, steps);
-    let mark = Mark {
-        frecency,
-        hidden,
-        ..told
-    };
+    let mark = computed_mark(alloc, rows, page, told, is_place, steps)?;
     keep_mark(rows, page, mark, steps);
-    Ok(frecency)
+    Ok(mark.frecency)
 }
