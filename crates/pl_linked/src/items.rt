@@ -16,11 +16,10 @@ ghost use Rattle.pl_record.specs.Rows as spec;
 ghost use Rattle.pl_slot.specs.declared.kind.SlotKind.TheVariants as kinds;
 ghost use Rattle.pl_slot.specs.Links.{kind_at};
 
-use crate::index::slot_at;
 use crate::linked::Linked;
 use pl_base::{ItemId, ItemRow, NoMemory, PageId, Slot, Steps, Txt};
 use pl_rail::{Owner, first, last, next};
-use pl_record::{Item, named, read_item, read_place};
+use pl_record::{Item, named, read_item, read_place, slot_at};
 use pl_slot::{Arena, Rail};
 use pl_text::load;
 use std::sync::ledger::Ledger;

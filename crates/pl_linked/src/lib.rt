@@ -3,10 +3,8 @@
 #![tactic(auto)]
 
 mod as_rows;
-mod index;
 mod items;
 mod linked;
-mod opening;
 mod pages;
 mod visits;
 mod whole;

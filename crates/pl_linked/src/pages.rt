@@ -11,10 +11,9 @@ ghost use Rattle.pl_base.specs.Rows.{page_at, page_behind, title_of, total_at, u
 ghost use Rattle.pl_record.specs.LinkedRows as index;
 ghost use Rattle.pl_record.specs.Rows as spec;
 
-use crate::index::{id_behind, slot_at};
 use crate::linked::Linked;
 use pl_base::{Mark, NoMemory, OriginRow, PageId, Slot, Steps, Txt};
-use pl_record::{Place, read_place, read_total};
+use pl_record::{Place, id_behind, read_place, read_total, slot_at};
 use pl_text::load;
 use std::sync::ledger::Ledger;
 

@@ -11,11 +11,10 @@ ghost use Rattle.pl_record.specs.Rows as spec;
 ghost use Rattle.pl_slot.specs.declared.kind.SlotKind.TheVariants as kinds;
 ghost use Rattle.pl_slot.specs.Links.{kind_at};
 
-use crate::index::slot_at;
 use crate::linked::Linked;
 use pl_base::{PageId, Slot, Steps, VisitId, VisitRow};
 use pl_rail::{Owner, first, next};
-use pl_record::{named, read_place, read_visit};
+use pl_record::{named, read_place, read_visit, slot_at};
 use pl_slot::{Arena, Rail};
 use std::sync::ledger::Ledger;
 

@@ -8,8 +8,8 @@ ghost use Rattle.pl_base.specs.Rows.{IsSound, most_reads, opening_with, store_of
 ghost use Rattle.pl_base.specs.Touched.{IsWithin, MayDiffer, bytes_before, changed, page_numbers};
 
 use crate::linked::Linked;
-use crate::opening::{opening_arena, root_slots};
 use pl_base::{Day, Ids, NoMemory, Steps, Touched};
+use pl_record::{opening_arena, root_slots};
 use std::alloc::Global;
 use std::collections::BTreeMap;
 use std::sync::ledger::Ledger;

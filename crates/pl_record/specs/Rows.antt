@@ -50,8 +50,8 @@ origin_row total = rows.Origin none none none none total
 
 -- ---- rows that are written
 
--- the row of a page with another mark or title, that of a visit with another source, that of an item
--- with another parent, title or modified date, and that of an origin with another total
+-- the row of a page with another mark or title, that of a visit with another source, that of an
+-- item with another parent, title or modified date, and that of an origin with another total
 abbrev pub with_mark : Mark → SlotRow → SlotRow
 with_mark mark
     (rows.Place typed hidden live_previous live_next id origin origin_previous origin_next

@@ -3,13 +3,17 @@
 #![tactic(auto)]
 
 mod chains;
+mod index;
 mod item_slots;
+mod opening;
 mod page_slots;
 mod rows;
 mod visit_slots;
 mod writing;
 
+pub use index::{id_behind, slot_at};
 pub use item_slots::{insert_item, move_item, remove_item};
+pub use opening::{opening_arena, root_slots};
 pub use page_slots::{insert_origin, insert_place, remove_origin, remove_place};
 pub use rows::{Item, Place, TextAt, Visit, named, read_item, read_place, read_total, read_visit};
 pub use visit_slots::{drop_targets, free_visit, take_visit};

@@ -1,5 +1,5 @@
-// The titles and dates of items, set: the slots of an old title are given back before the new one is
-// stored.
+// The titles and dates of items, set: the slots of an old title are given back before the new one
+// is stored.
 ghost use Rattle.std.specs.Prelude.{◌≡◌, ◌≤◌, ℕ, List, [], Some, OnOk, length, true};
 ghost use Rattle.pl_base.specs.Date.{IsDate};
 ghost use Rattle.pl_base.specs.Good.{longest_title};
@@ -28,7 +28,8 @@ impl Linked {
         requires item { has_item (kept_of self.old).items item ≡ true }
         requires title { length title.now ≤ longest_title }
         requires modified { IsDate modified }
-        requires live { live_with_item_title item title.now modified (kept_of self.old) ≤ slot_limit }
+        requires live { live_with_item_title item title.now modified (kept_of self.old)
+            ≤ slot_limit }
         ensures kept { OnOk result (kept_of self.new
             ≡ with_items (retitled item title.now modified (kept_of self.old).items)
             (kept_of self.old)) }

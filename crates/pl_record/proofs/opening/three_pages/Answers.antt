@@ -1,6 +1,6 @@
 use Rattle.std.proofs.Common.{◌∙◌, ℕ, List, ap}
 use Rattle.pl_sheets.specs.Sheets.{unchanged, with_blank}
-use Rattle.pl_linked.proofs.opening.three_pages.Goals as goal
+use Rattle.pl_record.proofs.opening.three_pages.Goals as goal
 
 pub returns : goal.returns
 returns c =

@@ -5,7 +5,7 @@ use Rattle.pl_slot.specs.declared.row.SlotRow.TheVariants.{Free}
 use Rattle.pl_slot.specs.Slot.{slot_bytes}
 use Rattle.pl_rail.specs.Rails.{none}
 use Rattle.pl_record.specs.Opening.{opening_rows, root_row, slot, with_rows}
-use Rattle.pl_linked.proofs.opening.put_roots.Goals as goal
+use Rattle.pl_record.proofs.opening.put_roots.Goals as goal
 
 -- a row is put behind those before
 step : (n : ℕ) (row other : SlotRow) (old so_far new : Pages) → new ≡ with_bytes 2 n (slot_bytes row) old → row ≡ other

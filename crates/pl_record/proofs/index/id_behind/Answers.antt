@@ -1,6 +1,6 @@
 use Rattle.std.proofs.Common.{◌∙◌, sym}
 use Rattle.pl_record.proofs.SlotsById.{behind_none, behind_some}
-use Rattle.pl_linked.proofs.index.id_behind.Goals as goal
+use Rattle.pl_record.proofs.index.id_behind.Goals as goal
 
 pub returns-in-Some : goal.returns-in-Some
 returns-in-Some c =

@@ -1,7 +1,7 @@
 use Rattle.std.proofs.Common.{◌∙◌, ap}
 use Rattle.pl_record.specs.Opening.{opening_header, opening_rows, with_rows}
 use Rattle.pl_sheets.specs.Sheets.{with_bytes}
-use Rattle.pl_linked.proofs.opening.opening_sheets.Goals as goal
+use Rattle.pl_record.proofs.opening.opening_sheets.Goals as goal
 
 pub returns : goal.returns
 returns c =

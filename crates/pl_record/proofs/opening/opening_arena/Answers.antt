@@ -2,7 +2,7 @@ use Rattle.std.proofs.Common.{◌≡◌, subst, sym}
 use Rattle.pl_sheets.specs.Sheets.{Pages, page_count}
 use Rattle.pl_slot.specs.Arena.{KeepsSlots, header_of}
 use Rattle.pl_record.proofs.OpeningRows.{opening_slots, opening_told}
-use Rattle.pl_linked.proofs.opening.opening_arena.Goals as goal
+use Rattle.pl_record.proofs.opening.opening_arena.Goals as goal
 
 pub over-requires-clause-told : goal.over-requires-clause-told
 over-requires-clause-told c =
