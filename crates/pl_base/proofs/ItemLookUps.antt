@@ -12,7 +12,7 @@ use Rattle.pl_base.specs.declared.item.ItemRow.{ItemRow}
 use Rattle.pl_base.specs.Store.{Item}
 use Rattle.pl_base.specs.Tree.{has_item, item_at, item_row, item_title, last_item, parent_of}
 use Rattle.pl_base.proofs.Among.{In}
-use Rattle.pl_base.proofs.LookUps.{found_passes}
+use Rattle.pl_base.proofs.LookUps.{found_passes, there_told}
 
 -- ---- ids and kinds
 
@@ -21,6 +21,15 @@ same_item_number a b same = ap (λ (n : ℕ). record { 0 = n }) same
 
 pub same_item : (a b : ItemId) → (a.0 == b.0) ≡ true → a ≡ b
 same_item a b same = same_item_number a b (eqb-true a.0 b.0 same)
+
+-- an item of which its row is told is there
+pub item_there : (items : List Item) (id : ItemId) (row : ItemRow)
+    → Some row ≡ option_map (item_row items) (item_at items id) → has_item items id ≡ true
+item_there items id row told = there_told (λ (i : Item). i.id.0 == id.0) (item_row items) items row told
+
+-- the item that is found has the id
+pub id_of_item : (items : List Item) (id : ItemId) (i : Item) → item_at items id ≡ Some i → i.id ≡ id
+id_of_item items id i found = same_item i.id id (found_passes (λ (j : Item). j.id.0 == id.0) items i found)
 
 -- a test of kinds that only folders pass
 pub folder_kind : (test : ItemKind → Bool) → test Bookmark ≡ false → test Separator ≡ false → (kind : ItemKind)

@@ -33,6 +33,7 @@ mod TotalsRows
 mod TreeRows
 pub mod Truths
 pub mod VisitLists
+pub mod VisitOrder
 pub mod VisitsLaws
 pub mod VisitsRun
 pub mod Walk

@@ -166,6 +166,17 @@ pub all_stay : {X : Type 0} (test : X → Bool) (xs : List X) → AllByRecursion
 all_stay test [] all = refl
 all_stay test (x ∷ xs) all = rw (all.0, all_stay test xs all.1) refl
 
+pub filter-map : {X Y : Type 0} (p : Y → Bool) (f : X → Y) (xs : List X)
+    → filter p (map f xs) ≡ map f (filter (λ x. p (f x)) xs)
+filter-map p f [] = refl
+filter-map {X} {Y} p f (x ∷ xs) = choose (p (f x)) (filter-map p f xs)
+  where
+    choose : (b : Bool) → filter p (map f xs) ≡ map f (filter (λ y. p (f y)) xs)
+        → (if b then f x ∷ filter p (map f xs) else filter p (map f xs))
+        ≡ map f (if b then x ∷ filter (λ y. p (f y)) xs else filter (λ y. p (f y)) xs)
+    choose true rest = ap (λ (ys : List Y). f x ∷ ys) rest
+    choose false rest = rest
+
 -- ---- what is found
 
 pub find-map : {A B : Type 0} (p : B → Bool) (f : A → B) (xs : List A)

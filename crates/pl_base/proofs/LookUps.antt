@@ -108,6 +108,17 @@ found_some test (y ∷ ys) x found = choose (test y) found (found_some test ys x
     choose true here rest = refl
     choose false here rest = rest here
 
+-- so where something is told of it
+pub there_told : {A B : Type 0} (test : A → Bool) (f : A → B) (xs : List A) (y : B)
+    → Some y ≡ option_map f (find test xs) → list_any test xs ≡ true
+there_told test f [] y told = absurd (cc)
+there_told test f (x ∷ xs) y told = choose (test x) told (there_told test f xs y)
+  where
+    choose : (b : Bool) → Some y ≡ option_map f (if b then Some x else find test xs)
+        → (Some y ≡ option_map f (find test xs) → list_any test xs ≡ true) → (b || list_any test xs) ≡ true
+    choose true here rest = refl
+    choose false here rest = rest here
+
 -- what is found passes another test
 pub found_any : {X : Type 0} (p q : X → Bool) (xs : List X) (x : X) → find p xs ≡ Some x → q x ≡ true
     → list_any q xs ≡ true

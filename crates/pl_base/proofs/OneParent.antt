@@ -69,7 +69,7 @@ any_child id (i ∷ items) =
 abbrev pub IsParent : List Item → Item → Type 0
 IsParent items p = (id : ItemId) → has_child id p ≡ true → find (has_child id) items ≡ Some p
 
-parents_found : (items : List Item) → Once (child_ids items) → AllByRecursion (IsParent items) items
+pub parents_found : (items : List Item) → Once (child_ids items) → AllByRecursion (IsParent items) items
 parents_found [] one = tt
 parents_found (q ∷ qs) one = (
   λ id has. rw has refl,

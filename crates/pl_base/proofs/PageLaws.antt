@@ -7,12 +7,12 @@ use Rattle.std.proofs.lemmas.Option.{same_Some}
 use Rattle.pl_base.specs.declared.id.PageId.{PageId}
 use Rattle.pl_base.specs.declared.row.Mark.{Mark}
 use Rattle.pl_base.specs.Good.{has_page_at}
-use Rattle.pl_base.specs.Rows.{IsWellKept, Kept, KeptPage, mark_of, page_at, title_of, url_of}
+use Rattle.pl_base.specs.Rows.{has_page, IsWellKept, Kept, KeptPage, mark_of, page_at, title_of, url_of}
 use Rattle.pl_base.specs.Store.{Store}
 use Rattle.pl_base.specs.Tree.{is_page}
 use Rattle.pl_base.proofs.IdsLaws.{same_page}
 use Rattle.pl_base.proofs.ListLaws.{All-from_map}
-use Rattle.pl_base.proofs.LookUps.{Apart, apart_ascending, found_passes}
+use Rattle.pl_base.proofs.LookUps.{Apart, apart_ascending, found_passes, there_told}
 
 -- ---- the ids of pages
 
@@ -37,6 +37,11 @@ page_of_item store page (Some id) is there = ap (has_page_at store) (sym (same_p
 pub id_at : (kept : Kept) (page : PageId) (p : KeptPage) → page_at kept page ≡ Some p → p.page.id ≡ page
 id_at kept page p at =
     same_page p.page.id page (found_passes (λ (q : KeptPage). q.page.id.0 == page.0) kept.pages p at)
+
+-- a page of which its mark is told is there
+pub page_there : (kept : Kept) (page : PageId) (mark : Mark) → Some mark ≡ option_map mark_of (page_at kept page)
+    → has_page kept page ≡ true
+page_there kept page mark told = there_told (λ (p : KeptPage). p.page.id.0 == page.0) mark_of kept.pages mark told
 
 pub url_at : (kept : Kept) (page : PageId) (p : KeptPage) (url : List ℕ) → page_at kept page ≡ Some p
     → Some url ≡ url_of kept page → url ≡ p.page.url

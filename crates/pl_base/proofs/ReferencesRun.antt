@@ -71,7 +71,7 @@ behind (w ∷ front) i rest apart =
     let other : w.id.0 ≢ i.id.0 = λ same. part (λ (x : Item). x.id.0 ≢ w.id.0) front i rest apart.0 (sym same) in
     rw (ne_eqb w.id.0 i.id.0 other) (behind front i rest apart.1)
 
-page_is : (page : PageId) (o : Option PageId) → is_page page o ≡ true → o ≡ Some page
+pub page_is : (page : PageId) (o : Option PageId) → is_page page o ≡ true → o ≡ Some page
 page_is page None is = absurd (cc)
 page_is page (Some other) is = ap (λ (p : PageId). Some p) (same_page other page is)
 

@@ -30,7 +30,7 @@ abbrev pub IsTarget : Kept → VisitId → Bool → Visit → Type 0
 IsTarget kept source redirect v =
     (visit_at kept v.id ≡ Some v) × (v.source ≡ Some source) × (is_redirect v.transition ≡ redirect)
 
-source_is : (id : VisitId) (source : Option VisitId) → is_source id source ≡ true → source ≡ Some id
+pub source_is : (id : VisitId) (source : Option VisitId) → is_source id source ≡ true → source ≡ Some id
 source_is id None is = absurd (false≢true is)
 source_is id (Some s) is = ap (λ (n : ℕ). Some (record { 0 = n })) (eqb-true s.0 id.0 is)
 

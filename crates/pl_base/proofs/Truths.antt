@@ -17,6 +17,10 @@ pub negated : (a b : Bool) → (not a && b) ≡ true → a ≡ false
 negated true b is = sym is
 negated false b is = refl
 
+pub not_false : (b : Bool) → not b ≡ false → b ≡ true
+not_false true is = refl
+not_false false is = sym is
+
 pub or_more : (a b c : Bool) → (a ≡ true → b ≡ true) → (a || c) ≡ true → (b || c) ≡ true
 or_more true b c more some = or_left b c (more refl)
 or_more false true c more some = refl

@@ -1,15 +1,21 @@
 -- Lists of visits: the latest first, looked up by their ids, and the one behind another.
-use Rattle.std.proofs.Common.{◌≡◌, ◌≢◌, ◌∙◌, ◌++◌, ◌||◌, All, Bool, true, false, List, [], ◌∷◌, Some}
+use Rattle.std.proofs.Common.{◌≡◌, ◌≢◌, ◌∙◌, ◌++◌, ◌||◌, ◌==◌, All, Bool, true, false, List, [], ◌∷◌, Some}
 use Rattle.std.proofs.Common.{ap, eq-eqb, if◌then◌else◌, is_some, map, refl, sym}
 use Rattle.std.specs.List.{AllByRecursion, list_any}
-use Rattle.std.proofs.lemmas.Bool.{ne_eqb}
+use Rattle.std.proofs.lemmas.Bool.{eqb-true, ne_eqb}
 use Rattle.std.proofs.lemmas.List.Elements.{All-from_recursion}
 use Rattle.std.proofs.lemmas.List.Kept.{AllPairs-from_increasing}
-use Rattle.pl_base.specs.Rows.{IsWellKept, Kept, first_id, id_behind, visit_at}
+use Rattle.pl_base.specs.Rows.{first_id, has_visit, id_behind, IsWellKept, Kept, row_of, visit_at}
 use Rattle.pl_base.specs.Store.{Visit}
 use Rattle.pl_base.specs.Visits.{in_place, is_later, latest_first}
-use Rattle.pl_base.proofs.LookUps.{apart_ascending, found_self, part}
+use Rattle.pl_base.proofs.LookUps.{apart_ascending, found_self, part, there_told}
 use Rattle.pl_base.proofs.VisitsLaws.{Differ}
+use Rattle.std.proofs.Math.Bool.{or-false}
+use Rattle.pl_base.specs.declared.id.VisitId.{VisitId}
+use Rattle.pl_base.specs.Removal.{is_among}
+use Rattle.pl_base.proofs.Truths.{same_tests}
+use Rattle.std.specs.Option.{option_map}
+use Rattle.pl_base.specs.declared.row.VisitRow.{VisitRow}
 
 -- ---- the latest first
 
@@ -63,3 +69,18 @@ id_behind_is [] v rest differ = rw (eq-eqb v.id.0 v.id.0 refl) refl
 id_behind_is (w ∷ front) v rest differ =
     let apart : w.id.0 ≢ v.id.0 = λ same. part (λ (x : Visit). x.id.0 ≢ w.id.0) front v rest differ.0 (sym same) in
     rw (ne_eqb w.id.0 v.id.0 apart) (id_behind_is front v rest differ.1)
+
+-- ---- ids
+
+-- a visit of which its row is told is there
+pub visit_there : (kept : Kept) (visit : VisitId) (row : VisitRow) → Some row ≡ option_map row_of (visit_at kept visit)
+    → has_visit kept visit ≡ true
+visit_there kept visit row told = there_told (λ (v : Visit). v.id.0 == visit.0) row_of kept.visits row told
+
+-- one id among one
+pub among_one : (id other : VisitId) → is_among (id ∷ []) other ≡ (other.0 == id.0)
+among_one id other =
+    or-false (id.0 == other.0)
+    ∙ same_tests (id.0 == other.0) (other.0 == id.0)
+    (λ same. eq-eqb other.0 id.0 (sym (eqb-true id.0 other.0 same)))
+    (λ same. eq-eqb id.0 other.0 (sym (eqb-true other.0 id.0 same)))

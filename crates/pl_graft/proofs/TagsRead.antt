@@ -19,8 +19,8 @@ use Rattle.pl_base.specs.Store.{Item, Store}
 use Rattle.pl_base.specs.Tags.{tags_of, tags_root}
 use Rattle.pl_base.specs.Tree.{children_of, has_item, item_at, is_page}
 use Rattle.pl_base.proofs.ListLaws.{found_in, to_map}
-use Rattle.pl_base.proofs.LookUps.{both, found_passes, part}
-use Rattle.pl_base.proofs.ItemLookUps.{same_item}
+use Rattle.pl_base.proofs.LookUps.{both, part}
+use Rattle.pl_base.proofs.ItemLookUps.{id_of_item}
 use Rattle.pl_base.proofs.ChildrenRun.{child_here, child_names}
 use Rattle.pl_base.proofs.Walk.{StandsAt}
 use Rattle.pl_graft.specs.declared.tags.TagFolder.{TagFolder}
@@ -39,9 +39,6 @@ found_item items id has = choose (item_at items id) refl (found_in (λ (i : Item
     choose : (o : Option Item) → item_at items id ≡ o → IsSome o → (i : Item) × (item_at items id ≡ Some i)
     choose None at some = absurd (cc)
     choose (Some i) at some = (i, at)
-
-pub its_id : (items : List Item) (id : ItemId) (i : Item) → item_at items id ≡ Some i → i.id ≡ id
-its_id items id i at = same_item i.id id (found_passes (λ (j : Item). j.id.0 == id.0) items i at)
 
 -- a child that a walk stands at is an item
 pub child_there : (items : List Item) (parent : ItemId) (P : List ItemId → Type 0) (id : ItemId) → IsTree items
@@ -95,7 +92,7 @@ put_more items folder old mid new last front id page now there page_is now_is p 
           (sym (list_any-append (λ (e : TagEntry). is_page q e.page) (entries_by items front) (entry_row i ∷ []))
           ∙ ap (has_entry q) (sym more));
       last_is =
-          now_is ∙ ap (λ (c : ItemId). c.0) (sym (its_id items id i at))
+          now_is ∙ ap (λ (c : ItemId). c.0) (sym (id_of_item items id i at))
           ∙ sym (ap last_id more
           ∙ ap (λ (o : Option TagEntry). unwrap_or (option_map (λ (e : TagEntry). e.id) o) 0)
           (last_push (entries_by items front) (entry_row i)));
@@ -153,7 +150,7 @@ found_selves items (id ∷ ids) = choose (item_at items id) refl (found_selves i
         → AllByRecursion (λ (i : Item). item_at items i.id ≡ Some i) (filter_map (item_at items) ids)
         → AllByRecursion (λ (i : Item). item_at items i.id ≡ Some i) (filter_map (item_at items) (id ∷ ids))
     choose None at rest = rw at rest
-    choose (Some i) at rest = rw at (ap (item_at items) (its_id items id i at) ∙ at, rest)
+    choose (Some i) at rest = rw at (ap (item_at items) (id_of_item items id i at) ∙ at, rest)
 
 none_with : (items : List Item) (folds : List ℕ) (is : List Item)
     → AllByRecursion (λ (i : Item). folded i.title ≢ folds) is → row_with folds (map (tag_row items) is) ≡ None
@@ -210,7 +207,7 @@ other_row store front id rest t good whole at =
         (subst (AllPairs (λ (a b : Item). folded a.title ≢ folded b.title)) all good.tags.names))
 
     here : item_at store.items t.id ≡ Some t
-    here = ap (item_at store.items) (its_id store.items id t at) ∙ at
+    here = ap (item_at store.items) (id_of_item store.items id t at) ∙ at
 
     unlike_id : (i : Item) → folded i.title ≢ folded t.title → item_at store.items i.id ≡ Some i → i.id.0 ≢ t.id.0
     unlike_id i other own same =
@@ -261,7 +258,7 @@ knows_folder old new items before folder t made k at other put id last new_last 
     HasPairs c.0 (λ (q : PageId). has_entry q (entries_of items c)) old.entries new.entries) same pairs)
   where
     same : folder ≡ t.id
-    same = sym (its_id items folder t at)
+    same = sym (id_of_item items folder t at)
 
 -- the look-up of no tags
 pub knows_none : (known : Tags) → known.folders.entries ≡ [] → known.entries.keys ≡ [] → known.last ≡ None

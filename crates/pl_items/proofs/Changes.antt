@@ -27,17 +27,7 @@ use Rattle.pl_items.proofs.Children.{node_there, parent_is, parented_nodes}
 use Rattle.pl_items.proofs.Moves.{StandsAt, adopting_is, all-put, any-put, by_id-put, children-put_elsewhere}
 use Rattle.pl_items.proofs.Moves.{distinct-put, distinct-without, has_node-without, leaving_is, stands_at}
 use Rattle.pl_items.proofs.Places.{changed, changed-none}
-
-filter-map : {X Y : Type 0} (p : Y → Bool) (f : X → Y) (xs : List X)
-    → filter p (map f xs) ≡ map f (filter (λ x. p (f x)) xs)
-filter-map p f [] = refl
-filter-map p f (x ∷ xs) = choose (p (f x)) (filter-map p f xs)
-  where
-    choose : (b : Bool) → filter p (map f xs) ≡ map f (filter (λ y. p (f y)) xs)
-        → cond b (f x ∷ filter p (map f xs)) (filter p (map f xs))
-        ≡ map f (cond b (x ∷ filter (λ y. p (f y)) xs) (filter (λ y. p (f y)) xs))
-    choose true rest = ap (λ ys. f x ∷ ys) rest
-    choose false rest = rest
+use Rattle.pl_base.proofs.ListLaws.{filter-map}
 
 -- the same item with other children
 abbrev with_children : Item → List ItemId → Item

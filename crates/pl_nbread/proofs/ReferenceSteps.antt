@@ -18,6 +18,7 @@ use Rattle.std.proofs.lemmas.List.Sums.{fails_before_first, position_or_len_is, 
 use Rattle.std.proofs.lemmas.Str.{IsCharBoundary-after_ascii, IsCharBoundary-start, encode_ascii}
 use Rattle.pl_nbread.specs.References.{Reference, decoded, decoded_from, first_of_two, is_scalar, named_at, number_at}
 use Rattle.pl_nbread.specs.References.{reference_at}
+use Rattle.pl_base.proofs.Truths.{not_false}
 
 -- ---- without a reference
 
@@ -210,10 +211,6 @@ digit_is_ascii b radix high is = grind (arith, nat_tests)
 
 no_digit : (b radix : ℕ) → radix ≤ 36 → is_digit b radix ≡ true → eqb b 43 ≡ false
 no_digit b radix high is = grind (arith, nat_tests)
-
-not_false : (v : Bool) → not v ≡ false → v ≡ true
-not_false true is = refl
-not_false false is = sym is
 
 -- a text may be cut behind the digits at its front
 pub cut_behind : (text : List ℕ) (radix n : ℕ) → radix ≤ 36

@@ -1,6 +1,6 @@
 -- A row that was found, seen as what is kept.
-use Rattle.std.proofs.Common.{Bor, ◌≡◌, ◌∙◌, ◌||◌, ◌==◌, ℕ, Bool, true, false, List, [], ◌∷◌, Option}
-use Rattle.std.proofs.Common.{Some, None, ap, if◌then◌else◌, find, map, nat_lt, refl, subst, sym}
+use Rattle.std.proofs.Common.{Bor, ◌≡◌, ◌∙◌, ◌==◌, ℕ, Bool, true, List, Option}
+use Rattle.std.proofs.Common.{Some, None, ap, find, map, nat_lt, refl, subst, sym}
 use Rattle.std.specs.List.{list_any}
 use Rattle.std.specs.Option.{IsSome, IsSomeAnd, option_copied, option_map}
 use Rattle.pl_base.specs.declared.id.ItemId.{ItemId}
@@ -84,17 +84,6 @@ first_id-some vs v some = ap (option_map (λ (v : Visit). v.id)) some ∙ id_of-
 
 pub older_visit-none : (kept : Kept) (id : VisitId) → None ≡ visit_at kept id → None ≡ older_visit kept id
 older_visit-none kept id none = rw (← none) refl
-
--- there is one where one was found
-pub there-found : {A B : Type 0} (p : A → Bool) (f : A → B) (xs : List A) (y : B) → Some y ≡ option_map f (find p xs)
-    → list_any p xs ≡ true
-there-found p f [] y found = absurd (cc)
-there-found p f (x ∷ xs) y found = choose (p x) found (there-found p f xs y)
-  where
-    choose : (b : Bool) → Some y ≡ option_map f (if b then Some x else find p xs)
-        → (Some y ≡ option_map f (find p xs) → list_any p xs ≡ true) → (b || list_any p xs) ≡ true
-    choose true here rest = refl
-    choose false here rest = rest here
 
 -- ---- items
 

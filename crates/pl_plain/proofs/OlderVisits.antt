@@ -13,118 +13,18 @@ use Rattle.pl_base.specs.Rows.{Kept, first_id, id_behind, older_visit, visit_at}
 use Rattle.pl_base.specs.Store.{Visit}
 use Rattle.pl_base.specs.Visits.{in_place, is_later, latest_first}
 use Rattle.pl_check.specs.Latest.{first_of, is_within}
-use Rattle.pl_base.proofs.ListLaws.{all-filter, weaker}
+use Rattle.pl_base.proofs.ListLaws.{all-filter, all_stay, weaker}
+use Rattle.pl_base.proofs.VisitOrder.{InOrder, latest_in_order, latest_part}
 use Rattle.pl_base.proofs.VisitsLaws.{Differ, Differ-ascending, Differ-filter}
-use Rattle.pl_base.proofs.VisitsLaws.{all-in_place, all-latest_first, is_later-once}
+use Rattle.pl_base.proofs.VisitsLaws.{all-latest_first, is_later-once}
 
--- ---- visits of different ids are in a strict order
-
-later_through : (date other third id than last : ℕ) → ltb other date || (eqb other date && ltb than id) ≡ true
-    → ltb third other || (eqb third other && ltb last than) ≡ true
-    → ltb third date || (eqb third date && ltb last id) ≡ true
-later_through date other third id than last first second = grind (arith, nat_tests)
-
-is_later-through : (u v w : Visit) → is_later u v ≡ true → is_later v w ≡ true → is_later u w ≡ true
-is_later-through u v w first second = later_through u.date.0 v.date.0 w.date.0 u.id.0 v.id.0 w.id.0 first second
-
-later_or : (date other id than : ℕ) → id ≢ than → ltb other date || (eqb other date && ltb than id) ≡ false
-    → ltb date other || (eqb date other && ltb id than) ≡ true
-later_or date other id than differ not_later = grind (arith, nat_tests)
-
-is_later-or : (v w : Visit) → v.id.0 ≢ w.id.0 → is_later v w ≡ false → is_later w v ≡ true
-is_later-or v w differ not_later = later_or v.date.0 w.date.0 v.id.0 w.id.0 differ not_later
+-- ---- no visit is later than itself
 
 later_self : (date id : ℕ) → ltb date date || (eqb date date && ltb id id) ≡ false
 later_self date id = grind (arith, nat_tests)
 
 is_later-self : (v : Visit) → is_later v v ≡ false
 is_later-self v = later_self v.date.0 v.id.0
-
--- ---- visits that stand in the order
-
-filter-all : (q : Visit → Bool) (vs : List Visit) → AllByRecursion (λ v. q v ≡ true) vs → filter q vs ≡ vs
-filter-all q [] all = refl
-filter-all q (v ∷ vs) all = rw (all.0, filter-all q vs all.1)
-
--- each is later than all behind it
-abbrev InOrder : List Visit → Type 0
-InOrder [] = Unit {0}
-InOrder (v ∷ vs) = AllByRecursion (λ (w : Visit). is_later v w ≡ true) vs × InOrder vs
-
-InOrder-in_place : (v : Visit) (ws : List Visit) → AllByRecursion (λ (w : Visit). w.id.0 ≢ v.id.0) ws → InOrder ws
-    → InOrder (in_place v ws)
-InOrder-in_place v [] differ ordered = (tt, tt)
-InOrder-in_place v (w ∷ ws) differ ordered = choose (is_later v w) refl (InOrder-in_place v ws differ.1 ordered.1)
-  where
-    choose : (b : Bool) → is_later v w ≡ b → InOrder (in_place v ws)
-        → InOrder (if b then v ∷ w ∷ ws else w ∷ in_place v ws)
-    choose true later rest = (
-      (
-        later,
-        weaker (λ (x : Visit). is_later w x ≡ true) (λ (x : Visit). is_later v x ≡ true) ws
-            (λ x behind. is_later-through v w x later behind) ordered.0,
-      ),
-      ordered,
-    )
-    choose false earlier rest = (
-      all-in_place (λ (x : Visit). is_later w x ≡ true) v ws (is_later-or v w (λ same. differ.0 (sym same)) earlier)
-          ordered.0,
-      rest,
-    )
-
-InOrder-latest_first : (vs : List Visit) → Differ vs → InOrder (latest_first vs)
-InOrder-latest_first [] differ = tt
-InOrder-latest_first (v ∷ vs) differ =
-    InOrder-in_place v (latest_first vs) (all-latest_first (λ (w : Visit). w.id.0 ≢ v.id.0) vs differ.0)
-    (InOrder-latest_first vs differ.1)
-
--- ---- a part of the visits stands in the same order
-
-in_place-front : (v : Visit) (ws : List Visit) → AllByRecursion (λ (w : Visit). is_later v w ≡ true) ws
-    → in_place v ws ≡ v ∷ ws
-in_place-front v [] all = refl
-in_place-front v (w ∷ ws) all = rw all.0
-
-pass_by : (keeps_v keeps_w : Bool) (v w : Visit) (ws : List Visit) → is_later v w ≡ false
-    → (if keeps_w then w ∷ (if keeps_v then in_place v ws else ws) else (if keeps_v then in_place v ws else ws))
-    ≡ (if keeps_v then in_place v (if keeps_w then w ∷ ws else ws) else (if keeps_w then w ∷ ws else ws))
-pass_by true true v w ws earlier = rw earlier
-pass_by true false v w ws earlier = refl
-pass_by false true v w ws earlier = refl
-pass_by false false v w ws earlier = refl
-
-filter-in_place : (q : Visit → Bool) (v : Visit) (ws : List Visit) → InOrder ws
-    → filter q (in_place v ws) ≡ (if q v then in_place v (filter q ws) else filter q ws)
-filter-in_place q v [] ordered = refl
-filter-in_place q v (w ∷ ws) ordered = choose (is_later v w) refl (filter-in_place q v ws ordered.1)
-  where
-    choose : (b : Bool) → is_later v w ≡ b
-        → filter q (in_place v ws) ≡ (if q v then in_place v (filter q ws) else filter q ws)
-        → filter q (if b then v ∷ w ∷ ws else w ∷ in_place v ws)
-        ≡ (if q v then in_place v (filter q (w ∷ ws)) else filter q (w ∷ ws))
-    choose true later rest =
-        ap (λ xs. if q v then xs else filter q (w ∷ ws))
-        (sym (in_place-front v (filter q (w ∷ ws))
-        (all-filter (λ (x : Visit). is_later v x ≡ true) q (w ∷ ws) (
-          later,
-          weaker (λ (x : Visit). is_later w x ≡ true) (λ (x : Visit). is_later v x ≡ true) ws
-              (λ x behind. is_later-through v w x later behind) ordered.0,
-        ))))
-    choose false earlier rest =
-        ap (λ xs. if q w then w ∷ xs else xs) rest ∙ pass_by (q v) (q w) v w (filter q ws) earlier
-
-filter-latest_first : (q : Visit → Bool) (vs : List Visit) → Differ vs
-    → filter q (latest_first vs) ≡ latest_first (filter q vs)
-filter-latest_first q [] differ = refl
-filter-latest_first q (v ∷ vs) differ =
-    filter-in_place q v (latest_first vs) (InOrder-latest_first vs differ.1)
-    ∙ choose (q v) (filter-latest_first q vs differ.1)
-  where
-    choose : (b : Bool) → filter q (latest_first vs) ≡ latest_first (filter q vs)
-        → (if b then in_place v (filter q (latest_first vs)) else filter q (latest_first vs))
-        ≡ latest_first (if b then v ∷ filter q vs else filter q vs)
-    choose true rest = ap (in_place v) rest
-    choose false rest = rest
 
 -- ---- the visit behind another one
 
@@ -178,7 +78,7 @@ behind v (w ∷ ws) ordered only there = choose (w.id.0 == v.id.0) refl there (b
         let one : w ≡ v = only.0 (eqb-true w.id.0 v.id.0 same) in
         let first : is_later v w ≡ false = subst (λ (x : Visit). is_later v x ≡ false) (sym one) (is_later-self v) in
         let all : filter (is_later v) ws ≡ ws =
-        filter-all (is_later v) ws
+        all_stay (is_later v) ws
         (subst (λ (x : Visit). AllByRecursion (λ (y : Visit). is_later x y ≡ true) ws) one ordered.0) in
         rw first (ap first_id all)
     choose false other here rest =
@@ -258,7 +158,7 @@ older_visit-found kept id v ascending found =
     rw found
     (id_of-first (latest_first (filter (is_within v.page (Some v)) kept.visits))
     ∙ ap (λ (vs : List Visit). first_id (latest_first vs)) (filter-and (of_page v.page) (is_later v) kept.visits)
-    ∙ ap first_id (sym (filter-latest_first (is_later v) own apart))
-    ∙ behind v (latest_first own) (InOrder-latest_first own apart)
+    ∙ ap first_id (sym (latest_part (is_later v) own apart))
+    ∙ behind v (latest_first own) (latest_in_order own apart)
     (all-latest_first (λ (w : Visit). w.id.0 ≡ v.id.0 → w ≡ v) own only) here
     ∙ ap (λ (i : VisitId). id_behind i (latest_first own)) same_id)

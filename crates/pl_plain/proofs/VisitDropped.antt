@@ -1,9 +1,8 @@
 -- The rows stay well kept where a visit goes, and no visit came from it from then on.
 use Rattle.std.proofs.Common.{◌≡◌, ◌+◌, ◌-◌, ◌<◌, ◌==◌, ◌||◌, ◌∙◌, ℕ, Bool, true, false, IsTrue}
-use Rattle.std.proofs.Common.{IfSome, List, [], ◌∷◌, Option, None, Some, ap, arith, eq-eqb, filter, get_or}
+use Rattle.std.proofs.Common.{IfSome, List, [], ◌∷◌, Option, None, Some, ap, arith, filter, get_or}
 use Rattle.std.proofs.Common.{◌++◌, drop, if◌then◌else◌, length, map, not, refl, set, subst, suc, sym, take}
 use Rattle.std.specs.List.{AllPairs, list_any}
-use Rattle.std.proofs.Math.Bool.{or-false}
 use Rattle.std.proofs.lemmas.Bool.{eqb-true, false≢true, ne_eqb}
 use Rattle.std.proofs.lemmas.List.{get_or_default, length-map}
 use Rattle.std.proofs.lemmas.List.Edits.{map_over_more}
@@ -20,12 +19,12 @@ use Rattle.pl_base.specs.Store.{Visit}
 use Rattle.pl_base.proofs.ItemLaws.{map-filter}
 use Rattle.pl_base.proofs.ListLaws.{list_any-map, map-map}
 use Rattle.pl_base.proofs.Searches.{rises}
-use Rattle.pl_base.proofs.Truths.{same_tests}
 use Rattle.pl_stored.specs.Stored.{visit_of}
 use Rattle.pl_stored.specs.declared.stored.StoredVisit.{StoredVisit}
 use Rattle.pl_plain.specs.FlatRows.{IsFlat, left_by}
 use Rattle.pl_plain.proofs.FlatChanges.{slots_of}
 use Rattle.pl_plain.proofs.PagesButOne.{all_pass}
+use Rattle.pl_base.proofs.VisitLists.{among_one}
 
 -- ---- the visits but one
 
@@ -33,19 +32,11 @@ use Rattle.pl_plain.proofs.PagesButOne.{all_pass}
 abbrev others : VisitId → List Visit → List Visit
 others id vs = filter (λ (v : Visit). not (v.id.0 == id.0)) vs
 
--- one id among one
-among : (id other : VisitId) → is_among (id ∷ []) other ≡ (other.0 == id.0)
-among id other =
-    or-false (id.0 == other.0)
-    ∙ same_tests (id.0 == other.0) (other.0 == id.0)
-    (λ same. eq-eqb other.0 id.0 (sym (eqb-true id.0 other.0 same)))
-    (λ same. eq-eqb id.0 other.0 (sym (eqb-true other.0 id.0 same)))
-
 left_is : (id : VisitId) (vs : List Visit) → visits_left (id ∷ []) vs ≡ map (visit_left (id ∷ [])) (others id vs)
 left_is id vs =
     ap (map (visit_left (id ∷ [])))
     (filter_agree (λ (v : Visit). not (is_among (id ∷ []) v.id)) (λ (v : Visit). not (v.id.0 == id.0))
-    (λ v. ap not (among id v.id)) vs)
+    (λ v. ap not (among_one id v.id)) vs)
 
 -- a list without the only element that passes is one shorter
 one_less : {X : Type 0} (q : X → Bool) (xs : List X) → AllPairs (λ a b. q a ≡ true → q b ≡ false) xs
@@ -98,7 +89,7 @@ still : (id other : VisitId) (kept : Kept) → is_among (id ∷ []) other ≡ fa
 still id other kept apart there =
     list_any-map (λ (v : Visit). v.id.0 == other.0) (visit_left (id ∷ [])) (others id kept.visits)
     ∙ any-filter_same (λ (v : Visit). v.id.0 == other.0) (λ (v : Visit). not (v.id.0 == id.0)) true
-    (λ v same. ap not (ap (λ n. n == id.0) (eqb-true v.id.0 other.0 same) ∙ sym (among id other) ∙ apart))
+    (λ v same. ap not (ap (λ n. n == id.0) (eqb-true v.id.0 other.0 same) ∙ sym (among_one id other) ∙ apart))
     kept.visits
     ∙ there
 

@@ -29,7 +29,7 @@ use Rattle.pl_record.proofs.NamedSlots.{found_all, found_of, item_row_is, one_ro
 use Rattle.pl_record.specs.Records.{HoldsRow, HoldsRows, Layout, item_record, page_record, slot_or_none}
 use Rattle.pl_record.proofs.LaidChains.{chains_of}
 use Rattle.pl_record.proofs.VisitChains.{owner_of}
-use Rattle.pl_record.proofs.RowsSeen.{parents_found}
+use Rattle.pl_base.proofs.OneParent.{parents_found}
 use Rattle.pl_rail.specs.declared.owner.Owner.TheVariants.{At, Header}
 use Rattle.pl_rail.specs.Rails.{is_in, none}
 use Rattle.pl_sheets.specs.Sheets.{Pages}

@@ -46,7 +46,8 @@ use Rattle.pl_record.proofs.OwnedChains.{owned_apart, owned_beside, owned_chain}
 use Rattle.pl_record.proofs.RowsBeside.{kinds_times, once_fewer, rows_beside, same_left, texts_beside}
 use Rattle.pl_record.proofs.SlotCounts.{few_once, slot_times, times}
 use Rattle.pl_record.proofs.Splits.{Only, only_slot}
-use Rattle.pl_record.proofs.RowsSeen.{page_is, parents_found as base_parents}
+use Rattle.pl_base.proofs.OneParent.{parents_found as base_parents}
+use Rattle.pl_base.proofs.ReferencesRun.{page_is}
 use Rattle.pl_rail.specs.declared.owner.Owner.{Owner}
 use Rattle.pl_rail.specs.declared.owner.Owner.TheVariants.{At, Header}
 use Rattle.pl_rail.specs.Rails.{none}

@@ -19,14 +19,15 @@ use Rattle.pl_base.specs.Store.{Item, Visit}
 use Rattle.pl_base.specs.Tree.{children_of, has_child, has_item, is_page, item_at, leaving, parent_of, references}
 use Rattle.pl_base.specs.Tree.{removed, without_id}
 use Rattle.pl_base.proofs.ItemLaws.{count_removed, ids_removed, slots_removed, titles_removed}
-use Rattle.pl_base.proofs.ListLaws.{everyone, map-map, weaker}
+use Rattle.pl_base.proofs.ListLaws.{everyone, filter-map, map-map, weaker}
 use Rattle.pl_base.proofs.LookUps.{apart_ascending, found_one, where_passes}
 use Rattle.pl_base.proofs.OneParent.{is_among}
 use Rattle.pl_record.specs.Form.{AreRows}
 use Rattle.pl_record.proofs.NamedSlots.{found_of}
 use Rattle.pl_record.proofs.ItemLeft.{children_left, item_left, once_left, others_all, parent_left, references_left}
 use Rattle.pl_record.proofs.ItemLeft.{there_left}
-use Rattle.pl_record.proofs.VisitGone.{part_mapped, part_of_part}
+use Rattle.pl_record.proofs.VisitGone.{part_of_part}
+use Rattle.pl_base.proofs.Truths.{not_false}
 
 -- ---- what is found in a part of a list
 
@@ -45,11 +46,6 @@ module _ (id : ItemId) where
   -- another item
   abbrev pub is_rest : Item → Bool
   is_rest i = not (i.id.0 == id.0)
-
-  -- a number that is not another one is it
-  the_one : (b : Bool) → not b ≡ false → b ≡ true
-  the_one true is = refl
-  the_one false is = sym is
 
   -- ---- items of which the one has no children
 
@@ -82,7 +78,7 @@ module _ (id : ItemId) where
       (everyone (λ (i : Item). is_rest i ≡ false → (i.id.0 == other.0) ≡ false) items
       (λ i goes.
       ne_eqb i.id.0 other.0
-      (λ same. apart (sym same ∙ eqb-true i.id.0 id.0 (the_one (i.id.0 == id.0) goes)))))
+      (λ same. apart (sym same ∙ eqb-true i.id.0 id.0 (not_false (i.id.0 == id.0) goes)))))
 
   there_rest : (items : List Item) (other : ItemId) → other.0 ≢ id.0
       → has_item (filter is_rest items) other ≡ has_item items other
@@ -120,7 +116,7 @@ module _ (id : ItemId) (items : List Item) where
   pub item_ids_gone : map (λ (i : Item). i.id) (removed id items) ≡ without_id id (map (λ (i : Item). i.id) items)
   item_ids_gone =
       map-map (λ (i : Item). i.id) (leaving id) (filter (is_rest id) items)
-      ∙ sym (part_mapped (λ (c : ItemId). not (c.0 == id.0)) (λ (i : Item). i.id) items)
+      ∙ sym (filter-map (λ (c : ItemId). not (c.0 == id.0)) (λ (i : Item). i.id) items)
 
   -- the items of a page but for the one
   pub references_gone : (page : PageId) → references (removed id items) page ≡ without_id id (references items page)
@@ -128,7 +124,7 @@ module _ (id : ItemId) (items : List Item) where
       let of : Item → Bool = λ (i : Item). is_page page i.page in
       references_left id (filter (is_rest id) items) page
       ∙ ap (map (λ (i : Item). i.id)) (part_of_part of (is_rest id) items)
-      ∙ sym (part_mapped (λ (c : ItemId). not (c.0 == id.0)) (λ (i : Item). i.id) (filter of items))
+      ∙ sym (filter-map (λ (c : ItemId). not (c.0 == id.0)) (λ (i : Item). i.id) (filter of items))
 
   -- ---- what is there
 
@@ -181,7 +177,7 @@ module _ (id : ItemId) (kept : Kept) where
       let here : item_at kept.items id ≡ Some i = found.1 in
       let alone : i.children ≡ [] = rw here at none in
       weaker (λ (j : Item). (j.id.0 == id.0) ≡ true → j ≡ i) (λ (j : Item). is_rest id j ≡ false → j.children ≡ [])
-      kept.items (λ j same goes. ap (λ (k : Item). k.children) (same (the_one id (j.id.0 == id.0) goes)) ∙ alone)
+      kept.items (λ j same goes. ap (λ (k : Item). k.children) (same (not_false (j.id.0 == id.0) goes)) ∙ alone)
       (found_one (λ (j : Item). j.id.0) id.0 kept.items i
       (apart_ascending (λ (j : Item). j.id.0) kept.items
       (AllPairs-from_increasing (map (λ (j : Item). j.id.0) kept.items) h.item_ids.ascending)) here)

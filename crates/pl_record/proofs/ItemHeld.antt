@@ -1,6 +1,6 @@
 -- An item without children goes by a few calls: what these ask for.
-use Rattle.std.proofs.Common.{◌≡◌, ◌≢◌, ◌∙◌, ◌==◌, ◌∷◌, ◌++◌, [], IfSome, List, None, Option, Some, ap, eq-eqb}
-use Rattle.std.proofs.Common.{eqb-true, length, find, map, refl, subst, sym, true}
+use Rattle.std.proofs.Common.{◌≡◌, ◌≢◌, ◌∙◌, ◌==◌, [], IfSome, List, None, Option, Some, ap, eq-eqb}
+use Rattle.std.proofs.Common.{length, find, map, refl, subst, sym, true}
 use Rattle.std.specs.Option.{option_map}
 use Rattle.std.proofs.lemmas.Option.{same_Some}
 use Rattle.pl_base.specs.declared.id.ItemId.{ItemId}
@@ -10,7 +10,6 @@ use Rattle.pl_base.specs.declared.id.VisitId.{VisitId}
 use Rattle.pl_base.specs.Rows.{Kept, KeptPage, has_page}
 use Rattle.pl_base.specs.Store.{Item, Visit}
 use Rattle.pl_base.specs.Tree.{children_of, has_child, is_page, item_at, parent_of, references}
-use Rattle.pl_base.proofs.IdsLaws.{same_slot}
 use Rattle.pl_base.proofs.ItemLookUps.{same_item}
 use Rattle.pl_base.proofs.ListLaws.{list_any-map}
 use Rattle.pl_base.proofs.LookUps.{found_any, found_passes, found_some}
@@ -28,33 +27,17 @@ use Rattle.pl_record.proofs.ItemChains.{slotted_item}
 use Rattle.pl_record.proofs.ItemRowsTold.{item_found}
 use Rattle.pl_record.proofs.LookUps.{Found}
 use Rattle.pl_record.proofs.RecordMaps.{held_record}
-use Rattle.pl_record.proofs.Splits.{any_kept, split}
-use Rattle.pl_rail.specs.declared.owner.Owner.{Owner}
+use Rattle.pl_record.proofs.Splits.{any_kept}
 use Rattle.pl_rail.specs.declared.owner.Owner.TheVariants.{At, Header}
 use Rattle.pl_rail.specs.Rails.{HasMember, Lists, is_in}
+use Rattle.pl_rail.proofs.Membership.{member_listed}
 use Rattle.pl_sheets.specs.Sheets.{Pages}
 use Rattle.pl_slot.specs.declared.kind.LiveKind.TheVariants as live
-use Rattle.pl_slot.specs.declared.links.Rail.{Rail}
 use Rattle.pl_slot.specs.declared.links.Rail.TheVariants.{Children, Live, References}
 use Rattle.pl_slot.specs.Arena.{first_in}
 use Rattle.pl_text.specs.Chunks.{Hold}
 
 -- ---- members
-
--- a slot of a list is a member of it
-pub member_listed : (r : Rail) (o : Owner) (slot : Slot) (slots : List Slot) (pages : Pages) → Lists r o slots pages
-    → is_in slot slots ≡ true → HasMember r o slot pages
-member_listed r o slot slots pages lists among =
-    let s = split (λ (other : Slot). other.0 == slot.0) slots among in
-    record {
-      front = s.front;
-      back = s.rest;
-      lists =
-          subst (λ (l : List Slot). Lists r o l pages)
-          (s.whole
-          ∙ ap (λ (m : Slot). s.front ++ m ∷ s.rest) (same_slot s.element slot (eqb-true s.element.0 slot.0 s.passes)))
-          lists;
-    }
 
 -- the slot of an item is among those of items that have it
 pub among_items : (at : Layout) (id : ItemId) (cs : List ItemId) → is_among id cs ≡ true

@@ -12,10 +12,9 @@ use Rattle.pl_base.specs.Good.{child_ids}
 use Rattle.pl_base.specs.Store.{Item}
 use Rattle.pl_base.specs.Tree.{children_of, has_child, has_item, is_page, item_at, leaving, parent_of, references}
 use Rattle.pl_base.specs.Tree.{without_id}
-use Rattle.pl_base.proofs.ListLaws.{find-map, list_any-map, map-map}
+use Rattle.pl_base.proofs.ListLaws.{filter-map, find-map, list_any-map, map-map}
 use Rattle.pl_base.proofs.LookUps.{find-alike, where_passes}
 use Rattle.pl_base.proofs.OneParent.{is_among}
-use Rattle.pl_record.proofs.VisitGone.{part_mapped}
 
 module _ (id : ItemId) where
   abbrev f : Item → Item
@@ -70,7 +69,7 @@ module _ (id : ItemId) where
 
   pub references_left : (items : List Item) (page : PageId) → references (map f items) page ≡ references items page
   references_left items page =
-      ap (map (λ (i : Item). i.id)) (part_mapped (λ (i : Item). is_page page i.page) f items)
+      ap (map (λ (i : Item). i.id)) (filter-map (λ (i : Item). is_page page i.page) f items)
       ∙ map-map (λ (i : Item). i.id) f (filter (λ (i : Item). is_page page i.page) items)
 
   -- ---- all children

@@ -34,7 +34,7 @@ use Rattle.pl_record.proofs.ChainMaps.{apart_beside, chain_beside}
 use Rattle.pl_record.proofs.ItemChains.{slotted_item}
 use Rattle.pl_record.proofs.ItemMovedRows.{all_moved, item_ids_moved, placed, references_moved}
 use Rattle.pl_record.proofs.LaidChains.{NamesChains}
-use Rattle.pl_record.proofs.RowsSeen.{parents_found}
+use Rattle.pl_base.proofs.OneParent.{parents_found}
 use Rattle.pl_rail.specs.declared.owner.Owner.{Owner}
 use Rattle.pl_rail.specs.declared.owner.Owner.TheVariants.{At, Header}
 use Rattle.pl_rail.specs.Rails.{none}

@@ -22,7 +22,7 @@ use Rattle.pl_base.proofs.ListLaws.{AllPairs-from_map, find-map, list_any-map, m
 use Rattle.pl_base.proofs.LookUps.{find-alike, found_passes, none_pass}
 use Rattle.pl_base.proofs.OneParent.{any_child, is_among}
 use Rattle.pl_record.proofs.NamedSlots.{found_of}
-use Rattle.pl_record.proofs.VisitGone.{part_mapped}
+use Rattle.pl_base.proofs.ListLaws.{filter-map}
 
 -- ---- an id that is put among others
 
@@ -200,7 +200,7 @@ module _ (parent after : Option ItemId) (id : ItemId) where
 
   pub references_still : (items : List Item) (page : PageId) → references (map f items) page ≡ references items page
   references_still items page =
-      ap (map (λ (i : Item). i.id)) (part_mapped (λ (i : Item). is_page page i.page) f items)
+      ap (map (λ (i : Item). i.id)) (filter-map (λ (i : Item). is_page page i.page) f items)
       ∙ map-map (λ (i : Item). i.id) f (filter (λ (i : Item). is_page page i.page) items)
 
   -- what holds of each child holds, where it holds of the new one

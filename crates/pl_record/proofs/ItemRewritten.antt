@@ -10,8 +10,7 @@ use Rattle.pl_base.specs.declared.id.VisitId.{VisitId}
 use Rattle.pl_base.specs.Rows.{Kept, with_items}
 use Rattle.pl_base.specs.Store.{Item, Visit}
 use Rattle.pl_base.specs.Tree.{item_at}
-use Rattle.pl_base.proofs.ItemLookUps.{same_item, same_item_number}
-use Rattle.pl_base.proofs.LookUps.{found_passes}
+use Rattle.pl_base.proofs.ItemLookUps.{id_of_item, same_item_number}
 use Rattle.pl_record.specs.Chains.{HasAlone, HasChains, HasLive}
 use Rattle.pl_record.proofs.NamedSlots.{found_all, one_row}
 use Rattle.pl_record.specs.Records.{HoldsOnce, HoldsRow, HoldsRows, Layout, Record, item_record, origin_record}
@@ -28,10 +27,6 @@ use Rattle.pl_slot.specs.declared.row.SlotRow.{SlotRow}
 use Rattle.pl_slot.specs.Arena.{live_row}
 use Rattle.pl_slot.specs.Slot.{slot_kind}
 use Rattle.pl_text.specs.Chunks.{Hold}
-
--- the item that is found has the id
-pub id_of_item : (items : List Item) (id : ItemId) (i : Item) → item_at items id ≡ Some i → i.id ≡ id
-id_of_item items id i found = same_item i.id id (found_passes (λ (j : Item). j.id.0 == id.0) items i found)
 
 module _ (at : Layout) (kept : Kept) (old : Pages) (id : ItemId) (slot : Slot) (owner : Item)
     (found : item_at kept.items id ≡ Some owner) (here : at.item owner.id ≡ slot) (titles : ItemId → List ℕ)

@@ -17,7 +17,7 @@ use Rattle.pl_record.specs.ItemTitles.{entitled}
 use Rattle.pl_record.proofs.NamedSlots.{found_all}
 use Rattle.pl_record.specs.Records.{HoldsOnce, HoldsTexts, Layout}
 use Rattle.pl_record.proofs.ItemMaps.{KeepsTree, at_item, row_slots_same, tree_at, with_titles_at}
-use Rattle.pl_record.proofs.ItemRewritten.{id_of_item}
+use Rattle.pl_base.proofs.ItemLookUps.{id_of_item}
 use Rattle.pl_record.proofs.RecordMaps.{beside_records}
 use Rattle.pl_record.proofs.RowsBeside.{held_few, once_more}
 use Rattle.pl_record.proofs.SlotCounts.{among_some, few_once, item_title_times, live_once, none_times, once_counted}

@@ -81,7 +81,6 @@ pub mod RowKinds
 pub mod RowSets
 pub mod RowsBeside
 pub mod RowsKept
-pub mod RowsSeen
 pub mod RowsWritten
 pub mod SameRows
 pub mod SlotCounts
@@ -111,7 +110,6 @@ pub mod VisitGoes
 pub mod VisitGone
 pub mod VisitHeld
 pub mod VisitNamed
-pub mod VisitOrder
 pub mod VisitPlace
 pub mod VisitRemoved
 pub mod VisitTaken

@@ -36,7 +36,7 @@ use Rattle.pl_record.proofs.RowSets.{texts_by_parts, texts_each}
 use Rattle.pl_record.proofs.Splits.{any_kept, any_permuted}
 use Rattle.pl_record.proofs.TargetLists.{sourceless}
 use Rattle.pl_record.proofs.VisitChains.{visit_of}
-use Rattle.pl_record.proofs.VisitGone.{among_one}
+use Rattle.pl_base.proofs.VisitLists.{among_one}
 use Rattle.pl_rail.specs.declared.owner.Owner.TheVariants.{At}
 use Rattle.pl_rail.specs.Rails.{is_in, none}
 use Rattle.pl_sheets.specs.Sheets.{Pages}

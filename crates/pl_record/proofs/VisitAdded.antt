@@ -27,7 +27,7 @@ use Rattle.pl_base.proofs.ListLaws.{All-from_map, all-filter, list_any_push, wea
 use Rattle.pl_record.specs.Form.{AreRows}
 use Rattle.pl_record.proofs.PageAdded.{ids_pushed}
 use Rattle.pl_record.proofs.TargetLists.{with_target}
-use Rattle.pl_record.proofs.VisitOrder.{latest_push}
+use Rattle.pl_base.proofs.VisitOrder.{latest_push}
 
 -- ---- a part of a list with one more
 

@@ -5,7 +5,6 @@ use Rattle.std.proofs.Common.{IsTrue, List, [], ◌∷◌, Option, None, Some, a
 use Rattle.std.proofs.Common.{if◌then◌else◌, length, map, not, refl, subst, sym}
 use Rattle.std.specs.List.{AllByRecursion}
 use Rattle.std.specs.List.Sorted.{IsPermutation}
-use Rattle.std.proofs.Math.Bool.{or-false}
 use Rattle.std.proofs.lemmas.Bool.{and_parts, eqb-true, false≢true, ne_eqb}
 use Rattle.std.proofs.lemmas.List.{length-map}
 use Rattle.std.proofs.lemmas.List.Elements.{All-filter, All-map, All-weaker, filter-append, filter_agree}
@@ -25,32 +24,21 @@ use Rattle.pl_base.specs.Rows.{visit_at, without_visit}
 use Rattle.pl_base.specs.Store.{Visit}
 use Rattle.pl_base.specs.Visits.{latest_first, visits_of}
 use Rattle.pl_base.proofs.ItemLaws.{map-filter, one_less}
-use Rattle.pl_base.proofs.ListLaws.{everyone, list_any-map, map-map, to_map, weaker}
+use Rattle.pl_base.proofs.ListLaws.{everyone, filter-map, list_any-map, map-map, to_map, weaker}
 use Rattle.pl_base.proofs.LookUps.{none_kept, where_passes}
 use Rattle.pl_base.proofs.OneChanged.{once_by_number}
 use Rattle.pl_base.proofs.TargetsRun.{all_any, differ_all, targets_of}
-use Rattle.pl_base.proofs.Truths.{same_tests}
 use Rattle.pl_base.proofs.VisitsLaws.{Differ-filter}
 use Rattle.pl_record.specs.Form.{AreRows}
 use Rattle.pl_record.proofs.NamedSlots.{found_of}
 use Rattle.pl_record.proofs.PartMoves.{part_moves}
 use Rattle.pl_record.proofs.TargetLists.{but_visit, sourceless, without_targets}
 use Rattle.pl_record.proofs.VisitAdded.{from, of_page}
-use Rattle.pl_record.proofs.RowsSeen.{source_is}
-use Rattle.pl_record.proofs.VisitOrder.{latest_left, latest_part}
+use Rattle.pl_base.proofs.TargetsRun.{source_is}
+use Rattle.pl_base.proofs.VisitOrder.{latest_left, latest_part}
+use Rattle.pl_base.proofs.VisitLists.{among_one}
 
 -- ---- parts of lists
-
-pub part_mapped : {X Y : Type 0} (q : Y → Bool) (f : X → Y) (xs : List X)
-    → filter q (map f xs) ≡ map f (filter (λ x. q (f x)) xs)
-part_mapped q f [] = refl
-part_mapped {X} {Y} q f (x ∷ xs) = choose (q (f x)) (part_mapped q f xs)
-  where
-    choose : (b : Bool) → filter q (map f xs) ≡ map f (filter (λ y. q (f y)) xs)
-        → (if b then f x ∷ filter q (map f xs) else filter q (map f xs))
-        ≡ map f (if b then x ∷ filter (λ y. q (f y)) xs else filter (λ y. q (f y)) xs)
-    choose true rest = ap (λ (ys : List Y). f x ∷ ys) rest
-    choose false rest = rest
 
 pub part_of_part : {X : Type 0} (p q : X → Bool) (xs : List X) → filter p (filter q xs) ≡ filter q (filter p xs)
 part_of_part p q [] = refl
@@ -74,14 +62,6 @@ mapped_same f [] all = refl
 mapped_same f (x ∷ xs) all = λ i. all.0 i ∷ mapped_same f xs all.1 i
 
 -- ---- one source goes
-
--- one id among one
-pub among_one : (id other : VisitId) → is_among (id ∷ []) other ≡ (other.0 == id.0)
-among_one id other =
-    or-false (id.0 == other.0)
-    ∙ same_tests (id.0 == other.0) (other.0 == id.0)
-    (λ same. eq-eqb other.0 id.0 (sym (eqb-true id.0 other.0 same)))
-    (λ same. eq-eqb id.0 other.0 (sym (eqb-true other.0 id.0 same)))
 
 -- another number than one that is the id is not the id
 apart_from : (m n id : ℕ) → (m == id) ≡ false → (n == id) ≡ true → (n == m) ≡ false
@@ -135,7 +115,7 @@ left_is id vs =
 pub gone_is : (id : VisitId) (kept : Kept) → without_visit id kept ≡ but_visit id (sourceless id kept)
 gone_is id kept =
     ap (λ (vs : List Visit). record kept { visits = vs })
-    (left_is id kept.visits ∙ sym (part_mapped (is_other id) (visit_left (id ∷ [])) kept.visits))
+    (left_is id kept.visits ∙ sym (filter-map (is_other id) (visit_left (id ∷ [])) kept.visits))
 
 -- the visit's slot goes
 pub live_gone : (id : VisitId) (kept : Kept) → IsWellKept kept → has_visit kept id ≡ true
@@ -155,7 +135,7 @@ live_gone id kept h there =
 pub page_visits_sourceless : (id : VisitId) (kept : Kept) (page : PageId)
     → page_visits (sourceless id kept) page ≡ map (visit_left (id ∷ [])) (page_visits kept page)
 page_visits_sourceless id kept page =
-    ap latest_first (part_mapped (of_page page) (visit_left (id ∷ [])) kept.visits)
+    ap latest_first (filter-map (of_page page) (visit_left (id ∷ [])) kept.visits)
     ∙ latest_left (id ∷ []) (visits_of (store_of kept) page)
 
 pub page_visits_but : (id : VisitId) (kept : Kept) (page : PageId) → IsWellKept kept
@@ -199,7 +179,7 @@ module _ (id source : VisitId) (kind : Transition → Bool) (vs : List Visit) wh
   still_from apart =
       let f : Visit → Visit = visit_left (id ∷ []) in
       let rest : List Visit = filter (is_other id) vs in
-      sym (part_mapped (from kind source) f rest
+      sym (filter-map (from kind source) f rest
       ∙ ap (map f)
       (filter_agree (λ (v : Visit). from kind source (f v)) (from kind source)
       (λ v. ap (λ (b : Bool). kind v.transition && b) (source_still id source v.source apart)) rest)

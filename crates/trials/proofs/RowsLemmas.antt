@@ -1,30 +1,18 @@
 -- What the calls of rows tell of a page or a visit that was asked for, and that a new row has its slots.
-use Rattle.std.proofs.Common.{◌≡◌, ◌<◌, ◌≤◌, ◌==◌, ℕ, true, false, List, Option, Some, None}
+use Rattle.std.proofs.Common.{◌≡◌, ◌<◌, ◌≤◌, ℕ, false, List, Option, Some, None}
 use Rattle.std.proofs.Common.{arith, length, map, refl, subst, sym}
 use Rattle.std.specs.List.Sorted.{IsStrictlyIncreasing}
 use Rattle.std.specs.Option.{option_map}
 use Rattle.std.proofs.lemmas.List.Elements.{All-nil}
 use Rattle.pl_base.specs.declared.id.PageId.{PageId}
-use Rattle.pl_base.specs.declared.id.VisitId.{VisitId}
 use Rattle.pl_base.specs.declared.id.TheConstants.Ids.{OPENING}
 use Rattle.pl_base.specs.declared.row.Mark.{Mark}
-use Rattle.pl_base.specs.declared.row.VisitRow.{VisitRow}
 use Rattle.pl_base.specs.Address.{same_origin}
 use Rattle.pl_base.specs.Live.{live_slots, slot_limit}
-use Rattle.pl_base.specs.Rows.{IsOriginOf, Kept, KeptPage, has_page, has_visit, live_with_title}
+use Rattle.pl_base.specs.Rows.{IsOriginOf, Kept, KeptPage, live_with_title}
 use Rattle.pl_base.specs.Rows.{mark_of}
-use Rattle.pl_base.specs.Rows.{opening_with, page_at, row_of, store_of, visit_at}
-use Rattle.pl_base.specs.Store.{Visit}
+use Rattle.pl_base.specs.Rows.{opening_with, page_at, store_of}
 use Rattle.pl_plain.proofs.FlatChanges.{slots_with_title}
-use Rattle.pl_plain.proofs.Lookups.{there-found}
-
-pub page_there : (kept : Kept) (page : PageId) (mark : Mark) → Some mark ≡ option_map mark_of (page_at kept page)
-    → has_page kept page ≡ true
-page_there kept page mark told = there-found (λ (p : KeptPage). p.page.id.0 == page.0) mark_of kept.pages mark told
-
-pub visit_there : (kept : Kept) (visit : VisitId) (row : VisitRow)
-    → Some row ≡ option_map row_of (visit_at kept visit) → has_visit kept visit ≡ true
-visit_there kept visit row told = there-found (λ (v : Visit). v.id.0 == visit.0) row_of kept.visits row told
 
 -- ---- a first page
 

@@ -11,24 +11,20 @@ use Rattle.pl_base.specs.declared.item.ItemRow.{ItemRow}
 use Rattle.pl_base.specs.declared.row.Mark.{Mark}
 use Rattle.pl_base.specs.Good.{longest_title}
 use Rattle.pl_base.specs.Live.{live_slots, slot_limit}
-use Rattle.pl_base.specs.Rows.{Kept, KeptPage, has_page, live_with_item, live_with_item_title, mark_of, page_at}
+use Rattle.pl_base.specs.Rows.{Kept, has_page, live_with_item, live_with_item_title, mark_of, page_at}
 use Rattle.pl_base.specs.Rows.{store_of}
 use Rattle.pl_base.specs.Store.{Item}
-use Rattle.pl_base.specs.Tree.{IsFolder, ancestors, has_item, item_at, item_row}
+use Rattle.pl_base.specs.Tree.{IsFolder, ancestors, item_at, item_row}
 use Rattle.pl_base.proofs.ItemLookUps.{parent_told}
 use Rattle.pl_plain.specs.FlatRows.{IsFlat}
 use Rattle.pl_plain.proofs.ItemChanges.{slots_retitled, slots_with_item}
-use Rattle.pl_plain.proofs.Lookups.{there-found}
+use Rattle.pl_base.proofs.PageLaws.{page_there}
 
 pub page_known : (kept : Kept) (page : PageId) (told : Option Mark)
     → told ≡ option_map mark_of (page_at kept page) → is_some told ≡ true → has_page kept page ≡ true
 page_known kept page None is some = absurd (cc)
 page_known kept page (Some mark) is some =
-    there-found (λ (p : KeptPage). p.page.id.0 == page.0) mark_of kept.pages mark is
-
-pub item_there : (items : List Item) (id : ItemId) (row : ItemRow)
-    → Some row ≡ option_map (item_row items) (item_at items id) → has_item items id ≡ true
-item_there items id row told = there-found (λ (i : Item). i.id.0 == id.0) (item_row items) items row told
+    page_there kept page mark is
 
 -- what the rows tell of a folder
 pub folder_told : (items : List Item) (id : ItemId) (row : ItemRow)

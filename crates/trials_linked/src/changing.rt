@@ -11,8 +11,8 @@ use std::process::Abort;
 use std::sync::ledger::{Blank, Ledger};
 use std::test::Fail;
 
-const URL: &str =
-    "https://a.example/a-path-that-takes-two-slots-since-it-has-more-than-one-hundred-and-twenty-bytes-as-a-page-of-a-long-name-may-have/";
+const URL: &str = "https://a.example/a-path-that-takes-two-slots-since-it-has-more-than-one-\
+    hundred-and-twenty-bytes-as-a-page-of-a-long-name-may-have/";
 
 fn check_page<L: Ledger>(
     rt: &impl Abort,

@@ -1,14 +1,15 @@
 -- What was asked before a call on rails holds.
-use Rattle.std.proofs.Common.{◌≡◌, ◌≢◌, ◌∙◌, ◌==◌, ◌∷◌, [], ◌++◌, ℕ, List, ap, append_assoc}
-use Rattle.std.proofs.Common.{eqb-true, inl, inr, IsSome, is_some, None, Option, refl, Some, subst, sym, true}
+use Rattle.std.proofs.Common.{◌≡◌, ◌≢◌, ◌∙◌, ◌∷◌, [], ◌++◌, ℕ, List, ap, append_assoc}
+use Rattle.std.proofs.Common.{inl, inr, IsSome, is_some, None, Option, refl, Some, subst, sym, true}
 use Rattle.std.specs.Option.{option_and_then, option_map}
-use Rattle.std.proofs.lemmas.Bool.{cases_Bool, or_cases, true≢false}
+use Rattle.std.proofs.lemmas.Bool.{cases_Bool}
 use Rattle.pl_base.specs.declared.id.Slot.{Slot}
 use Rattle.pl_rail.specs.declared.owner.Owner.{Owner}
 use Rattle.pl_rail.specs.declared.owner.Side.{Side}
 use Rattle.pl_rail.specs.declared.owner.Side.TheVariants.{Before, Behind}
-use Rattle.pl_rail.specs.Rails.{HasMember, HasPlace, Lists, is_in, is_member, last_from, none, side_link}
+use Rattle.pl_rail.specs.Rails.{HasPlace, Lists, is_in, is_member, last_from, none, side_link}
 use Rattle.pl_rail.proofs.ChainLaws.{stands}
+use Rattle.pl_rail.proofs.Membership.{parts_of}
 use Rattle.pl_rail.proofs.ListLaws.{before_in, behind_in, member_link, member_some, same_slot}
 use Rattle.pl_rail.proofs.SideLaws.{at_link, numbered, other_number}
 use Rattle.pl_rail.proofs.Walks.{last_of_added}
@@ -43,32 +44,6 @@ side_named rail owner side link pages slot same member =
     subst (λ l. IsSome (link_at rail l slot.0 pages)) (sym same) (member_link rail owner side pages slot member)
 
 -- ---- places in lists
-
-record Parts (slot : Slot) (slots : List Slot) : Type 0 where
-  front : List Slot
-  back : List Slot
-  whole : front ++ slot ∷ back ≡ slots
-
-parts_of : (slot : Slot) (slots : List Slot) → is_in slot slots ≡ true → Parts slot slots
-parts_of slot [] among = absurd (true≢false (sym among))
-parts_of slot (x ∷ slots) among = elim (or_cases (x.0 == slot.0) (is_in slot slots) among) [
-  | inl here ↦
-      let same : x ≡ slot = ap numbered (eqb-true x.0 slot.0 here) in
-      record { front = []; back = slots; whole = ap (λ k. k ∷ slots) (sym same) }
-  | inr there ↦
-      let parts = parts_of slot slots there in
-      record { front = x ∷ parts.front; back = parts.back; whole = ap (λ l. x ∷ l) parts.whole }
-]
-
-pub member_of : (rail : Rail) (owner : Owner) (slot : Slot) (slots : List Slot) (pages : Pages)
-    → Lists rail owner slots pages → is_in slot slots ≡ true → HasMember rail owner slot pages
-member_of rail owner slot slots pages lists among =
-    let parts = parts_of slot slots among in
-    record {
-      front = parts.front;
-      back = parts.back;
-      lists = subst (λ l. Lists rail owner l pages) (sym parts.whole) lists;
-    }
 
 pub front_to : (slot : Slot) (slots : List Slot) → is_in slot slots ≡ true → HasFront (Some slot) slots
 front_to slot slots among =

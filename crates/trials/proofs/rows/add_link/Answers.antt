@@ -1,7 +1,7 @@
 use Rattle.std.proofs.Common.{◌∙◌, ap, sym}
 use Rattle.std.specs.Result.{result_ok}
 use Rattle.pl_plain.specs.Flat.{kept_of}
-use Rattle.trials.proofs.RowsLemmas.{page_there}
+use Rattle.pl_base.proofs.PageLaws.{page_there}
 use Rattle.trials.proofs.rows.add_link.Goals as goal
 
 pub insert_visit-requires-clause-page : goal.insert_visit-requires-clause-page

@@ -1,7 +1,7 @@
 use Rattle.std.proofs.Common.{◌∙◌, ap, sym}
 use Rattle.std.specs.Result.{result_ok}
 use Rattle.pl_plain.specs.Flat.{kept_of}
-use Rattle.trials.proofs.RowsLemmas.{page_there}
+use Rattle.pl_base.proofs.PageLaws.{page_there}
 use Rattle.trials.proofs.rows.check_texts.Goals as goal
 
 pub url-requires : goal.url-requires

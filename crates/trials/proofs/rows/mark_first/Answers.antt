@@ -1,7 +1,7 @@
 use Rattle.std.proofs.Common.{◌∙◌, ap, sym}
 use Rattle.std.specs.Result.{result_ok}
 use Rattle.pl_plain.specs.Flat.{kept_of}
-use Rattle.trials.proofs.RowsLemmas.{page_there}
+use Rattle.pl_base.proofs.PageLaws.{page_there}
 use Rattle.trials.proofs.rows.mark_first.Goals as goal
 
 pub set_mark-requires : goal.set_mark-requires

@@ -1,7 +1,7 @@
 use Rattle.std.proofs.Common.{◌∙◌, ap, sym}
 use Rattle.std.specs.Result.{result_ok}
 use Rattle.pl_plain.specs.Flat.{kept_of}
-use Rattle.trials.proofs.RowsLemmas.{visit_there}
+use Rattle.pl_base.proofs.VisitLists.{visit_there}
 use Rattle.trials.proofs.rows.remove_visit.Goals as goal
 
 pub remove_visit-requires : goal.remove_visit-requires

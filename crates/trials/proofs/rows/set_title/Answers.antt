@@ -1,7 +1,8 @@
 use Rattle.std.proofs.Common.{◌∙◌, ap, arith, sym}
 use Rattle.std.specs.Result.{result_ok}
 use Rattle.pl_plain.specs.Flat.{kept_of}
-use Rattle.trials.proofs.RowsLemmas.{page_there, room_for_title}
+use Rattle.pl_base.proofs.PageLaws.{page_there}
+use Rattle.trials.proofs.RowsLemmas.{room_for_title}
 use Rattle.trials.proofs.rows.set_title.Goals as goal
 
 pub set_title-requires-clause-page : goal.set_title-requires-clause-page

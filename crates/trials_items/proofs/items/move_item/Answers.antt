@@ -1,7 +1,7 @@
 use Rattle.std.proofs.Common.{◌∙◌, ap, sym}
 use Rattle.std.specs.Result.{result_ok}
 use Rattle.pl_plain.specs.Flat.{kept_of}
-use Rattle.trials_items.proofs.ItemLemmas.{item_there}
+use Rattle.pl_base.proofs.ItemLookUps.{item_there}
 use Rattle.trials_items.proofs.items.move_item.Goals as goal
 
 pub move_item-requires-clause-item : goal.move_item-requires-clause-item

@@ -1,7 +1,8 @@
 use Rattle.std.proofs.Common.{◌∙◌, ap, arith, length, sym}
 use Rattle.std.specs.Result.{result_ok}
 use Rattle.pl_plain.specs.Flat.{kept_of}
-use Rattle.trials_items.proofs.ItemLemmas.{item_there, room_for_name}
+use Rattle.pl_base.proofs.ItemLookUps.{item_there}
+use Rattle.trials_items.proofs.ItemLemmas.{room_for_name}
 use Rattle.trials_items.proofs.items.set.Goals as goal
 
 pub set_item-requires-clause-item : goal.set_item-requires-clause-item

@@ -1,7 +1,7 @@
 use Rattle.std.proofs.Common.{◌∙◌, ap, sym}
 use Rattle.std.specs.Result.{result_ok}
 use Rattle.pl_plain.specs.Flat.{kept_of}
-use Rattle.trials_items.proofs.ItemLemmas.{item_there}
+use Rattle.pl_base.proofs.ItemLookUps.{item_there}
 use Rattle.trials_items.proofs.items.set_modified.Goals as goal
 
 pub set_modified-requires-clause-item : goal.set_modified-requires-clause-item

@@ -1,7 +1,7 @@
 use Rattle.std.proofs.Common.{◌∙◌, ap, sym}
 use Rattle.std.specs.Result.{result_ok}
 use Rattle.pl_plain.specs.Flat.{kept_of}
-use Rattle.trials_items.proofs.ItemLemmas.{item_there}
+use Rattle.pl_base.proofs.ItemLookUps.{item_there}
 use Rattle.trials_items.proofs.tree.check_title.Goals as goal
 
 pub item_title-requires : goal.item_title-requires

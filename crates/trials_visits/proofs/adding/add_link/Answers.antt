@@ -1,6 +1,6 @@
 use Rattle.std.proofs.Common.{◌∙◌, ap, sym}
 use Rattle.std.specs.Result.{result_ok}
-use Rattle.trials_visits.proofs.Found.{page_there}
+use Rattle.pl_base.proofs.PageLaws.{page_there}
 use Rattle.trials_visits.proofs.adding.add_link.Goals as goal
 
 pub insert_visit-requires-clause-page : goal.insert_visit-requires-clause-page

@@ -1,6 +1,6 @@
 use Rattle.std.proofs.Common.{◌∙◌, ap, sym}
 use Rattle.std.specs.Result.{result_ok}
-use Rattle.trials_visits.proofs.Found.{visit_there}
+use Rattle.pl_base.proofs.VisitLists.{visit_there}
 use Rattle.trials_visits.proofs.adding.drop_visit.Goals as goal
 
 pub remove_visit-requires : goal.remove_visit-requires

@@ -19,14 +19,14 @@ after_all : (date other third id than last : ℕ) → ltb other date || (eqb oth
     → ltb third date || (eqb third date && ltb last id) ≡ true
 after_all date other third id than last first second = grind (arith, nat_tests)
 
-later_on : (u v w : Visit) → is_later u v ≡ true → is_later v w ≡ true → is_later u w ≡ true
+pub later_on : (u v w : Visit) → is_later u v ≡ true → is_later v w ≡ true → is_later u w ≡ true
 later_on u v w first second = after_all u.date.0 v.date.0 w.date.0 u.id.0 v.id.0 w.id.0 first second
 
 one_after : (date other id than : ℕ) → id ≢ than → ltb other date || (eqb other date && ltb than id) ≡ false
     → ltb date other || (eqb date other && ltb id than) ≡ true
 one_after date other id than differ not_later = grind (arith, nat_tests)
 
-one_later : (v w : Visit) → v.id.0 ≢ w.id.0 → is_later v w ≡ false → is_later w v ≡ true
+pub one_later : (v w : Visit) → v.id.0 ≢ w.id.0 → is_later v w ≡ false → is_later w v ≡ true
 one_later v w differ not_later = one_after v.date.0 w.date.0 v.id.0 w.id.0 differ not_later
 
 -- ---- one more goes to its place
@@ -98,7 +98,7 @@ latest_push (w ∷ vs) v differ =
 -- ---- those that pass a test stand in the same order
 
 -- each is later than all behind it
-abbrev InOrder : List Visit → Type 0
+abbrev pub InOrder : List Visit → Type 0
 InOrder [] = Unit {0}
 InOrder (v ∷ vs) = AllByRecursion (λ (w : Visit). is_later v w ≡ true) vs × InOrder vs
 
@@ -123,7 +123,7 @@ placed_in_order v (w ∷ ws) differ ordered =
       rest,
     )
 
-latest_in_order : (vs : List Visit) → Differ vs → InOrder (latest_first vs)
+pub latest_in_order : (vs : List Visit) → Differ vs → InOrder (latest_first vs)
 latest_in_order [] differ = tt
 latest_in_order (v ∷ vs) differ =
     placed_in_order v (latest_first vs) (all-latest_first (λ (w : Visit). w.id.0 ≢ v.id.0) vs differ.0)
