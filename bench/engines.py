@@ -77,7 +77,7 @@ def perform(program, rows, script):
     least, replies = None, None
     for _ in range(RUNS):
         start = time.monotonic()
-        done = subprocess.run([program, rows], input=script, stdout=subprocess.PIPE, check=True)
+        done = subprocess.run([program, rows, "script"], input=script, stdout=subprocess.PIPE, check=True)
         seconds = time.monotonic() - start
         least = seconds if least is None else min(least, seconds)
         replies = done.stdout

@@ -1,7 +1,8 @@
 #!/usr/bin/env python3
-"""Prints a random script of every command that a line has, for `pairs_main`:
+"""Prints a random script of every command that a line has, for `pairs_main`.
 
     bench/pairs.py SEED LINES
+    for seed in $(seq 40); do bench/pairs.py $seed 2000 | PROGRAM both script; done
 
 The addresses are those of some hundreds of pages on some tens of hosts. What the store holds is followed from afar, so
 that most ids are those of visits and items that are there. About one line in ten is wrong. The numbers are those of the
@@ -318,14 +319,12 @@ class Script:
         return "\t".join(str(value) for value in fields)
 
 
-def main():
-    seed, lines = int(sys.argv[1]), int(sys.argv[2])
+def script_of(seed, lines):
     script = Script(seed)
+    text = [f"day\t{FIRST_DAY}"] + [script.line() for _ in range(lines - 1)]
     # One wrong line has a byte that is no UTF-8.
-    sys.stdout.reconfigure(encoding="utf-8", errors="surrogateescape", newline="\n")
-    print("day", FIRST_DAY, sep="\t")
-    for _ in range(lines - 1):
-        print(script.line())
+    return ("\n".join(text) + "\n").encode(errors="surrogateescape")
 
 
-main()
+if __name__ == "__main__":
+    sys.stdout.buffer.write(script_of(int(sys.argv[1]), int(sys.argv[2])))

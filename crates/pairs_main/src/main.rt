@@ -1,18 +1,23 @@
 //! Performs the lines of a script on two engines, one over rows in linked slots and one over rows
 //! in vectors, and prints whether they reply the same; or performs them on one of the two, and
-//! prints its replies. `bench/pairs.py` writes scripts for it.
+//! prints its replies. In place of a script it imports a bookmark file, and exports the bookmarks
+//! behind that. The scripts for it stand in `bench/`.
 #![tactic(auto)]
 
-ghost use Rattle.std.specs.Prelude.{◌≡◌, ◌<◌};
+ghost use Rattle.std.specs.Prelude.{◌≡◌, ◌<◌, ◌≤◌};
+ghost use Rattle.pl_base.specs.Live.{slot_limit};
 
 mod choice;
 mod fault;
+mod imports;
 mod outcome;
 mod pair;
 mod replies;
 mod run;
+mod tree;
+mod work;
 
-use choice::Choice;
+use choice::{Choice, Order};
 use fault::Fault;
 use pl_base::Steps;
 use run::{both, flat, linked};
@@ -30,7 +35,7 @@ fn main(rt: HostRuntime) -> ExitCode {
     ExitCode::from(status)
 }
 
-// Says why the script was not performed to its end, and gives the exit status for that.
+// Says why the work was not done to its end, and gives the exit status for that.
 fn told(rt: &impl Eprint, fault: Fault) -> u8 {
     let _ = eprintln!(rt; "pairs_main: {fault}");
     fault.status()
@@ -39,11 +44,11 @@ fn told(rt: &impl Eprint, fault: Fault) -> u8 {
 // The exit status of what the words ask for.
 fn answer(rt: &HostRuntime) -> Result<u8, Fault> {
     let words = words(rt)?;
-    let Some(choice) = Choice::of(&words) else {
+    let Some(order) = Order::of(&words) else {
         return Err(Fault::Usage);
     };
-    let script = script(rt)?;
-    perform::<Brand>(rt, choice, &script, Blank::new(1))
+    let input = input(rt)?;
+    perform::<Brand>(rt, order, &input, Blank::new(1))
 }
 
 // The words behind the program's name.
@@ -58,7 +63,7 @@ fn words(rt: &(impl Env + AllocGlobal)) -> Result<Vec<String>, Fault> {
 }
 
 // The bytes of standard input.
-fn script(rt: &HostRuntime) -> Result<Vec<u8>, Fault> {
+fn input(rt: &HostRuntime) -> Result<Vec<u8>, Fault> {
     let mut bytes = Vec::new(rt.alloc());
     match rt.stdin().read_to_end(&mut bytes) {
         Ok(_) => Ok(bytes),
@@ -69,18 +74,19 @@ fn script(rt: &HostRuntime) -> Result<Vec<u8>, Fault> {
 
 fn perform<L: Ledger>(
     rt: &HostRuntime,
-    choice: Choice,
-    script: &[u8],
+    order: Order,
+    input: &[u8],
     blank: Blank,
 ) -> Result<u8, Fault>
     requires name { blank.name ≡ L.name }
     requires parts { blank.parts ≡ L.parts }
     requires some { 0 < blank.parts }
+    requires most { order.limit ≤ slot_limit }
 {
     let steps = &mut Steps::<L>::none(blank);
-    match choice {
-        Choice::Both => both(rt, script, steps),
-        Choice::Linked => linked(rt, script, steps),
-        Choice::Flat => flat(rt, script, steps),
+    match order.choice {
+        Choice::Both => both(rt, order, input, steps),
+        Choice::Linked => linked(rt, order, input, steps),
+        Choice::Flat => flat(rt, order, input, steps),
     }
 }

@@ -9,10 +9,11 @@ pub struct Apart {
     pub right: Txt,
 }
 
-/// How a script ended on two engines.
+/// How the work ended on two engines.
 #[derive(Debug, Drop)]
 pub enum Outcome {
-    /// The replies to so many lines are the same, and so are the bookmarks behind them.
+    /// So many replies are the same, and so are the bookmarks behind them, where these were asked
+    /// for.
     Alike(u64),
     /// The replies to the line of this number differ.
     Replies(u64, Apart),

@@ -5,9 +5,9 @@ ghost use Rattle.pl_step.specs.Commands.{HasDates};
 use crate::fault::Fault;
 use crate::outcome::{Apart, Outcome};
 use crate::replies::text_of;
-use pl_base::{NoMemory, Rows, Steps, Txt};
+use crate::tree::file_of;
+use pl_base::{NoMemory, Rows, Steps};
 use pl_engine::Engine;
-use pl_nbwrite::text;
 use pl_script::{LineError, line};
 use pl_step::{Command, Reply};
 use std::alloc::Global;
@@ -22,7 +22,7 @@ pub struct Pair<A: Rows + Drop, B: Rows + Drop> {
 
 /// What two engines replied to a line.
 #[derive(Debug, Drop)]
-enum Replied {
+pub enum Replied {
     /// A comment has no reply.
     Nothing,
     Alike,
@@ -47,18 +47,6 @@ fn compared(alloc: Global, left: Reply, right: Reply) -> Result<Replied, NoMemor
         return Ok(Replied::Alike);
     }
     Ok(Replied::Apart(texts(alloc, left, right)?))
-}
-
-// The bookmarks of an engine as a file, which tells all of their tree.
-fn file_of<R: Rows + Drop, L: Ledger>(
-    alloc: Global,
-    engine: &Engine<R>,
-    steps: &mut Steps<L>,
-) -> Result<Txt, NoMemory> {
-    let tree = engine.tree(steps)?;
-    let file = text(alloc, &tree);
-    drop(tree);
-    file
 }
 
 impl<A: Rows + Drop, B: Rows + Drop> Pair<A, B> {
@@ -102,8 +90,8 @@ impl<A: Rows + Drop, B: Rows + Drop> Pair<A, B> {
         done
     }
 
-    // The pair after a command, and whether the replies are the same.
-    fn told<L: Ledger>(
+    /// The pair after a command, and whether the replies are the same.
+    pub fn told<L: Ledger>(
         self,
         alloc: Global,
         command: Command,
@@ -132,8 +120,8 @@ impl<A: Rows + Drop, B: Rows + Drop> Pair<A, B> {
         }
     }
 
-    // Whether the bookmarks are the same, behind so many lines whose replies are.
-    fn bookmarks<L: Ledger>(
+    /// Whether the bookmarks are the same, behind so many lines whose replies are.
+    pub fn bookmarks<L: Ledger>(
         &self,
         alloc: Global,
         count: u64,

@@ -21,8 +21,8 @@ fn refused(alloc: Global, refusal: Refusal) -> Result<Txt, NoMemory> {
     text_of(alloc, Reply::Refused(refusal))
 }
 
-// The engine after a command, and its reply.
-fn performed<R: Rows + Drop, L: Ledger>(
+/// The engine after a command, and its reply.
+pub fn performed<R: Rows + Drop, L: Ledger>(
     engine: Engine<R>,
     command: Command,
     steps: &mut Steps<L>,
@@ -34,8 +34,8 @@ fn performed<R: Rows + Drop, L: Ledger>(
     done
 }
 
-// The engine after a command, and the text of its reply.
-fn told<R: Rows + Drop, L: Ledger>(
+/// The engine after a command, and the text of its reply.
+pub fn told<R: Rows + Drop, L: Ledger>(
     alloc: Global,
     engine: Engine<R>,
     command: Command,
@@ -63,8 +63,9 @@ fn answered<R: Rows + Drop, L: Ledger>(
     }
 }
 
-fn say(rt: &impl Print, reply: Option<Txt>) -> Result<(), Fault> {
-    match reply {
+/// Prints a text, if there is one.
+pub fn say(rt: &impl Print, text: Option<Txt>) -> Result<(), Fault> {
+    match text {
         Some(text) => print!(rt; "{}", text.as_str()).map_err(|_| Fault::NotSaid),
         None => Ok(()),
     }
