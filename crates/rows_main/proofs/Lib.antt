@@ -1,0 +1,2 @@
+mod KnownRows
+mod PageBack
