@@ -54,15 +54,16 @@ fn try_orders<A: Rows, B: Rows, L: Ledger>(
     Ok(())
 }
 
-// Visits in descending order of date, and in one that is like chance.
+// Ten thousand visits: every second one in descending order of date, and the others in one that is
+// like chance.
 fn add_many<R: Rows, L: Ledger>(
     rows: &mut R,
     page: PageId,
     steps: &mut Steps<L>,
 ) -> Result<(), Fail> {
-    for number in 0..100_u32 {
-        add_link(rows, page, 100 - number, steps)?;
-        add_link(rows, page, number * 7_919 % 101, steps)?;
+    for number in 0..5_000_u32 {
+        add_link(rows, page, 5_000 - number, steps)?;
+        add_link(rows, page, number * 7_919 % 10_007, steps)?;
     }
     Ok(())
 }
