@@ -1,0 +1,6 @@
+mod LiveWalk
+mod OneOrder
+mod OneRising
+mod OwnedSteps
+mod OwnersTold
+mod RedirectFronts
