@@ -1,13 +1,14 @@
 -- What is told of owners whose links may name anything: each is a slot, and its lists are told one after another.
-use Rattle.std.proofs.Common.{◌≡◌, ◌∙◌, ◌+◌, ◌<◌, ◌≤◌, ◌∷◌, [], ◌++◌, ℕ, List, ap, arith, get_or, IsSome, is_some, length}
+use Rattle.std.proofs.Common.{◌≡◌, ◌∙◌, ◌+◌, ◌*◌, ◌<◌, ◌≤◌, ◌∷◌, [], ◌++◌, ℕ, List, ap, arith, get_or, IsSome, is_some, length}
 use Rattle.std.proofs.Common.{None, Option, refl, Some, subst, suc, sym, take, true, zero}
-use Rattle.std.specs.List.{AllZip}
+use Rattle.std.specs.List.{AllZip, sum_by}
 use Rattle.std.specs.Option.{option_and_then, option_map}
 use Rattle.std.proofs.lemmas.List.{get_or_default, take_more}
+use Rattle.std.proofs.lemmas.List.Sums.{sum_by-take-le, sum_by_more}
 use Rattle.pl_base.specs.declared.id.Slot.{Slot}
 use Rattle.pl_owned.specs.declared.owned.Member.{Member}
 use Rattle.pl_owned.specs.declared.owned.Owned.{Owned}
-use Rattle.pl_owned.specs.Owned.{HasOwned, list_at, owned_by}
+use Rattle.pl_owned.specs.Owned.{HasOwned, list_at, owned_by, reads}
 use Rattle.pl_rail.specs.declared.owner.Owner.TheVariants.{At}
 use Rattle.pl_rail.specs.declared.owner.Side.TheVariants.{Behind}
 use Rattle.pl_rail.specs.Rails.{end_at}
@@ -90,3 +91,19 @@ pub previous_there : (rail : Rail) (n : ℕ) (pages : Pages) → IsSome (link_at
     → IsSome (link_at rail Previous n pages)
 unfolding link_at
 previous_there rail n pages is = previous_row rail (row_at n pages) is
+
+-- ---- what is read
+
+module _ (members : List Member) (owners : List Slot) (i : ℕ) (within : i < length owners) (before now : ℕ)
+    (few : now ≤ before + sum_by (reads members) (take i owners)) where
+  -- one owner's list is right
+  pub reads_more : (d : Slot) (wanted : List Slot) (later : ℕ) → wanted ≡ owned_by members (get_or owners i d)
+      → later ≤ now + 3 * length wanted + 2 → later ≤ before + sum_by (reads members) (take (i + 1) owners)
+  reads_more d wanted later is counted =
+      let long : length wanted ≡ length (owned_by members (get_or owners i d)) = ap length is in
+      omega (arith, few, counted, long, sum_by_more (reads members) owners i d within)
+
+  -- it is not
+  pub reads_past : (live later : ℕ) → later ≤ now + 3 * live + 4
+      → later ≤ before + sum_by (reads members) owners + 3 * live + 4
+  reads_past live later counted = omega (arith, few, counted, sum_by-take-le (reads members) owners i)

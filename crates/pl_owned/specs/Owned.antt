@@ -1,5 +1,5 @@
 -- Which slots name an owner, and the lists of owners that have them all.
-use Rattle.std.specs.Prelude.{◌≡◌, ◌<◌, ◌==◌, ℕ, List, [], get_or, length, map}
+use Rattle.std.specs.Prelude.{◌≡◌, ◌+◌, ◌*◌, ◌<◌, ◌==◌, ℕ, List, [], get_or, length, map}
 use Rattle.std.specs.List.{filter}
 use Rattle.std.specs.List.Sorted.{IsPermutation}
 use Rattle.std.specs.Vec.{vec_items}
@@ -16,7 +16,11 @@ abbrev pub owned_by : List Member → Slot → List Slot
 owned_by members owner =
     map (λ (m : Member). m.slot) (filter (λ (m : Member). m.owner.0 == owner.0) members)
 
--- the owner's links make this list, which has each slot that names it, in any order
+-- the records that are read of an owner whose list has these slots
+abbrev pub reads : List Member → Slot → ℕ
+reads members owner = 3 * length (owned_by members owner) + 2
+
+-- the owner's links make this list, which has exactly the slots that name it, in any order
 pub record IsListed (rail : Rail) (members : List Member) (pages : Pages) (owner : Slot)
     (slots : List Slot) : Type 0 where
   pub lists : Lists rail (At owner) slots pages

@@ -1,5 +1,5 @@
 // Slots that stand in no chain.
-ghost use Rattle.std.specs.Prelude.{◌≡◌, true, false, IsSome};
+ghost use Rattle.std.specs.Prelude.{◌≡◌, ◌≤◌, ◌+◌, ◌*◌, true, false, length, IsSome};
 ghost use Rattle.std.specs.List.{All};
 ghost use Rattle.pl_record.specs.Chains.{IsAlone};
 ghost use Rattle.pl_slot.specs.declared.links.Link.TheVariants as link;
@@ -15,6 +15,7 @@ pub fn are_alone<L: Ledger>(arena: &Arena, rail: Rail, slots: &[Slot], steps: &m
     requires { All (λ s. IsSome (link_at rail link.Next s.0 arena.now)) slots.now }
     ensures yes { result ≡ true → All (λ s. IsAlone rail s arena.now) slots.now }
     ensures no { result ≡ false → All (λ s. IsAlone rail s arena.now) slots.now → ⊥ }
+    ensures few { steps.new ≤ steps.old + 2 * length slots.now }
 {
     for slot in slots {
         if !is_alone(arena, rail, *slot, steps) {
@@ -28,6 +29,7 @@ fn is_alone<L: Ledger>(arena: &Arena, rail: Rail, slot: Slot, steps: &mut Steps<
     requires { IsSome (link_at rail link.Next slot.0 arena.now) }
     ensures yes { result ≡ true → IsAlone rail slot arena.now }
     ensures no { result ≡ false → IsAlone rail slot arena.now → ⊥ }
+    ensures counted { steps.new ≡ steps.old + 2 }
 {
     let before = arena.link(slot, rail, Link::Previous, steps);
     let behind = arena.link(slot, rail, Link::Next, steps);

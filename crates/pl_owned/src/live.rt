@@ -1,5 +1,5 @@
 // Whether the live slots are those that were met.
-ghost use Rattle.std.specs.Prelude.{◌≡◌, ℕ, true, false};
+ghost use Rattle.std.specs.Prelude.{◌≡◌, ◌≤◌, ◌+◌, ℕ, true, false};
 ghost use Rattle.std.proofs.Common.{eqb};
 ghost use Rattle.std.specs.List.{All, IsDistinct, filter};
 ghost use Rattle.pl_slot.specs.Arena as held;
@@ -18,6 +18,7 @@ pub fn are_all_live<L: Ledger>(arena: &Arena, mut slots: Vec<u32>, steps: &mut S
         → held.is_among n slots.items ≡ true }
     ensures no { result ≡ false → IsDistinct eqb slots.items
         → ((n : ℕ) → held.is_live n arena.now ≡ true → held.is_among n slots.items ≡ true) → ⊥ }
+    ensures few { steps.new ≤ steps.old + held.slot_count arena.now }
 {
     slots.sort_unstable();
     are_live_slots(arena, &slots, steps)
@@ -29,6 +30,7 @@ fn are_live_slots<L: Ledger>(arena: &Arena, slots: &[u32], steps: &mut Steps<L>)
         → slots.now ≡ filter (λ n. held.is_live n arena.now) (held.slots_of arena.now) }
     ensures no { result ≡ false
         → slots.now ≡ filter (λ n. held.is_live n arena.now) (held.slots_of arena.now) → ⊥ }
+    ensures few { steps.new ≤ steps.old + held.slot_count arena.now }
 {
     let mut met = 0;
     for slot in 1..slot_count(arena) + 1 {
@@ -44,7 +46,8 @@ fn are_live_slots<L: Ledger>(arena: &Arena, slots: &[u32], steps: &mut Steps<L>)
 
 fn is_live<L: Ledger>(arena: &Arena, slot: Slot, steps: &mut Steps<L>) -> bool
     requires { held.is_slot slot.0 arena.now ≡ true }
-    ensures { result ≡ held.is_live slot.0 arena.now }
+    ensures live { result ≡ held.is_live slot.0 arena.now }
+    ensures counted { steps.new ≡ steps.old + 1 }
 {
     arena.read(slot, steps).kind() != SlotKind::Free
 }

@@ -21,8 +21,7 @@ pub struct Owned {
 }
 
 impl Owned {
-    /// The lists of the owners whose numbers are below this, in one pass over the members. It takes
-    /// the memory of an empty vector for each number.
+    /// The lists of the owners whose numbers are below `count`, in one pass over the members.
     pub fn of(alloc: Global, count: usize, members: &[Member]) -> Result<Owned, NoMemory>
         requires { All (λ m. m.owner.0 < count) members.now }
         ensures { IfOk result (spec.HasOwned members.now count) }

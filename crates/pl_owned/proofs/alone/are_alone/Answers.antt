@@ -8,10 +8,14 @@ use Rattle.pl_owned.proofs.alone.are_alone.Goals as goal
 
 pub loop-slot-preserved : goal.loop-slot-preserved
 loop-slot-preserved g c =
-    All-more (λ s. IsAlone c.args.rail s c.args.arena.now) c.args.slots.now c.loop-slot.slot-index none (omega arith)
-    c.loop-slot.invariant (c.is_alone.ensures.yes c.if-not-is_alone.false)
+    record {
+      alone =
+          All-more (λ s. IsAlone c.args.rail s c.args.arena.now) c.args.slots.now c.loop-slot.slot-index none
+          (omega arith) c.loop-slot.invariant.alone (c.is_alone.ensures.yes c.if-not-is_alone.false);
+      few = omega (arith, c.loop-slot.invariant.few, c.is_alone.ensures.counted);
+    }
 
 pub returns-clause-yes : goal.returns-clause-yes
 returns-clause-yes g c is =
     subst (All (λ s. IsAlone c.args.rail s c.args.arena.now))
-    (take_all c.loop-slot.slot-index c.args.slots.now (omega arith)) c.loop-slot.invariant
+    (take_all c.loop-slot.slot-index c.args.slots.now (omega arith)) c.loop-slot.invariant.alone

@@ -11,8 +11,8 @@ pub returns-then-not-all_so_far-clause-no : goal.returns-then-not-all_so_far-cla
 returns-then-not-all_so_far-clause-no g c is first =
     past_split (holds_redirect c.args.arena.now) c.args.slots.now c.loop-slot.slot-index
     (get_or c.args.slots.now c.loop-slot.slot-index none) c.loop-slot.all_so_far (omega arith)
-    (at_itself c.args.slots.now c.loop-slot.slot-index none (omega arith)) c.loop-slot.invariant
-    (sym c.is_redirect-is_redirect.ensures ∙ c.if-is_redirect.true) c.if-not-all_so_far.true first.front first.back
+    (at_itself c.args.slots.now c.loop-slot.slot-index none (omega arith)) c.loop-slot.invariant.split
+    (sym c.is_redirect-is_redirect.ensures.redirect ∙ c.if-is_redirect.true) c.if-not-all_so_far.true first.front first.back
     first.whole first.redirects first.others
 
 pub loop-slot-preserved : goal.loop-slot-preserved
@@ -22,7 +22,11 @@ loop-slot-preserved g c =
       | else-is_redirect-via-then-is_redirect+else-not-all_so_far w ↦ w.if-not-all_so_far.false
       | else-is_redirect-via-else-is_redirect w ↦ absurd (true≢false (sym passes ∙ w.if-is_redirect.false))
     ] in
-    split_on (holds_redirect c.args.arena.now) c.args.slots.now c.loop-slot.slot-index
-    (get_or c.args.slots.now c.loop-slot.slot-index none) c.loop-slot.all_so_far (omega arith)
-    (at_itself c.args.slots.now c.loop-slot.slot-index none (omega arith)) c.loop-slot.invariant
-    c.is_redirect-is_redirect.result c.is_redirect-is_redirect.ensures only
+    record {
+      split =
+          split_on (holds_redirect c.args.arena.now) c.args.slots.now c.loop-slot.slot-index
+          (get_or c.args.slots.now c.loop-slot.slot-index none) c.loop-slot.all_so_far (omega arith)
+          (at_itself c.args.slots.now c.loop-slot.slot-index none (omega arith)) c.loop-slot.invariant.split
+          c.is_redirect-is_redirect.result c.is_redirect-is_redirect.ensures.redirect only;
+      few = omega (arith, c.loop-slot.invariant.few, c.is_redirect-is_redirect.ensures.counted);
+    }
