@@ -2,7 +2,7 @@
 use Rattle.std.proofs.Common.{◌≡◌, ◌≢◌, ◌∙◌, ◌+◌, ◌-◌, ◌<◌, ◌≤◌, ◌∷◌, [], ◌++◌, ℕ, List, Bool, ap, arith, cond}
 use Rattle.std.proofs.Common.{false, filter, get_or, length, length-append, refl, suc, sym, take, true, zero}
 use Rattle.std.specs.List.{range_with_len}
-use Rattle.std.proofs.lemmas.List.{get_or_at, length-take-le, take_all, take_more}
+use Rattle.std.proofs.lemmas.List.{get_or_at, length-take-le, take_more}
 use Rattle.std.proofs.lemmas.List.Elements.{filter-append}
 
 range_split : (from m n : ℕ) → range_with_len from (m + n) ≡ range_with_len from m ++ range_with_len (from + m) n
@@ -50,9 +50,6 @@ pub record IsMet (p : ℕ → Bool) (xs : List ℕ) (slot met : ℕ) : Type 0 wh
   pub within : met ≤ length xs
   pub same : take met xs ≡ passing p (slot - 1)
 
-pub none_met : (p : ℕ → Bool) (xs : List ℕ) → IsMet p xs 1 0
-none_met p xs = record { some = omega arith; within = omega arith; same = refl }
-
 module _ (p : ℕ → Bool) (xs : List ℕ) (slot met : ℕ) (so_far : IsMet p xs slot met) where
   -- the next of the list is the slot, which passes
   pub met_more : met < length xs → p slot ≡ true → slot ≡ get_or xs met 0 → IsMet p xs (slot + 1) (met + 1)
@@ -95,14 +92,3 @@ module _ (p : ℕ → Bool) (xs : List ℕ) (slot met : ℕ) (so_far : IsMet p x
     where
       longer : (all rest : ℕ) → all ≡ met + suc rest → met < all
       longer all rest is = omega arith
-
-  pub met_all : (count : ℕ) → slot ≡ count + 1 → met ≡ length xs → xs ≡ passing p count
-  met_all count ends all =
-      let size : slot - 1 ≡ count = omega arith in
-      sym (take_all met xs (omega arith)) ∙ so_far.same ∙ ap (passing p) size
-
-  pub met_fewer : (count : ℕ) → slot ≡ count + 1 → met ≢ length xs → xs ≡ passing p count → ⊥
-  met_fewer count ends fewer same =
-      let size : count ≡ slot - 1 = omega arith in
-      let all : take met xs ≡ xs = so_far.same ∙ ap (passing p) (sym size) ∙ sym same in
-      fewer (sym (length-take-le met xs so_far.within) ∙ ap length all)

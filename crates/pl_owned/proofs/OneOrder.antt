@@ -83,7 +83,7 @@ same_counts (x ∷ xs) (y ∷ ys) up_x up_y same =
     less : (k : ℕ) → tick (eqb x.0 k) ≡ tick (eqb y.0 k) → count number k xs ≡ count number k ys
     less k alike = omega (arith, alike, same k, count-cons number k x xs, count-cons number k y ys)
 
-pub one_order : (xs ys : List Slot) → IsNonDecreasingBy (λ (s : Slot). s.0) xs
+one_order : (xs ys : List Slot) → IsNonDecreasingBy (λ (s : Slot). s.0) xs
     → IsNonDecreasingBy (λ (s : Slot). s.0) ys → IsPermutation xs ys → xs ≡ ys
 one_order xs ys up_x up_y moves =
     same_counts xs ys (in_order xs up_x) (in_order ys up_y)
@@ -91,7 +91,7 @@ one_order xs ys up_x up_y moves =
 
 -- ---- lists that are compared
 
-pub same_slots : (a b : Slot) → Decides (eqb a.0 b.0) (a ≡ b)
+same_slots : (a b : Slot) → Decides (eqb a.0 b.0) (a ≡ b)
 same_slots a b = ((λ is. ap numbered (eqb-true a.0 b.0 is)), (λ same. eq-eqb a.0 b.0 (ap number same)))
 
 -- the list of an owner, compared with the one that is wanted

@@ -62,7 +62,7 @@ rises_range p from (suc n) =
 
 -- ---- what is among numbers
 
-pub at_among : (P : ℕ → Type 0) (n : ℕ) (xs : List ℕ) → AllByRecursion P xs → is_among n xs ≡ true → P n
+at_among : (P : ℕ → Type 0) (n : ℕ) (xs : List ℕ) → AllByRecursion P xs → is_among n xs ≡ true → P n
 at_among P n [] all among = absurd (true≢false (sym among))
 at_among P n (x ∷ xs) all among = elim (or_cases (n == x) (is_among n xs) among) [
   | inl here ↦ subst P (sym (eqb-true n x here)) all.0

@@ -1,6 +1,7 @@
--- What is told of owners whose links may name anything: each is a slot, and its lists are told one after another.
-use Rattle.std.proofs.Common.{◌≡◌, ◌∙◌, ◌+◌, ◌*◌, ◌<◌, ◌≤◌, ◌∷◌, [], ◌++◌, ℕ, List, ap, arith, get_or, IsSome, is_some, length}
-use Rattle.std.proofs.Common.{None, Option, refl, Some, subst, suc, sym, take, true, zero}
+-- What is told of owners whose links may name anything: each is a slot, which has a list among those of all owners.
+use Rattle.std.proofs.Common.{◌≡◌, ◌∙◌, ◌+◌, ◌*◌, ◌<◌, ◌≤◌, ◌∷◌, [], ◌++◌, ℕ, List, ap, arith}
+use Rattle.std.proofs.Common.{get_or, IsSome, is_some, length, None, Option, refl, Some, subst}
+use Rattle.std.proofs.Common.{suc, sym, take, true, zero}
 use Rattle.std.specs.List.{AllZip, sum_by}
 use Rattle.std.specs.Option.{option_and_then, option_map}
 use Rattle.std.proofs.lemmas.List.{get_or_default, take_more}

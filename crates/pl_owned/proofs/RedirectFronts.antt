@@ -1,10 +1,9 @@
 -- Lists whose first members pass a test, and no others behind them.
 use Rattle.std.proofs.Common.{◌≡◌, ◌∙◌, ◌&&◌, ◌||◌, ◌+◌, ◌<◌, ◌∷◌, [], ◌++◌, ℕ, List, Bool, ap, false}
-use Rattle.std.proofs.Common.{get_or, length, refl, sym, take, true}
+use Rattle.std.proofs.Common.{drop, get_or, length, refl, sym, take, true}
 use Rattle.std.specs.List.{list_all, list_any}
 use Rattle.std.proofs.lemmas.Bool.{and_from, and_parts, or_parts, true≢false}
 use Rattle.std.proofs.lemmas.List.{append-nil, append_assoc, drop_more, take-append-drop, take_more}
-use Rattle.std.proofs.Common.{drop}
 
 any_last : {X : Type 0} (p : X → Bool) (xs : List X) (x : X) (ys : List X) → p x ≡ true
     → list_any p (xs ++ x ∷ ys) ≡ false → ⊥
@@ -12,7 +11,7 @@ any_last p [] x ys passes none = true≢false (sym passes ∙ (or_parts (p x) (l
 any_last p (y ∷ xs) x ys passes none = any_last p xs x ys passes (or_parts (p y) (list_any p (xs ++ x ∷ ys)) none).1
 
 -- what passes behind one that does not
-pub never_split : {X : Type 0} (p : X → Bool) (xs : List X) (x : X) (ys front back : List X)
+never_split : {X : Type 0} (p : X → Bool) (xs : List X) (x : X) (ys front back : List X)
     → xs ++ x ∷ ys ≡ front ++ back → list_all p xs ≡ false → p x ≡ true → list_all p front ≡ true
     → list_any p back ≡ false → ⊥
 never_split p [] x ys front back whole some passes all none = true≢false some
@@ -35,18 +34,6 @@ pub record IsSplit {X : Type 0} (p : X → Bool) (xs : List X) (all : Bool) : Ty
   pub others : list_any p back ≡ false
   pub none : all ≡ true → back ≡ []
   pub some : all ≡ false → list_all p xs ≡ false
-
-pub no_member : {X : Type 0} (p : X → Bool) (xs : List X) → IsSplit p (take 0 xs) true
-no_member p xs =
-    record {
-      front = [];
-      back = [];
-      whole = refl;
-      passing = refl;
-      others = refl;
-      none = λ all. refl;
-      some = λ not_all. absurd (true≢false not_all);
-    }
 
 all_push : {X : Type 0} (p : X → Bool) (xs : List X) (x : X) → list_all p xs ≡ true → p x ≡ true
     → list_all p (xs ++ x ∷ []) ≡ true

@@ -9,8 +9,8 @@ use pl_base::{Slot, Steps};
 use pl_slot::{Arena, SlotKind};
 use std::sync::ledger::Ledger;
 
-/// Whether the live slots are these, each once. They are live. It sorts them, and reads all slots
-/// in ascending order, up to the first live one that is not the next of these.
+/// Whether these are all live slots, each once. Each of them is live. It sorts them in place, and
+/// reads all slots in ascending order, up to the first live one that is not the next of these.
 pub fn are_all_live<L: Ledger>(arena: &Arena, mut slots: Vec<u32>, steps: &mut Steps<L>) -> bool
     requires live { All (λ n. held.is_live n arena.now ≡ true) slots.items }
     ensures once { result ≡ true → IsDistinct eqb slots.items }
