@@ -1,0 +1,4 @@
+mod CountedVisits
+mod NamedSums
+mod RightMarks
+mod StoredPages
