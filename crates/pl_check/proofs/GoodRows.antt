@@ -1,15 +1,14 @@
 -- The tests of the rows pass exactly where their store is good.
 use Rattle.std.proofs.Common.{◌≡◌, ◌≢◌, ◌∙◌, ◌&&◌, ◌||◌, ◌==◌, ℕ, ◌+◌, ◌<◌, ◌≤◌, All, Bool, true}
-use Rattle.std.proofs.Common.{false, not, IsTrue, zero, suc, List, [], ◌∷◌, Option, Some, None, bytes_eq}
+use Rattle.std.proofs.Common.{false, not, IsTrue, zero, suc, List, [], ◌∷◌, Option, Some, None}
 use Rattle.std.proofs.Common.{get_or, length, map, nat_le, nat_lt, sym, ap, refl, subst, arith, eq-eqb}
-use Rattle.std.specs.List.{AllPairs, list_all, list_any}
+use Rattle.std.specs.List.{list_all, list_any}
 use Rattle.std.specs.List.Sorted.{IsStrictlyIncreasing}
 use Rattle.std.specs.Option.{IfSome, IsSome}
 use Rattle.std.proofs.lemmas.Bool.{and_from, and_parts, false≢true, le-leb, leb-true}
 use Rattle.std.proofs.lemmas.Bool.{lt-ltb, ltb-true, not-true, not_from_false, true≢false}
 use Rattle.std.proofs.lemmas.List.Elements.{All-cons, All-map, All-nil, All-weaker}
 use Rattle.std.proofs.lemmas.List.Folds.{Any-from_list_any}
-use Rattle.std.proofs.lemmas.Slice.Eq.{bytes_eq-Decides}
 use Rattle.pl_base.specs.declared.id.PageId.{PageId}
 use Rattle.pl_base.specs.declared.id.VisitId.{VisitId}
 use Rattle.pl_base.specs.declared.transition.Transition.{Transition}
@@ -37,6 +36,7 @@ use Rattle.pl_base.specs.Date.{last_date, last_day}
 use Rattle.pl_base.proofs.IdsLaws.{same_page}
 use Rattle.pl_check.proofs.ItemTests.{item-from, item-to}
 use Rattle.pl_check.proofs.RootTests.{root-from, root-to, root_there, top-from, top-to}
+use Rattle.pl_check.proofs.RowTests.{own_urls-from, own_urls-to}
 use Rattle.pl_check.proofs.TagTests.{tags-from, tags-to}
 use Rattle.pl_check.proofs.ListTests.{all_pass, pass_all}
 use Rattle.pl_base.proofs.ListLaws.{found_in, some_in}
@@ -98,40 +98,6 @@ are_ids-from first next ids h =
     and_from (ascends_above 0 ids) (list_all (λ id. nat_lt id next) ids)
     (ascends 0 ids h.ascending (λ some. (h.given 0 0 some).0))
     (pass_all (λ id. nat_lt id next) ids (λ k d within. lt-ltb (get_or ids k d) next (h.given k d within).1))
-
--- ---- URLs
-
-pairs_nil : {X : Type 0} (R : X → X → Type 0) → AllPairs R []
-pairs_nil R i j d before within = absurd (omega arith)
-
-pairs_cons : {X : Type 0} (R : X → X → Type 0) (x : X) (xs : List X) → All (R x) xs → AllPairs R xs
-    → AllPairs R (x ∷ xs)
-pairs_cons R x xs each pairs zero zero d before within = absurd (omega arith)
-pairs_cons R x xs each pairs zero (suc j) d before within = each j d (omega arith)
-pairs_cons R x xs each pairs (suc i) zero d before within = absurd (omega arith)
-pairs_cons R x xs each pairs (suc i) (suc j) d before within = pairs i j d (omega arith) (omega arith)
-
-own_urls-to : (pages : List StoredPage) → have_own_urls pages ≡ true
-    → AllPairs (λ (p q : StoredPage). p.url ≢ q.url) pages
-own_urls-to [] h = pairs_nil (λ (p q : StoredPage). p.url ≢ q.url)
-own_urls-to (p ∷ pages) h =
-    let parts = and_parts (not (list_any (λ (q : StoredPage). bytes_eq q.url p.url) pages)) (have_own_urls pages) h in
-    let none = none_at (λ (q : StoredPage). bytes_eq q.url p.url) pages (not-true _ parts.0) in
-    pairs_cons (λ (p q : StoredPage). p.url ≢ q.url) p pages
-    (λ k d within same. true≢false
-    (sym ((bytes_eq-Decides (get_or pages k d).url p.url).1 (sym same)) ∙ none k d within))
-    (own_urls-to pages parts.1)
-
-own_urls-from : (pages : List StoredPage) → AllPairs (λ (p q : StoredPage). p.url ≢ q.url) pages
-    → have_own_urls pages ≡ true
-own_urls-from [] h = refl
-own_urls-from (p ∷ pages) h =
-    and_from (not (list_any (λ (q : StoredPage). bytes_eq q.url p.url) pages)) (have_own_urls pages)
-    (not_from_false _ (no_test _ (λ some.
-    let at = Any-from_list_any (λ (q : StoredPage). bytes_eq q.url p.url) pages some in
-    h 0 (suc at.0) at.1 (omega arith) (omega (arith, at.2))
-    (sym (ap (λ (q : StoredPage). q.url) at.3 ∙ (bytes_eq-Decides at.1.url p.url).0 at.4)))))
-    (own_urls-from pages (λ i j d before within. h (suc i) (suc j) d (omega arith) (omega arith)))
 
 -- ---- pages
 
@@ -281,13 +247,16 @@ have_ids rows h =
       items = four.3;
     }
 
--- the ids of pages and of items ascend
+-- the ids ascend
 ascending : (next : ℕ) (ids : List ℕ) → are_ids next ids ≡ true → IsStrictlyIncreasing ids
 ascending next ids h =
     increases 0 ids (and_parts (ascends_above 0 ids) (list_all (λ id. nat_lt id next) ids) h).0
 
 pub pages_rise : (rows : Stored) → have_good_ids rows ≡ true → IsStrictlyIncreasing (stored_page_ids rows.pages)
 pages_rise rows h = ascending rows.ids.page (stored_page_ids rows.pages) (have_ids rows h).pages
+
+pub visits_rise : (rows : Stored) → have_good_ids rows ≡ true → IsStrictlyIncreasing (stored_visit_ids rows.visits)
+visits_rise rows h = ascending rows.ids.visit (stored_visit_ids rows.visits) (have_ids rows h).visits
 
 pub items_rise : (rows : Stored) → have_good_ids rows ≡ true → IsStrictlyIncreasing (item_ids rows.items)
 items_rise rows h = ascending rows.ids.item (item_ids rows.items) (have_ids rows h).items

@@ -1,7 +1,7 @@
 pub mod AssessedPages
 pub mod CheckMarks
 pub mod CheckSamples
-pub mod Distinct
+pub mod DistinctLaws
 pub mod GoodRows
 pub mod HeldRows
 pub mod ItemTests
@@ -15,3 +15,4 @@ pub mod RowTests
 pub mod StoredTexts
 pub mod TagTests
 pub mod TagWalks
+pub mod VisitedPages

@@ -1,5 +1,5 @@
 -- The tests of the six roots pass exactly where they stand as they stood at first.
-use Rattle.std.proofs.Common.{◌≡◌, ◌∙◌, ◌==◌, ℕ, Bool, true, false, List, [], ◌∷◌, Option, Some, None}
+use Rattle.std.proofs.Common.{◌≡◌, ◌∙◌, ◌==◌, ℕ, Bool, true, List, [], ◌∷◌, Option, Some, None}
 use Rattle.std.proofs.Common.{ap, length, refl, subst, sym}
 use Rattle.std.specs.Option.{IsSome, IsSomeAnd, is_none}
 use Rattle.std.proofs.lemmas.Bool.{and_parts, eqb-true, false≢true}

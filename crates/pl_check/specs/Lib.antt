@@ -6,3 +6,4 @@ pub mod Rows
 pub mod Samples
 pub mod Tags
 pub mod Targets
+pub mod Visited

@@ -1,21 +1,24 @@
 // Whether the rows of a file are those of a good store.
-ghost use Rattle.std.specs.Prelude.{◌≡◌, ◌&&◌, ◌==◌, bytes_eq, map, nat_lt, true, IfOk};
+ghost use Rattle.std.specs.Prelude.{◌≡◌, ◌==◌, map, nat_lt, true, IfOk};
 ghost use Rattle.std.specs.List.{list_all, list_any};
 ghost use Rattle.std.specs.List.Sorted.{IsStrictlyIncreasing};
 ghost use Rattle.pl_base.specs.Good.{IsGood, IsTree};
 ghost use Rattle.pl_base.specs.Store.{Item, item_id};
 ghost use Rattle.pl_base.specs.Tree.{has_item};
 ghost use Rattle.pl_check.specs.Items.{AreReferences, item_ids};
-ghost use Rattle.pl_base.specs.Marks as marks;
 ghost use Rattle.pl_base.specs.Touched.{ascends_above};
 ghost use Rattle.pl_check.specs.Rows as good;
-ghost use Rattle.pl_stored.specs.Stored.{AreStored, stored_store};
+ghost use Rattle.pl_check.specs.Tags.{targets};
+ghost use Rattle.pl_check.specs.Visited.{AreVisited};
+ghost use Rattle.pl_stored.specs.Stored.{AreStored, Stored, stored_store};
 
-use crate::items::{are_item_ids, have_good_items};
+use crate::distinct::are_distinct_texts;
+use crate::items::{are_item_ids, has_page, have_good_items};
 use crate::references::References;
 use crate::roots::have_roots;
 use crate::tags::have_good_tags;
-use pl_base::{Day, Micros, NoMemory, PageId, Transition, VisitId};
+use crate::visited::Visited;
+use pl_base::{Day, Micros, NoMemory, VisitId};
 use pl_stored::{StoredPage, StoredRows, StoredVisit};
 use std::alloc::Global;
 
@@ -30,18 +33,21 @@ pub fn are_good(alloc: Global, rows: &StoredRows, references: &References) -> Re
     ensures root { IfOk result (λ pass. pass ≡ true → has_item rows.now.items (item_id 1) ≡ true) }
     ensures whole { IsGood (stored_store rows.now) → IfOk result (λ pass. pass ≡ true) }
 {
-    if !pass_tests(rows, references) {
+    if !pass_tests(alloc, rows, references)? {
         return Ok(false);
     }
     have_good_tags(alloc, &rows.items)
 }
 
 // Whether they are, if its items are a tree with good tags.
-fn pass_tests(rows: &StoredRows, references: &References) -> bool
+fn pass_tests(alloc: Global, rows: &StoredRows, references: &References) -> Result<bool, NoMemory>
     requires { AreReferences rows.now.items references.now }
-    ensures { result ≡ good.are_good rows.now }
+    ensures { IfOk result (λ pass. pass ≡ good.are_good rows.now) }
 {
-    have_good_ids(rows) && have_good_rows(rows, references)
+    if !have_good_ids(rows) {
+        return Ok(false);
+    }
+    have_good_rows(alloc, rows, references)
 }
 
 fn have_good_ids(rows: &StoredRows) -> bool
@@ -54,17 +60,27 @@ fn have_good_ids(rows: &StoredRows) -> bool
 }
 
 // Whether each row is good by itself, URLs stand once, and the roots are there.
-fn have_good_rows(rows: &StoredRows, references: &References) -> bool
+fn have_good_rows(
+    alloc: Global,
+    rows: &StoredRows,
+    references: &References,
+) -> Result<bool, NoMemory>
     requires references { AreReferences rows.now.items references.now }
     requires pages { IsStrictlyIncreasing (good.stored_page_ids rows.now.pages) }
+    requires visits { IsStrictlyIncreasing (good.stored_visit_ids rows.now.visits) }
     requires items { IsStrictlyIncreasing (item_ids rows.now.items) }
-    ensures { result ≡ good.have_good_rows rows.now }
+    ensures { IfOk result (λ pass. pass ≡ good.have_good_rows rows.now) }
 {
-    have_own_urls(&rows.pages)
-        && have_good_pages(rows, references)
-        && have_good_visits(rows)
-        && have_good_items(&rows.pages, &rows.items)
-        && have_roots(&rows.items)
+    if !have_own_urls(alloc, &rows.pages)? {
+        return Ok(false);
+    }
+    let visited = Visited::of(alloc, &rows.visits)?;
+    Ok(
+        have_good_pages(rows, &visited, references)
+            && have_good_visits(rows)
+            && have_good_items(&rows.pages, &rows.items)
+            && have_roots(&rows.items),
+    )
 }
 
 fn have_good_numbers(rows: &StoredRows) -> bool
@@ -76,16 +92,19 @@ fn have_good_numbers(rows: &StoredRows) -> bool
         && rows.ids.item >= FIRST_ITEM
 }
 
-fn have_good_pages(rows: &StoredRows, references: &References) -> bool
-    requires { AreReferences rows.now.items references.now }
+fn have_good_pages(rows: &StoredRows, visited: &Visited, references: &References) -> bool
+    requires visited { AreVisited rows.now.visits visited.now }
+    requires references { AreReferences rows.now.items references.now }
     ensures { result ≡ list_all (good.is_good_page rows.now) rows.now.pages }
 {
     rows.pages
         .iter()
-        .all(|page| is_good_page(rows, references, page))
+        .all(|page| is_good_page(visited, references, page))
 }
 
 fn have_good_visits(rows: &StoredRows) -> bool
+    requires pages { IsStrictlyIncreasing (good.stored_page_ids rows.now.pages) }
+    requires visits { IsStrictlyIncreasing (good.stored_visit_ids rows.now.visits) }
     ensures { result ≡ list_all (good.is_good_visit rows.now) rows.now.visits }
 {
     rows.visits.iter().all(|visit| is_good_visit(rows, visit))
@@ -141,50 +160,30 @@ fn visits_ascend(visits: &[StoredVisit]) -> bool
     true
 }
 
-fn have_own_urls(pages: &[StoredPage]) -> bool
-    ensures { result ≡ good.have_own_urls pages.now }
+fn have_own_urls(alloc: Global, pages: &[StoredPage]) -> Result<bool, NoMemory>
+    ensures { IfOk result (λ own. own ≡ good.have_own_urls pages.now) }
 {
-    for (index, page) in pages.iter().enumerate() {
-        if has_url(&pages[index + 1..], page.url.text()) {
-            return false;
-        }
-    }
-    true
+    Ok(are_distinct_texts(urls(alloc, pages)?))
 }
 
-fn has_url(pages: &[StoredPage], url: &str) -> bool
-    ensures { result ≡ list_any (λ p. bytes_eq p.url url.now) pages.now }
+fn urls(alloc: Global, pages: &[StoredPage]) -> Result<Vec<&str>, NoMemory>
+    ensures { IfOk result (λ urls. targets urls.items ≡ map (λ p. p.url) pages.now) }
 {
-    pages.iter().any(|page| page.url.text() == url)
+    let urls = pages.iter().map(|page| page.url.text());
+    Ok(urls.collect(alloc)?)
 }
 
-fn is_good_page(rows: &StoredRows, references: &References, page: &StoredPage) -> bool
-    requires { AreReferences rows.now.items references.now }
-    ensures { result ≡ good.is_good_page rows.now page.now }
+// Told the pages that visits have, and those that items have.
+fn is_good_page(visited: &Visited, references: &References, page: &StoredPage) -> bool
+    ensures { (rows : Stored) → AreVisited rows.visits visited.now
+        → AreReferences rows.items references.now → result ≡ good.is_good_page rows page.now }
 {
-    (is_visited(&rows.visits, page) || references.has(page.id))
-        && (page.typed || !is_visited_by_typing(&rows.visits, page))
-}
-
-fn is_visited(visits: &[StoredVisit], page: &StoredPage) -> bool
-    ensures { result ≡ list_any (λ v. v.page.0 == page.now.id.0) visits.now }
-{
-    visits.iter().any(|visit| visit.page.0 == page.id.0)
-}
-
-fn is_visited_by_typing(visits: &[StoredVisit], page: &StoredPage) -> bool
-    ensures { result ≡ list_any (good.is_typed_visit page.now.id) visits.now }
-{
-    visits.iter().any(|visit| visit.page.0 == page.id.0 && is_typed(visit.transition))
-}
-
-fn is_typed(transition: Transition) -> bool
-    ensures { result ≡ marks.is_typed transition }
-{
-    matches!(transition, Transition::Typed)
+    (visited.has(page.id) || references.has(page.id)) && (page.typed || !visited.has_typed(page.id))
 }
 
 fn is_good_visit(rows: &StoredRows, visit: &StoredVisit) -> bool
+    requires pages { IsStrictlyIncreasing (good.stored_page_ids rows.now.pages) }
+    requires visits { IsStrictlyIncreasing (good.stored_visit_ids rows.now.visits) }
     ensures { result ≡ good.is_good_visit rows.now visit.now }
 {
     visit.date.0 <= Micros::LAST.0
@@ -194,21 +193,19 @@ fn is_good_visit(rows: &StoredRows, visit: &StoredVisit) -> bool
 
 // Whether the source of a visit, if there is one, is a visit with a smaller id.
 fn is_good_source(visits: &[StoredVisit], id: VisitId, source: Option<VisitId>) -> bool
+    requires { IsStrictlyIncreasing (good.stored_visit_ids visits.now) }
     ensures { result ≡ good.is_good_source visits.now id source }
 {
     source.is_none_or(|source| source.0 < id.0 && has_visit(visits, source))
 }
 
 fn has_visit(visits: &[StoredVisit], id: VisitId) -> bool
+    requires { IsStrictlyIncreasing (good.stored_visit_ids visits.now) }
     ensures { result ≡ list_any (λ v. v.id.0 == id.0) visits.now }
 {
-    visits.iter().any(|visit| visit.id.0 == id.0)
-}
-
-fn has_page(pages: &[StoredPage], id: PageId) -> bool
-    ensures { result ≡ list_any (λ p. p.id.0 == id.0) pages.now }
-{
-    pages.iter().any(|page| page.id.0 == id.0)
+    visits
+        .binary_search_by_key(&id.0, |visit| visit.id.0)
+        .is_ok()
 }
 
 /// The first id of an item that is no root.

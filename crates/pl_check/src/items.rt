@@ -62,12 +62,13 @@ fn has_own_page(pages: &[StoredPage], kind: ItemKind, page: Option<PageId>) -> b
     ensures { result ≡ good.has_own_page pages.now kind page }
 {
     match page {
-        Some(page) => is_bookmark(kind) && is_there(pages, page),
+        Some(page) => is_bookmark(kind) && has_page(pages, page),
         None => !is_bookmark(kind),
     }
 }
 
-fn is_there(pages: &[StoredPage], id: PageId) -> bool
+/// Whether one of the pages has the id.
+pub fn has_page(pages: &[StoredPage], id: PageId) -> bool
     requires { IsStrictlyIncreasing (stored_page_ids pages.now) }
     ensures { result ≡ list_any (λ p. p.id.0 == id.0) pages.now }
 {

@@ -2,10 +2,12 @@
 //! pages.
 #![tactic(auto)]
 
+mod distinct;
 mod good;
 mod items;
 mod live;
 mod marks;
+mod numbers;
 mod origins;
 mod pages;
 mod redirects;
@@ -14,6 +16,7 @@ mod roots;
 mod tags;
 mod totals;
 mod visit;
+mod visited;
 
 pub use good::are_good;
 pub use pages::{Assessed, AssessedPage, assess};

@@ -2,6 +2,7 @@ ghost use Rattle.std.specs.Prelude.{◌≡◌, List, IfOk};
 ghost use Rattle.pl_base.specs.Store.{Item};
 ghost use Rattle.pl_check.specs.Items.{AreReferences, has_reference, referenced_pages};
 
+use crate::numbers::Numbers;
 use pl_base::{NoMemory, PageId, TreeItem};
 use std::alloc::Global;
 use std::marker::Model;
@@ -9,27 +10,22 @@ use std::marker::Model;
 /// The pages that items have, which contracts see as their numbers.
 #[derive(Debug, Drop)]
 pub struct References {
-    // They do not fall.
-    pages: Vec<u32>,
+    pages: Numbers,
 }
 
 impl Model for References {
     ghost use Rattle.std.specs.Prelude.{ℕ, List};
-    ghost use Rattle.std.specs.List.Sorted.{IsNonDecreasing};
 
     ghost Value = { List ℕ };
 
-    ghost view = { λ r. r.pages.items };
-
-    ghost invariant = { λ r. IsNonDecreasing r.pages.items };
+    ghost view = { λ r. r.pages };
 }
 
 impl References {
     pub fn of(alloc: Global, items: &[TreeItem]) -> Result<References, NoMemory>
         ensures { IfOk result (λ pages. AreReferences items.now pages) }
     {
-        let mut pages = referenced_pages(alloc, items)?;
-        pages.sort_unstable();
+        let pages = Numbers::of(referenced_pages(alloc, items)?);
         Ok(References { pages })
     }
 
@@ -38,7 +34,7 @@ impl References {
         ensures { (items : List Item) → AreReferences items self.now
             → result ≡ has_reference items page }
     {
-        self.pages.binary_search(&page.0).is_ok()
+        self.pages.has(page.0)
     }
 }
 

@@ -5,8 +5,9 @@ ghost use Rattle.std.specs.List.Sorted.{IsStrictlyIncreasing};
 ghost use Rattle.pl_base.specs.Tree as tree;
 ghost use Rattle.pl_check.specs.Items.{item_ids};
 ghost use Rattle.pl_check.specs.Tags as good;
-ghost use Rattle.pl_check.specs.Tags.{AreDistinct, targets};
+ghost use Rattle.pl_check.specs.Tags.{targets};
 
+use crate::distinct::{are_distinct, are_distinct_texts};
 use crate::items::{find_item, is_bookmark, is_folder};
 use pl_base::{ItemId, NoMemory, PageId, TreeItem, Txt};
 use pl_words::{fold, is_tag_name};
@@ -25,7 +26,8 @@ pub fn have_good_tags(alloc: Global, items: &[TreeItem]) -> Result<bool, NoMemor
     if !are_good_tags(alloc, items, &tags)? {
         return Ok(false);
     }
-    Ok(are_distinct_texts(folds(alloc, &tags)?))
+    let folds = folds(alloc, &tags)?;
+    Ok(are_distinct_texts(texts(alloc, &folds)?))
 }
 
 fn are_good_tags(alloc: Global, items: &[TreeItem], tags: &[&TreeItem]) -> Result<bool, NoMemory>
@@ -138,16 +140,9 @@ fn folds(alloc: Global, tags: &[&TreeItem]) -> Result<Vec<Txt>, NoMemory>
     Ok(folds)
 }
 
-fn are_distinct(mut numbers: Vec<u32>) -> bool
-    ensures { IsTrue result ↔ AreDistinct numbers.items }
+fn texts(alloc: Global, folds: &[Txt]) -> Result<Vec<&str>, NoMemory>
+    ensures { IfOk result (λ texts. targets texts.items ≡ folds.now) }
 {
-    numbers.sort_unstable();
-    numbers.is_sorted_by(|a, b| a < b)
-}
-
-fn are_distinct_texts(mut texts: Vec<Txt>) -> bool
-    ensures { IsTrue result ↔ AreDistinct texts.items }
-{
-    texts.sort_unstable_by(|a, b| a.as_str().cmp(b.as_str()));
-    texts.is_sorted_by(|a, b| a.as_str() < b.as_str())
+    let texts = folds.iter().map(|fold| fold.as_str());
+    Ok(texts.collect(alloc)?)
 }

@@ -15,11 +15,11 @@ items : (c : After-deref) → c.deref.result.now ≡ c.args.rows.now.items
 items c = c.deref.ensures.value ∙ ap (λ (r : Stored). r.items) c.rows.view_is
 
 passed : (c : After-deref) → are_good c.args.rows.now ≡ true
-passed c = sym c.pass_tests.ensures ∙ c.if-not-pass_tests.false
+passed c = sym c.in_ok-pass_tests.ensures ∙ c.if-not-branch.false
 
-pub returns-then-not-pass_tests-clause-whole : goal.returns-then-not-pass_tests-clause-whole
-returns-then-not-pass_tests-clause-whole c = λ good.
-    absurd (true≢false (sym (c.pass_tests.ensures ∙ good-from c.args.rows.now good) ∙ c.if-not-pass_tests.true))
+pub returns-then-not-branch-clause-whole : goal.returns-then-not-branch-clause-whole
+returns-then-not-branch-clause-whole c = λ good.
+    absurd (true≢false (sym (c.in_ok-pass_tests.ensures ∙ good-from c.args.rows.now good) ∙ c.if-not-branch.true))
 
 pub have_good_tags-requires : goal.have_good_tags-requires
 have_good_tags-requires c =

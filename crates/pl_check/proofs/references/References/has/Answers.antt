@@ -1,13 +1,7 @@
-use Rattle.std.proofs.Common.{◌∙◌, ◌==◌, ap, subst, sym}
+use Rattle.std.proofs.Common.{◌∙◌, ◌==◌, ap}
 use Rattle.std.specs.List.{list_any}
-use Rattle.std.specs.List.Sorted.{IsNonDecreasing}
-use Rattle.pl_check.proofs.ItemTests.{any_searched}
 use Rattle.pl_check.proofs.references.References.has.Goals as goal
 
 pub returns : goal.returns
 returns c = λ items are.
-    c.is_ok.ensures.value
-    ∙ any_searched (λ n. n) c.deref.result.now
-    (subst IsNonDecreasing (sym c.deref.ensures.value) c.self.invariant) c.args.page.0 c.binary_search.result
-    c.binary_search.ensures.bound c.binary_search.ensures.position
-    ∙ ap (list_any (λ n. n == c.args.page.0)) (c.deref.ensures.value ∙ c.self.view_is) ∙ are c.args.page
+    c.has.ensures ∙ ap (list_any (λ n. n == c.args.page.0)) c.self.view_is ∙ are c.args.page

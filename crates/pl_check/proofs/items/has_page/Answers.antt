@@ -3,7 +3,7 @@ use Rattle.std.proofs.lemmas.List.Sorted.{answers_always}
 use Rattle.pl_stored.specs.declared.stored.StoredPage.{StoredPage}
 use Rattle.pl_check.proofs.ItemTests.{any_searched}
 use Rattle.pl_base.proofs.Searches.{never_falls}
-use Rattle.pl_check.proofs.items.is_there.Goals as goal
+use Rattle.pl_check.proofs.items.has_page.Goals as goal
 
 pub returns : goal.returns
 returns c =

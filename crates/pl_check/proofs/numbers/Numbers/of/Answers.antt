@@ -1,0 +1,12 @@
+use Rattle.std.proofs.Common.{◌==◌, sym}
+use Rattle.std.proofs.lemmas.List.Sorted.{IsNonDecreasingBy-from_sort, list_any-IsPermutation}
+use Rattle.pl_check.proofs.numbers.Numbers.of.Goals as goal
+
+pub invariant_of-result : goal.invariant_of-result
+invariant_of-result c =
+    IsNonDecreasingBy-from_sort (λ n. n) c.sort_unstable.new.self.items c.sort_unstable.ensures.sorted
+
+pub returns : goal.returns
+returns c = λ n.
+    sym (list_any-IsPermutation (λ m. m == n) c.args.numbers.items c.sort_unstable.new.self.items
+    c.sort_unstable.ensures.permutation)
