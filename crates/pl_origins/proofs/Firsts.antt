@@ -1,9 +1,10 @@
 -- Elements that two tests tell apart, and the first of each kind.
-use Rattle.std.proofs.Common.{◌≡◌, ◌∙◌, ◌||◌, ◌++◌, ◌+◌, ℕ, Bool, true, false, cond, not, List, [], ◌∷◌, ap}
-use Rattle.std.proofs.Common.{All, arith, get_or, if◌then◌else◌, refl, subst, suc, sym}
+use Rattle.std.proofs.Common.{◌≡◌, ◌∙◌, ◌||◌, ◌++◌, ◌+◌, ℕ, Bool, true, false, cond, not, List, []}
+use Rattle.std.proofs.Common.{◌∷◌, ap, All, arith, get_or, if◌then◌else◌, refl, subst, suc, sym}
 use Rattle.std.specs.List.{Any, Contains, list_any, position_or_len}
-use Rattle.std.proofs.lemmas.List.Elements.{All-contains, All-contains_itself, All-head, All-push, All-tail}
-use Rattle.std.proofs.lemmas.List.Elements.{All-weaker, Contains-append_left, Contains-append_right}
+use Rattle.std.proofs.lemmas.List.Elements.{All-contains, All-contains_itself, All-head, All-push}
+use Rattle.std.proofs.lemmas.List.Elements.{All-tail, All-weaker, Contains-append_left}
+use Rattle.std.proofs.lemmas.List.Elements.{Contains-append_right}
 use Rattle.std.proofs.lemmas.List.Folds.{Any-from_list_any, list_any-from_Any}
 use Rattle.pl_base.proofs.ListLaws.{list_any_last, list_any_push}
 use Rattle.pl_base.proofs.Truths.{same_tests}

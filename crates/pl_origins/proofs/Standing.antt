@@ -1,7 +1,7 @@
 -- What the origins and the names that were seen stand for.
-use Rattle.std.proofs.Common.{◌≡◌, ◌∙◌, ◌≤◌, ◌&&◌, ◌==◌, ◌++◌, ◌+◌, ℕ, Bool, true, false, cond, not, List, [], ◌∷◌}
-use Rattle.std.proofs.Common.{Some, ap, arith, bytes_eq, eq-eqb, get_or, if◌then◌else◌, length, map, refl}
-use Rattle.std.proofs.Common.{sym}
+use Rattle.std.proofs.Common.{◌≡◌, ◌∙◌, ◌≤◌, ◌&&◌, ◌==◌, ◌++◌, ◌+◌, ℕ, Bool, true, false, cond, not}
+use Rattle.std.proofs.Common.{List, [], ◌∷◌, Some, ap, arith, bytes_eq, eq-eqb, get_or}
+use Rattle.std.proofs.Common.{if◌then◌else◌, length, map, refl, sym}
 use Rattle.std.specs.List.{list_any, position_or_len}
 use Rattle.std.proofs.lemmas.Bool.{and_from, eqb-true}
 use Rattle.std.proofs.lemmas.List.{length-map, length_push, map_push}
@@ -18,7 +18,8 @@ use Rattle.pl_base.proofs.Truths.{same_tests}
 use Rattle.pl_origins.specs.declared.names.Origin.{Origin}
 use Rattle.pl_origins.specs.Keys.{key_of}
 use Rattle.pl_origins.specs.Names.{AreAlike, AreNamed, Named}
-use Rattle.pl_origins.proofs.Firsts.{Agree, AreFirsts, IsKind, agree_more, firsts_more, same_any, same_place, seen_before}
+use Rattle.pl_origins.proofs.Firsts.{Agree, AreFirsts, IsKind, agree_more, firsts_more, same_any}
+use Rattle.pl_origins.proofs.Firsts.{same_place, seen_before}
 
 -- ---- the two tests
 

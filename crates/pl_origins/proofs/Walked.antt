@@ -1,7 +1,6 @@
 -- The pages that were passed, with their names.
-use Rattle.std.proofs.Common.{◌≡◌, ◌≢◌, ◌∙◌, ◌<◌, ◌≤◌, ◌++◌, ◌+◌, ℕ, List, [], ◌∷◌, All, Bor, Iter, None, Option, Some, ap, arith}
-use Rattle.std.proofs.Common.{get_or, length}
-use Rattle.std.proofs.Common.{map, subst, sym, take}
+use Rattle.std.proofs.Common.{◌≡◌, ◌≢◌, ◌∙◌, ◌<◌, ◌≤◌, ◌++◌, ◌+◌, ℕ, List, [], ◌∷◌, All, Bor, Iter}
+use Rattle.std.proofs.Common.{None, Option, Some, ap, arith, get_or, length, map, subst, sym, take}
 use Rattle.std.specs.declared.iter.Zip.{Zip}
 use Rattle.std.specs.Iterator.{Yields}
 use Rattle.std.specs.Iterator.Adapters.{zip_first, zip_second}
@@ -21,7 +20,8 @@ use Rattle.pl_stored.specs.declared.stored.StoredPage.{StoredPage}
 use Rattle.pl_origins.specs.declared.names.Origin.{Origin}
 use Rattle.pl_origins.specs.Keys.{key_of}
 use Rattle.pl_origins.specs.Names.{AreAlike, AreNamed, Named, named, named_url}
-use Rattle.pl_origins.proofs.Standing.{Stands, all_named, counts, is_equal, is_slot, no_more, numbers_same, stands_more}
+use Rattle.pl_origins.proofs.Standing.{Stands, all_named, counts, is_equal, is_slot, no_more}
+use Rattle.pl_origins.proofs.Standing.{numbers_same, stands_more}
 
 all_length : (pages : List StoredPage) (names : List Slot) → length pages ≡ length names
     → length (named pages names) ≡ length pages
