@@ -2,5 +2,5 @@ mod LiveWalk
 mod OneOrder
 mod OneRising
 mod OwnedSteps
-mod OwnersTold
+pub mod OwnersTold
 mod RedirectFronts

@@ -1,0 +1,4 @@
+pub mod FileLaws
+pub mod Parts
+pub mod TextLaws
+pub mod Zips

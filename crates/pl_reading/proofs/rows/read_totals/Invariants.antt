@@ -1,0 +1,7 @@
+use Rattle.std.proofs.Common.{take}
+use Rattle.std.specs.List.{AllZip}
+use Rattle.pl_reading.specs.Live.{HoldsTotal}
+use Rattle.pl_reading.proofs.rows.read_totals.Given as goal
+
+abbrev pub invariant-loop-slot : goal.invariant-loop-slot
+invariant-loop-slot g l = AllZip (HoldsTotal l.arena) (take l.slot-index l.slots) l.totals.items

@@ -1,0 +1,4 @@
+pub mod File
+pub mod Live
+pub mod Read
+pub mod Texts
