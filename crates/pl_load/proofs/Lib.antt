@@ -27,6 +27,7 @@ pub mod PairLists
 pub mod Parents
 pub mod ParentsTold
 pub mod Refused
+pub mod RowLinks
 pub mod SameMembers
 pub mod SlotNames
 pub mod SourceSlots

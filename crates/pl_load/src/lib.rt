@@ -1,9 +1,11 @@
-//! The rows of a file of linked slots, checked: whether its pages are the form of a store's rows.
+//! The rows of a file of linked slots, read as a whole while its slots may hold anything, and tests
+//! of them that a file in the form of a store's rows passes.
 #![tactic(auto)]
 
 mod counts;
 mod file_rows;
 mod held;
+mod lone_slots;
 mod meeting;
 mod members;
 mod met;
@@ -11,7 +13,9 @@ mod owners;
 mod read;
 mod stored;
 
+pub use counts::{counts_slots, have_names};
 pub use file_rows::FileRows;
+pub use lone_slots::have_lone_slots;
 pub use members::{
     origin_members, page_members, parent_members, reference_members, source_members,
 };
