@@ -40,8 +40,8 @@ held_there ns at pages are =
     (are.text, record { slots = ns; first = are.first; held = are.held }, are.size_is)
 
 -- one text more
-pub parts_more : (pages : Pages) (texts : List TextAt) (k : ℕ) (d : TextAt) (old new parts : List ℕ) → k < length texts
-    → old ≡ flat_map (text_parts pages) (take k texts) → new ≡ old ++ parts → parts ≡ text_parts pages (get_or texts k d)
+pub parts_more : (pages : Pages) (texts : List TextAt) (k : ℕ) (d : TextAt) (old new parts : List ℕ)
+    → k < length texts → old ≡ flat_map (text_parts pages) (take k texts) → new ≡ old ++ parts → parts ≡ text_parts pages (get_or texts k d)
     → new ≡ flat_map (text_parts pages) (take (k + 1) texts)
 parts_more pages texts k d old new parts within so_far more these =
     more ∙ (λ i. so_far i ++ these i)

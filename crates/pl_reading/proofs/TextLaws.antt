@@ -23,8 +23,8 @@ is_text pages at bytes text has read same =
     }
 
 -- a text that gives no URL, or want of memory, is no URL of the store
-pub refused_url : (part url : List ℕ) (e : CanonError) (told : CheckError) → (e ≡ canon_error.BadUrl → canon part ≡ None)
-    → part ≡ url → IsUrl url → told ≡ error_of e → told ≡ NotAStore → ⊥
+pub refused_url : (part url : List ℕ) (e : CanonError) (told : CheckError)
+    → (e ≡ canon_error.BadUrl → canon part ≡ None) → part ≡ url → IsUrl url → told ≡ error_of e → told ≡ NotAStore → ⊥
 refused_url part url canon_error.BadUrl told none same one gives is =
     let no : canon part ≡ None = none refl in
     let some : canon part ≡ Some url = ap canon same ∙ one.1 in

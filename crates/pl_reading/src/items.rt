@@ -16,8 +16,8 @@ use pl_slot::Arena;
 use std::alloc::Global;
 use std::sync::ledger::Ledger;
 
-/// The items with their titles and the ids of their pages, and those of the children in these slots.
-/// `NotAStore` comes exactly where a title is none, or a number names no page or no item.
+/// The items with their titles and the ids of their pages, and those of the children in these
+/// slots. `NotAStore` comes exactly where a title is none, or a number names no page or no item.
 pub fn stored_items<L: Ledger>(
     alloc: Global,
     arena: &Arena,

@@ -36,7 +36,9 @@ returns-in_err-stored_item-clause-none g c told stored zip_is =
     c.index-children-index.is)
     (λ item is.
     c.in_err-stored_item.ensures.none (let both = sym p.1 ∙ told in let same = p.2 in cc) item
-    (subst (λ slots. IsItemRead c.args.arena.now (get_or c.args.items.now c.loop-index.index no_item) slots item) (sym c.deref.ensures.value) is)) zip_is
+    (subst
+    (λ slots. IsItemRead c.args.arena.now (get_or c.args.items.now c.loop-index.index no_item) slots item)
+    (sym c.deref.ensures.value) is)) zip_is
 
 pub loop-index-preserved : goal.loop-index-preserved
 loop-index-preserved g c =
@@ -48,8 +50,9 @@ loop-index-preserved g c =
     (get_or c.args.items.now c.loop-index.index no_item) c.index-children-index.result
     (omega arith) c.requires.as_many (at_itself c.args.items.now c.loop-index.index no_item (omega arith))
     c.index-children-index.is) c.loop-index.invariant
-    (subst (λ slots. IsItemRead c.args.arena.now (get_or c.args.items.now c.loop-index.index no_item) slots c.in_ok-stored_item.field-0) c.deref.ensures.value
-    c.in_ok-stored_item.ensures.read))
+    (subst
+    (λ slots. IsItemRead c.args.arena.now (get_or c.args.items.now c.loop-index.index no_item) slots
+    c.in_ok-stored_item.field-0) c.deref.ensures.value c.in_ok-stored_item.ensures.read))
 
 pub returns-clause-read : goal.returns-clause-read
 returns-clause-read g c =

@@ -13,8 +13,10 @@ pub returns-in-Ok-clause-title : goal.returns-in-Ok-clause-title
 returns-in-Ok-clause-title g c =
     let is =
     is_text c.args.arena.now c.args.at c.in_ok-bytes.bytes.items c.from.result c.requires c.in_ok-bytes.ensures.text
-    (c.from.ensures ∙ ap (λ v. v.items) c.in-Ok.ensures.ok) in
-    (subst IsUtf8 (sym c.from.ensures) (IsUtf8-string_bytes c.in-Ok.text), omega (arith, is.size, c.if-at-gt-LONGEST_TITLE.false))
+    (c.from.ensures ∙ ap (λ v. v.items) c.in-Ok.ensures.ok) in (
+      subst IsUtf8 (sym c.from.ensures) (IsUtf8-string_bytes c.in-Ok.text),
+      omega (arith, is.size, c.if-at-gt-LONGEST_TITLE.false),
+    )
 
 pub returns-clause-none : goal.returns-clause-none
 returns-clause-none g c not title is good =

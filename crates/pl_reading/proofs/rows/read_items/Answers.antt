@@ -9,4 +9,5 @@ loop-slot-preserved g c =
     rw c.in_ok-push.ensures.items
     (zip_more (HoldsItem c.args.arena.now) c.args.slots.now c.loop-slot.items.items c.loop-slot.slot-index
     (get_or c.args.slots.now c.loop-slot.slot-index none) c.read_item.result (omega arith)
-    (at_itself c.args.slots.now c.loop-slot.slot-index none (omega arith)) c.loop-slot.invariant c.read_item.ensures.row)
+    (at_itself c.args.slots.now c.loop-slot.slot-index none (omega arith)) c.loop-slot.invariant
+    c.read_item.ensures.row)
