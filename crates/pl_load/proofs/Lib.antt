@@ -32,6 +32,7 @@ pub mod SameMembers
 pub mod SlotNames
 pub mod SourceSlots
 pub mod StoredLaws
+pub mod TargetLinks
 pub mod TargetLists
 pub mod TargetSlots
 pub mod WellRead

@@ -9,6 +9,7 @@ use Rattle.pl_owned.specs.Owned.{IsListed, owned_by}
 use Rattle.pl_owned.specs.Redirects.{HasRedirectsFirst}
 use Rattle.pl_rail.specs.declared.owner.Owner.TheVariants.{At}
 use Rattle.pl_rail.specs.Rails.{Lists}
+use Rattle.pl_record.specs.declared.rows.Visit.{Visit}
 use Rattle.pl_record.specs.Chains.{IsAlone}
 use Rattle.pl_sheets.specs.Sheets.{Pages}
 use Rattle.pl_slot.specs.declared.links.Rail.TheVariants.{Children, OriginPages, PageVisits}
@@ -27,11 +28,13 @@ pub record HasOwnLists (pages : Pages) (reads : Reads) : Type 0 where
       (owned_by (reference_members reads.item_slots reads.items) s) pages) reads.place_slots
 
 -- a visit has those that came from it, redirects first
-pub record HasTargetLists (pages : Pages) (reads : Reads) : Type 0 where
+pub record HasTargetsIn (pages : Pages) (owners : List Slot) (visits : List Visit) : Type 0 where
   pub slots : List (List Slot)
-  pub listed : AllZip (IsListed Targets (source_members reads.visit_slots reads.visits) pages)
-      reads.visit_slots slots
+  pub listed : AllZip (IsListed Targets (source_members owners visits) pages) owners slots
   pub first : All (λ (l : List Slot). HasRedirectsFirst l pages) slots
+
+abbrev pub HasTargetLists : Pages → Reads → Type 0
+HasTargetLists pages reads = HasTargetsIn pages reads.visit_slots reads.visits
 
 -- visits that came from none, items without a parent and items without a page stand alone
 pub record HasLoneSlots (pages : Pages) (reads : Reads) : Type 0 where

@@ -12,6 +12,7 @@ mod met;
 mod owners;
 mod read;
 mod stored;
+mod target_lists;
 
 pub use counts::{counts_slots, have_names};
 pub use file_rows::FileRows;
@@ -20,3 +21,4 @@ pub use members::{
     origin_members, page_members, parent_members, reference_members, source_members,
 };
 pub use read::read_file;
+pub use target_lists::have_target_lists;
