@@ -14,10 +14,10 @@ use Rattle.pl_base.specs.declared.id.VisitId.{VisitId}
 use Rattle.pl_base.specs.declared.transition.Transition.{Transition}
 use Rattle.pl_base.specs.declared.transition.Transition.TheVariants.{Link, Typed, Bookmark, Embed, RedirectPermanent}
 use Rattle.pl_base.specs.declared.transition.Transition.TheVariants.{RedirectTemporary, Download, FramedLink, Reload}
-use Rattle.pl_base.specs.Good.{AreIds, HasRoots, IsGood, IsGoodPage, IsGoodVisit, IsTree}
+use Rattle.pl_base.specs.Good.{AreIds, HasRoots, IsGood, IsGoodPage, IsGoodVisit, IsTitle, IsTree}
 use Rattle.pl_base.specs.Good.{end_of_ids}
 use Rattle.pl_base.specs.Redirects.{visit_by_id}
-use Rattle.pl_base.specs.Store.{Page, Visit, item_id}
+use Rattle.pl_base.specs.Store.{Item, Page, Visit, item_id}
 use Rattle.pl_base.specs.Tree.{has_item}
 use Rattle.pl_base.specs.Touched.{ascends_above}
 use Rattle.pl_stored.specs.declared.stored.StoredVisit.{StoredVisit}
@@ -29,8 +29,10 @@ use Rattle.pl_check.specs.Rows.{is_kept, is_typed_visit}
 use Rattle.pl_check.specs.Items.{has_reference, has_root, has_top_folder, have_roots, is_good_item, item_ids}
 use Rattle.pl_check.specs.Items.{top_numbers}
 use Rattle.pl_check.specs.Tags.{HaveGoodTags}
-use Rattle.pl_stored.specs.Stored.{AreStored, IsStoredPage, Stored, stored_page, stored_store}
+use Rattle.pl_stored.specs.Stored.{AreStored, IsStoredItem, IsStoredPage, Stored, stored_page, stored_store}
 use Rattle.pl_stored.specs.Stored.{visit_of}
+use Rattle.pl_stored.specs.Fits.{IsUrl}
+use Rattle.pl_check.specs.Readable.{AreReadable}
 use Rattle.pl_base.proofs.ListLaws.{All-from_map, list_any-map, map-map, AllPairs-from_map, AllPairs-map}
 use Rattle.pl_base.specs.Date.{last_date, last_day}
 use Rattle.pl_base.proofs.IdsLaws.{same_page}
@@ -147,13 +149,13 @@ kept_alike : (rows : Stored) (p : StoredPage)
 kept_alike rows p =
     ap (λ b. b || has_reference rows.items p.id) (list_any-map (λ (v : Visit). v.page.0 == p.id.0) visit_of rows.visits)
 
-page-to : (rows : Stored) (p : StoredPage) → IsStoredPage p → is_good_page rows p ≡ true
+page-to : (rows : Stored) (p : StoredPage) → IsUrl p.url → IsTitle p.title → is_good_page rows p ≡ true
     → IsGoodPage (stored_store rows) (stored_page p)
-page-to rows p one h =
+page-to rows p own short h =
     let parts = and_parts (is_kept rows p) (p.typed || not (list_any (is_typed_visit p.id) rows.visits)) h in
     record {
-      url = one.2.1;
-      title = one.3;
+      url = own.1;
+      title = short;
       typed = All-map (IsTypedBy p.id p.typed) visit_of rows.visits (typed-to p.id p.typed rows.visits parts.1);
       kept = kept_alike rows p ∙ parts.0;
     }
@@ -294,14 +296,20 @@ rows_parts rows h =
 pub ids_rise : (rows : Stored) → are_good rows ≡ true → IsStrictlyIncreasing (item_ids rows.items)
 ids_rise rows h = items_rise rows (halves rows h).0
 
+pub page_ids_rise : (rows : Stored) → are_good rows ≡ true → IsStrictlyIncreasing (stored_page_ids rows.pages)
+page_ids_rise rows h = pages_rise rows (halves rows h).0
+
+pub visit_ids_rise : (rows : Stored) → are_good rows ≡ true → IsStrictlyIncreasing (stored_visit_ids rows.visits)
+visit_ids_rise rows h = visits_rise rows (halves rows h).0
+
 pub has_first : (rows : Stored) → are_good rows ≡ true → has_item rows.items (item_id 1) ≡ true
 has_first rows h =
     let roots = (rows_parts rows (halves rows h).1).4 in
     root_there rows.items (and_parts (has_root rows.items) (list_all (has_top_folder rows.items) top_numbers) roots).0
 
-pub good-to : (rows : Stored) → AreStored rows → are_good rows ≡ true → HaveGoodTags rows.items → IsTree rows.items
+pub good-to : (rows : Stored) → AreReadable rows → are_good rows ≡ true → HaveGoodTags rows.items → IsTree rows.items
     → IsGood (stored_store rows)
-good-to rows one h tags tree =
+good-to rows read h tags tree =
     let ids = have_ids rows (halves rows h).0 in
     let five = rows_parts rows (halves rows h).1 in
     record {
@@ -309,17 +317,17 @@ good-to rows one h tags tree =
       page_ids =
           rw (map-map (λ (p : Page). p.id.0) stored_page rows.pages)
           (are_ids-to 1 rows.ids.page (stored_page_ids rows.pages) (leb-true 1 rows.ids.page ids.numbers.1)
-          (omega (arith, one.ids.0)) ids.pages);
+          (omega (arith, read.ids.0)) ids.pages);
       visit_ids =
           rw (map-map (λ (v : Visit). v.id.0) visit_of rows.visits)
           (are_ids-to 1 rows.ids.visit (stored_visit_ids rows.visits) (leb-true 1 rows.ids.visit ids.numbers.2)
-          (omega (arith, one.ids.1)) ids.visits);
+          (omega (arith, read.ids.1)) ids.visits);
       item_ids =
           are_ids-to 7 rows.ids.item (item_ids rows.items) (leb-true 7 rows.ids.item ids.numbers.3)
-          (omega (arith, one.ids.2)) ids.items;
+          (omega (arith, read.ids.2)) ids.items;
       pages =
           All-map (IsGoodPage (stored_store rows)) stored_page rows.pages
-          (λ k d within. page-to rows (get_or rows.pages k d) (one.pages.0 k d within)
+          (λ k d within. page-to rows (get_or rows.pages k d) (read.urls k d within) (read.titles k d within)
           (all_pass (is_good_page rows) rows.pages five.1 k d within));
       urls = AllPairs-map (λ (p q : Page). p.url ≢ q.url) stored_page rows.pages (own_urls-to rows.pages five.0);
       visits =
@@ -327,7 +335,7 @@ good-to rows one h tags tree =
           (λ k d within. visit-to rows (get_or rows.visits k d)
           (all_pass (is_good_visit rows) rows.visits five.2 k d within));
       items =
-          λ k d within. item-to rows (get_or rows.items k d) (one.items.0 k d within)
+          λ k d within. item-to rows (get_or rows.items k d) (read.item_titles k d within)
           (all_pass (is_good_item rows.pages) rows.items five.3 k d within);
       roots = roots-to rows five.4;
       tree = tree;
@@ -371,3 +379,14 @@ good-from rows h =
 
 pub good_tags : (rows : Stored) → IsGood (stored_store rows) → HaveGoodTags rows.items
 good_tags rows h = tags-from (stored_store rows) h.items h.tags
+
+-- rows that fit are such
+pub readable : (rows : Stored) → AreStored rows → AreReadable rows
+readable rows stored =
+    record {
+      ids = stored.ids;
+      urls = All-weaker IsStoredPage (λ (p : StoredPage). IsUrl p.url) (λ p one. one.2) rows.pages stored.pages.0;
+      titles = All-weaker IsStoredPage (λ (p : StoredPage). IsTitle p.title) (λ p one. one.3) rows.pages stored.pages.0;
+      item_titles =
+          All-weaker IsStoredItem (λ (i : Item). IsTitle i.title) (λ i one. one.4) rows.items stored.items.0;
+    }

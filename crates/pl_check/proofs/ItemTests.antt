@@ -22,7 +22,8 @@ use Rattle.pl_base.specs.Good.{IsGoodItem, has_page_at}
 use Rattle.pl_base.specs.Store.{Item, Page}
 use Rattle.pl_base.specs.Tree.{is_page}
 use Rattle.pl_stored.specs.declared.stored.StoredPage.{StoredPage}
-use Rattle.pl_stored.specs.Stored.{IsStoredItem, Stored, stored_page, stored_store}
+use Rattle.pl_stored.specs.Stored.{Stored, stored_page, stored_store}
+use Rattle.pl_base.specs.Good.{IsTitle}
 use Rattle.pl_check.specs.Items.{AreReferences, has_own_page, is_bookmark, is_folder, is_good_item}
 use Rattle.pl_check.specs.Items.{referenced_pages}
 use Rattle.pl_base.proofs.ItemLookUps.{folder_kind}
@@ -122,15 +123,15 @@ there-from : (rows : Stored) (page : Option PageId) → IfSome page (λ id. IsTr
 there-from rows None there = tt
 there-from rows (Some id) there = sym (list_any-map (λ (p : Page). p.id.0 == id.0) stored_page rows.pages) ∙ there
 
-pub item-to : (rows : Stored) (i : Item) → IsStoredItem i → is_good_item rows.pages i ≡ true
+pub item-to : (rows : Stored) (i : Item) → IsTitle i.title → is_good_item rows.pages i ≡ true
     → IsGoodItem (stored_store rows) i
-item-to rows i one h =
+item-to rows i short h =
     let last = and_parts _ ((length i.children == 0) || is_folder i.kind) h in
     let third = and_parts _ (has_own_page rows.pages i.kind i.page) last.0 in
     let dates = and_parts (nat_le i.added.0 last_date) (nat_le i.modified.0 last_date) third.0 in
     let own = own_page-to rows.pages i.kind i.page third.1 in
     record {
-      title = one.4;
+      title = short;
       added = leb-true i.added.0 last_date dates.0;
       modified = leb-true i.modified.0 last_date dates.1;
       bookmark = own.0;

@@ -2,6 +2,7 @@ pub mod Assessed
 pub mod Items
 pub mod Latest
 pub mod Origins
+pub mod Readable
 pub mod Rows
 pub mod Samples
 pub mod Tags

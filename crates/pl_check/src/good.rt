@@ -7,10 +7,11 @@ ghost use Rattle.pl_base.specs.Store.{Item, item_id};
 ghost use Rattle.pl_base.specs.Tree.{has_item};
 ghost use Rattle.pl_check.specs.Items.{AreReferences, item_ids};
 ghost use Rattle.pl_base.specs.Touched.{ascends_above};
+ghost use Rattle.pl_check.specs.Readable.{AreReadable};
 ghost use Rattle.pl_check.specs.Rows as good;
 ghost use Rattle.pl_check.specs.Tags.{targets};
 ghost use Rattle.pl_check.specs.Visited.{AreVisited};
-ghost use Rattle.pl_stored.specs.Stored.{AreStored, Stored, stored_store};
+ghost use Rattle.pl_stored.specs.Stored.{Stored, stored_store};
 
 use crate::distinct::are_distinct_texts;
 use crate::items::{are_item_ids, has_page, have_good_items};
@@ -24,12 +25,16 @@ use std::alloc::Global;
 
 /// Whether they are the rows of a good store, if its items are a tree.
 pub fn are_good(alloc: Global, rows: &StoredRows, references: &References) -> Result<bool, NoMemory>
-    requires stored { AreStored rows.now }
+    requires readable { AreReadable rows.now }
     requires references { AreReferences rows.now.items references.now }
     ensures good { IfOk result (λ pass. pass ≡ true
         → IsTree rows.now.items → IsGood (stored_store rows.now)) }
     ensures ascending { IfOk result (λ pass. pass ≡ true
         → IsStrictlyIncreasing (map (λ (i : Item). i.id.0) rows.now.items)) }
+    ensures pages { IfOk result (λ pass. pass ≡ true
+        → IsStrictlyIncreasing (good.stored_page_ids rows.now.pages)) }
+    ensures visits { IfOk result (λ pass. pass ≡ true
+        → IsStrictlyIncreasing (good.stored_visit_ids rows.now.visits)) }
     ensures root { IfOk result (λ pass. pass ≡ true → has_item rows.now.items (item_id 1) ≡ true) }
     ensures whole { IsGood (stored_store rows.now) → IfOk result (λ pass. pass ≡ true) }
 {

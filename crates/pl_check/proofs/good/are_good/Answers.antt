@@ -6,7 +6,8 @@ use Rattle.pl_stored.specs.Stored.{Stored}
 use Rattle.pl_check.specs.Rows.{are_good}
 use Rattle.pl_check.specs.Items.{item_ids}
 use Rattle.pl_check.specs.Tags.{HaveGoodTags}
-use Rattle.pl_check.proofs.GoodRows.{good-from, good-to, good_tags, has_first, ids_rise}
+use Rattle.pl_check.proofs.GoodRows.{good-from, good-to, good_tags, has_first, ids_rise, page_ids_rise}
+use Rattle.pl_check.proofs.GoodRows.{visit_ids_rise}
 use Rattle.pl_check.proofs.good.are_good.Goals as goal
 use Rattle.pl_check.proofs.good.are_good.Goals.{After-deref}
 
@@ -28,13 +29,23 @@ have_good_tags-requires c =
 pub returns-clause-good : goal.returns-clause-good
 returns-clause-good c =
     IfOk-weaker c.have_good_tags.result _ _ (λ pass means yes tree.
-    good-to c.args.rows.now c.requires.stored (passed c.before)
+    good-to c.args.rows.now c.requires.readable (passed c.before)
     (subst HaveGoodTags (items c.before) (means.0 yes)) tree)
     c.have_good_tags.ensures
 
 pub returns-clause-ascending : goal.returns-clause-ascending
 returns-clause-ascending c =
     IfOk-weaker c.have_good_tags.result _ _ (λ pass means yes. ids_rise c.args.rows.now (passed c.before))
+    c.have_good_tags.ensures
+
+pub returns-clause-pages : goal.returns-clause-pages
+returns-clause-pages c =
+    IfOk-weaker c.have_good_tags.result _ _ (λ pass means yes. page_ids_rise c.args.rows.now (passed c.before))
+    c.have_good_tags.ensures
+
+pub returns-clause-visits : goal.returns-clause-visits
+returns-clause-visits c =
+    IfOk-weaker c.have_good_tags.result _ _ (λ pass means yes. visit_ids_rise c.args.rows.now (passed c.before))
     c.have_good_tags.ensures
 
 pub returns-clause-root : goal.returns-clause-root

@@ -3,6 +3,7 @@ use Rattle.std.proofs.lemmas.Bool.{true≢false}
 use Rattle.std.proofs.lemmas.Result.{err_from_is_err_and}
 use Rattle.pl_base.specs.Rows.{HaveTotals, IsRight, Kept, store_of}
 use Rattle.pl_base.specs.Touched.{behind_gate}
+use Rattle.pl_check.proofs.GoodRows.{readable}
 use Rattle.pl_form.specs.Form.{StandsFor}
 use Rattle.pl_plain.specs.declared.flat.Flat.{Flat}
 use Rattle.pl_plain.specs.Flat.{kept_of}
@@ -11,6 +12,9 @@ use Rattle.pl_plain.proofs.CheckFlat.{begins-right, have-totals, is-right, stand
 use Rattle.pl_plain.proofs.CheckHeld.{apart, good_read, live_read, not_read, right_read}
 use Rattle.pl_plain.proofs.OneStore.{one_store}
 use Rattle.pl_plain.proofs.flat.Flat.check.Goals as goal
+
+pub are_good-requires-clause-readable : goal.are_good-requires-clause-readable
+are_good-requires-clause-readable c = readable c.in_ok-rows.field-0.rows c.in_ok-rows.ensures.stored
 
 pub returns-clause-stands : goal.returns-clause-stands
 returns-clause-stands c =
