@@ -3,6 +3,7 @@ ghost use Rattle.std.specs.Prelude.{◌≡◌, ◌&&◌, IfOk, IsErrOf};
 ghost use Rattle.std.specs.List.{list_all};
 ghost use Rattle.pl_load.specs.Owners.{NameOwners, names_origin, names_parent};
 ghost use Rattle.pl_load.specs.Reads.{AreReadFrom, Reads};
+ghost use Rattle.pl_stored.specs.Stored.{AreIdsFour};
 
 use crate::file_rows::FileRows;
 use crate::held::{LiveRows, held_rows};
@@ -24,6 +25,7 @@ pub fn read_file<L: Ledger>(
 ) -> Result<FileRows, CheckError>
     ensures read { IfOk result (AreReadFrom arena.now) }
     ensures owners { IfOk result (NameOwners arena.now) }
+    ensures ids { IfOk result (λ rows. AreIdsFour rows.stored.ids) }
     ensures none { IsErrOf result CheckError.NotAStore → (reads : Reads)
         → AreReadFrom arena.now reads → NameOwners arena.now reads → ⊥ }
 {

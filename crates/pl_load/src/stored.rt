@@ -5,6 +5,7 @@ ghost use Rattle.pl_load.specs.Held as spec;
 ghost use Rattle.pl_load.specs.Owners.{names_parent};
 ghost use Rattle.pl_load.specs.Reads.{AreReadFrom, Reads};
 ghost use Rattle.pl_reading.specs.Texts.{IsHeld, row_texts};
+ghost use Rattle.pl_stored.specs.Stored.{AreIdsFour};
 
 use crate::held::LiveRows;
 use crate::members::parent_members;
@@ -29,6 +30,7 @@ pub fn stored_rows<L: Ledger>(
         (row_texts held.now.places.items held.now.items.items) }
     requires parents { list_all (names_parent arena.now) held.now.items.items ≡ true }
     ensures read { IfOk result (spec.AreStoredFrom arena.now held.now) }
+    ensures ids { IfOk result (λ rows. AreIdsFour rows.ids) }
     ensures none { IsErrOf result CheckError.NotAStore → (reads : Reads)
         → AreReadFrom arena.now reads → ⊥ }
 {
