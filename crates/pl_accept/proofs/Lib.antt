@@ -1,0 +1,6 @@
+pub mod Entries
+pub mod Indexed
+pub mod OwnLinks
+pub mod Premises
+pub mod Refused
+pub mod Taken
