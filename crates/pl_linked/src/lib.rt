@@ -3,6 +3,7 @@
 #![tactic(auto)]
 
 mod as_rows;
+mod check;
 mod items;
 mod linked;
 mod pages;
