@@ -1,0 +1,228 @@
+#!/usr/bin/env python3
+"""Times the check of files of linked slots by `files_main`, beside SQLite's checks of databases with the same rows.
+
+    bench/open.py [PROGRAM]    by default crates/files_main/out/files_main, which `rt ci files_main` builds
+
+The files are made by `linked_file.py`: histories of about 1, 10 and 80 MB, and 148,000 items. The databases have the
+tables and indexes of `schema.sql` with the other fields of the rows, and bookmarks with their indexes. By turns each
+file is checked and each database opened for `PRAGMA integrity_check` and `PRAGMA quick_check`: of three times the least
+is told. The peak of memory is that of one more run, by `/usr/bin/time`. It is no timed test: it fails only where a file
+is not accepted, or said to have another number of slots, or where SQLite finds a fault.
+"""
+import os
+import pathlib
+import random
+import sqlite3
+import subprocess
+import sys
+import tempfile
+import time
+
+import linked_file
+from imports import IN_FOLDER, url
+from linked_file import BOOKMARK, DAY, FOLDER, LINK, PERMANENT, RELOAD, TYPED, Item, Page, Store, Visit, roots
+
+SCHEMA = pathlib.Path(__file__).with_name("schema.sql")
+RUNS = 3
+FIRST_DAY, DAYS = 19_000, 120
+VISITS_EACH, PAGES_PER_BOOKMARK = 3, 20
+WORDS = ("alpha bravo charlie delta echo foxtrot golf hotel india juliett kilo lima mike november oscar papa quebec "
+         "romeo sierra tango uniform victor whiskey xray yankee").split()
+
+# What is made: a name, how it is made, and how many pages or rows of a bookmark file.
+STORES = [
+    ("history of 1 MB", "history", 1_250),
+    ("history of 10 MB", "history", 12_500),
+    ("history of 80 MB", "history", 100_000),
+    ("148,000 items", "items", 50_000),
+]
+
+# What the rows have beside the columns that `schema.sql` makes, which a script of visits fills.
+MORE = """
+DROP TABLE replies;
+CREATE TABLE moz_origins (id INTEGER PRIMARY KEY, prefix TEXT NOT NULL, host TEXT NOT NULL, frecency INTEGER NOT NULL,
+    UNIQUE (prefix, host));
+ALTER TABLE moz_places ADD COLUMN title TEXT;
+ALTER TABLE moz_places ADD COLUMN origin_id INTEGER;
+ALTER TABLE moz_places ADD COLUMN frecency INTEGER;
+ALTER TABLE moz_places ADD COLUMN visit_count INTEGER;
+ALTER TABLE moz_places ADD COLUMN hidden INTEGER;
+ALTER TABLE moz_historyvisits ADD COLUMN from_visit INTEGER;
+CREATE TABLE moz_bookmarks (id INTEGER PRIMARY KEY, type INTEGER, fk INTEGER, parent INTEGER, position INTEGER, title TEXT,
+    dateAdded INTEGER, lastModified INTEGER);
+CREATE INDEX moz_bookmarks_itemindex ON moz_bookmarks (fk, type);
+CREATE INDEX moz_bookmarks_parentindex ON moz_bookmarks (parent, position);
+CREATE INDEX moz_bookmarks_itemlastmodifiedindex ON moz_bookmarks (fk, lastModified);
+CREATE INDEX moz_bookmarks_dateaddedindex ON moz_bookmarks (dateAdded);
+"""
+
+
+# ---- stores
+
+def text(chance, least, most):
+    """Words of so many bytes in all, with a hyphen between two."""
+    length = chance.randint(least, most)
+    return "-".join(chance.choices(WORDS, k=1 + length // 5))[:length].rstrip("-").encode()
+
+
+def history(count):
+    """Pages with three visits each, which come in a mixed order, and a bookmark for one page in twenty."""
+    chance = random.Random(count)
+    order = [page for page in range(1, count + 1) for _ in range(VISITS_EACH)]
+    chance.shuffle(order)
+    step = DAYS * DAY // len(order)
+    visits = []
+    for id, page in enumerate(order, 1):
+        transition = chance.choices((LINK, TYPED, RELOAD, PERMANENT), (80, 10, 7, 3))[0]
+        source = id - 1 if id > 1 and (transition == PERMANENT or chance.random() < 0.5) else 0
+        visits.append(Visit(id, page, FIRST_DAY * DAY + id * step, transition, source))
+    typed = {visit.page for visit in visits if visit.transition == TYPED}
+    pages = []
+    for id in range(1, count + 1):
+        address = b"https://h%d.example/%d/%b" % (id % 997, id, text(chance, 15, 120))
+        pages.append(Page(id, address, text(chance, 10, 120), id in typed))
+    items = Items()
+    for number, page in enumerate(range(PAGES_PER_BOOKMARK, count + 1, PAGES_PER_BOOKMARK)):
+        if number % IN_FOLDER == 0:
+            folder = items.add(2, FOLDER, text(chance, 5, 30), 0)
+        items.add(folder, BOOKMARK, text(chance, 10, 100), page)
+    return Store.of(FIRST_DAY + DAYS, pages, visits, items.rows())
+
+
+def bookmarks(count):
+    """What an import of so many rows leaves: a folder to each 49 bookmarks, of which each has a page and two tags."""
+    pages, items, folders = [], Items(), {}
+    for number in range(count):
+        if number % IN_FOLDER == 0:
+            folder = items.add(2, FOLDER, b"Folder %d" % (number // IN_FOLDER), 0)
+            continue
+        page = len(pages) + 1
+        pages.append(Page(page, url(number).encode(), b"", False))
+        items.add(folder, BOOKMARK, b"Page & %d" % number, page)
+        for tag in (b"tag%d" % (number % 7), b"news"):
+            if tag not in folders:
+                folders[tag] = items.add(4, FOLDER, tag, 0)
+            items.add(folders[tag], BOOKMARK, b"", page)
+    return Store.of(0, pages, [], items.rows())
+
+
+class Items:
+    """Items behind the roots, each at the end of its folder."""
+
+    def __init__(self):
+        self.added, self.children = [], {}
+
+    def add(self, parent, kind, title, page):
+        id = 7 + len(self.added)
+        self.added.append((id, kind, title, page, 1_600_000_000_000_000 + id, 1_700_000_000_000_000 + id))
+        self.children.setdefault(parent, []).append(id)
+        return id
+
+    def rows(self):
+        return roots(self.children) + [Item(*row, tuple(self.children.get(row[0], ()))) for row in self.added]
+
+
+# ---- the peer
+
+def database(store, path):
+    """A database file with the rows of a store."""
+    base, kept = sqlite3.connect(path), linked_file.marks(store)
+    base.executescript(SCHEMA.read_text() + MORE)
+    origins = {}
+    for page in store.pages:
+        id, total = origins.get(linked_file.origin_of(page.url), (len(origins) + 1, 0))
+        origins[linked_file.origin_of(page.url)] = id, total + max(kept[page.id].frecency, 0)
+    places = {child: (item.id, position) for item in store.items for position, child in enumerate(item.children)}
+    with base:
+        base.executemany("INSERT INTO moz_origins VALUES (?, ?, ?, ?)",
+                         ((id, prefix.decode(), host.decode(), total) for (prefix, host), (id, total) in origins.items()))
+        base.executemany("INSERT INTO moz_places VALUES (?, ?, ?, ?, ?, ?, ?, ?)", (
+            (page.id, page.url.decode(), page.typed, page.title.decode(), origins[linked_file.origin_of(page.url)][0],
+             *kept[page.id]) for page in store.pages))
+        base.executemany("INSERT INTO moz_historyvisits VALUES (?, ?, ?, ?, ?)", (
+            (visit.id, visit.page, visit.date, visit.transition, visit.source) for visit in store.visits))
+        base.executemany("INSERT INTO moz_bookmarks VALUES (?, ?, ?, ?, ?, ?, ?, ?)", (
+            (item.id, item.kind, item.page or None, *places.get(item.id, (0, 0)), item.title.decode(), item.added,
+             item.modified) for item in store.items))
+    base.close()
+
+
+def make(kind, count, file, base):
+    """Writes the file and the database, and says how many slots are live."""
+    store = {"history": history, "items": bookmarks}[kind](int(count))
+    layout = linked_file.layout_of(store)
+    pathlib.Path(file).write_bytes(linked_file.file_bytes(store, layout))
+    database(store, base)
+    print(sum(1 for _ in layout.live()))
+
+
+# ---- runs
+
+def check(words, file, live):
+    """The time of a check in seconds."""
+    with open(file, "rb") as stdin:
+        start = time.perf_counter()
+        done = subprocess.run(words, stdin=stdin, capture_output=True)
+        took = time.perf_counter() - start
+    if done.returncode or done.stdout != live:
+        sys.exit(f"open.py: {' '.join(words)}: status {done.returncode}, {done.stdout!r} for {live!r}, {done.stderr!r}")
+    return took
+
+
+def pragma(word, path):
+    """The time in which SQLite opens the database and makes one of its checks."""
+    start = time.perf_counter()
+    base = sqlite3.connect(path)
+    said = base.execute(f"PRAGMA {word}").fetchall()
+    took = time.perf_counter() - start
+    base.close()
+    if said != [("ok",)]:
+        sys.exit(f"open.py: {word}: {said[:3]}")
+    return took
+
+
+def peak(program, file, live, room):
+    """The most memory that a check holds, in bytes. `/usr/bin/time` starts it: of a child of Python it would be Python's."""
+    told = room / "peak"
+    check(["/usr/bin/time", "-f", "%M", "-o", str(told), program, "check"], file, live)
+    return 1024 * int(told.read_text())
+
+
+def measure(program, name, kind, count, room):
+    file, base = room / "file", room / "base"
+    base.unlink(missing_ok=True)
+    # In a process of its own, which gives back the memory that the rows take.
+    made = subprocess.run([sys.executable, __file__, "--make", kind, str(count), str(file), str(base)],
+                          stdout=subprocess.PIPE, check=True)
+    live = made.stdout
+    turns = [(check([program, "check"], file, live), pragma("integrity_check", base), pragma("quick_check", base))
+             for _ in range(RUNS)]
+    ours, whole, quick = (min(times) for times in zip(*turns))
+    memory, size = peak(program, file, live, room), file.stat().st_size
+    print(f"| {name} | {size / 1e6:.1f} | {int(live):,} | {ours:.3f} | {memory / 1e6:.1f} | {memory / size:.2f} "
+          f"| {base.stat().st_size / 1e6:.1f} | {whole:.3f} | {quick:.3f} |", flush=True)
+
+
+def machine():
+    lines = pathlib.Path("/proc/cpuinfo").read_text().splitlines()
+    model = next((line.split(":")[1].strip() for line in lines if line.startswith("model name")), "unknown")
+    load = ", ".join(f"{load:.1f}" for load in os.getloadavg())
+    return f"{os.cpu_count()} processors ({model}); load {load}; sqlite3 {sqlite3.sqlite_version}"
+
+
+def main():
+    program = linked_file.program("open.py")
+    print(f"{machine()}\n")
+    print("| Store | file, MB | slots | `check`, s | peak, MB | peak / file | database, MB | `integrity_check`, s "
+          "| `quick_check`, s |\n|---|---|---|---|---|---|---|---|---|")
+    with tempfile.TemporaryDirectory() as room:
+        for name, kind, count in STORES:
+            measure(program, name, kind, count, pathlib.Path(room))
+    print(f"\n{machine()}")
+
+
+if __name__ == "__main__":
+    if sys.argv[1:2] == ["--make"]:
+        make(*sys.argv[2:])
+    else:
+        main()
