@@ -225,6 +225,7 @@ def layout_of(store, chance=None):
     if chance:
         chance.shuffle(slots)
         chance.shuffle(origins)
+        layout.ranks.update((visit.id, chance.random()) for visit in store.visits)
     given = iter(slots)
     layout.origins.update(zip(origins, given))
     for rows, places in (store.pages, layout.pages), (store.visits, layout.visits), (store.items, layout.items):
