@@ -1,4 +1,5 @@
-// What the rows of slots say beside their links. Each call reads one slot.
+// What the rows of slots say beside their links. Each call reads one slot, and is inlined, so that a
+// caller reads only the fields that it asks for.
 ghost use Rattle.std.specs.Prelude.{◌≡◌, ◌+◌, Some};
 ghost use Rattle.pl_record.specs.Rows as spec;
 ghost use Rattle.pl_rail.specs.Rails as rails;
@@ -72,6 +73,7 @@ pub fn named(slot: Slot) -> Option<Slot>
 }
 
 /// The total of the origin in a slot.
+#[inline(always)]
 pub fn read_total<L: Ledger>(arena: &Arena, slot: Slot, steps: &mut Steps<L>) -> u64
     requires origin { kind_at slot.0 arena.now ≡ Some kinds.Origin }
     ensures row { spec.row_in slot arena.now ≡ Some (spec.origin_row result) }
@@ -84,6 +86,7 @@ pub fn read_total<L: Ledger>(arena: &Arena, slot: Slot, steps: &mut Steps<L>) ->
 }
 
 /// The page in a slot.
+#[inline(always)]
 pub fn read_place<L: Ledger>(arena: &Arena, slot: Slot, steps: &mut Steps<L>) -> Place
     requires place { kind_at slot.0 arena.now ≡ Some kinds.Place }
     ensures row { spec.row_in slot arena.now ≡ Some (spec.place_row result) }
@@ -125,6 +128,7 @@ pub fn read_place<L: Ledger>(arena: &Arena, slot: Slot, steps: &mut Steps<L>) ->
 }
 
 /// The visit in a slot.
+#[inline(always)]
 pub fn read_visit<L: Ledger>(arena: &Arena, slot: Slot, steps: &mut Steps<L>) -> Visit
     requires visit { kind_at slot.0 arena.now ≡ Some kinds.Visit }
     ensures row { spec.row_in slot arena.now ≡ Some (spec.visit_row result) }
@@ -150,6 +154,7 @@ pub fn read_visit<L: Ledger>(arena: &Arena, slot: Slot, steps: &mut Steps<L>) ->
 }
 
 /// The item in a slot.
+#[inline(always)]
 pub fn read_item<L: Ledger>(arena: &Arena, slot: Slot, steps: &mut Steps<L>) -> Item
     requires item { kind_at slot.0 arena.now ≡ Some kinds.Item }
     ensures row { spec.row_in slot arena.now ≡ Some (spec.item_row result) }

@@ -58,6 +58,7 @@ impl Sheets {
     }
 
     /// Gives the bytes from a place of a page on, within that page.
+    #[inline(always)]
     pub fn get(&self, page: u32, at: usize, out: &mut [u8])
         requires there { page < page_count self.now }
         requires within { at + length out.old ≤ page_size }

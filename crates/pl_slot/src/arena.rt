@@ -66,6 +66,7 @@ impl Arena {
     }
 
     /// The row that a slot holds. It counts a record that is read.
+    #[inline(always)]
     pub fn read<L: Ledger>(&self, slot: Slot, steps: &mut Steps<L>) -> SlotRow
         requires there { arena.is_slot slot.0 self.now ≡ true }
         ensures row { arena.row_at slot.0 self.now ≡ Some result }

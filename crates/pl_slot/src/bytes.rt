@@ -67,6 +67,7 @@ pub fn put_payload(bytes: &mut [u8; SLOT_SIZE], payload: &[u8; PAYLOAD_SIZE])
     put_bytes(bytes, 8, payload);
 }
 
+#[inline(always)]
 pub fn four_at(bytes: &[u8; SLOT_SIZE], at: usize) -> u32
     requires { at + 4 ≤ slot_size }
     ensures { result ≡ reading.four_in at bytes.now }
@@ -76,6 +77,7 @@ pub fn four_at(bytes: &[u8; SLOT_SIZE], at: usize) -> u32
     u32::from_le_bytes(number)
 }
 
+#[inline(always)]
 pub fn eight_at(bytes: &[u8; SLOT_SIZE], at: usize) -> u64
     requires { at + 8 ≤ slot_size }
     ensures { result ≡ reading.eight_in at bytes.now }
@@ -85,6 +87,7 @@ pub fn eight_at(bytes: &[u8; SLOT_SIZE], at: usize) -> u64
     u64::from_le_bytes(number)
 }
 
+#[inline(always)]
 pub fn slot_at(bytes: &[u8; SLOT_SIZE], at: usize) -> Slot
     requires { at + 4 ≤ slot_size }
     ensures { result ≡ reading.slot_in at bytes.now }

@@ -81,6 +81,7 @@ fn sides(rail: Rail) -> usize
 }
 
 // The number of 4 bytes at a place of a slot.
+#[inline(always)]
 fn four_of(sheets: &Sheets, slot: Slot, at: usize) -> u32
     requires there { arena.is_slot slot.0 sheets.now ≡ true }
     requires within { at + 4 ≤ slot_size }
@@ -106,6 +107,7 @@ fn put_four_of(sheets: &mut Sheets, slot: Slot, at: usize, value: u32)
 impl Arena {
     /// The slot that a link of a slot names, 0 where it names none. It counts a record that is
     /// read.
+    #[inline(always)]
     pub fn link<L: Ledger>(&self, slot: Slot, rail: Rail, link: Link, steps: &mut Steps<L>) -> Slot
         requires there { IsSome (links.link_at rail link slot.0 self.now) }
         ensures named { links.link_at rail link slot.0 self.now ≡ Some result }

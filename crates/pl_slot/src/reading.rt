@@ -1,4 +1,5 @@
-// Rows, read from the bytes of a slot.
+// Rows, read from the bytes of a slot. What reads them is inlined, so that a caller reads only the
+// fields that it asks for.
 ghost use Rattle.std.specs.Prelude.{◌≡◌, ◌==◌, ◌||◌, IfSome, Some};
 ghost use Rattle.std.specs.List.{list_all};
 ghost use Rattle.pl_slot.specs.declared.kind.SlotKind.TheVariants as kinds;
@@ -30,6 +31,7 @@ pub fn decode(bytes: &[u8; SLOT_SIZE]) -> Option<SlotRow>
 }
 
 /// The only row that may have these bytes, whatever those beside its fields are.
+#[inline(always)]
 pub fn read(bytes: &[u8; SLOT_SIZE]) -> Option<SlotRow>
     ensures row { result ≡ reading.row_in bytes.now }
     ensures fits { IfSome result slot.IsSlotRow }
@@ -46,6 +48,7 @@ pub fn read(bytes: &[u8; SLOT_SIZE]) -> Option<SlotRow>
     }
 }
 
+#[inline(always)]
 fn origin(bytes: &[u8; SLOT_SIZE]) -> SlotRow
     ensures row { result ≡ reading.origin_in bytes.now }
     ensures fits { slot.IsSlotRow result }
@@ -59,6 +62,7 @@ fn origin(bytes: &[u8; SLOT_SIZE]) -> SlotRow
     }
 }
 
+#[inline(always)]
 fn place(bytes: &[u8; SLOT_SIZE]) -> SlotRow
     ensures row { result ≡ reading.place_in bytes.now }
     ensures fits { slot.IsSlotRow result }
@@ -98,6 +102,7 @@ fn is_hidden(marks: u8) -> bool
     marks == 2 || marks == 3
 }
 
+#[inline(always)]
 fn visit(bytes: &[u8; SLOT_SIZE]) -> Option<SlotRow>
     ensures row { result ≡ reading.row_of_kind bytes.now kinds.Visit }
     ensures fits { IfSome result slot.IsSlotRow }
@@ -119,6 +124,7 @@ fn visit(bytes: &[u8; SLOT_SIZE]) -> Option<SlotRow>
     })
 }
 
+#[inline(always)]
 fn item(bytes: &[u8; SLOT_SIZE]) -> Option<SlotRow>
     ensures row { result ≡ reading.row_of_kind bytes.now kinds.Item }
     ensures fits { IfSome result slot.IsSlotRow }

@@ -21,6 +21,7 @@ pub const HEADER_PAGE: u32 = 1;
 pub const SLOTS_A_PAGE: u32 = (PAGE_SIZE / SLOT_SIZE) as u32;
 
 /// The page of a slot.
+#[inline(always)]
 pub fn page_of(slot: Slot) -> u32
     requires { 1 ≤ slot.0 }
     ensures { result ≡ arena.slot_page slot.0 }
@@ -29,6 +30,7 @@ pub fn page_of(slot: Slot) -> u32
 }
 
 /// The byte of its page at which a slot begins.
+#[inline(always)]
 pub fn byte_of(slot: Slot) -> usize
     requires { 1 ≤ slot.0 }
     ensures { result ≡ arena.slot_byte slot.0 }
@@ -37,6 +39,7 @@ pub fn byte_of(slot: Slot) -> usize
 }
 
 // The bytes of a slot.
+#[inline(always)]
 fn bytes_of(sheets: &Sheets, slot: Slot) -> [u8; SLOT_SIZE]
     requires there { arena.is_slot slot.0 sheets.now ≡ true }
     ensures { result ≡ bytes_at (place_in (arena.slot_page slot.0) (arena.slot_byte slot.0))
@@ -58,6 +61,7 @@ pub fn row_at(sheets: &Sheets, slot: Slot) -> Option<SlotRow>
 }
 
 /// The same of a slot that holds a row: its fields are read, and its other bytes are not asked.
+#[inline(always)]
 pub fn known_row(sheets: &Sheets, slot: Slot) -> SlotRow
     requires there { IsSome (arena.row_at slot.0 sheets.now) }
     ensures row { arena.row_at slot.0 sheets.now ≡ Some result }
