@@ -1,4 +1,4 @@
-pub mod Entries
+pub mod Collected
 pub mod Indexed
 pub mod OwnLinks
 pub mod Premises

@@ -34,10 +34,12 @@ module _ (pages : Pages) (reads : Reads) (arena : IsArena pages)
             record {
               at = layout_of pages reads;
               rows =
-                  rows pages reads arena (header.form, header.rest) from owners linked.own linked.targets linked.lone good counted.names
+                  rows pages reads arena (header.form, header.rest) from owners linked.own linked.targets linked.lone
+                  good counted.names
                   counted.count counted.live;
               laid =
-                  laid pages reads arena (header.form, header.rest) from owners linked.own linked.targets linked.lone good counted.names
+                  laid pages reads arena (header.form, header.rest) from owners linked.own linked.targets linked.lone
+                  good counted.names
                   counted.count counted.live;
               indexed = indexed pages reads from good owners a by;
             };

@@ -63,26 +63,6 @@ fn by_number(
     requires ascending { IsStrictlyIncreasing numbers.now }
     ensures { IfOk result (λ found. found.entries ≡ zip numbers.now slots.now) }
 {
-    let entries = beside(alloc, numbers, slots)?;
-    in_order(alloc, &entries)
-}
-
-// Each number with its slot.
-fn beside(alloc: Global, numbers: &[u32], slots: &[Slot]) -> Result<Vec<(u32, Slot)>, NoMemory>
-    ensures { IfOk result (λ entries. entries.items ≡ zip numbers.now slots.now) }
-{
     let entries = numbers.iter().copied().zip(slots.iter().copied());
     Ok(entries.collect(alloc)?)
-}
-
-// The map of slots that stand by ascending numbers.
-fn in_order(alloc: Global, entries: &[(u32, Slot)]) -> Result<BTreeMap<u32, Slot>, NoMemory>
-    requires { IsStrictlyIncreasing (map (λ e. e.0) entries.now) }
-    ensures { IfOk result (λ found. found.entries ≡ entries.now) }
-{
-    let mut found = BTreeMap::new(alloc);
-    for (number, slot) in entries {
-        found.insert(*number, *slot)?;
-    }
-    Ok(found)
 }
