@@ -19,7 +19,7 @@ abbrev blank : List ℕ
 blank = replicate page_size 0
 
 -- how many bytes these are
-laid_bytes : (bytes : List ℕ) → length (blank ++ bytes) ≡ page_size + length bytes
+pub laid_bytes : (bytes : List ℕ) → length (blank ++ bytes) ≡ page_size + length bytes
 laid_bytes bytes =
     length-append blank bytes ∙ ap (λ (n : ℕ). n + length bytes) (length-replicate {A = ℕ} page_size 0)
 
@@ -27,7 +27,7 @@ pub counted : (bytes : List ℕ) → page_count (unchanged bytes) ≡ length byt
 counted bytes = length-replicate (length bytes / page_size) false
 
 -- the header of pages with so many bytes behind page 0
-header_is : (bytes : List ℕ) → header_of (pages_of bytes) ≡ header_in (take page_size bytes)
+pub header_is : (bytes : List ℕ) → header_of (pages_of bytes) ≡ header_in (take page_size bytes)
 unfolding header_of
 header_is bytes =
     ap (λ (bs : List ℕ). header_in (take page_size bs))

@@ -8,14 +8,28 @@ use Rattle.pl_sheets.specs.Sheets.{Pages}
 use Rattle.pl_slot.specs.Arena.{IsArena, header_of}
 use Rattle.pl_slot.specs.Header.{Header, header_in}
 
--- what the header page says
-abbrev pub file_header : List ℕ → Header
-file_header file = header_in (take page_size (behind_gate file))
+-- what the header page says, with which the bytes from page 1 on begin
+abbrev pub first_header : List ℕ → Header
+first_header bytes = header_in (take page_size bytes)
 
--- the bytes of the store from page 1 on: as many pages as the header says. What lies behind them is
--- free
+-- of the bytes from page 1 on those of the store: as many pages as the header says. What lies behind
+-- them is free
+abbrev pub front_bytes : List ℕ → List ℕ
+front_bytes bytes = take (bytes_before (first_header bytes).pages) bytes
+
+-- the bytes from page 1 on hold a store
+abbrev pub HoldStore : List ℕ → Store → Type 0
+HoldStore bytes store = StandsFor (front_bytes bytes) store
+
+-- ---- a file
+
+-- what its header page says
+abbrev pub file_header : List ℕ → Header
+file_header file = first_header (behind_gate file)
+
+-- the bytes of its store from page 1 on
 abbrev pub stored_bytes : List ℕ → List ℕ
-stored_bytes file = take (bytes_before (file_header file).pages) (behind_gate file)
+stored_bytes file = front_bytes (behind_gate file)
 
 -- the pages that they make
 abbrev pub stored_pages : List ℕ → Pages
@@ -23,7 +37,7 @@ stored_pages file = pages_of (stored_bytes file)
 
 -- the bytes of a file stand for a store
 abbrev pub FileStandsFor : List ℕ → Store → Type 0
-FileStandsFor file store = StandsFor (stored_bytes file) store
+FileStandsFor file store = HoldStore (behind_gate file) store
 
 -- no store has more pages, with the gate's and the header's
 abbrev pub most_pages : ℕ

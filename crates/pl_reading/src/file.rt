@@ -53,8 +53,9 @@ fn whole_pages(bytes: &[u8]) -> Option<u32>
     Some(pages)
 }
 
-// How many pages a store has, with the gate's and the header's, as its header page tells.
-fn named_pages(header: &[u8]) -> Option<u32>
+/// How many pages a store has, with the gate's and the header's, as its header page tells. `None`
+/// comes where the page is no header of a store.
+pub fn named_pages(header: &[u8]) -> Option<u32>
     requires { length header.now ≡ page_size }
     ensures some { IfSome result (λ pages. pages ≡ (header_in header.now).pages) }
     ensures named { IfSome result (λ pages. spec.IsNamed (header_in header.now)) }

@@ -12,7 +12,7 @@ mod rows;
 mod texts;
 mod visits;
 
-pub use file::arena_in;
+pub use file::{arena_in, named_pages};
 pub use items::stored_items;
 pub use live::{LiveSlots, live_slots};
 pub use pages::stored_pages;
