@@ -1,2 +1,4 @@
+pub mod Accounted
+pub mod AccountedLaws
 pub mod Linked
 pub mod LinkedLaws
