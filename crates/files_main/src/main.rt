@@ -9,7 +9,6 @@ mod known;
 mod order;
 mod pages;
 mod rows;
-mod written;
 
 use fault::Fault;
 use order::Work;
@@ -21,7 +20,7 @@ use std::io::{self, Read, Write};
 use std::marker::Brand;
 use std::process::ExitCode;
 use std::sync::ledger::{Blank, Ledger};
-use written::file_of;
+use trials_written::file_of;
 
 fn main(rt: HostRuntime) -> ExitCode {
     let status = match answer(&rt) {

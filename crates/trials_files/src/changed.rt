@@ -2,13 +2,14 @@
 // for a store of this day.
 ghost use Rattle.std.specs.Prelude.{◌≡◌, ◌<◌};
 
-use pl_base::{CheckError, NoMemory, PAGE_SIZE, Steps};
-use pl_linked::Linked;
+use crate::checked::day_of;
+use pl_base::{NoMemory, Steps};
 use std::alloc::Global;
 use std::marker::Brand;
 use std::process::Abort;
 use std::sync::ledger::{Blank, Ledger};
 use std::test::Fail;
+use trials_written::file_of;
 
 // A place in the file, the byte that is put there, and the day of the store, if there is one. Page
 // 1 begins at 1024 with the header, and page 2 at 2048 with eight slots of 128 bytes: the six
@@ -79,28 +80,8 @@ const CASES: &[(usize, u8, Option<u32>)] = &[
 ];
 
 // The bytes of the file.
-fn file_of<L: Ledger>(alloc: Global, steps: &mut Steps<L>) -> Result<Vec<u8>, NoMemory> {
-    let mut linked = Linked::opening(alloc)?;
-    let touched = linked.touched(steps)?;
-    let mut file = Vec::new(alloc);
-    file.resize(PAGE_SIZE, 0)?;
-    for index in 0..touched.count() {
-        file.extend_from_slice(touched.image(index))?;
-    }
-    Ok(file)
-}
-
-// The day of the store for which a file stands.
-fn day_of<L: Ledger>(
-    alloc: Global,
-    file: Vec<u8>,
-    steps: &mut Steps<L>,
-) -> Result<Option<u32>, NoMemory> {
-    match Linked::check(alloc, file, steps) {
-        Ok(linked) => Ok(Some(linked.day(steps).0)),
-        Err(CheckError::NotAStore) => Ok(None),
-        Err(CheckError::NoMemory) => Err(NoMemory),
-    }
+fn opening<L: Ledger>(alloc: Global, steps: &mut Steps<L>) -> Result<Vec<u8>, NoMemory> {
+    file_of(alloc, b"", steps)
 }
 
 fn change_bytes<L: Ledger>(rt: &impl Abort, alloc: Global, blank: Blank) -> Result<(), Fail>
@@ -110,7 +91,7 @@ fn change_bytes<L: Ledger>(rt: &impl Abort, alloc: Global, blank: Blank) -> Resu
 {
     let steps = &mut Steps::<L>::none(blank);
     for (place, byte, day) in CASES {
-        let mut file = file_of(alloc, steps)?;
+        let mut file = opening(alloc, steps)?;
         if let Some(changed) = file.get_mut(*place) {
             *changed = *byte;
         }
@@ -119,6 +100,9 @@ fn change_bytes<L: Ledger>(rt: &impl Abort, alloc: Global, blank: Blank) -> Resu
     Ok(())
 }
 
+// Lengths to which the file is cut.
+const CUT: &[usize] = &[0, 1, 1023, 1024, 2047, 2048, 3071];
+
 // The store's pages stand at the beginning of the file, and what is behind them is free.
 fn change_length<L: Ledger>(rt: &impl Abort, alloc: Global, blank: Blank) -> Result<(), Fail>
     requires name { blank.name ≡ L.name }
@@ -126,16 +110,17 @@ fn change_length<L: Ledger>(rt: &impl Abort, alloc: Global, blank: Blank) -> Res
     requires some { 0 < blank.parts }
 {
     let steps = &mut Steps::<L>::none(blank);
-    let whole = file_of(alloc, steps)?;
+    let whole = opening(alloc, steps)?;
     assert_eq!(rt; whole.len(), 3072);
     assert_eq!(rt; day_of(alloc, whole, steps)?, Some(0));
-    let mut short = file_of(alloc, steps)?;
-    short.truncate(3071);
-    assert_eq!(rt; day_of(alloc, short, steps)?, None);
-    let mut long = file_of(alloc, steps)?;
+    for length in CUT {
+        let mut short = opening(alloc, steps)?;
+        short.truncate(*length);
+        assert_eq!(rt; day_of(alloc, short, steps)?, None);
+    }
+    let mut long = opening(alloc, steps)?;
     long.push(1)?;
     assert_eq!(rt; day_of(alloc, long, steps)?, Some(0));
-    assert_eq!(rt; day_of(alloc, Vec::new(alloc), steps)?, None);
     Ok(())
 }
 

@@ -4,3 +4,7 @@
 
 #[cfg(test)]
 mod changed;
+#[cfg(test)]
+mod checked;
+#[cfg(test)]
+mod forged;

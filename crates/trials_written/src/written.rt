@@ -1,7 +1,6 @@
-// The file that a script leaves.
+// The file that the lines of a script leave.
 ghost use Rattle.pl_step.specs.Commands.{HasDates};
 
-use crate::fault::Fault;
 use pl_base::{NoMemory, PAGE_SIZE, SLOT_LIMIT, Steps, Touched};
 use pl_engine::Engine;
 use pl_linked::Linked;
@@ -16,13 +15,13 @@ pub fn file_of<L: Ledger>(
     alloc: Global,
     script: &[u8],
     steps: &mut Steps<L>,
-) -> Result<Vec<u8>, Fault> {
+) -> Result<Vec<u8>, NoMemory> {
     let mut engine = Engine::over(alloc, Linked::opening(alloc)?, SLOT_LIMIT)?;
     for text in script.split(|byte| *byte == b'\n') {
         engine = after_line(alloc, engine, text, steps)?;
     }
     let touched = engine.touched(steps)?;
-    Ok(bytes_of(alloc, &touched)?)
+    bytes_of(alloc, &touched)
 }
 
 // The engine after a line.
@@ -31,11 +30,11 @@ fn after_line<L: Ledger>(
     engine: Engine<Linked>,
     text: &[u8],
     steps: &mut Steps<L>,
-) -> Result<Engine<Linked>, Fault> {
+) -> Result<Engine<Linked>, NoMemory> {
     match line(alloc, text) {
-        Ok(Some(command)) => Ok(performed(engine, command, steps)?),
+        Ok(Some(command)) => performed(engine, command, steps),
         Ok(None) | Err(LineError::Refused(_)) => Ok(engine),
-        Err(LineError::NoMemory) => Err(Fault::NoMemory),
+        Err(LineError::NoMemory) => Err(NoMemory),
     }
 }
 
