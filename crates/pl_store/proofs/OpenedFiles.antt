@@ -12,12 +12,12 @@ use Rattle.pl_desk.proofs.AnyMoment.{rests_less, still_rests}
 use Rattle.pl_desk.specs.Calls.{KeepsLine, OnlyReads}
 use Rattle.pl_desk.specs.Shown.{Rests}
 use Rattle.pl_desk.specs.declared.desk.Desk.{Ghosts}
-use Rattle.pl_form.specs.Form.{StandsFor}
 use Rattle.pl_gate.specs.declared.error.GateError.{GateError}
 use Rattle.pl_gate.specs.declared.error.GateError.TheVariants as gate
 use Rattle.pl_gate.specs.Gate.{has_gate, is_set, laid}
 use Rattle.pl_gate.specs.Recovery.{IsSettledAs, StandsAs, recovery_bytes}
 use Rattle.pl_gate.specs.States.{IsClosed}
+use Rattle.pl_reading.specs.File.{HoldStore}
 use Rattle.pl_store.specs.declared.ended.Ended.{Ended}
 use Rattle.pl_store.specs.declared.ended.Ended.TheVariants as ended
 use Rattle.pl_store.specs.declared.session.Session.{Session}
@@ -32,12 +32,12 @@ stands_alike file later as_file store = (
   λ stands. record {
     gate = as_file.gate ∙ stands.gate;
     form =
-        subst (λ (bytes : List ℕ). StandsFor bytes store) (sym as_file.laid) stands.form;
+        subst (λ (bytes : List ℕ). HoldStore bytes store) (sym as_file.laid) stands.form;
   },
   λ stands. record {
     gate = sym as_file.gate ∙ stands.gate;
     form =
-        subst (λ (bytes : List ℕ). StandsFor bytes store) as_file.laid stands.form;
+        subst (λ (bytes : List ℕ). HoldStore bytes store) as_file.laid stands.form;
   },
 )
 
@@ -45,19 +45,19 @@ module _ (file later : List ℕ) (settled : IsSettledAs file later) where
   lies : laid later ≡ drop page_size later
   lies = rw settled.closed refl
 
-  pub stands_settled : has_gate file ≡ true → (store : Store) → StandsFor (drop page_size later) store
+  pub stands_settled : has_gate file ≡ true → (store : Store) → HoldStore (drop page_size later) store
       → Stands file store
   stands_settled gate store stands = record {
     gate = gate;
-    form = subst (λ (bytes : List ℕ). StandsFor bytes store) (sym lies ∙ settled.stands.laid) stands;
+    form = subst (λ (bytes : List ℕ). HoldStore bytes store) (sym lies ∙ settled.stands.laid) stands;
   }
 
-  pub settled_form : (store : Store) → Stands file store → StandsFor (drop page_size later) store
+  pub settled_form : (store : Store) → Stands file store → HoldStore (drop page_size later) store
   settled_form store stands =
-      subst (λ (bytes : List ℕ). StandsFor bytes store) (sym settled.stands.laid ∙ lies) stands.form
+      subst (λ (bytes : List ℕ). HoldStore bytes store) (sym settled.stands.laid ∙ lies) stands.form
 
-  pub later_form : (store : Store) → Stands later store → StandsFor (drop page_size later) store
-  later_form store stands = subst (λ (bytes : List ℕ). StandsFor bytes store) lies stands.form
+  pub later_form : (store : Store) → Stands later store → HoldStore (drop page_size later) store
+  later_form store stands = subst (λ (bytes : List ℕ). HoldStore bytes store) lies stands.form
 
   pub closed : (bytes : List ℕ) → has_gate file ≡ true → take (length bytes) (drop page_size later) ≡ bytes
       → IsClosed bytes later

@@ -1,13 +1,17 @@
 -- Which files stand for a session's store.
 use Rattle.std.proofs.Common.{◌≡◌, ℕ, List, length, take, inl, inr, ⊎_elim, sym, ◌∙◌, ap, subst}
 use Rattle.std.proofs.Common.{arith}
+use Rattle.std.proofs.Math.Logic.{∥∥₁_elim}
+use Rattle.std.proofs.Props.{props}
 use Rattle.std.proofs.lemmas.List.{length-take, take-take}
 use Rattle.pl_base.specs.Store.{Store}
 use Rattle.pl_base.specs.Touched.{Change, changed}
 use Rattle.pl_desk.specs.declared.desk.Desk.{Ghosts}
-use Rattle.pl_form.specs.Form.{StandsFor, form_bytes, store_rows}
 use Rattle.pl_gate.specs.Gate.{Holds, laid}
 use Rattle.pl_gate.specs.States.{HoldsEither, IsClosed}
+use Rattle.pl_reading.specs.File.{HoldStore, front_bytes}
+use Rattle.pl_record.specs.Form.{StandsFor}
+use Rattle.pl_reading.proofs.Fronts.{front_of_more}
 use Rattle.pl_store.specs.declared.session.Session.{Session}
 use Rattle.pl_store.specs.Session.{IsSettled, Stands, StandsForEither, session_store}
 
@@ -31,20 +35,18 @@ closed_by front bytes file begins is = record {
       };
 }
 
--- bytes that begin with bytes that stand for a store, stand for it
-pub stands_for_more : (bytes more : List ℕ) (store : Store) → StandsFor bytes store
-    → take (length bytes) more ≡ bytes → StandsFor more store
-stands_for_more bytes more store stands begins = record {
-  good = stands.good;
-  texts = stands.texts;
-  live = stands.live;
-  begins = begins_by (form_bytes (store_rows store)) bytes more stands.begins begins;
-}
+-- bytes that begin with those of a store, hold it
+pub holds_more : (bytes more : List ℕ) (store : Store) → StandsFor bytes store
+    → take (length bytes) more ≡ bytes → HoldStore more store
+holds_more bytes more store stands begins =
+    let front : front_bytes more ≡ bytes =
+    ∥∥₁_elim stands.form (Prim.hlevel props) (λ form. front_of_more bytes form.laid.arena more begins) in
+    subst (λ (own : List ℕ). StandsFor own store) (sym front) stands
 
 pub stands_by : (bytes file : List ℕ) (store : Store) → StandsFor bytes store → Holds bytes file
     → Stands file store
 stands_by bytes file store stands holds =
-    record { gate = holds.gate; form = stands_for_more bytes (laid file) store stands holds.begins }
+    record { gate = holds.gate; form = holds_more bytes (laid file) store stands holds.begins }
 
 pub stands_by_either : (change : Change) (bytes later : List ℕ) (before after : Store)
     → changed change bytes ≡ later → StandsFor bytes before → StandsFor later after

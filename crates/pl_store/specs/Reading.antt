@@ -2,8 +2,9 @@
 use Rattle.std.specs.Prelude.{◌≡◌, ⊤, ◌≤◌, ℕ, ◌*◌, List, length, take, drop, Option, Some, None}
 use Rattle.std.specs.Prelude.{Result, Ok, Err, IfSome}
 use Rattle.pl_base.specs.Store.{Store}
-use Rattle.pl_base.specs.Touched.{bytes_before, page_size}
-use Rattle.pl_form.specs.Form.{StandsFor, form_bytes, most_pages, store_rows}
+use Rattle.pl_base.specs.Touched.{page_size}
+use Rattle.pl_reading.specs.File.{HoldStore, file_header, front_bytes, most_pages}
+use Rattle.pl_record.specs.Form.{StandsFor}
 use Rattle.pl_store.specs.declared.ended.Ended.{Ended}
 use Rattle.pl_store.specs.declared.ended.Ended.TheVariants as ended
 use Rattle.pl_store.specs.declared.session.Session.{Session}
@@ -11,18 +12,12 @@ use Rattle.pl_store.specs.Session.{session_bytes, session_limit, session_store}
 
 -- the bytes from page 1 on stand for no store
 abbrev pub HoldNone : List ℕ → Type 0
-HoldNone bytes = (store : Store) → StandsFor bytes store → ⊥
-
--- each store that they stand for has so many pages, with the gate's and the header's
-abbrev pub HoldPages : ℕ → List ℕ → Type 0
-HoldPages pages bytes =
-    (store : Store) → StandsFor bytes store
-    → length (form_bytes (store_rows store)) ≡ bytes_before pages
+HoldNone bytes = (store : Store) → HoldStore bytes store → ⊥
 
 -- so many pages of a file are its store's, with the gate's and the header's
 pub record ArePagesOf (pages : ℕ) (file : List ℕ) : Type 0 where
   pub within : page_size * pages ≤ length file
-  pub whole : HoldPages pages (drop page_size file)
+  pub told : (file_header file).pages ≡ pages
 
 -- what a file's header tells: the number of its store's pages, which no store exceeds, or that
 -- there is none
@@ -30,16 +25,16 @@ abbrev pub TellsPages : Option ℕ → Option (List ℕ) → Type 0
 TellsPages (Some pages) held = (2 ≤ pages) × (pages ≤ most_pages) × IfSome held (ArePagesOf pages)
 TellsPages None held = IfSome held (λ file. HoldNone (drop page_size file))
 
--- a front of the bytes from page 1 on that stands for each store that all of them stand for
+-- a front of the bytes from page 1 on with all that are the store's
 pub record IsStoreOf (bytes front : List ℕ) : Type 0 where
   pub begins : take (length front) bytes ≡ front
-  pub whole : (store : Store) → StandsFor bytes store → StandsFor front store
+  pub whole : front_bytes front ≡ front_bytes bytes
 
 -- the bytes from page 1 on stand for the session's store and for no other, and begin with its own
 -- bytes
 pub record IsReadFrom (session : Session) (bytes : List ℕ) : Type 0 where
-  pub stands : StandsFor bytes (session_store session)
-  pub only : (store : Store) → StandsFor bytes store → store ≡ session_store session
+  pub stands : HoldStore bytes (session_store session)
+  pub only : (store : Store) → HoldStore bytes store → store ≡ session_store session
   pub begins : take (length (session_bytes session)) bytes ≡ session_bytes session
   pub own : StandsFor (session_bytes session) (session_store session)
 

@@ -5,11 +5,11 @@ use Rattle.pl_base.specs.Store.{Store}
 use Rattle.pl_base.specs.Touched.{changed, bytes_before}
 use Rattle.pl_desk.specs.Shown.{Rests}
 use Rattle.pl_desk.specs.declared.desk.Desk.{Ghosts}
-use Rattle.pl_form.specs.Form.{StandsFor}
-use Rattle.pl_plain.specs.Flat.{kept_of}
-use Rattle.pl_plain.specs.Flat as flat
 use Rattle.pl_gate.specs.Gate.{commit_bytes, has_gate, laid}
 use Rattle.pl_gate.specs.States.{IsClosed}
+use Rattle.pl_linked.specs.Linked.{bytes_of, kept_of}
+use Rattle.pl_reading.specs.File.{HoldStore}
+use Rattle.pl_record.specs.Form.{StandsFor}
 use Rattle.pl_store.specs.declared.memory.Memory.{Memory}
 use Rattle.pl_store.specs.declared.pending.Pending.{Pending}
 use Rattle.pl_store.specs.declared.session.Prepared.{Prepared}
@@ -21,7 +21,7 @@ use Rattle.pl_store.specs.declared.session.Session.{Session}
 -- for the store
 pub record Stands (file : List ℕ) (store : Store) : Type 0 where
   pub gate : has_gate file ≡ true
-  pub form : StandsFor (laid file) store
+  pub form : HoldStore (laid file) store
 
 -- the file stands for one of two stores
 abbrev pub StandsForEither : Store → Store → List ℕ → Type 0
@@ -49,7 +49,7 @@ session_store session = rows.store_of (kept_of session.engine.rows)
 
 -- the bytes of its store from page 1 on
 abbrev pub session_bytes : Session → List ℕ
-session_bytes session = flat.bytes_of session.engine.rows
+session_bytes session = bytes_of session.engine.rows
 
 -- how many slots of 128 bytes its store may take
 abbrev pub session_limit : Session → ℕ
@@ -69,7 +69,7 @@ next_store prepared = rows.store_of (kept_of prepared.engine.rows)
 
 -- its bytes from page 1 on
 abbrev pub next_bytes : Prepared → List ℕ
-next_bytes prepared = flat.bytes_of prepared.engine.rows
+next_bytes prepared = bytes_of prepared.engine.rows
 
 -- how many slots it may take
 abbrev pub next_limit : Prepared → ℕ

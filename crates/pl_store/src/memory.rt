@@ -8,7 +8,7 @@ ghost use Rattle.pl_store.specs.Session.{memory_limit, memory_store};
 use crate::uncounted;
 use pl_base::NoMemory;
 use pl_engine::Engine;
-use pl_plain::Flat;
+use pl_linked::Linked;
 use pl_step::{Command, Reply};
 use std::alloc::Global;
 use std::marker::Brand;
@@ -17,7 +17,7 @@ use std::sync::ledger::Blank;
 /// A store in memory alone.
 #[derive(Drop)]
 pub struct Memory {
-    pub(crate) engine: Engine<Flat>,
+    pub(crate) engine: Engine<Linked>,
 }
 
 impl Memory {
@@ -27,7 +27,7 @@ impl Memory {
         ensures store { IfOk result (λ memory. memory_store memory ≡ opening) }
         ensures limit { IfOk result (λ memory. memory_limit memory ≡ limit) }
     {
-        let engine = Engine::over(alloc, Flat::opening(alloc)?, limit)?;
+        let engine = Engine::over(alloc, Linked::opening(alloc)?, limit)?;
         Ok(Memory { engine })
     }
 

@@ -12,13 +12,18 @@ ghost use Rattle.pl_store.specs.Session.{session_limit};
 
 use crate::ended::Ended;
 use crate::session::Session;
+use crate::uncounted;
 use pl_base::{CheckError, PAGE_SIZE};
 use pl_desk::{Desk, Failed};
 use pl_engine::Engine;
-use pl_form::named_pages;
 use pl_gate::{Gate, GateError};
-use pl_plain::Flat;
+use pl_reading::named_pages;
 use std::alloc::Global;
+use std::marker::Brand;
+use std::sync::ledger::Blank;
+
+// How many pages a store may grow by before its bytes are moved to a longer vector.
+const ROOM: usize = 64;
 
 /// Settles the gate of a file that a stop may have left.
 pub(crate) fn settle<D: Desk>(desk: &mut D) -> Result<(), GateError>
@@ -56,19 +61,21 @@ fn store_pages<D: Desk>(desk: &mut D) -> Result<Option<u32>, Failed>
 }
 
 /// A session of the store that the bytes of a file stand for where its gate is not set.
-fn session_of(alloc: Global, bytes: &[u8], limit: u32) -> Result<Session, CheckError>
+fn session_of(alloc: Global, bytes: Vec<u8>, limit: u32) -> Result<Session, CheckError>
     requires { limit ≤ slot_limit }
-    ensures read { IfOk result (λ session. IsReadFrom session (drop page_size bytes.now)) }
+    ensures read { IfOk result (λ session. IsReadFrom session (drop page_size bytes.items)) }
     ensures limit { IfOk result (λ session. session_limit session ≡ limit) }
-    ensures not_a_store { result ≡ Err CheckError.NotAStore → HoldNone (drop page_size bytes.now) }
+    ensures not_a_store { result ≡ Err CheckError.NotAStore
+        → HoldNone (drop page_size bytes.items) }
 {
-    let flat = Flat::check(alloc, bytes)?;
-    let engine = Engine::over(alloc, flat, limit)?;
+    let rows = uncounted::check::<Brand>(Blank::new(1), alloc, bytes)?;
+    let engine = Engine::over(alloc, rows, limit)?;
     Ok(Session { engine })
 }
 
 /// A session of the store that a file stands for where its gate is not set. The header's page is
-/// read, and then the store's pages; what lies behind them is not.
+/// read, and then the store's pages, into a vector with room for some more. What lies behind them
+/// is not read.
 pub(crate) fn read_session<D: Desk>(
     alloc: Global,
     desk: &mut D,
@@ -83,8 +90,8 @@ pub(crate) fn read_session<D: Desk>(
     let Some(pages) = store_pages(desk)? else {
         return Err(Ended::NotAStore);
     };
-    let mut bytes = Vec::new(alloc);
+    let mut bytes = Vec::with_capacity(alloc, PAGE_SIZE * (pages as usize + ROOM))?;
     bytes.resize(PAGE_SIZE * pages as usize, 0)?;
     desk.read_at(0, &mut bytes)?;
-    Ok(session_of(alloc, &bytes, limit)?)
+    Ok(session_of(alloc, bytes, limit)?)
 }

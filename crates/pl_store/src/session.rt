@@ -7,8 +7,8 @@ use crate::pending::Pending;
 use crate::uncounted;
 use pl_base::{NoMemory, Refusal};
 use pl_engine::Engine;
+use pl_linked::Linked;
 use pl_nbread::Tree;
-use pl_plain::Flat;
 use pl_step::{Command, Reply};
 use std::marker::Brand;
 use std::sync::ledger::Blank;
@@ -16,7 +16,7 @@ use std::sync::ledger::Blank;
 /// An open store, between two commands. The file holds it, and is not read again.
 #[derive(Drop)]
 pub struct Session {
-    pub(crate) engine: Engine<Flat>,
+    pub(crate) engine: Engine<Linked>,
     // The next change is told against the bytes that the rows stand for now, and no others.
     ghost base: { HasOwnBase engine.rows } by { Prim.hlevel props },
 }
@@ -24,7 +24,7 @@ pub struct Session {
 /// A command that was performed in memory, and is not in the file yet.
 #[derive(Drop)]
 pub struct Prepared {
-    pub(crate) engine: Engine<Flat>,
+    pub(crate) engine: Engine<Linked>,
     // None where there is nothing to be written.
     pub(crate) change: Option<Pending>,
     ghost base: { HasOwnBase engine.rows } by { Prim.hlevel props },

@@ -2,14 +2,14 @@ ghost use Rattle.std.specs.Prelude.{◌≡◌, ◌≤◌, ◌<◌, [], IfOk};
 ghost use Rattle.pl_base.specs.Store.{opening};
 ghost use Rattle.pl_base.specs.Touched.{IsWithin, changed};
 ghost use Rattle.pl_base.specs.Live.{slot_limit};
-ghost use Rattle.pl_form.specs.Form.{StandsFor};
+ghost use Rattle.pl_record.specs.Form.{StandsFor};
 ghost use Rattle.pl_store.specs.Session.{session_bytes, session_limit, session_store};
 
 use crate::session::Session;
 use crate::uncounted;
 use pl_base::{NoMemory, Touched};
 use pl_engine::Engine;
-use pl_plain::Flat;
+use pl_linked::Linked;
 use std::alloc::Global;
 use std::marker::Brand;
 use std::sync::ledger::Blank;
@@ -26,7 +26,7 @@ pub(crate) fn start(alloc: Global, limit: u32) -> Result<(Session, Touched), NoM
     ensures before { IfOk result (λ done. done.1.before ≡ 1) }
     ensures after { IfOk result (λ done. 1 < done.1.after) }
 {
-    let mut engine = Engine::over(alloc, Flat::opening(alloc)?, limit)?;
+    let mut engine = Engine::over(alloc, Linked::opening(alloc)?, limit)?;
     let touched = uncounted::touched::<Brand>(Blank::new(1), &mut engine)?;
     Ok((Session { engine }, touched))
 }

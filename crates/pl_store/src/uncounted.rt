@@ -1,33 +1,56 @@
-// The engine's calls where nothing is counted. A caller hands over a blank for `Brand`, and its
-// `Invariants.antt` says that the ledger is the blank's.
-ghost use Rattle.std.specs.Prelude.{◌≡◌, ◌≤◌, ℕ, List, false, length, IfOk, OnOk};
+// The check of a file and the engine's calls where nothing is counted. A caller hands over a blank
+// for `Brand`, and its `Invariants.antt` says that the ledger is the blank's.
+ghost use Rattle.std.specs.Prelude.{◌≡◌, ◌≤◌, ℕ, List, false, length, Err, IfOk, OnOk};
 ghost use Rattle.std.specs.List.{All};
-ghost use Rattle.pl_base.specs.Rows.{store_of};
+ghost use Rattle.pl_base.specs.Rows.{IsSound, store_of};
+ghost use Rattle.pl_base.specs.Store.{Store};
 ghost use Rattle.pl_base.specs.Touched.{IsWithin, MayDiffer, bytes_before, changed, page_numbers};
 ghost use Rattle.pl_engine.specs.Idle.{IsIdle};
 ghost use Rattle.pl_engine.specs.Returns.{Returns};
-ghost use Rattle.pl_form.specs.Form.{StandsFor};
+ghost use Rattle.pl_linked.specs.Linked.{IsBase, bytes_of, kept_of};
 ghost use Rattle.pl_nbwrite.specs.Plain.{IsPlain};
 ghost use Rattle.pl_outline.specs.Outline.{bookmarks};
-ghost use Rattle.pl_plain.specs.Flat.{IsBase, bytes_of, kept_of};
+ghost use Rattle.pl_reading.specs.File.{FileStandsFor, stored_bytes};
+ghost use Rattle.pl_record.specs.Form.{StandsFor};
 ghost use Rattle.pl_step.specs.Commands.{HasDates, is_change};
 ghost use Rattle.pl_step.specs.Step.{perform};
 ghost use Rattle.pl_store.specs.OwnBase.{HasOwnBase};
 ghost use Rattle.pl_store.specs.Uncounted.{IsBlankOf};
 
-use pl_base::{NoMemory, Refusal, Steps, Touched};
+use pl_base::{CheckError, NoMemory, Refusal, Steps, Touched};
 use pl_engine::Engine;
+use pl_linked::Linked;
 use pl_nbread::Tree;
-use pl_plain::Flat;
 use pl_step::{Command, Reply};
+use std::alloc::Global;
 use std::sync::ledger::{Blank, Ledger};
+
+/// The rows of the store that a file stands for.
+pub(crate) fn check<L: Ledger>(
+    blank: Blank,
+    alloc: Global,
+    bytes: Vec<u8>,
+) -> Result<Linked, CheckError>
+    requires blank { IsBlankOf L.Ledger blank }
+    ensures stands { IfOk result (λ rows.
+        FileStandsFor bytes.items (store_of (kept_of rows))) }
+    ensures sound { IfOk result (λ rows. IsSound (kept_of rows)) }
+    ensures bytes { IfOk result (λ rows. bytes_of rows ≡ stored_bytes bytes.items) }
+    ensures base { IfOk result HasOwnBase }
+    ensures one { (a b : Store) → FileStandsFor bytes.items a → FileStandsFor bytes.items b
+        → a ≡ b }
+    ensures not_a_store { result ≡ Err CheckError.NotAStore → (store : Store)
+        → FileStandsFor bytes.items store → ⊥ }
+{
+    Linked::check(alloc, bytes, &mut Steps::<L>::none(blank))
+}
 
 /// One step of the machine.
 pub(crate) fn apply<L: Ledger>(
     blank: Blank,
-    engine: Engine<Flat>,
+    engine: Engine<Linked>,
     command: &Command,
-) -> Result<(Engine<Flat>, Reply), NoMemory>
+) -> Result<(Engine<Linked>, Reply), NoMemory>
     requires blank { IsBlankOf L.Ledger blank }
     requires dates { HasDates command.now }
     ensures step { IfOk result
@@ -52,7 +75,7 @@ pub(crate) fn apply<L: Ledger>(
 /// made.
 pub(crate) fn touched<L: Ledger>(
     blank: Blank,
-    engine: &mut Engine<Flat>,
+    engine: &mut Engine<Linked>,
 ) -> Result<Touched, NoMemory>
     requires blank { IsBlankOf L.Ledger blank }
     ensures whole { IfOk result
@@ -77,7 +100,7 @@ pub(crate) fn touched<L: Ledger>(
 }
 
 /// The bookmarks of the store.
-pub(crate) fn tree<L: Ledger>(blank: Blank, engine: &Engine<Flat>) -> Result<Tree, NoMemory>
+pub(crate) fn tree<L: Ledger>(blank: Blank, engine: &Engine<Linked>) -> Result<Tree, NoMemory>
     requires blank { IsBlankOf L.Ledger blank }
     ensures tree { IfOk result (λ tree. tree ≡ bookmarks (store_of (kept_of engine.now.rows))) }
     ensures plain { IfOk result IsPlain }

@@ -4,11 +4,11 @@ ghost use Rattle.std.specs.Prelude.{◌≡◌, ◌≤◌, ◌+◌, IfOk};
 use crate::summary::said_of;
 use pl_drill::Drill;
 use pl_step::Reply;
-use pl_store::{Memory, SLOT_LIMIT};
+use pl_store::SLOT_LIMIT;
 use std::alloc::Global;
 use std::process::Abort;
 use std::test::Fail;
-use trials_memory::{answered, replied};
+use trials_memory::{Memory, answered, replied};
 
 // How many lines each drill has behind its first.
 const LINES: u32 = 200;

@@ -64,14 +64,15 @@ fn failed(rt: &impl Abort, alloc: Global, call: u32) -> Result<Status, Fail> {
     Ok(status)
 }
 
-// Of the 21 calls the opening makes the first nine and the commit eleven; the last says the reply.
+// Of the 27 calls the opening makes the first nine and the commit seventeen, of the header and four
+// pages of slots; the last says the reply.
 #[test]
 fn a_call_that_fails_leaves_all_of_it_or_none(rt: HostRuntime) -> Result<(), Fail> {
     let alloc = rt.alloc();
-    for call in 0..22 {
-        let ends = if call < 20 {
+    for call in 0..28 {
+        let ends = if call < 26 {
             Status::DeviceFault
-        } else if call == 20 {
+        } else if call == 26 {
             Status::SayFault
         } else {
             Status::Done

@@ -1,9 +1,8 @@
 // Lines on a store in memory, and the replies to them, which were worked out by hand.
-use pl_store::Memory;
 use std::alloc::Global;
 use std::process::Abort;
 use std::test::Fail;
-use trials_memory::answered;
+use trials_memory::{Memory, answered};
 
 // The store after a line, which has this reply.
 pub fn told(

@@ -2,15 +2,15 @@
 // function's end.
 ghost use Rattle.pl_step.specs.Commands.{HasDates};
 
+use crate::memory::Memory;
 use pl_base::{NoMemory, Txt};
 use pl_script::{LineError, line, reply_text};
 use pl_step::{Command, Reply};
-use pl_store::Memory;
 use std::alloc::Global;
 use std::test::Fail;
 
 /// The store after a command, and the reply.
-pub fn stepped(memory: Memory, command: Command) -> Result<(Memory, Reply), NoMemory>
+pub fn stepped(memory: Memory, command: Command) -> Result<(Memory, Reply), Fail>
     requires { HasDates command }
 {
     let stepped = memory.step(&command);

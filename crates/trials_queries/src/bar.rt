@@ -1,8 +1,9 @@
 // What the address bar offers, by hand.
 use crate::listed::{listed, store_of};
 use crate::told::talked;
-use pl_store::{Memory, SLOT_LIMIT};
+use pl_store::SLOT_LIMIT;
 use std::test::Fail;
+use trials_memory::Memory;
 
 // Pages 1 to 5 have from one to five visits, and titles with `fire` at different places; 6 has it
 // in its address alone; 7 has no frecency; 8 is a bookmark and 9 a tag, both without visits; 10 and

@@ -1,7 +1,8 @@
 // The group of hosts that is filled in, by hand.
 use crate::told::talked;
-use pl_store::{Memory, SLOT_LIMIT};
+use pl_store::SLOT_LIMIT;
 use std::test::Fail;
+use trials_memory::Memory;
 
 // Texts, and the group that begins with them.
 const FILLS: &[(&[u8], &str)] = &[

@@ -1,8 +1,9 @@
 // Rows that answer queries, as they are told, by hand.
 use crate::listed::{ALL_KINDS, store_of};
 use crate::told::talked;
-use pl_store::{Memory, SLOT_LIMIT};
+use pl_store::SLOT_LIMIT;
 use std::test::Fail;
+use trials_memory::Memory;
 
 // A tag, asked for in another case.
 const TAGGED: &[(&[u8], &str)] = &[

@@ -1,11 +1,11 @@
 // The ids of the rows of a reply, in order.
 use pl_query::ResultRow;
 use pl_step::{BarRow, Reply};
-use pl_store::{Memory, SLOT_LIMIT};
+use pl_store::SLOT_LIMIT;
 use std::alloc::Global;
 use std::process::Abort;
 use std::test::Fail;
-use trials_memory::replied;
+use trials_memory::{Memory, replied};
 
 // A store with pages of all kinds: 1 has two visits, two bookmarks and two tags; 2 a port and a
 // tag; 3 an IPv6 host and a download alone; 4 is a query and 5 is embedded, so both are hidden; 6

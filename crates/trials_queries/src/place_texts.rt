@@ -1,9 +1,10 @@
 // The texts of queries, with their canonical texts or the pieces that are refused, by hand.
 use crate::told::told;
-use pl_store::{Memory, SLOT_LIMIT};
+use pl_store::SLOT_LIMIT;
 use std::alloc::Global;
 use std::process::Abort;
 use std::test::Fail;
+use trials_memory::Memory;
 
 // A text, and its canonical text.
 const TEXTS: &[(&str, &str)] = &[

@@ -5,7 +5,7 @@ ghost use Rattle.pl_step.specs.Commands.{HasDates};
 use pl_base::{Micros, PageId, Refusal, Rows, Steps, Transition, VisitId};
 use pl_desk::MemDesk;
 use pl_link::Canon;
-use pl_plain::Flat;
+use pl_linked::Linked;
 use pl_step::{Command, Reply};
 use pl_store::{Memory, SLOT_LIMIT, Session, create};
 use std::alloc::Global;
@@ -133,9 +133,9 @@ fn visit_from(
 }
 
 // No table has more than nine pages.
-fn check_marks<L: Ledger>(rt: &impl Abort, flat: &Flat, marks: &[Kept], steps: &mut Steps<L>) {
+fn check_marks<L: Ledger>(rt: &impl Abort, rows: &Linked, marks: &[Kept], steps: &mut Steps<L>) {
     for (id, want) in (1..10).zip(marks) {
-        let mark = flat.page_at(PageId(id), steps);
+        let mark = rows.page_at(PageId(id), steps);
         let kept = mark.map(|mark| (mark.frecency, mark.count, mark.hidden));
         assert!(rt; kept == Some(*want), "page {id}: {kept:?}");
     }
@@ -153,8 +153,9 @@ fn check_file<L: Ledger>(
     requires parts { blank.parts ≡ L.parts }
     requires some { 0 < blank.parts }
 {
-    let flat = Flat::check(alloc, bytes)?;
-    check_marks(rt, &flat, marks, &mut Steps::<L>::none(blank));
+    let steps = &mut Steps::<L>::none(blank);
+    let rows = Linked::check(alloc, bytes.to_vec(alloc)?, steps)?;
+    check_marks(rt, &rows, marks, steps);
     Ok(())
 }
 

@@ -72,9 +72,9 @@ fn run_again<S: Source, D: Desk>(
     }
 }
 
-// How many calls behind the sync of the set gate a run of one visit ends: two images, a sync, the
-// cleared gate, its sync, and the reply.
-const BEHIND_THE_SET_GATE: u32 = 6;
+// How many calls behind the sync of the set gate a run of one visit ends: the images of the header,
+// of the page of the roots and of a new one, a sync, the cleared gate, its sync, and the reply.
+const BEHIND_THE_SET_GATE: u32 = 7;
 
 // What two runs of a visit each say on the file of a new store, where this call of the first run
 // fails.

@@ -148,17 +148,17 @@ fn failed(rt: &impl Abort, alloc: Global, call: u32) -> Result<Status, NoMemory>
     Ok(status)
 }
 
-// Of the 34 calls of the script's run the opening makes the first nine, and each commit eleven.
-// These say a reply.
-const SAYS: [u32; 3] = [20, 21, 33];
+// Of the 38 calls of the script's run the opening makes the first nine, and each commit thirteen,
+// of the header and two pages of slots. These say a reply.
+const SAYS: [u32; 3] = [22, 23, 37];
 
 #[test]
 fn stops_at_a_call_of_the_desk_that_fails(rt: HostRuntime) -> Result<(), Fail> {
     let alloc = rt.alloc();
-    for call in 0..35 {
+    for call in 0..39 {
         let ends = if SAYS.contains(&call) {
             Status::SayFault
-        } else if call < 34 {
+        } else if call < 38 {
             Status::DeviceFault
         } else {
             Status::Done

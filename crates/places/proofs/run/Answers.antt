@@ -184,3 +184,23 @@ returns-in-Drill-clause-complete g c = λ task wanted nothing.
     let start = fails.needs.0 in let held = fails.needs.1 in
     drill_done desk c.drill_stored.result c.in-Drill.count c.in-Drill.seed old start said.0 new say call
     (did.ends held.0 start said.0 held.1 held.2 said.1)
+
+-- ---- what a task leaves
+
+pub returns-in-Run-clause-ends : goal.returns-in-Run-clause-ends
+returns-in-Run-clause-ends g c = λ kind start begins bytes before told begun.
+    let desk = g.D.Desk in let old = c.args.desk.now in
+    let asked : asked_of c.args.words.now ≡ Some tasks.Run =
+    sym c.of.ensures ∙ c.in-Some.is ∙ ap (λ (t : Task). Some t) c.in-Run.is in
+    let is =
+    begins_on_file (desk.held old) kind start
+    (subst (λ (t : Option Task). BeginsWith t (desk.held old) kind start) asked begins) in
+    rw is.0 (c.run_stored.ensures.ends is.1.0 start is.1.1 is.1.2 bytes before told begun)
+
+pub returns-in-Import-clause-imports : goal.returns-in-Import-clause-imports
+returns-in-Import-clause-imports g c = λ asked start held bytes before told begun.
+    c.import_stored.ensures.ends held.0 start held.1 held.2 bytes before told begun
+
+pub returns-in-Export-clause-exports : goal.returns-in-Export-clause-exports
+returns-in-Export-clause-exports g c = λ asked start held before begun.
+    c.export_stored.ensures.ends held.0 start before held.1 held.2 begun

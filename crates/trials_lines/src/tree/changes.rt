@@ -1,7 +1,8 @@
 // What is inserted, moved, given a title, removed and listed.
 use crate::told::talked;
-use pl_store::{Memory, SLOT_LIMIT};
+use pl_store::SLOT_LIMIT;
 use std::test::Fail;
+use trials_memory::Memory;
 
 const FOLDERS: &[(&[u8], &str)] = &[
     (b"folder\t2\tend\tF\t0", "item\t7\n"),

@@ -6,12 +6,12 @@ use crate::told::talked;
 use pl_base::{ItemId, Micros, Txt};
 use pl_link::Canon;
 use pl_step::{Command, Reply};
-use pl_store::{Memory, SLOT_LIMIT};
+use pl_store::SLOT_LIMIT;
 use pl_tree::Place;
 use std::alloc::Global;
 use std::process::Abort;
 use std::test::Fail;
-use trials_memory::stepped;
+use trials_memory::{Memory, stepped};
 
 // The last of 5,000 items, the first of which is item 7.
 const LAST: u32 = 5_006;

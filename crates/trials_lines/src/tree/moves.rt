@@ -4,12 +4,12 @@ ghost use Rattle.pl_step.specs.Commands.{HasDates};
 use crate::told::talked;
 use pl_base::{ItemId, Micros};
 use pl_step::{Command, Reply};
-use pl_store::{Memory, SLOT_LIMIT};
+use pl_store::SLOT_LIMIT;
 use pl_tree::Place;
 use std::alloc::Global;
 use std::process::Abort;
 use std::test::Fail;
-use trials_memory::stepped;
+use trials_memory::{Memory, stepped};
 
 // Folder 7, with the separators 8 to 12.
 const FIVE: &[(&[u8], &str)] = &[

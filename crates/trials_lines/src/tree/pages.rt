@@ -1,7 +1,8 @@
 // The pages that gain or lose a bookmark: 75 for each sampled visit, and 140 where no visit counts.
 use crate::told::talked;
-use pl_store::{Memory, SLOT_LIMIT};
+use pl_store::SLOT_LIMIT;
 use std::test::Fail;
+use trials_memory::Memory;
 
 // A page that is made, one that a visit finds, a script, and a query.
 const GAINED: &[(&[u8], &str)] = &[

@@ -1,7 +1,8 @@
 // Which cause is told, where two stand together too, and that a refused line changes nothing.
 use crate::told::{talked, told};
-use pl_store::{Memory, SLOT_LIMIT};
+use pl_store::SLOT_LIMIT;
 use std::test::Fail;
+use trials_memory::Memory;
 
 const CAUSES: &[(&[u8], &str)] = &[
     (b"folder\t2\tend\tF\t0", "item\t7\n"),

@@ -1,7 +1,8 @@
 // Tags that pages get and lose.
 use crate::told::talked;
-use pl_store::{Memory, SLOT_LIMIT};
+use pl_store::SLOT_LIMIT;
 use std::test::Fail;
+use trials_memory::Memory;
 
 // The first spelling stays; a page that was never visited has 140 by a tag, and is no bookmark.
 const RED: &[(&[u8], &str)] = &[

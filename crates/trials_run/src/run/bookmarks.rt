@@ -7,65 +7,90 @@ use std::alloc::Global;
 use std::test::Fail;
 use trials_desks::in_memory;
 
-// The form's name, 3 pages, 652 plain bytes.
-const HEADER: &[u8; 20] = b"PLFLAT01\x03\0\0\0\x8c\x02\0\0\0\0\0\0";
+// The form's name, 6 pages, day 0, the next ids, the first free slot, the ends of the chains of
+// origins, pages, visits and items, and 27 live slots.
+const HEADER: &[u8; 68] = b"\
+    PLSTORE1\x06\0\0\0\0\0\0\0\x04\0\0\0\x02\0\0\0\x0e\0\0\0\x1c\0\0\0\x01\0\0\0\
+    \x03\0\0\0\x04\0\0\0\x06\0\0\0\x07\0\0\0\x07\0\0\0\x08\0\0\0\x14\0\0\0\x1b\0\0\0";
 
-// Day 0, and the next ids.
-const NEXT: &[u8; 16] = b"\0\0\0\0\x04\0\0\0\x02\0\0\0\x0e\0\0\0";
-
-// The first page was visited and has a bookmark and two tags, the second has a tag alone, and the
-// third, which was typed once, a bookmark.
-const PAGES: &[u8; 121] = b"\x03\0\0\0\
-    \x01\0\0\0\0\xaf\0\0\0\0\0\0\0\x12\0\0\0https://a.example/\0\0\0\0\
-    \x02\0\0\0\0\x8c\0\0\0\0\0\0\0\x12\0\0\0https://b.example/\0\0\0\0\
-    \x03\0\0\0\x01\x54\x01\0\0\0\0\0\0\x12\0\0\0https://c.example/\0\0\0\0";
-
-// A link to the first page.
-const VISITS: &[u8; 25] = b"\x01\0\0\0\
-    \x01\0\0\0\x01\0\0\0\0\0\0\0\0\0\0\0\0\0\0\0\x01";
-
-const COUNT: &[u8; 4] = b"\x0d\0\0\0";
-
-// The roots: items 7 and 8 are in the menu, and the tags are items 10 and 9.
-const ROOTS: &[u8; 234] = b"\
-    \x01\0\0\0\0\0\0\0\x02\0\0\0\0\0\0\0\0\0\0\0\0\0\0\0\0\0\0\0\0\x05\0\0\0\
-    \x02\0\0\0\x03\0\0\0\x04\0\0\0\x05\0\0\0\x06\0\0\0\
-    \x02\0\0\0\0\0\0\0\x02\0\0\0\0\0\0\0\0\0\0\0\0\0\0\0\0\0\0\0\0\x02\0\0\0\
-    \x07\0\0\0\x08\0\0\0\
-    \x03\0\0\0\0\0\0\0\x02\0\0\0\0\0\0\0\0\0\0\0\0\0\0\0\0\0\0\0\0\0\0\0\0\
-    \x04\0\0\0\0\0\0\0\x02\0\0\0\0\0\0\0\0\0\0\0\0\0\0\0\0\0\0\0\0\x02\0\0\0\
-    \x0a\0\0\0\x09\0\0\0\
-    \x05\0\0\0\0\0\0\0\x02\0\0\0\0\0\0\0\0\0\0\0\0\0\0\0\0\0\0\0\0\0\0\0\0\
-    \x06\0\0\0\0\0\0\0\x02\0\0\0\0\0\0\0\0\0\0\0\0\0\0\0\0\0\0\0\0\0\0\0\0";
-
-// A bookmark of the first page and one of the third.
-const BOOKMARKS: &[u8; 68] = b"\
-    \x07\0\0\0\x01\0\0\0\x01\0\0\0\0\0\0\0\0\0\0\0\0\0\0\0\0\x01\0\0\0A\0\0\0\0\
-    \x08\0\0\0\x03\0\0\0\x01\0\0\0\0\0\0\0\0\0\0\0\0\0\0\0\0\x01\0\0\0C\0\0\0\0";
-
-// `Red` with an entry of the first page and one of the second, and `blue` with one of the first.
-const TAGS: &[u8; 184] = b"\
-    \x09\0\0\0\0\0\0\0\x02\0\0\0\0\0\0\0\0\0\0\0\0\0\0\0\0\x03\0\0\0Red\x02\0\0\0\
-    \x0b\0\0\0\x0c\0\0\0\
-    \x0a\0\0\0\0\0\0\0\x02\0\0\0\0\0\0\0\0\0\0\0\0\0\0\0\0\x04\0\0\0blue\x01\0\0\0\
-    \x0d\0\0\0\
-    \x0b\0\0\0\x01\0\0\0\x01\0\0\0\0\0\0\0\0\0\0\0\0\0\0\0\0\0\0\0\0\0\0\0\0\
-    \x0c\0\0\0\x02\0\0\0\x01\0\0\0\0\0\0\0\0\0\0\0\0\0\0\0\0\0\0\0\0\0\0\0\0\
-    \x0d\0\0\0\x01\0\0\0\x01\0\0\0\0\0\0\0\0\0\0\0\0\0\0\0\0\0\0\0\0\0\0\0\0";
+// What the slots hold, but for the zeros behind it. The first page was visited and has a bookmark
+// and two tags, the second has a tag alone, and the third, which was typed once, a bookmark.
+const SLOTS: &[&[u8]] = &[
+    // The origins of the pages, each with its total.
+    b"\x01\0\0\0\0\0\0\0\x02\0\0\0\x04\0\0\0\x04\0\0\0\0\0\0\0\xaf",
+    b"\x01\0\0\0\x01\0\0\0\x03\0\0\0\x05\0\0\0\x05\0\0\0\0\0\0\0\x8c",
+    b"\x01\0\0\0\x02\0\0\0\0\0\0\0\x06\0\0\0\x06\0\0\0\0\0\0\0T\x01",
+    // The pages.
+    b"\
+        \x02\0\0\0\0\0\0\0\x05\0\0\0\x01\0\0\0\x01\0\0\0\0\0\0\0\0\0\0\0\x07\0\0\0\x07\0\0\0\
+        \x0e\0\0\0\x14\0\0\0\x15\0\0\0\x12\0\0\0\0\0\0\0\0\0\0\0\0\0\0\0\xaf\0\0\0\0\0\0\0\
+        \x01",
+    b"\
+        \x02\0\0\0\x04\0\0\0\x06\0\0\0\x02\0\0\0\x02\0\0\0\0\0\0\0\0\0\0\0\0\0\0\0\0\0\0\0\
+        \x13\0\0\0\x13\0\0\0\x16\0\0\0\x12\0\0\0\0\0\0\0\0\0\0\0\0\0\0\0\x8c",
+    b"\
+        \x02\x01\0\0\x05\0\0\0\0\0\0\0\x03\0\0\0\x03\0\0\0\0\0\0\0\0\0\0\0\0\0\0\0\0\0\0\0\
+        \x0f\0\0\0\x0f\0\0\0\x17\0\0\0\x12\0\0\0\0\0\0\0\0\0\0\0\0\0\0\0T\x01",
+    // A link to the first page.
+    b"\x03\x01\0\0\0\0\0\0\0\0\0\0\x01\0\0\0\x04",
+    // The roots: items 7 and 8 are in the menu, and the tags are items 10 and 9.
+    b"\x04\x02\0\0\0\0\0\0\x09\0\0\0\x01\0\0\0\0\0\0\0\0\0\0\0\0\0\0\0\x09\0\0\0\x0d",
+    b"\x04\x02\0\0\x08\0\0\0\x0a\0\0\0\x02\0\0\0\x08\0\0\0\0\0\0\0\x0a\0\0\0\x0e\0\0\0\x0f",
+    b"\x04\x02\0\0\x09\0\0\0\x0b\0\0\0\x03\0\0\0\x08\0\0\0\x09\0\0\0\x0b",
+    b"\
+        \x04\x02\0\0\x0a\0\0\0\x0c\0\0\0\x04\0\0\0\x08\0\0\0\x0a\0\0\0\x0c\0\0\0\x11\0\0\0\
+        \x10",
+    b"\x04\x02\0\0\x0b\0\0\0\x0d\0\0\0\x05\0\0\0\x08\0\0\0\x0b\0\0\0\x0d",
+    b"\x04\x02\0\0\x0c\0\0\0\x0e\0\0\0\x06\0\0\0\x08\0\0\0\x0c",
+    // A bookmark of the first page and one of the third.
+    b"\
+        \x04\x01\0\0\x0d\0\0\0\x0f\0\0\0\x07\0\0\0\x09\0\0\0\0\0\0\0\x0f\0\0\0\0\0\0\0\
+        \0\0\0\0\x04\0\0\0\0\0\0\0\x12\0\0\0\x18\0\0\0\x01",
+    b"\
+        \x04\x01\0\0\x0e\0\0\0\x10\0\0\0\x08\0\0\0\x09\0\0\0\x0e\0\0\0\0\0\0\0\0\0\0\0\
+        \0\0\0\0\x06\0\0\0\0\0\0\0\0\0\0\0\x19\0\0\0\x01",
+    // `Red` with an entry of the first page and one of the second, and `blue` with one of the first.
+    b"\
+        \x04\x02\0\0\x0f\0\0\0\x11\0\0\0\x09\0\0\0\x0b\0\0\0\x11\0\0\0\0\0\0\0\x12\0\0\0\
+        \x13\0\0\0\0\0\0\0\0\0\0\0\0\0\0\0\x1a\0\0\0\x03",
+    b"\
+        \x04\x02\0\0\x10\0\0\0\x12\0\0\0\x0a\0\0\0\x0b\0\0\0\0\0\0\0\x10\0\0\0\x14\0\0\0\
+        \x14\0\0\0\0\0\0\0\0\0\0\0\0\0\0\0\x1b\0\0\0\x04",
+    b"\
+        \x04\x01\0\0\x11\0\0\0\x13\0\0\0\x0b\0\0\0\x10\0\0\0\0\0\0\0\x13\0\0\0\0\0\0\0\
+        \0\0\0\0\x04\0\0\0\x0e\0\0\0\x14",
+    b"\
+        \x04\x01\0\0\x12\0\0\0\x14\0\0\0\x0c\0\0\0\x10\0\0\0\x12\0\0\0\0\0\0\0\0\0\0\0\
+        \0\0\0\0\x05",
+    b"\
+        \x04\x01\0\0\x13\0\0\0\0\0\0\0\x0d\0\0\0\x11\0\0\0\0\0\0\0\0\0\0\0\0\0\0\0\0\0\0\0\
+        \x04\0\0\0\x12",
+    // The URLs, and the titles of items 7 to 10.
+    b"\x05\x12\0\0\0\0\0\0https://a.example/",
+    b"\x05\x12\0\0\0\0\0\0https://b.example/",
+    b"\x05\x12\0\0\0\0\0\0https://c.example/",
+    b"\x05\x01\0\0\0\0\0\0A",
+    b"\x05\x01\0\0\0\0\0\0C",
+    b"\x05\x03\0\0\0\0\0\0Red",
+    b"\x05\x04\0\0\0\0\0\0blue",
+    // Five free slots.
+    b"\0\0\0\0\x1d",
+    b"\0\0\0\0\x1e",
+    b"\0\0\0\0\x1f",
+    b"\0\0\0\0\x20",
+    b"",
+];
 
 fn file(alloc: Global) -> Result<Vec<u8>, Fail> {
     let mut bytes = Vec::new(alloc);
     bytes.resize(1024, 0)?;
     bytes.extend_from_slice(HEADER)?;
     bytes.resize(2048, 0)?;
-    bytes.extend_from_slice(NEXT)?;
-    bytes.extend_from_slice(PAGES)?;
-    bytes.extend_from_slice(VISITS)?;
-    bytes.extend_from_slice(COUNT)?;
-    bytes.extend_from_slice(ROOTS)?;
-    bytes.extend_from_slice(BOOKMARKS)?;
-    bytes.extend_from_slice(TAGS)?;
-    bytes.resize(3072, 0)?;
+    for slot in SLOTS {
+        let end = bytes.len() + 128;
+        bytes.extend_from_slice(slot)?;
+        bytes.resize(end, 0)?;
+    }
     Ok(bytes)
 }
 

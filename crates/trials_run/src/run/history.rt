@@ -1,7 +1,7 @@
 // Whole scripts of days that go on, and of visits and pages that go.
-use super::{expect_said, tried};
+use super::{expect_said, stored, tried};
 
-const HISTORY: &[(&[u8], &[u8])] = &[
+pub(super) const HISTORY: &[(&[u8], &[u8])] = &[
     // A visit is four days old, and then five.
     (
         b"day\t20000\n\
@@ -371,5 +371,6 @@ fn says_what_went(rt: HostRuntime) {
     for (script, said) in HISTORY {
         expect_said(&rt, tried(rt.alloc(), script, 1_000_000), said);
         expect_said(&rt, tried(rt.alloc(), script, 7), said);
+        expect_said(&rt, stored(rt.alloc(), script), said);
     }
 }

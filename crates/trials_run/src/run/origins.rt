@@ -1,11 +1,11 @@
 // Whole scripts of origins and their totals, and of what the store holds.
 ghost use Rattle.std.specs.Prelude.{◌≤◌};
 
-use super::{expect_said, tried};
+use super::{expect_said, stored, tried};
 use std::alloc::{AllocError, Global};
 use std::test::Fail;
 
-const ORIGINS: &[(&[u8], &[u8])] = &[
+pub(super) const ORIGINS: &[(&[u8], &[u8])] = &[
     // A page of the origin is enough, and need not have the address.
     (
         b"visit\thttps://www.mozilla.org/\t1\t0\n\
@@ -222,6 +222,7 @@ fn says_the_totals_of_origins(rt: HostRuntime) {
     for (script, said) in ORIGINS {
         expect_said(&rt, tried(rt.alloc(), script, 1_000_000), said);
         expect_said(&rt, tried(rt.alloc(), script, 7), said);
+        expect_said(&rt, stored(rt.alloc(), script), said);
     }
 }
 

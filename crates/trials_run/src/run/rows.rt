@@ -1,11 +1,11 @@
 // Worked rows of whole scripts.
-use super::{expect_said, tried};
+use super::{expect_said, stored, tried};
 use pl_desk::{MemDesk, MemSource};
 use places::Status;
 use std::test::Fail;
 use trials_desks::in_memory;
 
-const ROWS: &[(&[u8], &[u8])] = &[
+pub(super) const ROWS: &[(&[u8], &[u8])] = &[
     (b"", b""),
     (
         b"visit\thttps://www.mozilla.org/\t1\t0\n",
@@ -244,6 +244,7 @@ fn says_the_rows_in_any_pieces(rt: HostRuntime) {
         expect_said(&rt, tried(rt.alloc(), script, 1_000_000), said);
         expect_said(&rt, tried(rt.alloc(), script, 1), said);
         expect_said(&rt, tried(rt.alloc(), script, 7), said);
+        expect_said(&rt, stored(rt.alloc(), script), said);
     }
 }
 

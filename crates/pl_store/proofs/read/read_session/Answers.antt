@@ -10,39 +10,38 @@ use Rattle.pl_desk.proofs.AnyMoment.{read_call}
 use Rattle.pl_base.specs.declared.check_error.CheckError.{CheckError}
 use Rattle.pl_desk.proofs.Told.{if_some}
 use Rattle.pl_base.specs.declared.check_error.CheckError.TheVariants as check
-use Rattle.pl_form.specs.Form.{form_bytes, store_rows}
+use Rattle.pl_reading.specs.File.{first_header, front_bytes}
+use Rattle.pl_record.specs.Form.{StandsFor}
+use Rattle.pl_reading.proofs.Fronts.{front_again}
 use Rattle.pl_store.specs.declared.session.Session.{Session}
 use Rattle.pl_store.specs.Errors.{ended_by_check}
-use Rattle.pl_store.specs.Reading.{HoldNone, HoldPages, IsReadFrom, IsStoreOf, EndsReading}
+use Rattle.pl_store.specs.Reading.{HoldNone, IsReadFrom, IsStoreOf, EndsReading}
 use Rattle.pl_store.specs.Session.{session_bytes, session_store}
-use Rattle.pl_store.proofs.StandsLaws.{stands_for_more}
 use Rattle.pl_store.proofs.read.read_session.Goals as goal
 
--- as many of the bytes as each of their stores has
-front_of : (bytes : List ℕ) (pages : ℕ) → bytes_before pages ≤ length bytes → HoldPages pages bytes
-    → IsStoreOf bytes (take (bytes_before pages) bytes)
-front_of bytes pages within hold = record {
-  begins = ap (λ n. take n bytes) (length-take-le (bytes_before pages) bytes within);
-  whole = λ store stands. record {
-    good = stands.good;
-    texts = stands.texts;
-    live = stands.live;
-    begins =
-        take-take (length (form_bytes (store_rows store))) (bytes_before pages) bytes (omega (arith, hold store stands))
-        ∙ stands.begins;
-  };
-}
+-- as many of the bytes as the header says
+front_of : (bytes : List ℕ) (pages : ℕ) → 2 ≤ pages → bytes_before pages ≤ length bytes
+    → (first_header bytes).pages ≡ pages → IsStoreOf bytes (take (bytes_before pages) bytes)
+front_of bytes pages some within told =
+    let front : front_bytes bytes ≡ take (bytes_before pages) bytes =
+    ap (λ (n : ℕ). take (bytes_before n) bytes) told in
+    record {
+      begins = ap (λ n. take n bytes) (length-take-le (bytes_before pages) bytes within);
+      whole =
+          subst (λ (bs : List ℕ). front_bytes bs ≡ front_bytes bytes) front
+          (front_again bytes (subst (λ (n : ℕ). 2 ≤ n) (sym told) some));
+    }
 
 -- the first pages of a file, from page 1 on
 pages_read : (file read : List ℕ) (pages len : ℕ) → 2 ≤ pages → page_size * pages ≤ length file
-    → HoldPages pages (drop page_size file) → len ≡ page_size * pages → read ≡ slice_range file 0 (0 + len)
+    → (first_header (drop page_size file)).pages ≡ pages → len ≡ page_size * pages → read ≡ slice_range file 0 (0 + len)
     → IsStoreOf (drop page_size file) (drop page_size read)
-pages_read file read pages len some within hold counted is =
+pages_read file read pages len some within told counted is =
     let whole : 0 + len - 0 ≡ page_size + bytes_before pages = omega arith in
     let front : drop page_size read ≡ take (bytes_before pages) (drop page_size file) =
     ap (drop page_size) (is ∙ ap (λ n. take n file) whole) ∙ drop-take page_size (bytes_before pages) file in
     subst (IsStoreOf (drop page_size file)) (sym front)
-    (front_of (drop page_size file) pages (omega (arith, length-drop page_size file)) hold)
+    (front_of (drop page_size file) pages some (omega (arith, length-drop page_size file)) told)
 
 -- a vector that a read filled
 read_back : (out rest : List ℕ) (len : ℕ) → len ≡ length out → take len (out ++ rest) ≡ out
@@ -54,8 +53,8 @@ read_from : (session : Session) (bytes front : List ℕ) → IsStoreOf bytes fro
 read_from session bytes front is read =
     let own : List ℕ = session_bytes session in
     record {
-      stands = stands_for_more front bytes (session_store session) read.stands is.begins;
-      only = λ store stands. read.only store (is.whole store stands);
+      stands = subst (λ (bs : List ℕ). StandsFor bs (session_store session)) is.whole read.stands;
+      only = λ store stands. read.only store (subst (λ (bs : List ℕ). StandsFor bs store) (sym is.whole) stands);
       begins =
           sym (take-take (length own) (length front) bytes
           (omega (arith, length-take (length own) front, ap length read.begins))) ∙ ap (take (length own)) is.begins
@@ -91,9 +90,9 @@ returns-in_err-session_of-clause-ends g c =
     MatchOption-at_some _ _ file (c.store_pages.ensures.reads.file.held ∙ is) c.in_ok-read_at.ensures.read in
     let back = read_back c.read_at.new.out _ _ (omega (arith, c.deref_mut.ensures.len, c.read_at.auto.out)) in
     let front =
-    pages_read file c.deref.result.now pages (length c.deref_mut.result.now) told.0 are.within are.whole len
-    (c.deref.ensures.value ∙ back ∙ read) in
-    c.session_of.ensures.not_a_store (c.in_err-session_of.was ∙ ap Err error_is) store (front.whole store stands))))
+    pages_read file _ pages (length c.deref_mut.result.now) told.0 are.within are.told len (back ∙ read) in
+    c.session_of.ensures.not_a_store (c.in_err-session_of.was ∙ ap Err error_is) store
+    (subst (λ (bs : List ℕ). StandsFor bs store) (sym front.whole) stands))))
 
 pub returns-clause-ends : goal.returns-clause-ends
 returns-clause-ends g c =
@@ -109,7 +108,7 @@ returns-clause-ends g c =
           MatchOption-at_some _ _ file (c.store_pages.ensures.reads.file.held ∙ is)
           c.in_ok-read_at.ensures.read in
           let back = read_back c.read_at.new.out _ _ (omega (arith, c.deref_mut.ensures.len, c.read_at.auto.out)) in
-          read_from c.in_ok-session_of.field-0 (drop page_size file) (drop page_size c.deref.result.now)
-          (pages_read file c.deref.result.now pages (length c.deref_mut.result.now) told.0 are.within are.whole len
-          (c.deref.ensures.value ∙ back ∙ read)) c.in_ok-session_of.ensures.read),
+          read_from c.in_ok-session_of.field-0 (drop page_size file) _
+          (pages_read file _ pages (length c.deref_mut.result.now) told.0 are.within are.told len
+          (back ∙ read)) c.in_ok-session_of.ensures.read),
     )

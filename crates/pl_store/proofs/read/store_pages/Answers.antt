@@ -1,5 +1,7 @@
 use Rattle.std.proofs.Common.{◌≡◌, ◌≤◌, ◌<◌, ◌-◌, ◌*◌, ◌++◌, ◌∙◌, ℕ, List, ap, arith, drop, length, replicate, sym}
-use Rattle.std.proofs.Common.{take}
+use Rattle.std.proofs.Common.{take, subst}
+use Rattle.std.proofs.Math.Logic.{∥∥₁_elim}
+use Rattle.std.proofs.Props.{props}
 use Rattle.std.proofs.lemmas.List.{length-append, length-drop, length-take}
 use Rattle.std.proofs.lemmas.Option.{IfSome_then, MatchOption-at_some}
 use Rattle.pl_base.specs.Store.{Store}
@@ -7,35 +9,33 @@ use Rattle.pl_base.specs.Touched.{page_size}
 use Rattle.pl_desk.proofs.Told.{if_some}
 use Rattle.pl_desk.proofs.AnyMoment.{read_call, reads_none}
 use Rattle.pl_desk.specs.Calls.{OnlyReads}
-use Rattle.pl_form.specs.Form.{StandsFor, filled_pages, form_bytes, header, plain_bytes, store_rows}
-use Rattle.pl_store.specs.Reading.{ArePagesOf, HoldNone, HoldPages}
+use Rattle.pl_linked.proofs.Checked.{form_slots}
+use Rattle.pl_reading.specs.File.{HasSlots, IsNamed, file_header, most_pages}
+use Rattle.pl_reading.proofs.FileLaws.{all_there, is_named, two_pages}
+use Rattle.pl_slot.specs.Header.{header_in}
+use Rattle.pl_store.specs.Reading.{ArePagesOf, HoldNone}
 use Rattle.pl_store.proofs.read.store_pages.Given.{Over}
 use Rattle.pl_store.proofs.read.store_pages.Goals.{After-len, After-read_at}
 use Rattle.pl_store.proofs.read.store_pages.Goals as goal
 
 -- ---- what the bytes stand for
 
--- bytes that stand for a store are no shorter than its form
-form_within : (bytes : List ℕ) (store : Store) → StandsFor bytes store
-    → length (form_bytes (store_rows store)) ≤ length bytes
-form_within bytes store stands =
-    omega (arith, length-take (length (form_bytes (store_rows store))) bytes, ap length stands.begins)
-
--- which has a header page
-form_long : (store : Store) → page_size ≤ length (form_bytes (store_rows store))
-form_long store =
-    let plain : List ℕ = plain_bytes (store_rows store) in
-    let rest : List ℕ = replicate (page_size * filled_pages (length plain) - length plain) 0 in
-    omega (arith, length-append (header (length plain) ++ plain) rest, length-append (header (length plain)) plain)
+-- a file that stands for a store has its header and its slots
+lacks_slots : (file : List ℕ) → (HasSlots file → ⊥) → HoldNone (drop page_size file)
+lacks_slots file lacks store stands =
+    ∥∥₁_elim stands.form (Prim.hlevel props) (λ form. lacks (form_slots file stands.kept stands.targets form))
 
 too_short : (file : List ℕ) → length file < 2 * page_size → HoldNone (drop page_size file)
-too_short file short store stands =
-    omega (arith, form_within (drop page_size file) store stands, form_long store, length-drop page_size file)
+too_short file short = lacks_slots file (λ has. omega (arith, two_pages file has, short))
 
-cut_off : (file : List ℕ) (pages : ℕ) → HoldPages pages (drop page_size file) → length file < page_size * pages
+cut_off : (file : List ℕ) (pages : ℕ) → (file_header file).pages ≡ pages → length file < page_size * pages
     → HoldNone (drop page_size file)
-cut_off file pages hold cut store stands =
-    omega (arith, form_within (drop page_size file) store stands, hold store stands, length-drop page_size file)
+cut_off file pages told cut = lacks_slots file (λ has. omega (arith, all_there file has, told, cut))
+
+-- how many pages the header says
+told : (file page : List ℕ) (pages : ℕ) → page ≡ take page_size (drop page_size file)
+    → pages ≡ (header_in page).pages → (file_header file).pages ≡ pages
+told file page pages first is = sym (is ∙ ap (λ (bytes : List ℕ). (header_in bytes).pages) first)
 
 -- ---- what a stop shows
 
@@ -83,10 +83,12 @@ returns-then-len-clause-pages g c =
 pub returns-in_default-clause-pages : goal.returns-in_default-clause-pages
 returns-in_default-clause-pages g c =
     let held = g.D.Desk.held in
-    if_some (held c.args.desk.now) (λ file. HoldNone (drop page_size file)) (λ file is store stands.
+    if_some (held c.args.desk.now) (λ file. HoldNone (drop page_size file)) (λ file is.
     let first : c.read_at.new.out ≡ take page_size (drop page_size file) =
     MatchOption-at_some _ _ file (c.len.ensures.held ∙ is) c.in_ok-read_at.ensures.read in
-    c.in_default.ensures.whole (drop page_size file) store stands (sym first))
+    lacks_slots file (λ has.
+    c.named_pages.ensures.none c.in_default.is
+    (subst (λ (page : List ℕ). IsNamed (header_in page)) (sym first) (is_named file has))))
 
 pub returns-then-len-from-clause-pages : goal.returns-then-len-from-clause-pages
 returns-then-len-from-clause-pages g c =
@@ -95,21 +97,20 @@ returns-then-len-from-clause-pages g c =
     let first : c.read_at.new.out ≡ take page_size (drop page_size file) =
     MatchOption-at_some _ _ file (c.len.ensures.held ∙ is) c.in_ok-read_at.ensures.read in
     let len : c.in_ok-len.len ≡ length file = MatchOption-at_some _ _ file is c.in_ok-len.ensures.length in
-    cut_off file c.in-Some.pages
-    (λ store stands. c.in-Some.ensures.whole (drop page_size file) store stands (sym first))
+    cut_off file c.in-Some.pages (told file c.read_at.new.out c.in-Some.pages first c.in-Some.ensures.some)
     (omega (arith, len, c.from.ensures, c.if-len-from.true)))
 
 pub returns-clause-pages : goal.returns-clause-pages
 returns-clause-pages g c =
     let held = g.D.Desk.held in (
-      c.in-Some.ensures.some,
-      c.in-Some.ensures.most,
+      subst (λ (n : ℕ). 2 ≤ n) (sym c.in-Some.ensures.some) c.in-Some.ensures.named.some,
+      subst (λ (n : ℕ). n ≤ most_pages) (sym c.in-Some.ensures.some) c.in-Some.ensures.named.few,
       if_some (held c.args.desk.now) (ArePagesOf c.in-Some.pages) (λ file is.
           let first : c.read_at.new.out ≡ take page_size (drop page_size file) =
           MatchOption-at_some _ _ file (c.len.ensures.held ∙ is) c.in_ok-read_at.ensures.read in
           let len : c.in_ok-len.len ≡ length file = MatchOption-at_some _ _ file is c.in_ok-len.ensures.length in
           record {
             within = omega (arith, len, c.from.ensures, c.if-len-from.false);
-            whole = λ store stands. c.in-Some.ensures.whole (drop page_size file) store stands (sym first);
+            told = told file c.read_at.new.out c.in-Some.pages first c.in-Some.ensures.some;
           }),
     )

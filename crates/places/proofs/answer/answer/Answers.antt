@@ -1,12 +1,14 @@
-use Rattle.std.proofs.Common.{Err, List, ap, option_to_list, refl, subst, sym, ◌∙◌}
+use Rattle.std.proofs.Common.{Err, List, Ok, ap, append-nil, option_to_list, refl, subst, sym, ℕ, ◌∙◌}
 use Rattle.std.proofs.lemmas.Result.{err_from_is_err_and}
+use Rattle.pl_script.specs.Reply.{reply_text}
 use Rattle.pl_step.specs.declared.command.Command.{Command}
+use Rattle.pl_step.specs.declared.reply.Reply.TheVariants.{Refused}
 use Rattle.pl_step.specs.Parsed.{Parsed}
 use Rattle.pl_step.specs.Run.{after, replies}
 use Rattle.pl_store.specs.Keeper.{keeper_limit, keeper_store}
 use Rattle.pl_store.proofs.KeeperLaws.{kept_keeps, still_kept}
 use Rattle.places.specs.Lines.{entries_in}
-use Rattle.places.specs.Said.{texts}
+use Rattle.places.specs.Said.{Says, texts}
 use Rattle.places.specs.Serving.{Answers, Taking}
 use Rattle.places.proofs.AnswerLemmas.{keeps_refused, refusing, unanswered}
 use Rattle.places.proofs.answer.answer.Goals as goal
@@ -74,3 +76,19 @@ returns-clause-taking g c = let limit = keeper_limit c.args.keeper in let store 
     subst (λ (entries : List (Parsed Command)). Taking g.D.Desk c.args.keeper (after limit store entries)
     (texts (replies limit store entries)) c.perform-answered.result c.args.desk.now c.perform-answered.new.desk)
     (sym (ap option_to_list read.entry)) c.perform-answered.ensures.taking
+
+pub returns-in-Err-Refused-clause-answers : goal.returns-in-Err-Refused-clause-answers
+returns-in-Err-Refused-clause-answers g c = let desk = g.D.Desk in
+    let read = rw c.in-Err-Refused.field-0-is at c.in-Err-Refused.ensures in
+    let limit = keeper_limit c.args.keeper in let store = keeper_store c.args.keeper in
+    let Said : List ℕ → Type 0 = λ t. Says (desk.said c.args.desk.now) t (desk.said c.refuse.new.desk) in
+    subst (λ (entries : List (Parsed Command)). Answers desk (after limit store entries) (replies limit store entries)
+    (Ok c.args.keeper) c.args.desk.now c.refuse.new.desk)
+    (sym (ap option_to_list read.entry)) (record {
+      store = refl;
+      said =
+          subst Said (sym (append-nil (reply_text (Refused c.in-Err-Refused.refusal))))
+          c.in_ok-refuse-in-Err-Refused.ensures.said;
+      stopped = tt;
+      no_memory = λ same. absurd (cc);
+    })

@@ -1,4 +1,4 @@
-use Rattle.std.proofs.Common.{ℕ, List, append-nil, refl, subst, sym, ◌∙◌}
+use Rattle.std.proofs.Common.{ℕ, List, append-nil, length, refl, subst, sym, take, ◌∙◌, ◌<◌}
 use Rattle.std.proofs.lemmas.Result.{err_from_is_err_and}
 use Rattle.pl_desk.specs.Calls.{LeavesFile}
 use Rattle.pl_store.specs.Keeper.{is_file, keeper_store, ready_store}
@@ -138,3 +138,17 @@ returns-clause-counted g c = let desk = g.D.Desk in record {
       stood (desk.device_faults c.args.desk.now) (desk.device_faults c.say_all.new.desk) (λ same. absurd (cc))
       (c.say_all.ensures.file.faults ∙ c.in_ok-next.ensures.calls.counted);
 }
+
+pub returns-clause-answers : goal.returns-clause-answers
+returns-clause-answers g c = let desk = g.D.Desk in let text = reply_text c.args.reply.now in
+    let Stopped : List ℕ → Type 0 =
+    λ t. (n : ℕ) × (n < length t) × Says (desk.said c.args.desk.now) (take n t) (desk.said c.say_all.new.desk) in
+    let stopped : Stopped text =
+    rw (← c.as_bytes.ensures.value ∙ c.as_str.ensures ∙ c.in_ok-text.ensures.exact, ← c.commit.ensures.calls.line.said)
+    c.in-Err.ensures.front in
+    record {
+      store = tt;
+      said = tt;
+      stopped = subst Stopped (sym (append-nil text)) stopped;
+      no_memory = λ same. absurd (cc);
+    }

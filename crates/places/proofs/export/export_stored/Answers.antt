@@ -1,9 +1,9 @@
-use Rattle.std.proofs.Common.{◌≡◌, ◌∙◌, ap, inr, sym}
+use Rattle.std.proofs.Common.{◌≡◌, ◌∙◌, ap, inr, subst, sym}
 use Rattle.std.proofs.lemmas.Option.{MatchOption-at_some}
 use Rattle.pl_desk.proofs.SettlingLaws.{settles_on}
 use Rattle.pl_base.specs.Store.{Store}
 use Rattle.pl_store.specs.Session.{session_store}
-use Rattle.places.specs.Exporting.{ShowsExport, export_text}
+use Rattle.places.specs.Exporting.{ComesBack, ShowsExport, export_text}
 use Rattle.places.specs.Stops.{ShowsUnopened}
 use Rattle.places.proofs.ExportLemmas.{export_unopened, not_done, opened_shows, rests_still, said_part, said_shows}
 use Rattle.places.proofs.ExportLemmas.{said_whole, settled_rests}
@@ -118,3 +118,11 @@ returns-clause-finished g c = λ file held finished.
 pub returns-clause-no_store : goal.returns-clause-no_store
 returns-clause-no_store g c = λ file held none.
     absurd (none (session_store c.in-Ok.session) (MatchOption-at_some _ _ file held c.in-Ok.ensures.ends.1.stands))
+
+-- ---- what was said comes back
+
+pub returns-in-Ok-say_all-clause-returns : goal.returns-in-Ok-say_all-clause-returns
+returns-in-Ok-say_all-clause-returns g c = λ done file start held stands.
+    let is : session_store c.in-Ok.session ≡ start =
+    sym (MatchOption-at_some _ _ file held c.in-Ok.ensures.ends.1.only start stands) in
+    subst ComesBack is c.in-Ok-export_text.ensures.returns

@@ -5,9 +5,9 @@ use Rattle.std.proofs.lemmas.Bool.{both_ways}
 use Rattle.std.proofs.lemmas.List.{length-map}
 use Rattle.pl_base.specs.Rows.{store_of}
 use Rattle.pl_base.specs.Touched.{MayDiffer, PageImage, page_of, page_numbers}
-use Rattle.pl_form.specs.Form.{StandsFor}
-use Rattle.pl_plain.specs.declared.flat.Flat.{Flat}
-use Rattle.pl_plain.specs.Flat.{IsBase, bytes_of, kept_of}
+use Rattle.pl_linked.specs.declared.linked.Linked.{Linked}
+use Rattle.pl_linked.specs.Linked.{IsBase, bytes_of, kept_of}
+use Rattle.pl_record.specs.Form.{StandsFor}
 use Rattle.pl_store.specs.OwnBase.{HasOwnBase}
 use Rattle.pl_store.specs.Session.{LeadsTo}
 use Rattle.pl_store.proofs.session.Session.prepare.Goals.{Then-changes_nothing}
@@ -26,7 +26,7 @@ invariant_of-result c =
 pub returns-then-changes_nothing-clause-from : goal.returns-then-changes_nothing-clause-from
 returns-then-changes_nothing-clause-from c = record {
   leads =
-      subst (λ (rows : Flat). take (length (bytes_of rows)) (bytes_of c.args.self.engine.rows) ≡ bytes_of rows)
+      subst (λ (rows : Linked). take (length (bytes_of rows)) (bytes_of c.args.self.engine.rows) ≡ bytes_of rows)
       (sym (same_rows c.before)) (take-length (bytes_of c.args.self.engine.rows));
   stands = c.in_ok-engine.ensures.stands;
 }
