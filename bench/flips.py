@@ -10,7 +10,8 @@ just what the reader of `linked_file.py` finds in them. It has to refuse them ex
 maker there writes of the rows that the reader finds, or where these are those of no good store: `stands` says so without
 the program, for URLs such as the script has.
 
-It prints how many are refused, and the fields in which a change is taken, as the same store or as another one.
+It prints how many are refused, and the fields in which a change is taken, as the same store or as another one. The few
+changes that make a next id very great take the program a while, since it asks for each id below.
 """
 import collections
 import concurrent.futures
@@ -24,8 +25,6 @@ import linked_file
 from linked_file import BOOKMARK, DAY, FOLDER, FORMS, HEADER, PAGE_SIZE, SEPARATOR, SLOT_SIZE, TEXT, Damaged, LinkedFile
 
 AT_ONCE = 2
-# `rows` asks for each id below the next ones; where a change makes one greater than this, `check` is run in its place.
-MOST_IDS = 1_000_000
 # Every so many bytes of page 0 one is changed, and as many behind the pages.
 EVERY = 16
 BEHIND = bytes(64)
@@ -225,9 +224,7 @@ REFUSED, SAME, OTHER = "refused", "the same store", "another store"
 
 def outcome(path, data, rows):
     """What the program makes of the bytes, and what is wrong with that, if anything."""
-    header = HEADER.read(data, PAGE_SIZE)
-    has_few = max(header.next_page, header.next_visit, header.next_item) <= MOST_IDS
-    done = subprocess.run([path, "rows" if has_few else "check"], input=data, capture_output=True)
+    done = subprocess.run([path, "rows"], input=data, capture_output=True)
     good = stands(data)
     if (done.returncode, done.stdout, done.stderr) == (1, b"", b"files_main: not a store\n"):
         return REFUSED, "refused, and stands for a store" if good else None
@@ -238,7 +235,7 @@ def outcome(path, data, rows):
     except Damaged as damage:
         return OTHER, f"opened, and the reader finds {damage}"
     kind = SAME if read == rows else OTHER
-    if done.stdout != (read if has_few else b"%d\n" % header.live):
+    if done.stdout != read:
         return kind, "opened, with other rows than the reader finds"
     return kind, None if good else "opened, and stands for no store"
 

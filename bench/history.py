@@ -3,13 +3,13 @@ import math
 import pathlib
 import random
 import sqlite3
-import struct
 import subprocess
 import sys
 import tempfile
 import time
 
-PAGE_SIZE = 1024
+import linked_file
+
 BOOKMARK, FOLDER = 1, 2
 LINK, TYPED = 1, 2
 TAGS_ROOT = 4
@@ -76,22 +76,12 @@ class History:
     # ---- the file
 
     def file_bytes(self):
-        kept, typed = self.frecencies(), {page for _, page, _, transition in self.visits if transition == TYPED}
-        plain = [numbers(0, len(self.pages) + 1, len(self.visits) + 1, len(self.rows) + 1), numbers(len(self.pages))]
-        for page, url, title, _ in self.pages:
-            plain.append(numbers(page) + struct.pack("<Bq", page in typed, kept[page][0]) + text(url) + text(title))
-        plain.append(numbers(len(self.visits)))
-        for visit, page, date, transition in self.visits:
-            plain.append(numbers(visit, page, 0) + struct.pack("<QB", date, transition))
-        plain.append(numbers(len(self.rows)))
-        for item, (kind, page, title, added, modified) in sorted(self.rows.items()):
-            children = list(self.children[item])
-            plain.append(numbers(item, page) + bytes([kind]) + struct.pack("<QQ", added, modified) + text(title)
-                         + numbers(len(children), *children))
-        plain = b"".join(plain)
-        pages = padded(plain)
-        header = b"PLFLAT01" + numbers(2 + len(pages) // PAGE_SIZE) + struct.pack("<Q", len(plain))
-        return bytes(PAGE_SIZE) + padded(header) + pages
+        typed = {page for _, page, _, transition in self.visits if transition == TYPED}
+        pages = [linked_file.Page(page, url.encode(), title.encode(), page in typed) for page, url, title, _ in self.pages]
+        visits = [linked_file.Visit(visit, page, date, transition, 0) for visit, page, date, transition in self.visits]
+        items = [linked_file.Item(item, kind, title.encode(), page, added, modified, tuple(self.children[item]))
+                 for item, (kind, page, title, added, modified) in sorted(self.rows.items())]
+        return linked_file.file_bytes(linked_file.Store.of(0, pages, visits, items))
 
     # ---- the tables
 
@@ -111,18 +101,6 @@ class History:
                           for item, (kind, page, title, added, modified) in self.rows.items()])
         base.execute("ANALYZE")
         return base
-
-
-def numbers(*values):
-    return struct.pack(f"<{len(values)}I", *values)
-
-
-def text(some):
-    return numbers(len(some.encode())) + some.encode()
-
-
-def padded(some):
-    return some + bytes(-len(some) % PAGE_SIZE)
 
 
 # ---- the runs

@@ -5,25 +5,24 @@
 
 The files are made here, by the form of `docs/FORMAT.md`: so many folders in one folder, so many each in the one before
 it, and so many bookmarks of one page in one folder. A script of one `page` line reads and checks a file; one of one
-`visit` line writes the whole of it too. Of three runs the least wall time and the greatest peak memory are shown, and
-each as a multiple of that for half as many items: 2 says that the cost grows with the number, 4 that it grows with its
-square. It is no timed test: it fails only where a reply, or the file that a visit leaves, is another than it must be.
+`visit` line commits it too. Of three runs the least wall time and the greatest peak memory are shown, and each as a
+multiple of that for half as many items: 2 says that the cost grows with the number, 4 that it grows with its square. It is
+no timed test: it fails only where a reply, or the file that a visit leaves, is another than it must be.
 """
 import os
 import pathlib
-import struct
 import subprocess
 import sys
 import tempfile
 import time
 
+import linked_file
+from linked_file import BOOKMARK, FOLDER, LINK, Item, Page, Store, Visit
 from program import program
 
 SIZES = (10_000, 20_000, 40_000)
 RUNS = 3
 
-PAGE_SIZE = 1024
-BOOKMARK, FOLDER = 1, 2
 URL = b"https://a.example/"
 
 # What each line is answered. The page has a bookmark and no visit, and after the link counts 100 and 75.
@@ -71,34 +70,11 @@ SHAPES = {"folders in one folder": wide, "each in the one before": deep, "bookma
 
 # ---- the file
 
-def numbers(*values):
-    return struct.pack(f"<{len(values)}I", *values)
-
-
-def item_bytes(item, kind, page, children):
-    """It has no title, and the first moment of 1970 as its dates."""
-    return numbers(item, page) + bytes([kind]) + struct.pack("<QQ", 0, 0) + numbers(0, len(children), *children)
-
-
-def plain_bytes(items, visited):
-    """One page, with a visit of the first day or with none, and the items."""
-    visits = numbers(1, 1, 0) + struct.pack("<QB", 0, 1) if visited else b""
-    page = numbers(1) + struct.pack("<Bq", 0, 175 if visited else 140) + numbers(len(URL)) + URL + numbers(0)
-    ids = numbers(0, 2, 1 + visited, items[-1][0] + 1)
-    listed = b"".join(item_bytes(*item) for item in items)
-    return ids + numbers(1) + page + numbers(int(visited)) + visits + numbers(len(items)) + listed
-
-
-def padded(some):
-    return some + bytes(-len(some) % PAGE_SIZE)
-
-
-def store_bytes(items, visited):
-    """The store's bytes from page 1 on."""
-    plain = plain_bytes(items, visited)
-    pages = padded(plain)
-    header = b"PLFLAT01" + numbers(2 + len(pages) // PAGE_SIZE) + struct.pack("<Q", len(plain))
-    return padded(header) + pages
+def store_of(items, visited):
+    """One page, with a visit of the first day or with none, and the items, without titles and of the first moment of 1970."""
+    visits = [Visit(1, 1, 0, LINK, 0)] if visited else []
+    rows = [Item(item, kind, b"", page, 0, 0, tuple(children)) for item, kind, page, children in items]
+    return Store.of(0, [Page(1, URL, b"", False)], visits, rows)
 
 
 # ---- the runs
@@ -123,12 +99,12 @@ def run(places, store, line):
 
 def measured(places, store, items, line, visited):
     """The least time and the greatest memory of runs over the items, and what each must leave in the file."""
-    before, after = store_bytes(items, False), store_bytes(items, visited)
+    before, after = linked_file.file_bytes(store_of(items, False)), store_of(items, visited)
     runs = []
     for _ in range(RUNS):
-        store.write_bytes(bytes(PAGE_SIZE) + before)
+        store.write_bytes(before)
         runs.append(run(places, store, line))
-        if store.read_bytes()[PAGE_SIZE:PAGE_SIZE + len(after)] != after:
+        if linked_file.LinkedFile(store.read_bytes()).store() != after:
             sys.exit("the file holds another store than it must")
     return min(wall for wall, _ in runs), max(peak for _, peak in runs)
 
