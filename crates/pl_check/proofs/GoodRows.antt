@@ -17,7 +17,7 @@ use Rattle.pl_base.specs.declared.transition.Transition.TheVariants.{RedirectTem
 use Rattle.pl_base.specs.Good.{AreIds, HasRoots, IsGood, IsGoodPage, IsGoodVisit, IsTitle, IsTree}
 use Rattle.pl_base.specs.Good.{end_of_ids}
 use Rattle.pl_base.specs.Redirects.{visit_by_id}
-use Rattle.pl_base.specs.Store.{Item, Page, Visit, item_id}
+use Rattle.pl_base.specs.Store.{Page, Visit, item_id}
 use Rattle.pl_base.specs.Tree.{has_item}
 use Rattle.pl_base.specs.Touched.{ascends_above}
 use Rattle.pl_stored.specs.declared.stored.StoredVisit.{StoredVisit}
@@ -29,7 +29,7 @@ use Rattle.pl_check.specs.Rows.{is_kept, is_typed_visit}
 use Rattle.pl_check.specs.Items.{has_reference, has_root, has_top_folder, have_roots, is_good_item, item_ids}
 use Rattle.pl_check.specs.Items.{top_numbers}
 use Rattle.pl_check.specs.Tags.{HaveGoodTags}
-use Rattle.pl_stored.specs.Stored.{AreStored, IsStoredItem, IsStoredPage, Stored, stored_page, stored_store}
+use Rattle.pl_stored.specs.Stored.{Stored, stored_page, stored_store}
 use Rattle.pl_stored.specs.Stored.{visit_of}
 use Rattle.pl_stored.specs.Fits.{IsUrl}
 use Rattle.pl_check.specs.Readable.{AreReadable}
@@ -379,14 +379,3 @@ good-from rows h =
 
 pub good_tags : (rows : Stored) → IsGood (stored_store rows) → HaveGoodTags rows.items
 good_tags rows h = tags-from (stored_store rows) h.items h.tags
-
--- rows that fit are such
-pub readable : (rows : Stored) → AreStored rows → AreReadable rows
-readable rows stored =
-    record {
-      ids = stored.ids;
-      urls = All-weaker IsStoredPage (λ (p : StoredPage). IsUrl p.url) (λ p one. one.2) rows.pages stored.pages.0;
-      titles = All-weaker IsStoredPage (λ (p : StoredPage). IsTitle p.title) (λ p one. one.3) rows.pages stored.pages.0;
-      item_titles =
-          All-weaker IsStoredItem (λ (i : Item). IsTitle i.title) (λ i one. one.4) rows.items stored.items.0;
-    }

@@ -1,10 +1,9 @@
--- That no URL stands twice, and the rows from one on.
-use Rattle.std.proofs.Common.{◌≡◌, ◌≢◌, ◌↔◌, ◌∙◌, ◌-◌, ℕ, All, Bool, true, not, IsTrue}
-use Rattle.std.proofs.Common.{List, [], ◌∷◌, ap, arith, bytes_eq, drop, get_or, length, map, refl, subst, suc}
-use Rattle.std.proofs.Common.{sym, take, zero}
+-- That no URL stands twice.
+use Rattle.std.proofs.Common.{◌≡◌, ◌≢◌, ◌↔◌, ◌∙◌, ℕ, All, Bool, true, not, IsTrue}
+use Rattle.std.proofs.Common.{List, [], ◌∷◌, ap, arith, bytes_eq, get_or, map, refl, subst, suc}
+use Rattle.std.proofs.Common.{sym, zero}
 use Rattle.std.specs.List.{AllPairs, list_any}
 use Rattle.std.proofs.lemmas.Bool.{and_from, and_parts, not-true, not_from_false, true≢false}
-use Rattle.std.proofs.lemmas.List.{length-drop, take_all}
 use Rattle.std.proofs.lemmas.List.Folds.{Any-from_list_any}
 use Rattle.std.proofs.lemmas.Slice.Eq.{bytes_eq-Decides}
 use Rattle.pl_base.proofs.ListLaws.{AllPairs-from_map, AllPairs-map}
@@ -13,9 +12,6 @@ use Rattle.pl_base.proofs.Truths.{no_test, same_tests}
 use Rattle.pl_stored.specs.declared.stored.StoredPage.{StoredPage}
 use Rattle.pl_check.specs.Rows.{have_own_urls}
 use Rattle.pl_check.specs.Tags.{AreDistinct}
-
-pub whole_rest : {X : Type 0} (xs : List X) (n : ℕ) → take (length xs - n) (drop n xs) ≡ drop n xs
-whole_rest xs n = take_all (length xs - n) (drop n xs) (omega (arith, length-drop n xs))
 
 -- ---- URLs
 

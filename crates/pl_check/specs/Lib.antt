@@ -1,10 +1,5 @@
-pub mod Assessed
 pub mod Items
-pub mod Latest
-pub mod Origins
 pub mod Readable
 pub mod Rows
-pub mod Samples
 pub mod Tags
-pub mod Targets
 pub mod Visited

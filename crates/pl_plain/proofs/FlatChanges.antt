@@ -5,7 +5,6 @@ use Rattle.std.proofs.Common.{get_or, if◌then◌else◌, inl, inr, length, map
 use Rattle.std.specs.List.{AllPairs, list_any, sum_by}
 use Rattle.std.specs.List.Sorted.{IsStrictlyIncreasing}
 use Rattle.std.specs.Option.{IfSome}
-use Rattle.std.specs.Str.{is_utf8}
 use Rattle.std.proofs.lemmas.Bool.{and_parts, cases_lt, eqb-true, false≢true, ne_eqb}
 use Rattle.std.proofs.lemmas.List.{length-map, length_push, map_push}
 use Rattle.std.proofs.lemmas.List.Elements.{All-map, All-push, All-weaker}
@@ -79,9 +78,7 @@ IsFlat-altered title mark kept origins live after titles filled few h =
       page_ids = rw (map-map (λ (p : KeptPage). p.page.id.0) f kept.pages) h.page_ids;
       visit_ids = h.visit_ids;
       item_ids = h.item_ids;
-      item_titles = h.item_titles;
       urls = All-map (λ (p : KeptPage). IsTrue (is_store_url p.page.url)) f kept.pages h.urls;
-      texts = All-map (λ (p : KeptPage). IsTrue (is_utf8 p.page.url)) f kept.pages h.texts;
       distinct_urls = AllPairs-map (λ (p q : KeptPage). p.page.url ≢ q.page.url) f kept.pages h.distinct_urls;
       titles = All-map (λ (p : KeptPage). IsTitle p.page.title) f kept.pages titles;
       visits =
@@ -219,12 +216,12 @@ slots_with_page url slot kept =
     )
 
 pub IsFlat-with_page : (url : List ℕ) (slot : Slot) (kept : Kept) (named : List KeptOrigin) (origins after live : ℕ)
-    → is_store_url url ≡ true → is_utf8 url ≡ true → All (λ (p : KeptPage). p.page.url ≢ url) kept.pages
+    → is_store_url url ≡ true → All (λ (p : KeptPage). p.page.url ≢ url) kept.pages
     → IsSlotOf kept origins url slot after → kept.ids.page < end_of_ids → live_with_page url kept ≤ slot_limit
     → IsFlat kept origins live
     → IsFlat (record (with_new_page url slot kept) { origins = named }) after
     (live + (after - origins + (1 + chunks url)))
-IsFlat-with_page url slot kept named origins after live own text absent place room fits h =
+IsFlat-with_page url slot kept named origins after live own absent place room fits h =
     let new : KeptPage = next_page url slot kept in
     let pages : List KeptPage = kept.pages ++ new ∷ [] in
     let whole : Kept = record (with_new_page url slot kept) { origins = named } in
@@ -238,9 +235,7 @@ IsFlat-with_page url slot kept named origins after live own text absent place ro
           (λ full. omega arith) h.page_ids);
       visit_ids = h.visit_ids;
       item_ids = h.item_ids;
-      item_titles = h.item_titles;
       urls = All-push (λ (p : KeptPage). IsTrue (is_store_url p.page.url)) kept.pages new h.urls own;
-      texts = All-push (λ (p : KeptPage). IsTrue (is_utf8 p.page.url)) kept.pages new h.texts text;
       distinct_urls =
           all_pairs_push (λ (p q : KeptPage). p.page.url ≢ q.page.url) kept.pages new h.distinct_urls absent;
       titles =
@@ -308,9 +303,7 @@ IsFlat-with_visit row kept origins live there in_range source room fits h =
           (AreIds_push 1 kept.ids.visit (map (λ (v : Visit). v.id.0) kept.visits) (omega arith) (λ full. omega arith)
           h.visit_ids);
       item_ids = h.item_ids;
-      item_titles = h.item_titles;
       urls = h.urls;
-      texts = h.texts;
       distinct_urls = h.distinct_urls;
       titles = h.titles;
       visits =

@@ -1,5 +1,5 @@
 -- The rows stay well kept where items change.
-use Rattle.std.proofs.Common.{◌≡◌, ◌+◌, ◌<◌, ◌≤◌, ◌==◌, ◌∙◌, ℕ, All, Bool, true, false, List}
+use Rattle.std.proofs.Common.{◌≡◌, ◌+◌, ◌<◌, ◌≤◌, ◌==◌, ◌∙◌, ℕ, Bool, true, false, List}
 use Rattle.std.proofs.Common.{Option, Some, arith, get_or, if◌then◌else◌, length, refl}
 use Rattle.std.specs.Prelude.{not}
 use Rattle.std.proofs.lemmas.List.{length-map}
@@ -8,7 +8,7 @@ use Rattle.std.proofs.lemmas.List.Kept.{IsStrictlyIncreasing-filter}
 use Rattle.pl_base.specs.declared.date.Micros.{Micros}
 use Rattle.pl_base.specs.declared.id.ItemId.{ItemId}
 use Rattle.pl_base.specs.declared.item.ItemRow.{ItemRow}
-use Rattle.pl_base.specs.Good.{AreIds, IsTitle, end_of_ids}
+use Rattle.pl_base.specs.Good.{AreIds, end_of_ids}
 use Rattle.pl_base.specs.Live.{chunks, live_slots, slot_limit}
 use Rattle.pl_base.specs.Rows.{Kept, live_with_item, live_with_item_title, store_of, with_item, with_items}
 use Rattle.pl_base.specs.Store.{Item, item_id}
@@ -16,7 +16,6 @@ use Rattle.pl_base.specs.Tree.{inserted, item_at, moved, redated, removed, retit
 use Rattle.pl_base.proofs.ItemLaws.{count_inserted, count_moved, count_removed, ids_changed, ids_inserted, ids_moved}
 use Rattle.pl_base.proofs.ItemLaws.{ids_of, ids_removed, once, slots_inserted, slots_moved, slots_removed, title_slots}
 use Rattle.pl_base.proofs.ListLaws.{sum_by-agree, sum_by-map}
-use Rattle.pl_base.proofs.ItemLaws.{titles_changed, titles_inserted, titles_moved, titles_removed}
 use Rattle.pl_base.proofs.OneChanged.{sum_changed}
 use Rattle.pl_plain.specs.FlatRows.{IsFlat}
 use Rattle.pl_plain.proofs.FlatChanges.{slots_of}
@@ -24,19 +23,17 @@ use Rattle.pl_plain.proofs.Lists.{AreIds_push}
 
 -- other items and another next id, with which the rows take so many slots
 IsFlat-with_items : (kept : Kept) (next : ℕ) (items : List Item) (origins live after : ℕ)
-    → AreIds 7 next (ids_of items) → All (λ (i : Item). IsTitle i.title) items
+    → AreIds 7 next (ids_of items)
     → after ≡ live_slots (store_of (record kept { ids = record kept.ids { item = next }; items = items }))
     → after ≤ slot_limit → IsFlat kept origins live
     → IsFlat (record kept { ids = record kept.ids { item = next }; items = items }) origins after
-IsFlat-with_items kept next items origins live after ids titles filled few h =
+IsFlat-with_items kept next items origins live after ids filled few h =
     record {
       day = h.day;
       page_ids = h.page_ids;
       visit_ids = h.visit_ids;
       item_ids = ids;
-      item_titles = titles;
       urls = h.urls;
-      texts = h.texts;
       distinct_urls = h.distinct_urls;
       titles = h.titles;
       visits = h.visits;
@@ -75,15 +72,14 @@ slots_with_item row title after kept =
     )
 
 pub IsFlat-with_item : (row : ItemRow) (title : List ℕ) (after : Option ItemId) (kept : Kept) (origins live : ℕ)
-    → IsTitle title → kept.ids.item < end_of_ids → live_with_item row title after kept ≤ slot_limit
+    → kept.ids.item < end_of_ids → live_with_item row title after kept ≤ slot_limit
     → IsFlat kept origins live → IsFlat (with_item row title after kept) origins (live + (1 + chunks title))
-IsFlat-with_item row title after kept origins live own room fits h =
+IsFlat-with_item row title after kept origins live room fits h =
     let id : ItemId = item_id kept.ids.item in
     IsFlat-with_items kept (kept.ids.item + 1) (inserted id row title after kept.items) origins live
     (live + (1 + chunks title))
     (rw (ids_inserted id row title after kept.items)
     (AreIds_push 7 kept.ids.item (ids_of kept.items) (omega arith) (λ full. omega arith) h.item_ids))
-    (titles_inserted IsTitle id row title after kept.items own h.item_titles)
     (omega (arith, slots_with_item row title after kept, h.filled))
     (omega (arith, slots_with_item row title after kept, h.filled, fits)) h
 
@@ -95,7 +91,6 @@ IsFlat-with_moved id parent after kept origins live h =
     let items : List Item = moved id parent after kept.items in
     IsFlat-with_items kept kept.ids.item items origins live live
     (rw (ids_moved id parent after kept.items) h.item_ids)
-    (titles_moved IsTitle id parent after kept.items h.item_titles)
     (omega (
       arith,
       h.filled,
@@ -112,13 +107,12 @@ count_changed : (id : ItemId) (change : Item → Item) (items : List Item)
 count_changed id change items = length-map items (λ (i : Item). if i.id.0 == id.0 then change i else i)
 
 IsFlat-with_changed : (id : ItemId) (change : Item → Item) (kept : Kept) (origins live after : ℕ)
-    → ((i : Item) → (change i).id ≡ i.id) → ((i : Item) → IsTitle i.title → IsTitle (change i).title)
+    → ((i : Item) → (change i).id ≡ i.id)
     → after ≡ live_slots (store_of (with_items (with_changed id change kept.items) kept)) → after ≤ slot_limit
     → IsFlat kept origins live → IsFlat (with_items (with_changed id change kept.items) kept) origins after
-IsFlat-with_changed id change kept origins live after same still filled few h =
+IsFlat-with_changed id change kept origins live after same filled few h =
     IsFlat-with_items kept kept.ids.item (with_changed id change kept.items) origins live after
-    (rw (ids_changed id change kept.items same) h.item_ids)
-    (titles_changed IsTitle id change kept.items still h.item_titles) filled few h
+    (rw (ids_changed id change kept.items same) h.item_ids) filled few h
 
 -- the slots of the old title go, and those of the new one come
 pub slots_retitled : (id : ItemId) (title : List ℕ) (modified : Micros) (kept : Kept) (origins live : ℕ) (i : Item)
@@ -136,12 +130,12 @@ slots_retitled id title modified kept origins live i h found =
     )
 
 pub IsFlat-with_retitled : (id : ItemId) (title : List ℕ) (modified : Micros) (kept : Kept) (origins live after : ℕ)
-    → IsTitle title → after ≡ live_with_item_title id title modified kept → after ≤ slot_limit
+    → after ≡ live_with_item_title id title modified kept → after ≤ slot_limit
     → IsFlat kept origins live
     → IsFlat (with_items (retitled id title modified kept.items) kept) origins after
-IsFlat-with_retitled id title modified kept origins live after own filled few h =
+IsFlat-with_retitled id title modified kept origins live after filled few h =
     IsFlat-with_changed id (λ (i : Item). record i { title = title; modified = modified }) kept origins live after
-    (λ i. refl) (λ i old. own) filled few h
+    (λ i. refl) filled few h
 
 redated_title : (id : ItemId) (modified : Micros) (items : List Item)
     → title_slots (redated id modified items) ≡ title_slots items
@@ -159,7 +153,7 @@ pub IsFlat-with_redated : (id : ItemId) (modified : Micros) (kept : Kept) (origi
     → IsFlat (with_items (redated id modified kept.items) kept) origins live
 IsFlat-with_redated id modified kept origins live h =
     let change : Item → Item = λ (i : Item). record i { modified = modified } in
-    IsFlat-with_changed id change kept origins live live (λ i. refl) (λ i old. old)
+    IsFlat-with_changed id change kept origins live live (λ i. refl)
     (omega (
       arith,
       h.filled,
@@ -196,4 +190,4 @@ IsFlat-with_removed id kept origins live after filled few h =
       next_first = h.item_ids.next_first;
       next_last = h.item_ids.next_last;
     })
-    (titles_removed IsTitle id kept.items h.item_titles) filled few h
+    filled few h

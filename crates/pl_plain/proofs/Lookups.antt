@@ -12,7 +12,7 @@ use Rattle.pl_base.specs.Store.{Item, Visit}
 use Rattle.pl_base.specs.Tree.{IsFolder, has_item, item_at, item_title}
 use Rattle.pl_plain.specs.declared.flat.row.FlatPage.{FlatPage}
 use Rattle.pl_plain.specs.FlatRows.{page_of}
-use Rattle.pl_check.specs.Latest.{first_of}
+use Rattle.pl_plain.specs.Latest.{first_of}
 use Rattle.pl_base.proofs.ListLaws.{find-map, found_in, list_any-map}
 use Rattle.pl_base.proofs.LookUps.{found_some}
 use Rattle.pl_plain.proofs.OlderVisits.{id_of-first}

@@ -12,7 +12,7 @@ use Rattle.pl_base.specs.declared.id.VisitId.{VisitId}
 use Rattle.pl_base.specs.Rows.{Kept, first_id, id_behind, older_visit, visit_at}
 use Rattle.pl_base.specs.Store.{Visit}
 use Rattle.pl_base.specs.Visits.{in_place, is_later, latest_first}
-use Rattle.pl_check.specs.Latest.{first_of, is_within}
+use Rattle.pl_plain.specs.Latest.{first_of, is_within}
 use Rattle.pl_base.proofs.ListLaws.{all-filter, all_stay, weaker}
 use Rattle.pl_base.proofs.VisitOrder.{InOrder, latest_in_order, latest_part}
 use Rattle.pl_base.proofs.VisitsLaws.{Differ, Differ-ascending, Differ-filter}

@@ -1,10 +1,8 @@
 -- The opening store is good and sound, whatever ids come next.
-use Rattle.std.proofs.Common.{◌<◌, ◌≤◌, ℕ, All, [], ◌∷◌, arith}
-use Rattle.std.proofs.lemmas.Str.{IsUtf8-nil}
-use Rattle.pl_base.specs.Store.{Item, roots}
+use Rattle.std.proofs.Common.{◌<◌, ◌≤◌, ℕ, [], ◌∷◌, arith}
 use Rattle.std.proofs.lemmas.List.Elements.{All-from_recursion, All-nil}
 use Rattle.pl_base.specs.declared.id.Ids.{Ids}
-use Rattle.pl_base.specs.Good.{AreIds, IsGood, IsTitle, end_of_ids}
+use Rattle.pl_base.specs.Good.{AreIds, IsGood, end_of_ids}
 use Rattle.pl_base.specs.Rows.{IsSound, opening_with, store_of}
 use Rattle.pl_base.proofs.RootsLaws.{has_roots, no_tags, roots_are_good, roots_are_tree, roots_ascend}
 
@@ -30,14 +28,6 @@ root_ids next first last =
       next_first = first;
       next_last = last;
     }
-
-pub root_titles : All (λ (i : Item). IsTitle i.title) roots
-root_titles =
-    All-from_recursion (λ (i : Item). IsTitle i.title) roots
-    (own, (own, (own, (own, (own, (own, tt))))))
-  where
-    own : IsTitle []
-    own = (IsUtf8-nil, omega arith)
 
 pub no_ids : (next : ℕ) → 1 ≤ next → next ≤ end_of_ids → AreIds 1 next []
 no_ids next first last =

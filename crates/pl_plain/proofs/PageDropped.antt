@@ -3,7 +3,6 @@ use Rattle.std.proofs.Common.{◌≡◌, ◌≢◌, ◌+◌, ◌-◌, ◌<◌, �
 use Rattle.std.proofs.Common.{IsTrue, List, [], ◌∷◌, Some, ap, arith, eq-eqb, filter, get_or}
 use Rattle.std.proofs.Common.{if◌then◌else◌, length, map, not, refl, subst, sym}
 use Rattle.std.specs.List.{list_any, swap_remove}
-use Rattle.std.specs.Str.{is_utf8}
 use Rattle.std.proofs.lemmas.Bool.{eqb-true, false≢true, ne_eqb}
 use Rattle.std.proofs.lemmas.List.{length-map}
 use Rattle.std.proofs.lemmas.List.Elements.{All-filter, All-head, All-map, All-tail}
@@ -311,13 +310,9 @@ IsFlat-dropped kept origins live id p named h found unvisited =
       });
       visit_ids = h.visit_ids;
       item_ids = h.item_ids;
-      item_titles = h.item_titles;
       urls =
           All-map (λ (q : KeptPage). IsTrue (is_store_url q.page.url)) f rest
           (each (λ (q : KeptPage). IsTrue (is_store_url q.page.url)) h.urls);
-      texts =
-          All-map (λ (q : KeptPage). IsTrue (is_utf8 q.page.url)) f rest
-          (each (λ (q : KeptPage). IsTrue (is_utf8 q.page.url)) h.texts);
       distinct_urls =
           AllPairs-map (λ (q r : KeptPage). q.page.url ≢ r.page.url) f rest
           (AllPairs-filter (λ (q r : KeptPage). q.page.url ≢ r.page.url) others kept.pages h.distinct_urls);

@@ -1,5 +1,5 @@
 -- The visits that came from one, among rows of visits.
-use Rattle.std.proofs.Common.{◌≡◌, ◌∙◌, ◌+◌, ◌<◌, ◌==◌, ◌++◌, ℕ, Bool, true, false, List, [], ◌∷◌}
+use Rattle.std.proofs.Common.{◌≡◌, ◌∙◌, ◌+◌, ◌-◌, ◌<◌, ◌==◌, ◌++◌, ℕ, Bool, true, false, List, [], ◌∷◌}
 use Rattle.std.proofs.Common.{Some, None, ap, append_assoc, arith, drop, eq-eqb, filter, find, get_or}
 use Rattle.std.proofs.Common.{drop-cons, if◌then◌else◌, length, map, refl, suc, sym, take}
 use Rattle.std.specs.List.{All, AllByRecursion, position}
@@ -7,7 +7,7 @@ use Rattle.std.specs.List.Sorted.{IsStrictlyIncreasing}
 use Rattle.std.specs.Option.{option_map}
 use Rattle.std.proofs.lemmas.Bool.{eqb-true, ne_eqb}
 use Rattle.std.proofs.lemmas.List.{get_or-drop, get_or-take, get_or_default, length-drop, length-take-le, map-append}
-use Rattle.std.proofs.lemmas.List.{take-append-drop}
+use Rattle.std.proofs.lemmas.List.{take-append-drop, take_all}
 use Rattle.std.proofs.lemmas.List.Elements.{All-map, filter-append, recursion_from_All}
 use Rattle.std.proofs.lemmas.List.Quantifiers.{position-Some}
 use Rattle.std.proofs.lemmas.Option.{slice_get-get_or}
@@ -18,8 +18,8 @@ use Rattle.pl_base.specs.Store.{Visit}
 use Rattle.pl_base.proofs.ListLaws.{all-filter}
 use Rattle.pl_stored.specs.declared.stored.StoredVisit.{StoredVisit}
 use Rattle.pl_stored.specs.Stored.{visit_of}
-use Rattle.pl_check.specs.Rows.{stored_visit_ids}
-use Rattle.pl_check.specs.Targets.{is_other_from, is_redirect_from, target_among, targets_of}
+use Rattle.pl_plain.specs.FlatRows.{flat_visit_ids}
+use Rattle.pl_plain.specs.Targets.{is_other_from, is_redirect_from, target_among, targets_of}
 use Rattle.pl_base.proofs.ListLaws.{find-map}
 use Rattle.pl_base.proofs.Searches.{found_at, none_at, rises}
 
@@ -142,7 +142,7 @@ without_front rows id i d at =
     ∙ place.2 k before)
 
 without_back : (rows : List StoredVisit) (id : VisitId) (i : ℕ) (d : StoredVisit)
-    → IsStrictlyIncreasing (stored_visit_ids rows) → position (has id) rows ≡ Some i
+    → IsStrictlyIncreasing (flat_visit_ids rows) → position (has id) rows ≡ Some i
     → Without id (map visit_of (drop (i + 1) rows))
 without_back rows id i d ascending at =
     let place = position-Some (has id) rows i d at in
@@ -158,7 +158,7 @@ without_back rows id i d ascending at =
     )))
 
 pub behind_is : (rows : List StoredVisit) (id source : VisitId) (i : ℕ) (d : StoredVisit)
-    → IsStrictlyIncreasing (stored_visit_ids rows) → position (has id) rows ≡ Some i
+    → IsStrictlyIncreasing (flat_visit_ids rows) → position (has id) rows ≡ Some i
     → (get_or rows i d).source ≡ Some source → (b : Bool) → is_redirect (get_or rows i d).transition ≡ b
     → target_among (map visit_of rows) id
     ≡ first_id (if b then filter (is_redirect_from source) (map visit_of (drop (i + 1) rows))
@@ -175,3 +175,7 @@ behind_is rows id source i d ascending at from b redirect =
     ∙ ap (λ vs. first_id (if b then filter (is_redirect_from source) (map visit_of (drop (i + 1) rows))
     ++ filter (is_other_from source) vs else filter (is_other_from source) (map visit_of (drop (i + 1) rows))))
     (sym parts))
+
+-- the rest of a list, as a slice up to its end
+pub whole_rest : {X : Type 0} (xs : List X) (n : ℕ) → take (length xs - n) (drop n xs) ≡ drop n xs
+whole_rest xs n = take_all (length xs - n) (drop n xs) (omega (arith, length-drop n xs))

@@ -140,9 +140,7 @@ IsFlat-without_visit id kept origins live there h =
         next_last = h.visit_ids.next_last;
       });
       item_ids = h.item_ids;
-      item_titles = h.item_titles;
       urls = h.urls;
-      texts = h.texts;
       distinct_urls = h.distinct_urls;
       titles = h.titles;
       visits =

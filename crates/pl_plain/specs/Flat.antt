@@ -1,21 +1,27 @@
--- A flat store seen as what is kept of a store.
-use Rattle.std.specs.Prelude.{◌≡◌, ℕ, List, false, length}
+-- A flat store seen as what is kept of a store. It has no file, and so no bytes.
+use Rattle.std.specs.Prelude.{◌≡◌, ℕ, List, [], Option, Some}
 use Rattle.pl_base.specs.Rows.{Kept}
-use Rattle.pl_base.specs.Touched.{bytes_before}
+use Rattle.pl_base.specs.Store.{Store}
 use Rattle.pl_plain.specs.declared.flat.Flat.{Flat}
-use Rattle.pl_plain.specs.FlatRows.{bytes_from, kept_from}
+use Rattle.pl_plain.specs.FlatRows.{kept_from}
 
 -- what a flat store keeps
 abbrev pub kept_of : Flat → Kept
 kept_of flat =
     kept_from flat.day flat.ids flat.pages.items flat.totals.items flat.visits.items flat.items
 
--- the bytes that a file of the store holds from page 1 on
+-- its bytes are none
 abbrev pub bytes_of : Flat → List ℕ
-bytes_of flat =
-    bytes_from flat.day flat.ids flat.pages.items flat.visits.items flat.items
+bytes_of flat = []
 
--- what the bytes may have been at the last `touched`
-pub record IsBase (flat : Flat) (bytes : List ℕ) : Type 0 where
-  pub len : length bytes ≡ bytes_before flat.before
-  pub same : flat.is_changed ≡ false → bytes ≡ bytes_of flat
+-- nor were they any at the last `touched`
+abbrev pub IsBase : Flat → List ℕ → Type 0
+IsBase flat bytes = bytes ≡ []
+
+-- the form of these bytes says nothing: any bytes stand for any store
+abbrev pub StandsForAny : List ℕ → Store → Type 0
+StandsForAny bytes store = Unit {0}
+
+-- the next `touched` lists no page
+abbrev pub pending_of : Flat → Option ℕ
+pending_of flat = Some 0

@@ -1,30 +1,27 @@
--- What holds of a flat store: its rows are well kept, and its bytes stand for a
--- good store with right marks and totals.
-use Rattle.std.specs.Prelude.{◌≡◌, ◌+◌, ◌≤◌, ◌<◌, ◌-◌, ◌==◌, ℕ, ℤ, Contains}
-use Rattle.std.specs.Prelude.{List, [], ◌∷◌, length, map, take, true}
-use Rattle.std.specs.List.{All, enumerate_from, list_any}
+-- What holds of a flat store: its rows are well kept, and the targets of a visit are those of the
+-- definition.
+use Rattle.std.specs.Prelude.{◌≡◌, ◌+◌, ◌≤◌, ◌<◌, ◌-◌, ◌==◌, ℕ, Contains}
+use Rattle.std.specs.Prelude.{List, [], length, map, true}
+use Rattle.std.specs.List.{enumerate_from, list_any}
 use Rattle.std.proofs.Common.{◌∙◌, ap, arith, get_or, refl, subst, sym}
 use Rattle.std.proofs.lemmas.Bool.{eqb-true}
-use Rattle.std.proofs.lemmas.List.{get_or-map, length-map, take_all}
-use Rattle.std.proofs.lemmas.List.Elements.{All-head, All-map, All-tail}
+use Rattle.std.proofs.lemmas.List.{get_or-map, length-map}
 use Rattle.std.proofs.lemmas.List.Folds.{Any-from_list_any}
 use Rattle.std.proofs.lemmas.List.FromFn.{get_or-enumerate_from, length-enumerate_from}
 use Rattle.std.proofs.lemmas.List.Sorted.{IsPermutation-refl}
-use Rattle.std.proofs.lemmas.Str.{IsUtf8-from_is_utf8}
-use Rattle.std.specs.Str.{IsUtf8}
 use Rattle.pl_base.specs.declared.date.Day.{Day}
 use Rattle.pl_base.specs.declared.id.Ids.{Ids}
-use Rattle.pl_base.specs.Frecency.{frecency_of}
 use Rattle.pl_base.specs.declared.id.VisitId.{VisitId}
 use Rattle.pl_base.specs.Redirects.{others_from, redirects_from}
-use Rattle.pl_base.specs.Rows.{AreTargets, IsRight, IsSound, IsWellKept, Kept, KeptOrigin}
+use Rattle.pl_base.specs.Rows.{AreTargets, IsSound, IsWellKept, Kept, KeptOrigin}
 use Rattle.pl_base.specs.Rows.{KeptPage, NamesOrigins, page_origins, store_of}
-use Rattle.pl_base.specs.Store.{Item, Page, Store}
+use Rattle.pl_base.specs.Store.{Item}
 use Rattle.pl_plain.specs.declared.flat.row.FlatPage.{FlatPage}
 use Rattle.pl_stored.specs.declared.stored.StoredVisit.{StoredVisit}
 use Rattle.pl_plain.specs.FlatRows.{IsFlat, kept_from, origin_with, origins_from}
-use Rattle.pl_check.specs.Targets.{targets_of}
-use Rattle.pl_form.specs.Form.{FormRows, StandsFor, form_bytes, kept_rows, store_rows}
+use Rattle.pl_plain.specs.Targets.{targets_of}
+use Rattle.pl_plain.specs.Flat.{IsBase, StandsForAny, bytes_of, kept_of}
+use Rattle.pl_plain.specs.declared.flat.Flat.{Flat}
 
 -- ---- the rows are well kept
 
@@ -133,42 +130,12 @@ targeted kept source =
       all_others = IsPermutation-refl (others_from (store_of kept) source);
     }
 
--- ---- the bytes stand for the store
+-- ---- the bytes
 
-right_rows : (store : Store) (pages : List KeptPage)
-    → All (λ (p : KeptPage). p.frecency ≡ frecency_of store p.page) pages
-    → map {B = Page × ℤ} (λ (p : KeptPage). (p.page, p.frecency)) pages
-    ≡ map {B = Page × ℤ} (λ (p : Page). (p, frecency_of store p))
-    (map (λ (p : KeptPage). p.page) pages)
-right_rows store [] right = refl
-right_rows store (p ∷ pages) right =
-    rw (
-      All-head (λ (p : KeptPage). p.frecency ≡ frecency_of store p.page) p pages right,
-      right_rows store pages (All-tail (λ (p : KeptPage). p.frecency ≡ frecency_of store p.page) p
-          pages right),
-    )
+-- the last `touched` told of no bytes
+pub based : (flat : Flat) → (bytes : List ℕ) × IsBase flat bytes
+based flat = ([], refl)
 
--- rows with right marks are those of their store
-pub rows_are_right : (kept : Kept) → IsRight kept → kept_rows kept ≡ store_rows (store_of kept)
-rows_are_right kept right =
-    ap (λ (pages : List (Page × ℤ)). record (kept_rows kept) { pages = pages })
-    (right_rows (store_of kept) kept.pages right.frecencies)
-
-whole : (bytes : List ℕ) → take (length bytes) bytes ≡ bytes
-whole bytes = take_all (length bytes) bytes (omega arith)
-
--- the bytes of sound rows stand for their store
-pub stands : (kept : Kept) (origins live : ℕ) → IsFlat kept origins live → IsSound kept
-    → StandsFor (form_bytes (kept_rows kept)) (store_of kept)
-stands kept origins live h sound =
-    record {
-      good = sound.good;
-      texts =
-          All-map (λ (p : Page). IsUtf8 p.url) (λ (p : KeptPage). p.page) kept.pages
-          (λ k d within. IsUtf8-from_is_utf8 (get_or kept.pages k d).page.url (h.texts k d within));
-      live = omega (arith, h.filled, h.few);
-      begins =
-          ap (λ (rows : FormRows). take (length (form_bytes (store_rows (store_of kept))))
-          (form_bytes rows)) (rows_are_right kept sound.right)
-          ∙ whole (form_bytes (store_rows (store_of kept)));
-    }
+-- the form says nothing of them
+pub stands : (flat : Flat) → IsSound (kept_of flat) → StandsForAny (bytes_of flat) (store_of (kept_of flat))
+stands flat sound = tt

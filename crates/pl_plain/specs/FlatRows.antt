@@ -1,8 +1,7 @@
 -- The parts of a flat store seen as what is kept of a store, and what holds of them.
-use Rattle.std.specs.Prelude.{◌≡◌, ◌≢◌, ◌-◌, ◌≤◌, ◌<◌, ◌==◌, ℕ, ℤ, Bool, false, IsTrue}
+use Rattle.std.specs.Prelude.{◌≡◌, ◌≢◌, ◌-◌, ◌≤◌, ◌<◌, ◌==◌, ℕ, Bool, false, IsTrue}
 use Rattle.std.specs.Prelude.{List, [], ◌∷◌, map, true, if◌then◌else◌}
 use Rattle.std.specs.List.{All, AllPairs, enumerate_from, list_any, swap_remove}
-use Rattle.std.specs.Str.{is_utf8}
 use Rattle.pl_base.specs.declared.date.Day.{Day}
 use Rattle.pl_base.specs.declared.id.Ids.{Ids}
 use Rattle.pl_base.specs.declared.id.PageId.{PageId}
@@ -16,10 +15,9 @@ use Rattle.pl_base.specs.Live.{live_slots, origin_count, slot_limit}
 use Rattle.pl_base.specs.Removal.{source_left}
 use Rattle.pl_base.specs.Rows.{AreAlike, HasSource, Kept, KeptOrigin, KeptPage}
 use Rattle.pl_base.specs.Rows.{has_page, store_of}
-use Rattle.pl_base.specs.Store.{Item, Page, Visit}
+use Rattle.pl_base.specs.Store.{Item, Visit}
 use Rattle.pl_plain.specs.declared.flat.row.FlatPage.{FlatPage}
 use Rattle.pl_stored.specs.declared.stored.StoredVisit.{StoredVisit}
-use Rattle.pl_form.specs.Form.{form_bytes, kept_rows}
 use Rattle.pl_stored.specs.Stored.{visit_of}
 
 -- a page seen as what is kept of it
@@ -32,10 +30,6 @@ page_of p =
       count = p.count;
       hidden = p.hidden;
     }
-
--- a page and its frecency
-abbrev pub form_row : FlatPage → Page × ℤ
-form_row p = ((page_of p).page, p.frecency)
 
 -- a page with this mark
 abbrev pub with_mark_of : Mark → FlatPage → FlatPage
@@ -90,6 +84,10 @@ left_by id v = record v { source = source_left (id ∷ []) v.source }
 abbrev pub flat_page_ids : List FlatPage → List ℕ
 flat_page_ids pages = map (λ (p : FlatPage). p.id.0) pages
 
+-- the ids of the visits
+abbrev pub flat_visit_ids : List StoredVisit → List ℕ
+flat_visit_ids visits = map (λ (v : StoredVisit). v.id.0) visits
+
 -- an origin by its name, with its total
 abbrev pub origin_with : ℕ × ℕ → KeptOrigin
 origin_with o = record { origin = record { 0 = o.0 }; total = o.1 }
@@ -110,11 +108,6 @@ kept_from day ids pages totals visits items =
       items = items;
     }
 
--- the bytes that a file of these rows holds from page 1 on, in which no total stands
-abbrev pub bytes_from : Day → Ids → List FlatPage → List StoredVisit → List Item → List ℕ
-bytes_from day ids pages visits items =
-    form_bytes (kept_rows (kept_from day ids pages [] visits items))
-
 -- the rows are well kept, where the names of the origins are 1 to `origins`,
 -- and they take so many slots
 pub record IsFlat (kept : Kept) (origins live : ℕ) : Type 0 where
@@ -123,10 +116,8 @@ pub record IsFlat (kept : Kept) (origins live : ℕ) : Type 0 where
   pub visit_ids : AreIds 1 kept.ids.visit (map (λ (v : Visit). v.id.0) kept.visits)
   pub item_ids : AreIds 7 kept.ids.item (map (λ (i : Item). i.id.0) kept.items)
   pub urls : All (λ (p : KeptPage). IsTrue (is_store_url p.page.url)) kept.pages
-  pub texts : All (λ (p : KeptPage). IsTrue (is_utf8 p.page.url)) kept.pages
   pub distinct_urls : AllPairs (λ (p q : KeptPage). p.page.url ≢ q.page.url) kept.pages
   pub titles : All (λ (p : KeptPage). IsTitle p.page.title) kept.pages
-  pub item_titles : All (λ (i : Item). IsTitle i.title) kept.items
   pub visits : All (λ (v : Visit). IsDate v.date × IsTrue (has_page kept v.page)) kept.visits
   pub sources : All (HasSource kept) kept.visits
   pub named : All (λ (p : KeptPage). (0 < p.origin.0) × (p.origin.0 ≤ origins)) kept.pages

@@ -1,7 +1,6 @@
-pub mod CheckPages
 pub mod Flat
-pub mod FlatBase
 pub mod FlatLaws
 pub mod FlatRows
-pub mod Images
+pub mod Latest
 pub mod Place
+pub mod Targets

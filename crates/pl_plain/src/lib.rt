@@ -1,7 +1,6 @@
-//! A store over vectors, and the check of a file's bytes, which makes one.
+//! A store over vectors, which has no file: the plain program that tests compare with.
 #![tactic(auto)]
 
-mod check;
 mod flat;
 
 pub use flat::Flat;

@@ -55,14 +55,13 @@ fn free_name(pages: &mut Vec<FlatPage>, totals: &mut Vec<u64>, name: Slot)
 
 impl Flat {
     ghost use Rattle.std.specs.Prelude.{ℕ, List};
-    ghost use Rattle.pl_plain.specs.Flat.{kept_of, IsBase};
+    ghost use Rattle.pl_plain.specs.Flat.{kept_of};
 
     /// Drops a page, which has no visit, and its origin with its last page.
     pub(crate) fn drop_page(&mut self, id: PageId)
         requires page { has_page (kept_of self.old) id ≡ true }
         requires unvisited { is_visited (store_of (kept_of self.old)) id ≡ false }
         ensures kept { WithoutPage id (kept_of self.old) (kept_of self.new) }
-        ensures base { (bytes : List ℕ) → IsBase self.old bytes → IsBase self.new bytes }
     {
         let page = find_page(&self.pages, id).unwrap();
         let origin = page.origin;
@@ -71,6 +70,5 @@ impl Flat {
         drop_row(&mut self.pages, id);
         free_name(&mut self.pages, &mut self.totals, origin);
         self.live -= slots + (origins - self.totals.len()) as u64;
-        self.is_changed = true;
     }
 }

@@ -24,7 +24,7 @@ fn grow(totals: &mut Vec<u64>, origins: u32) -> Result<(), NoMemory>
 }
 
 impl Flat {
-    ghost use Rattle.pl_plain.specs.Flat.{kept_of, IsBase};
+    ghost use Rattle.pl_plain.specs.Flat.{kept_of};
     ghost use Rattle.pl_plain.specs.FlatRows.{origins_from};
 
     /// A new page whose origin has this name, where there are so many origins with it.
@@ -39,8 +39,6 @@ impl Flat {
         ensures kept { OnOk result (kept_of self.new
             ≡ record (with_new_page url.now origin (kept_of self.old))
             { origins = origins_from (grown self.old.totals.items origins) }) }
-        ensures base { OnOk result
-            ((bytes : List ℕ) → IsBase self.old bytes → IsBase self.new bytes) }
     {
         let id = PageId(self.ids.page);
         let page = FlatPage {
@@ -59,7 +57,6 @@ impl Flat {
         self.pages.push(page)?;
         self.ids.page += 1;
         self.live += u64::from(more) + 1 + chunks(url);
-        self.is_changed = true;
         Ok(id)
     }
 }

@@ -11,7 +11,7 @@ use pl_base::{ItemId, ItemRow, Micros, NoMemory, Txt, chunks};
 
 impl Flat {
     ghost use Rattle.std.specs.Prelude.{ℕ, List};
-    ghost use Rattle.pl_plain.specs.Flat.{kept_of, IsBase};
+    ghost use Rattle.pl_plain.specs.Flat.{kept_of};
 
     /// A new item, the child of its row's parent behind the given one, or the first child.
     pub(crate) fn add_item(
@@ -28,15 +28,12 @@ impl Flat {
         ensures item { IfOk result (λ item. item.0 ≡ self.old.ids.item) }
         ensures kept { OnOk result (kept_of self.new
             ≡ with_item row.now title.now after (kept_of self.old)) }
-        ensures base { OnOk result
-            ((bytes : List ℕ) → IsBase self.old bytes → IsBase self.new bytes) }
     {
         let id = ItemId(self.ids.item);
         let text = Txt::copied(self.alloc, title)?;
         self.items.insert(id, row, text, after)?;
         self.ids.item += 1;
         self.live += 1 + chunks(title);
-        self.is_changed = true;
         Ok(id)
     }
 
@@ -53,14 +50,11 @@ impl Flat {
             ≤ slot_limit }
         ensures kept { OnOk result (kept_of self.new
             ≡ with_items (retitled item title.now modified self.old.items) (kept_of self.old)) }
-        ensures base { OnOk result
-            ((bytes : List ℕ) → IsBase self.old bytes → IsBase self.new bytes) }
     {
         let text = Txt::copied(self.alloc, title)?;
         let old = chunks(self.items.title(item).unwrap());
         self.items.set(item, text, modified);
         self.live = self.live - old + chunks(title);
-        self.is_changed = true;
         Ok(())
     }
 
@@ -70,11 +64,9 @@ impl Flat {
         requires leaf { children_of self.old.items item ≡ [] }
         ensures kept { kept_of self.new
             ≡ with_items (removed item self.old.items) (kept_of self.old) }
-        ensures base { (bytes : List ℕ) → IsBase self.old bytes → IsBase self.new bytes }
     {
         let old = chunks(self.items.title(item).unwrap());
         self.items.remove(item);
         self.live -= 1 + old;
-        self.is_changed = true;
     }
 }

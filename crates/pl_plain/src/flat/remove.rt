@@ -39,17 +39,15 @@ fn leave_sources(visits: &mut Vec<StoredVisit>, id: VisitId)
 
 impl Flat {
     ghost use Rattle.std.specs.Prelude.{ℕ, List};
-    ghost use Rattle.pl_plain.specs.Flat.{kept_of, IsBase};
+    ghost use Rattle.pl_plain.specs.Flat.{kept_of};
 
     /// Drops a visit, and the visits that came from it came from none from then on.
     pub(crate) fn drop_visit(&mut self, id: VisitId)
         requires { has_visit (kept_of self.old) id ≡ true }
         ensures kept { kept_of self.new ≡ without_visit id (kept_of self.old) }
-        ensures base { (bytes : List ℕ) → IsBase self.old bytes → IsBase self.new bytes }
     {
         drop_visit_row(&mut self.visits, id);
         leave_sources(&mut self.visits, id);
         self.live -= 1;
-        self.is_changed = true;
     }
 }

@@ -2,23 +2,20 @@ use crate::Flat;
 use crate::flat::mark::mark_page;
 use crate::flat::search::{behind, find_page, find_visit, latest_visit};
 use crate::flat::targets::{first_target, next_target};
-use crate::flat::touched::whole_change;
+use crate::flat::visit::visit_row;
 use pl_base::{
     Day, Ids, ItemId, ItemRow, Mark, Micros, NoMemory, OriginRow, PageId, Rows, Slot, Steps,
     Touched, Txt, VisitId, VisitRow,
 };
-use pl_check::visit_row;
 use pl_stored::StoredVisit;
 use std::sync::ledger::Ledger;
 
 // No steps are counted, since each call reads any number of rows.
 impl Rows for Flat {
-    ghost use Rattle.std.specs.Prelude.{None, length};
-    ghost use Rattle.pl_plain.specs.Flat.{kept_of, bytes_of, IsBase};
-    ghost use Rattle.pl_plain.specs.FlatBase.{based};
+    ghost use Rattle.std.specs.Prelude.{length};
+    ghost use Rattle.pl_plain.specs.Flat.{kept_of, bytes_of, IsBase, StandsForAny, pending_of};
     ghost use Rattle.pl_plain.specs.FlatLaws as laws;
-    ghost use Rattle.pl_check.specs.Targets.{targets_of};
-    ghost use Rattle.pl_form.specs.Form.{StandsFor};
+    ghost use Rattle.pl_plain.specs.Targets.{targets_of};
 
     ghost kept = { kept_of };
 
@@ -28,9 +25,9 @@ impl Rows for Flat {
 
     ghost targets = { λ flat. targets_of (kept_of flat).visits };
 
-    ghost form = { StandsFor };
+    ghost form = { StandsForAny };
 
-    ghost pending = { λ flat. None };
+    ghost pending = { pending_of };
 
     fn day<L: Ledger>(&self, steps: &mut Steps<L>) -> Day {
         self.day
@@ -38,7 +35,6 @@ impl Rows for Flat {
 
     fn set_day<L: Ledger>(&mut self, day: Day, steps: &mut Steps<L>) {
         self.day = day;
-        self.is_changed = true;
     }
 
     fn ids<L: Ledger>(&self, steps: &mut Steps<L>) -> Ids {
@@ -109,10 +105,8 @@ impl Rows for Flat {
 
     fn set_mark<L: Ledger>(&mut self, page: PageId, mark: Mark, steps: &mut Steps<L>) {
         mark_page(&mut self.pages, page, mark);
-        self.is_changed = true;
     }
 
-    // No byte changes, since the bytes have no totals.
     fn set_total<L: Ledger>(&mut self, origin: Slot, total: u64, steps: &mut Steps<L>) {
         self.totals[origin.0 as usize - 1] = total;
     }
@@ -160,7 +154,6 @@ impl Rows for Flat {
         })?;
         self.ids.visit += 1;
         self.live += 1;
-        self.is_changed = true;
         Ok(id)
     }
 
@@ -218,7 +211,6 @@ impl Rows for Flat {
         steps: &mut Steps<L>,
     ) {
         self.items.move_to(item, parent, after);
-        self.is_changed = true;
     }
 
     fn set_item<L: Ledger>(
@@ -233,7 +225,6 @@ impl Rows for Flat {
 
     fn set_modified<L: Ledger>(&mut self, item: ItemId, modified: Micros, steps: &mut Steps<L>) {
         self.items.set_modified(item, modified);
-        self.is_changed = true;
     }
 
     fn remove_item<L: Ledger>(&mut self, item: ItemId, steps: &mut Steps<L>) {
@@ -241,23 +232,15 @@ impl Rows for Flat {
     }
 
     fn touched<L: Ledger>(&mut self, steps: &mut Steps<L>) -> Result<Touched, NoMemory> {
-        if !self.is_changed {
-            return Ok(Touched::empty(self.alloc, self.before, self.before));
-        }
-        let plain = self.plain()?;
-        let change = whole_change(self.alloc, self.before, &plain)?;
-        self.before = change.after();
-        self.is_changed = false;
-        Ok(change)
+        Ok(Touched::empty(self.alloc, 1, 1))
     }
 
-    ghost based = { based };
+    ghost based = { laws.based };
 
     ghost well_kept = { λ flat. laws.well_kept flat.day flat.ids flat.pages.items
         flat.totals.items flat.visits.items flat.items flat.live flat.rows };
 
     ghost targeted = { λ flat source. laws.targeted (kept_of flat) source };
 
-    ghost stands = { λ flat. laws.stands (kept_of flat) (length flat.totals.items) flat.live
-        flat.rows };
+    ghost stands = { laws.stands };
 }

@@ -5,13 +5,13 @@ ghost use Rattle.std.specs.Option.{option_copied, option_map};
 ghost use Rattle.pl_base.specs.Visits.{latest_first};
 ghost use Rattle.pl_stored.specs.Stored.{visit_of};
 ghost use Rattle.pl_plain.specs.declared.flat.row.FlatPage.{FlatPage};
-ghost use Rattle.pl_check.specs.Rows.{stored_visit_ids};
+ghost use Rattle.pl_plain.specs.FlatRows.{flat_visit_ids};
 ghost use Rattle.pl_plain.specs.FlatRows.{flat_page_ids};
-ghost use Rattle.pl_check.specs.Latest.{first_of, is_within};
+ghost use Rattle.pl_plain.specs.Latest.{first_of, is_within};
 
 use crate::flat::row::FlatPage;
+use crate::flat::visit::{is_within, later_of};
 use pl_base::{PageId, VisitId};
-use pl_check::{is_within, later_of};
 use pl_stored::StoredVisit;
 
 /// Where the page with this id stands.
@@ -41,14 +41,14 @@ pub fn behind(pages: &[FlatPage], id: u32) -> Option<PageId>
 
 /// Where the visit with this id stands.
 pub fn visit_index(visits: &[StoredVisit], id: VisitId) -> Option<usize>
-    requires { IsStrictlyIncreasing (stored_visit_ids visits.now) }
+    requires { IsStrictlyIncreasing (flat_visit_ids visits.now) }
     ensures { result ≡ position (λ v. v.id.0 == id.0) visits.now }
 {
     visits.binary_search_by_key(&id.0, |visit| visit.id.0).ok()
 }
 
 pub fn find_visit(visits: &[StoredVisit], id: VisitId) -> Option<&StoredVisit>
-    requires { IsStrictlyIncreasing (stored_visit_ids visits.now) }
+    requires { IsStrictlyIncreasing (flat_visit_ids visits.now) }
     ensures { option_copied result ≡ find (λ v. v.id.0 == id.0) visits.now }
 {
     visits.get(visit_index(visits, id)?)

@@ -3,13 +3,13 @@ ghost use Rattle.std.specs.Prelude.{◌≡◌, ◌++◌, filter, map};
 ghost use Rattle.std.specs.List.Sorted.{IsStrictlyIncreasing};
 ghost use Rattle.pl_base.specs.Rows.{first_id};
 ghost use Rattle.pl_stored.specs.Stored.{visit_of};
-ghost use Rattle.pl_check.specs.Rows.{stored_visit_ids};
-ghost use Rattle.pl_check.specs.Targets.{is_other_from, is_redirect_from};
-ghost use Rattle.pl_check.specs.Targets.{target_among, targets_of};
+ghost use Rattle.pl_plain.specs.FlatRows.{flat_visit_ids};
+ghost use Rattle.pl_plain.specs.Targets.{is_other_from, is_redirect_from};
+ghost use Rattle.pl_plain.specs.Targets.{target_among, targets_of};
 
 use crate::flat::search::visit_index;
+use crate::flat::visit::{is_other_from, is_redirect_from};
 use pl_base::VisitId;
-use pl_check::{is_other_from, is_redirect_from};
 use pl_stored::StoredVisit;
 
 /// The first of the visits that came from this one.
@@ -21,7 +21,7 @@ pub fn first_target(visits: &[StoredVisit], source: VisitId) -> Option<VisitId>
 
 /// The next of the visits that came from the same one.
 pub fn next_target(visits: &[StoredVisit], id: VisitId) -> Option<VisitId>
-    requires { IsStrictlyIncreasing (stored_visit_ids visits.now) }
+    requires { IsStrictlyIncreasing (flat_visit_ids visits.now) }
     ensures { result ≡ target_among (map visit_of visits.now) id }
 {
     let index = visit_index(visits, id)?;

@@ -22,7 +22,7 @@ fn title_page(pages: &mut [FlatPage], id: PageId, title: Txt)
 
 impl Flat {
     ghost use Rattle.std.specs.Prelude.{ℕ, List};
-    ghost use Rattle.pl_plain.specs.Flat.{kept_of, IsBase};
+    ghost use Rattle.pl_plain.specs.Flat.{kept_of};
 
     /// Gives the page with this id a title.
     pub(crate) fn give_title(&mut self, id: PageId, title: &str) -> Result<(), NoMemory>
@@ -30,14 +30,11 @@ impl Flat {
         requires title { length title.now ≤ longest_title }
         requires live { live_with_title id title.now (kept_of self.old) ≤ slot_limit }
         ensures kept { OnOk result (kept_of self.new ≡ with_title id title.now (kept_of self.old)) }
-        ensures base { OnOk result
-            ((bytes : List ℕ) → IsBase self.old bytes → IsBase self.new bytes) }
     {
         let text = Txt::copied(self.alloc, title)?;
         let old = chunks(find_page(&self.pages, id).unwrap().title.as_str());
         title_page(&mut self.pages, id, text);
         self.live = self.live - old + chunks(title);
-        self.is_changed = true;
         Ok(())
     }
 }

@@ -1,5 +1,4 @@
 use Rattle.std.proofs.Common.{◌<◌, length}
-use Rattle.std.proofs.lemmas.Bool.{true≢false}
 use Rattle.std.proofs.lemmas.List.Elements.{All-weaker}
 use Rattle.pl_base.specs.Store.{Item}
 use Rattle.pl_base.proofs.ListLaws.{All-from_map}
@@ -21,7 +20,5 @@ invariant_of-self-2 c =
       rows =
           rw (c.in_ok-insert.ensures.inserted, c.in_ok-text.ensures, c.chunks.ensures)
           (IsFlat-with_item c.args.row.now c.args.title.now c.args.after (kept_of f) (length f.totals.items) f.live
-          (c.utf8.title, c.requires.title) c.requires.id c.requires.live f.rows);
-      some_page = f.some_page;
-      settled = λ settled. absurd (true≢false settled);
+          c.requires.id c.requires.live f.rows);
     }

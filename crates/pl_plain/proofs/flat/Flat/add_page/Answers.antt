@@ -1,7 +1,5 @@
 use Rattle.std.proofs.Common.{◌≡◌, ◌+◌, ◌-◌, arith, length, ℕ, List}
-use Rattle.std.proofs.lemmas.Bool.{true≢false}
 use Rattle.std.proofs.lemmas.List.{map_push}
-use Rattle.std.proofs.lemmas.Str.{is_utf8-from_IsUtf8}
 use Rattle.pl_base.specs.Live.{chunks}
 use Rattle.pl_plain.specs.Flat.{kept_of}
 use Rattle.pl_plain.specs.FlatRows.{origins_from, page_of}
@@ -33,8 +31,6 @@ invariant_of-self-2 c =
             few,
           )
           (IsFlat-with_page c.args.url.now c.args.origin (kept_of f) (origins_from totals) before c.args.origins f.live
-          c.requires.url (is_utf8-from_IsUtf8 c.args.url.now c.utf8.url) c.requires.absent c.requires.place
+          c.requires.url c.requires.absent c.requires.place
           c.requires.id c.requires.live f.rows);
-      some_page = f.some_page;
-      settled = λ settled. absurd (true≢false settled);
     }

@@ -1,5 +1,4 @@
 use Rattle.std.proofs.Common.{◌∙◌, ◌+◌, ◌-◌, ap, arith, sym, length}
-use Rattle.std.proofs.lemmas.Bool.{true≢false}
 use Rattle.pl_base.specs.Live.{chunks}
 use Rattle.pl_plain.specs.Flat.{kept_of}
 use Rattle.pl_plain.proofs.ItemChanges.{IsFlat-with_removed, slots_with_removed}
@@ -32,6 +31,4 @@ invariant_of-self c =
           (f.live - (1 + c.chunks-old.result))
           (omega (arith, slots, f.rows.filled, c.chunks-old.ensures ∙ ap chunks (sym at.2)))
           (omega (arith, f.rows.few)) f.rows);
-      some_page = f.some_page;
-      settled = λ settled. absurd (true≢false settled);
     }

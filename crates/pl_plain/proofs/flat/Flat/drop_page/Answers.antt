@@ -1,5 +1,4 @@
 use Rattle.std.proofs.Common.{◌≡◌, ◌∙◌, ◌+◌, ◌-◌, ◌==◌, Bool, List, ℕ, ap, arith, length, map, subst, sym, refl}
-use Rattle.std.proofs.lemmas.Bool.{true≢false}
 use Rattle.pl_base.specs.Live.{chunks}
 use Rattle.pl_base.specs.Rows.{KeptPage, WithoutPage, other_pages}
 use Rattle.pl_plain.specs.Flat.{kept_of}
@@ -101,12 +100,10 @@ invariant_of-self c =
           (f.live - n)) (sym gone)
           (flat_dropped (kept_of f) f.totals.items f.live c.args.id (page_of page) f.rows (sym found)
           c.requires.unvisited)));
-      some_page = f.some_page;
-      settled = λ settled. absurd (true≢false settled);
     }
 
-pub returns-clause-kept : goal.returns-clause-kept
-returns-clause-kept c =
+pub returns : goal.returns
+returns c =
     let f = c.args.self.now in
     let page = c.unwrap-page.result.now in
     let found =
@@ -121,9 +118,12 @@ returns-clause-kept c =
     let pages =
     rows_dropped c.args.id page.origin last f.pages.items c.drop_row.new.pages.items c.free_name.new.pages.items
     c.drop_row.ensures c.free_name.ensures.pages in
-    subst (λ (ps : List KeptPage). WithoutPage c.args.id (kept_of f)
-    (record (kept_of f) { pages = ps; origins = origins_from c.free_name.new.totals.items })) (sym pages)
-    (subst (λ (ts : List ℕ). WithoutPage c.args.id (kept_of f)
-    (dropped c.args.id named last page.origin (origins_from ts) (kept_of f))) (sym totals)
-    (without_dropped c.args.id named last page.origin (origins_from left) (kept_of f)
-    (totals_dropped (kept_of f) f.totals.items f.live c.args.id (page_of page) f.rows (sym found) refl)))
+    record {
+      kept =
+          subst (λ (ps : List KeptPage). WithoutPage c.args.id (kept_of f)
+          (record (kept_of f) { pages = ps; origins = origins_from c.free_name.new.totals.items })) (sym pages)
+          (subst (λ (ts : List ℕ). WithoutPage c.args.id (kept_of f)
+          (dropped c.args.id named last page.origin (origins_from ts) (kept_of f))) (sym totals)
+          (without_dropped c.args.id named last page.origin (origins_from left) (kept_of f)
+          (totals_dropped (kept_of f) f.totals.items f.live c.args.id (page_of page) f.rows (sym found) refl)));
+    }

@@ -1,5 +1,4 @@
 use Rattle.std.proofs.Common.{◌-◌, List, ap, arith, subst, sym, length}
-use Rattle.std.proofs.lemmas.Bool.{true≢false}
 use Rattle.pl_base.specs.Store.{Visit}
 use Rattle.pl_plain.specs.Flat.{kept_of}
 use Rattle.pl_plain.specs.FlatRows.{IsFlat}
@@ -20,13 +19,14 @@ invariant_of-self c =
           (sym (visits_dropped c.args.id f.visits.items c.drop_visit_row.new.visits.items
           c.leave_sources.new.visits.items c.drop_visit_row.ensures c.leave_sources.ensures))
           (IsFlat-without_visit c.args.id (kept_of f) (length f.totals.items) f.live c.requires f.rows);
-      some_page = f.some_page;
-      settled = λ settled. absurd (true≢false settled);
     }
 
-pub returns-clause-kept : goal.returns-clause-kept
-returns-clause-kept c =
+pub returns : goal.returns
+returns c =
     let f = c.args.self.now in
-    ap (λ (vs : List Visit). record (kept_of f) { visits = vs })
-    (visits_dropped c.args.id f.visits.items c.drop_visit_row.new.visits.items
-    c.leave_sources.new.visits.items c.drop_visit_row.ensures c.leave_sources.ensures)
+    record {
+      kept =
+          ap (λ (vs : List Visit). record (kept_of f) { visits = vs })
+          (visits_dropped c.args.id f.visits.items c.drop_visit_row.new.visits.items
+          c.leave_sources.new.visits.items c.drop_visit_row.ensures c.leave_sources.ensures);
+    }

@@ -1,6 +1,5 @@
 use Rattle.std.proofs.Common.{◌≡◌, ◌∙◌, ◌++◌, ◌==◌, ◌+◌, ◌-◌, [], List, ℕ, ap, arith, drop, length, map, refl}
 use Rattle.std.proofs.Common.{subst, sym, take}
-use Rattle.std.proofs.lemmas.Bool.{true≢false}
 use Rattle.std.proofs.lemmas.List.{length-map}
 use Rattle.pl_base.specs.Live.{chunks, live_slots}
 use Rattle.pl_base.specs.Rows.{KeptPage, store_of, titled, with_title}
@@ -79,12 +78,10 @@ invariant_of-self c =
           (IsFlat-with_title c.args.id title (kept_of f) (length f.totals.items) f.live
           (f.live - c.chunks-old.result + c.chunks.result) (c.utf8.title, c.requires.title) filled
           (omega (arith, filled, c.requires.live)) f.rows));
-      some_page = f.some_page;
-      settled = λ settled. absurd (true≢false settled);
     }
 
-pub returns-clause-kept : goal.returns-clause-kept
-returns-clause-kept c =
+pub returns : goal.returns
+returns c =
     let f = c.args.self.now in
     let title : List ℕ = c.args.title.now in
     let titles : List FlatPage = map (titled_row c.args.id title) f.pages.items in
@@ -95,6 +92,9 @@ returns-clause-kept c =
     ∙ ap (λ (t : List ℕ). map (titled_row c.args.id t) c.deref_mut.result.now) c.in_ok-text.ensures
     ∙ ap (map (titled_row c.args.id title)) c.deref_mut.ensures.value)
     (length-map f.pages.items (titled_row c.args.id title)) (omega arith) in
-    ap (λ (pages : List KeptPage). record (kept_of f) { pages = pages })
-    (ap (map page_of) same
-    ∙ kept_changed c.args.id (with_title_of title) (titled title) (λ x. refl) f.pages.items)
+    record {
+      kept =
+          ap (λ (pages : List KeptPage). record (kept_of f) { pages = pages })
+          (ap (map page_of) same
+          ∙ kept_changed c.args.id (with_title_of title) (titled title) (λ x. refl) f.pages.items);
+    }

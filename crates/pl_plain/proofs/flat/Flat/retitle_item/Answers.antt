@@ -1,5 +1,4 @@
 use Rattle.std.proofs.Common.{[], ◌≡◌, ◌∙◌, ◌+◌, ◌-◌, ap, arith, sym, length}
-use Rattle.std.proofs.lemmas.Bool.{true≢false}
 use Rattle.pl_base.specs.Live.{chunks}
 use Rattle.pl_base.specs.Rows.{live_with_item_title}
 use Rattle.pl_plain.specs.Flat.{kept_of}
@@ -40,8 +39,6 @@ invariant_of-self c =
       rows =
           rw (c.set.ensures, c.in_ok-text.ensures)
           (IsFlat-with_retitled c.args.item title c.args.modified (kept_of f) (length f.totals.items) f.live
-          (f.live - c.chunks-old.result + c.chunks.result) (c.utf8.title, c.requires.title) filled
+          (f.live - c.chunks-old.result + c.chunks.result) filled
           (omega (arith, filled, c.requires.live)) f.rows);
-      some_page = f.some_page;
-      settled = λ settled. absurd (true≢false settled);
     }

@@ -1,6 +1,6 @@
 use Rattle.std.proofs.Common.{arith, refl}
 use Rattle.std.proofs.lemmas.List.Elements.{All-nil}
-use Rattle.pl_plain.proofs.OpeningGood.{no_ids, opening_is_sound, root_ids, root_titles}
+use Rattle.pl_plain.proofs.OpeningGood.{no_ids, opening_is_sound, root_ids}
 use Rattle.pl_plain.proofs.flat.Flat.with_ids.Goals as goal
 
 pub invariant_of-result : goal.invariant_of-result
@@ -13,9 +13,7 @@ invariant_of-result c =
             page_ids = no_ids c.args.ids.page c.requires.page (omega arith);
             visit_ids = no_ids c.args.ids.visit c.requires.visit (omega arith);
             item_ids = root_ids c.args.ids.item c.requires.item (omega arith);
-            item_titles = root_titles;
             urls = All-nil _;
-            texts = All-nil _;
             distinct_urls = λ i j d before within same. absurd (omega arith);
             titles = All-nil _;
             visits = All-nil _;
@@ -27,8 +25,6 @@ invariant_of-result c =
             filled = refl;
             few = omega arith;
           };
-      some_page = omega arith;
-      settled = λ settled. absurd (cc);
     }
 
 pub returns-clause-sound : goal.returns-clause-sound

@@ -3,7 +3,7 @@ use Rattle.std.specs.Option.{option_map}
 use Rattle.std.proofs.lemmas.Iterator.Adapters.{YieldsList-from_rev_slice}
 use Rattle.std.proofs.lemmas.Iterator.Consumers.{YieldsList-at, YieldsList-end, YieldsList-from_filter}
 use Rattle.pl_stored.specs.Stored.{visit_of}
-use Rattle.pl_check.proofs.LatestVisits.{is_row_within, latest_all, latest_more}
+use Rattle.pl_plain.proofs.LatestVisits.{is_row_within, latest_all, latest_more}
 use Rattle.pl_plain.proofs.flat.search.latest_visit.Goals as goal
 
 pub loop-visit-preserved : goal.loop-visit-preserved

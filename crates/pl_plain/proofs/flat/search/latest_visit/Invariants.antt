@@ -2,8 +2,8 @@ use Rattle.std.proofs.Common.{◌≡◌, map}
 use Rattle.std.specs.Option.{option_map}
 use Rattle.pl_base.specs.Visits.{latest_first}
 use Rattle.pl_stored.specs.Stored.{visit_of}
-use Rattle.pl_check.specs.Latest.{first_of}
-use Rattle.pl_check.proofs.LatestVisits.{walked}
+use Rattle.pl_plain.specs.Latest.{first_of}
+use Rattle.pl_plain.proofs.LatestVisits.{walked}
 use Rattle.pl_plain.proofs.flat.search.latest_visit.Given as goal
 
 abbrev pub invariant-loop-visit : goal.invariant-loop-visit

@@ -4,7 +4,7 @@ use Rattle.std.proofs.lemmas.Iterator.{YieldsList-from_slice}
 use Rattle.std.proofs.lemmas.Iterator.Search.{find_from_yields_List}
 use Rattle.pl_stored.specs.declared.stored.StoredVisit.{StoredVisit}
 use Rattle.pl_stored.specs.Stored.{visit_of}
-use Rattle.pl_check.specs.Targets.{is_other_from}
+use Rattle.pl_plain.specs.Targets.{is_other_from}
 use Rattle.pl_plain.proofs.TargetVisits.{first_id-find}
 use Rattle.pl_plain.proofs.flat.targets.first_other.Goals as goal
 

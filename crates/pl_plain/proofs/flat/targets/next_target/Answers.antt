@@ -2,9 +2,8 @@ use Rattle.std.proofs.Common.{◌+◌, ◌∙◌, ◌++◌, List, ap, false, fil
 use Rattle.pl_base.specs.Rows.{first_id}
 use Rattle.pl_stored.specs.declared.stored.StoredVisit.{StoredVisit}
 use Rattle.pl_stored.specs.Stored.{visit_of}
-use Rattle.pl_check.specs.Targets.{is_other_from, is_redirect_from}
-use Rattle.pl_check.proofs.RowTests.{whole_rest}
-use Rattle.pl_plain.proofs.TargetVisits.{behind_is, behind_no_source, behind_none}
+use Rattle.pl_plain.specs.Targets.{is_other_from, is_redirect_from}
+use Rattle.pl_plain.proofs.TargetVisits.{behind_is, behind_no_source, behind_none, whole_rest}
 use Rattle.pl_plain.proofs.flat.targets.next_target.Goals as goal
 
 pub returns-in_err-index : goal.returns-in_err-index

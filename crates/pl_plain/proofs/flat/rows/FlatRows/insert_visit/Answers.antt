@@ -1,5 +1,4 @@
 use Rattle.std.proofs.Common.{length}
-use Rattle.std.proofs.lemmas.Bool.{true≢false}
 use Rattle.std.proofs.lemmas.List.{map_push}
 use Rattle.pl_stored.specs.Stored.{visit_of}
 use Rattle.pl_plain.specs.Flat.{kept_of}
@@ -14,6 +13,4 @@ invariant_of-self-2 g c =
           rw (c.in_ok-push.ensures.items, map_push visit_of)
           (IsFlat-with_visit c.args.row.now (kept_of f) (length f.totals.items) f.live c.requires.page c.requires.date
           c.requires.source c.requires.id c.requires.live f.rows);
-      some_page = f.some_page;
-      settled = λ settled. absurd (true≢false settled);
     }

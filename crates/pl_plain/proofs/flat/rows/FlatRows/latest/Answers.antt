@@ -2,7 +2,7 @@ use Rattle.std.proofs.Common.{◌∙◌, None, ap, filter, map, sym}
 use Rattle.std.specs.Option.{option_map}
 use Rattle.pl_base.specs.Visits.{latest_first}
 use Rattle.pl_stored.specs.Stored.{visit_of}
-use Rattle.pl_check.specs.Latest.{first_of, is_within}
+use Rattle.pl_plain.specs.Latest.{first_of, is_within}
 use Rattle.pl_plain.proofs.Lookups.{first_id-none, first_id-some}
 use Rattle.pl_plain.proofs.flat.rows.FlatRows.latest.Goals as goal
 

@@ -5,7 +5,7 @@ use Rattle.pl_base.specs.Store.{Visit}
 use Rattle.pl_base.specs.Visits.{latest_first}
 use Rattle.pl_stored.specs.Stored.{visit_of}
 use Rattle.pl_plain.specs.Flat.{kept_of}
-use Rattle.pl_check.specs.Latest.{first_of, is_within}
+use Rattle.pl_plain.specs.Latest.{first_of, is_within}
 use Rattle.pl_plain.proofs.Lookups.{none-found, older_visit-none, one-found}
 use Rattle.pl_plain.proofs.OlderVisits.{older_visit-found}
 use Rattle.pl_plain.proofs.Searches.{visits_ascend}

@@ -1,5 +1,4 @@
 use Rattle.std.proofs.Common.{◌≡◌, ◌∙◌, ◌++◌, List, ap, arith, drop, length, map, refl, subst, sym, take}
-use Rattle.std.proofs.lemmas.Bool.{true≢false}
 use Rattle.std.proofs.lemmas.List.{length-map}
 use Rattle.pl_base.specs.Rows.{KeptPage, marked}
 use Rattle.pl_plain.specs.declared.flat.row.FlatPage.{FlatPage}
@@ -32,8 +31,6 @@ invariant_of-self g c =
           IsFlat (record (kept_of f) { pages = pages }) (length f.totals.items) f.live)
           (sym (kept_changed c.args.page (with_mark_of c.args.mark) (marked c.args.mark) (λ x. refl) f.pages.items))
           (IsFlat-with_mark c.args.page c.args.mark (kept_of f) (length f.totals.items) f.live f.rows));
-      some_page = f.some_page;
-      settled = λ settled. absurd (true≢false settled);
     }
 
 pub returns-clause-kept : goal.returns-clause-kept

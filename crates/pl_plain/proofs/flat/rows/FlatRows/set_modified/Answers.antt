@@ -1,5 +1,4 @@
 use Rattle.std.proofs.Common.{List, subst, sym, length}
-use Rattle.std.proofs.lemmas.Bool.{true≢false}
 use Rattle.pl_base.specs.Store.{Item}
 use Rattle.pl_plain.specs.Flat.{kept_of}
 use Rattle.pl_plain.specs.FlatRows.{IsFlat, kept_from}
@@ -14,6 +13,4 @@ invariant_of-self g c =
           subst (λ (items : List Item). IsFlat (kept_from f.day f.ids f.pages.items f.totals.items f.visits.items items)
           (length f.totals.items) f.live) (sym c.set_modified.ensures)
           (IsFlat-with_redated c.args.item c.args.modified (kept_of f) (length f.totals.items) f.live f.rows);
-      some_page = f.some_page;
-      settled = λ settled. absurd (true≢false settled);
     }

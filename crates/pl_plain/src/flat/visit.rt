@@ -5,14 +5,14 @@ ghost use Rattle.pl_base.specs.Redirects as redirects;
 ghost use Rattle.pl_base.specs.Rows.{row_of};
 ghost use Rattle.pl_base.specs.Visits as visits;
 ghost use Rattle.pl_stored.specs.Stored.{visit_of};
-ghost use Rattle.pl_check.specs.Latest as latest;
-ghost use Rattle.pl_check.specs.Targets as targets;
+ghost use Rattle.pl_plain.specs.Latest as latest;
+ghost use Rattle.pl_plain.specs.Targets as targets;
 
 use pl_base::{PageId, VisitId, VisitRow};
 use pl_stored::StoredVisit;
 
-/// Whether the date is later, or the same and the id greater.
-pub fn is_later(visit: &StoredVisit, other: &StoredVisit) -> bool
+// Whether the date is later, or the same and the id greater.
+fn is_later(visit: &StoredVisit, other: &StoredVisit) -> bool
     ensures { result ≡ visits.is_later (visit_of visit.now) (visit_of other.now) }
 {
     (visit.date, visit.id) > (other.date, other.id)

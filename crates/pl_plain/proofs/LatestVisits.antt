@@ -9,7 +9,7 @@ use Rattle.pl_base.specs.Store.{Visit}
 use Rattle.pl_base.specs.Visits.{in_place, is_later, latest_first}
 use Rattle.pl_stored.specs.declared.stored.StoredVisit.{StoredVisit}
 use Rattle.pl_stored.specs.Stored.{visit_of}
-use Rattle.pl_check.specs.Latest.{first_of, is_within, later_of}
+use Rattle.pl_plain.specs.Latest.{first_of, is_within, later_of}
 
 first_of-in_place : (v : Visit) (ws : List Visit) → Some (later_of v (first_of ws)) ≡ first_of (in_place v ws)
 first_of-in_place v [] = refl
@@ -21,7 +21,7 @@ first_of-in_place v (w ∷ ws) =
 abbrev pub walked : List (Bor StoredVisit) → List StoredVisit
 walked seen = reverse (map (λ (row : Bor StoredVisit). row.now) seen)
 
-pub walked-push : (seen : List (Bor StoredVisit)) (row : Bor StoredVisit)
+walked-push : (seen : List (Bor StoredVisit)) (row : Bor StoredVisit)
     → walked (seen ++ row ∷ []) ≡ row.now ∷ walked seen
 walked-push seen row =
     rw (
@@ -44,7 +44,7 @@ filter_end : {X : Type 0} (b : Bool) (x : X) (ys : List X)
 filter_end true x ys = sym (reverse-append (x ∷ []) ys)
 filter_end false x ys = append-nil (reverse ys)
 
-pub filter-reverse : {X : Type 0} (p : X → Bool) (xs : List X) → filter p (reverse xs) ≡ reverse (filter p xs)
+filter-reverse : {X : Type 0} (p : X → Bool) (xs : List X) → filter p (reverse xs) ≡ reverse (filter p xs)
 filter-reverse p [] = refl
 filter-reverse p (x ∷ xs) =
     ap (filter p) (reverse-append (x ∷ []) xs) ∙ filter-append p (reverse xs) (x ∷ [])
@@ -53,7 +53,7 @@ filter-reverse p (x ∷ xs) =
 abbrev pub is_row_within : PageId → Option Visit → StoredVisit → Bool
 is_row_within page limit row = is_within page limit (visit_of row)
 
-pub map_at : (b : Bool) (row : StoredVisit) (rows : List StoredVisit) (vs : List Visit) → map visit_of rows ≡ vs
+map_at : (b : Bool) (row : StoredVisit) (rows : List StoredVisit) (vs : List Visit) → map visit_of rows ≡ vs
     → map visit_of (if b then row ∷ rows else rows) ≡ (if b then visit_of row ∷ vs else vs)
 map_at true row rows vs e = ap (λ ws. visit_of row ∷ ws) e
 map_at false row rows vs e = e

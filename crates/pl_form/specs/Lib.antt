@@ -1,3 +1,0 @@
-pub mod Form
-pub mod Reading
-pub mod Stored
