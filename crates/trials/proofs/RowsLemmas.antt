@@ -1,27 +1,13 @@
--- What the calls of rows tell of a page or a visit that was asked for, and that a new row has its slots.
-use Rattle.std.proofs.Common.{◌≡◌, ◌<◌, ◌≤◌, ℕ, false, List, Option, Some, None}
-use Rattle.std.proofs.Common.{arith, length, map, refl, subst, sym}
+-- That a title has its slots, by what the calls of rows tell of its page.
+use Rattle.std.proofs.Common.{◌≡◌, ◌<◌, ◌≤◌, ℕ, List, Option, Some, None}
+use Rattle.std.proofs.Common.{arith, length, map, refl}
 use Rattle.std.specs.List.Sorted.{IsStrictlyIncreasing}
 use Rattle.std.specs.Option.{option_map}
-use Rattle.std.proofs.lemmas.List.Elements.{All-nil}
 use Rattle.pl_base.specs.declared.id.PageId.{PageId}
-use Rattle.pl_base.specs.declared.id.TheConstants.Ids.{OPENING}
 use Rattle.pl_base.specs.declared.row.Mark.{Mark}
-use Rattle.pl_base.specs.Address.{same_origin}
 use Rattle.pl_base.specs.Live.{live_slots, slot_limit}
-use Rattle.pl_base.specs.Rows.{IsOriginOf, Kept, KeptPage, live_with_title}
-use Rattle.pl_base.specs.Rows.{mark_of}
-use Rattle.pl_base.specs.Rows.{opening_with, page_at, store_of}
+use Rattle.pl_base.specs.Rows.{Kept, KeptPage, live_with_title, mark_of, page_at, store_of}
 use Rattle.pl_plain.proofs.FlatChanges.{slots_with_title}
-
--- ---- a first page
-
-pub no_origin : (kept : Kept) (url : List ℕ) → kept ≡ opening_with OPENING → IsOriginOf kept url None
-no_origin kept url opened =
-    subst (λ (k : Kept). IsOriginOf k url None) (sym opened)
-    (All-nil (λ (p : KeptPage). same_origin p.page.url url ≡ false))
-
--- ---- a title
 
 found_where : (kept : Kept) (page : PageId) (mark : Mark) → Some mark ≡ option_map mark_of (page_at kept page)
     → (p : KeptPage) × (page_at kept page ≡ Some p)

@@ -6,15 +6,7 @@
 #[cfg(test)]
 mod base;
 #[cfg(test)]
-mod form;
-#[cfg(test)]
 mod link;
-#[cfg(test)]
-mod plain;
-#[cfg(test)]
-mod redirected;
-#[cfg(test)]
-mod roots;
 #[cfg(test)]
 mod rows;
 #[cfg(test)]

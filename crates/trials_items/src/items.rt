@@ -5,11 +5,9 @@ ghost use Rattle.pl_base.specs.Tree.{IsFolder, lies_in, parent_of};
 ghost use Rattle.pl_plain.specs.Flat.{kept_of};
 
 use pl_base::{
-    Ids, ItemId, ItemKind, ItemRow, LONGEST_TITLE, Micros, NoMemory, PAGE_SIZE, PageId, Rows,
-    Steps, Touched,
+    Ids, ItemId, ItemKind, ItemRow, LONGEST_TITLE, Micros, NoMemory, PageId, Rows, Steps,
 };
 use pl_plain::Flat;
-use std::alloc::Global;
 use std::process::Abort;
 use std::sync::ledger::Ledger;
 use std::test::Fail;
@@ -217,40 +215,4 @@ pub fn check_references<L: Ledger>(
         next = flat.next_reference(item, steps);
     }
     assert_eq!(rt; next, None);
-}
-
-// A gate's page, and behind it the pages of a change that touched all of them.
-fn file_of(rt: &impl Abort, alloc: Global, change: &Touched) -> Result<Vec<u8>, NoMemory> {
-    let mut bytes = Vec::new(alloc);
-    bytes.resize(PAGE_SIZE, 0x5a)?;
-    for index in 0..change.count() {
-        assert_eq!(rt; change.page(index) as usize * PAGE_SIZE, bytes.len());
-        bytes.extend_from_slice(change.image(index))?;
-    }
-    assert_eq!(rt; change.after() as usize * PAGE_SIZE, bytes.len());
-    Ok(bytes)
-}
-
-/// The file after a change that touches all pages.
-pub fn touched_bytes<L: Ledger>(
-    rt: &impl Abort,
-    alloc: Global,
-    flat: &mut Flat,
-    steps: &mut Steps<L>,
-) -> Result<Vec<u8>, NoMemory> {
-    let change = flat.touched(steps)?;
-    file_of(rt, alloc, &change)
-}
-
-/// A change that touches all pages leaves the file that the store was read from.
-pub fn check_same_file<L: Ledger>(
-    rt: &impl Abort,
-    alloc: Global,
-    flat: &mut Flat,
-    bytes: &[u8],
-    steps: &mut Steps<L>,
-) -> Result<(), NoMemory> {
-    let again = touched_bytes(rt, alloc, flat, steps)?;
-    assert!(rt; again.as_slice() == bytes);
-    Ok(())
 }

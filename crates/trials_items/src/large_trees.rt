@@ -1,15 +1,15 @@
 // Trees of many items: wide, deep, and all in one folder with one page.
 ghost use Rattle.std.specs.Prelude.{◌≡◌, ◌<◌};
 
-use crate::items::{check_same_file, insert, move_item, remove, set, set_modified};
-use pl_base::{ItemId, ItemKind, ItemRow, Micros, NoMemory, PageId, Rows, Steps};
+use crate::items::{insert, move_item, remove, set, set_modified};
+use pl_base::{ItemId, ItemKind, ItemRow, Micros, PageId, Rows, Steps};
 use pl_plain::Flat;
 use std::alloc::Global;
 use std::marker::Brand;
 use std::process::Abort;
 use std::sync::ledger::{Blank, Ledger};
 use std::test::Fail;
-use trials_trees::{BOOKMARK, FOLDER, Item, file};
+use trials_trees::add_page;
 
 // How many items there are beside the roots and folder 7.
 const COUNT: u32 = 10_000;
@@ -17,53 +17,59 @@ const COUNT: u32 = 10_000;
 // The last of them.
 const LAST_ITEM: u32 = 7 + COUNT;
 
-// The ids that the next page, visit and item get.
-const NEXT_IDS: [u32; 3] = [2, 1, LAST_ITEM + 1];
-
-// One page, which has no visit and counts 140, and no page.
-const ONE_PAGE: &[u8; 47] = b"\x01\0\0\0\
-    \x01\0\0\0\0\x8c\0\0\0\0\0\0\0\x12\0\0\0https://a.example/\0\0\0\0\
-    \0\0\0\0";
-
-const NO_PAGES: &[u8; 8] = &[0; 8];
-
-// The ids from 7 on.
-fn ids(alloc: Global) -> Result<Vec<u32>, NoMemory> {
-    Ok((7..=LAST_ITEM).collect(alloc)?)
+// What each of them is: its kind, and page 1 where it is a bookmark.
+fn row(kind: ItemKind, parent: ItemId) -> ItemRow {
+    ItemRow {
+        kind,
+        parent: Some(parent),
+        page: (kind == ItemKind::Bookmark).then_some(PageId(1)),
+        added: Micros(0),
+        modified: Micros(0),
+    }
 }
 
-// The roots, with folder 7 in the menu.
-fn roots<'a>(alloc: Global) -> Result<Vec<Item<'a>>, NoMemory> {
-    let mut items: Vec<Item<'a>> = Vec::new(alloc);
-    items.push((1, FOLDER, 0, (0, 0), b"", &[2, 3, 4, 5, 6]))?;
-    items.push((2, FOLDER, 0, (0, 0), b"", &[7]))?;
-    for id in 3..7 {
-        items.push((id, FOLDER, 0, (0, 0), b"", &[]))?;
+// A store with folder 7 in the menu, and with page 1 if bookmarks are to come.
+fn with_folder<L: Ledger>(
+    rt: &impl Abort,
+    alloc: Global,
+    kind: ItemKind,
+    steps: &mut Steps<L>,
+) -> Result<Flat, Fail> {
+    let mut flat = Flat::opening(alloc)?;
+    if kind == ItemKind::Bookmark {
+        let page = add_page(alloc, &mut flat, "https://a.example/", steps)?;
+        assert_eq!(rt; page, PageId(1));
     }
-    Ok(items)
+    let folder = row(ItemKind::Folder, ItemId(2));
+    assert_eq!(rt; insert(rt, &mut flat, &folder, "", None, steps)?, ItemId(7));
+    Ok(flat)
 }
 
-// Folder 7 holds all others, which are of this kind and have this page.
-fn wide(alloc: Global, ids: &[u32], kind: u8, page: u32) -> Result<Vec<Item<'_>>, NoMemory> {
-    let mut items = roots(alloc)?;
-    for (place, id) in ids.iter().enumerate() {
-        match place {
-            0 => items.push((*id, FOLDER, 0, (0, 0), b"", &ids[1..]))?,
-            _ => items.push((*id, kind, page, (0, 0), b"", &[]))?,
-        }
+// Folder 7 holds all others, which are of this kind.
+fn wide<L: Ledger>(
+    rt: &impl Abort,
+    alloc: Global,
+    kind: ItemKind,
+    steps: &mut Steps<L>,
+) -> Result<Flat, Fail> {
+    let mut flat = with_folder(rt, alloc, kind, steps)?;
+    let mut last = None;
+    for _item in 0..COUNT {
+        let item = insert(rt, &mut flat, &row(kind, ItemId(7)), "", last, steps)?;
+        last = Some(item);
     }
-    Ok(items)
+    Ok(flat)
 }
 
 // Each folder holds the next one.
-fn deep(alloc: Global, ids: &[u32]) -> Result<Vec<Item<'_>>, NoMemory> {
-    let mut items = roots(alloc)?;
-    for (place, id) in ids.iter().enumerate() {
-        let behind = &ids[place + 1..];
-        let children = &behind[..behind.len().min(1)];
-        items.push((*id, FOLDER, 0, (0, 0), b"", children))?;
+fn deep<L: Ledger>(rt: &impl Abort, alloc: Global, steps: &mut Steps<L>) -> Result<Flat, Fail> {
+    let folder = ItemKind::Folder;
+    let mut flat = with_folder(rt, alloc, folder, steps)?;
+    let mut parent = ItemId(7);
+    for _item in 0..COUNT {
+        parent = insert(rt, &mut flat, &row(folder, parent), "", None, steps)?;
     }
-    Ok(items)
+    Ok(flat)
 }
 
 // The items from one number up to the other stand each in the one before.
@@ -163,17 +169,17 @@ fn come_and_go<L: Ledger>(
     remove(rt, flat, item, steps)
 }
 
+// Folder 7 holds all others, which are of this kind.
 fn keep_wide<L: Ledger>(
     rt: &impl Abort,
     alloc: Global,
-    bytes: &[u8],
+    kind: ItemKind,
     steps: &mut Steps<L>,
 ) -> Result<Flat, Fail> {
-    let mut flat = Flat::check(alloc, bytes)?;
+    let mut flat = wide(rt, alloc, kind, steps)?;
     check_width(rt, &flat, steps);
     move_there_and_back(rt, &mut flat, steps)?;
     check_width(rt, &flat, steps);
-    check_same_file(rt, alloc, &mut flat, bytes, steps)?;
     come_and_go(rt, &mut flat, ItemId(7), steps)?;
     check_width(rt, &flat, steps);
     Ok(flat)
@@ -188,41 +194,14 @@ fn detour<L: Ledger>(rt: &impl Abort, flat: &mut Flat, steps: &mut Steps<L>) -> 
     move_item(rt, flat, middle, above, None, steps)
 }
 
-fn keep_deep<L: Ledger>(
-    rt: &impl Abort,
-    alloc: Global,
-    bytes: &[u8],
-    steps: &mut Steps<L>,
-) -> Result<(), Fail> {
-    let mut flat = Flat::check(alloc, bytes)?;
+fn keep_deep<L: Ledger>(rt: &impl Abort, alloc: Global, steps: &mut Steps<L>) -> Result<(), Fail> {
+    let mut flat = deep(rt, alloc, steps)?;
+    check_depth(rt, &flat, steps);
     detour(rt, &mut flat, steps)?;
     check_depth(rt, &flat, steps);
-    check_same_file(rt, alloc, &mut flat, bytes, steps)?;
     come_and_go(rt, &mut flat, ItemId(LAST_ITEM), steps)?;
     check_depth(rt, &flat, steps);
     Ok(())
-}
-
-// The file in which folder 7 holds all others, which are of this kind and have this page.
-fn keep_file<L: Ledger>(
-    rt: &impl Abort,
-    alloc: Global,
-    rows: &[u8],
-    kind: u8,
-    page: u32,
-    steps: &mut Steps<L>,
-) -> Result<Flat, Fail> {
-    let ids = ids(alloc)?;
-    let items = wide(alloc, &ids, kind, page)?;
-    let bytes = file(alloc, NEXT_IDS, rows, &items)?;
-    keep_wide(rt, alloc, &bytes, steps)
-}
-
-fn keep_chain<L: Ledger>(rt: &impl Abort, alloc: Global, steps: &mut Steps<L>) -> Result<(), Fail> {
-    let ids = ids(alloc)?;
-    let items = deep(alloc, &ids)?;
-    let bytes = file(alloc, NEXT_IDS, NO_PAGES, &items)?;
-    keep_deep(rt, alloc, &bytes, steps)
 }
 
 fn keep_trees<L: Ledger>(rt: &impl Abort, alloc: Global, blank: Blank) -> Result<(), Fail>
@@ -231,10 +210,10 @@ fn keep_trees<L: Ledger>(rt: &impl Abort, alloc: Global, blank: Blank) -> Result
     requires some { 0 < blank.parts }
 {
     let steps = &mut Steps::<L>::none(blank);
-    keep_file(rt, alloc, NO_PAGES, FOLDER, 0, steps)?;
-    let flat = keep_file(rt, alloc, ONE_PAGE, BOOKMARK, 1, steps)?;
+    keep_wide(rt, alloc, ItemKind::Folder, steps)?;
+    let flat = keep_wide(rt, alloc, ItemKind::Bookmark, steps)?;
     check_references(rt, &flat, steps);
-    keep_chain(rt, alloc, steps)
+    keep_deep(rt, alloc, steps)
 }
 
 #[test]

@@ -1,13 +1,14 @@
-// The items of a store over vectors: what is put into a tree that was empty, what a file holds, and
-// how they change.
+// The items of a store over vectors: what is put into a tree that was empty, rows with bookmarks and
+// tags, and how they change.
 ghost use Rattle.std.specs.Prelude.{◌≡◌, ◌<◌};
 
 use crate::items::{
-    check_children, check_references, check_same_file, insert, move_item, remove, set,
-    set_modified, touched_bytes,
+    check_children, check_references, insert, move_item, remove, set, set_modified,
 };
 use ItemKind::{Bookmark, Folder, Separator};
-use pl_base::{ItemId, ItemKind, ItemRow, Mark, Micros, PageId, Rows, Steps, Txt, VisitId};
+use pl_base::{
+    ItemId, ItemKind, ItemRow, Mark, Micros, PageId, Rows, Steps, Txt, VisitId, VisitRow,
+};
 use pl_link::Canon;
 use pl_plain::Flat;
 use std::alloc::Global;
@@ -29,7 +30,7 @@ enum Change<'a> {
 }
 
 use Change::{Insert, Move, Remove, Set, SetModified};
-use trials_trees::{ITEMS, Item, NEXT, ROWS, file};
+use trials_trees::{ITEMS, Item, PAGES, VISITS, add_page, add_visit};
 
 // The dates of each new item.
 const ADDED: Micros = Micros(5);
@@ -316,12 +317,12 @@ fn check_title<L: Ledger>(
     rt: &impl Abort,
     flat: &Flat,
     item: ItemId,
-    title: &[u8],
+    title: &str,
     steps: &mut Steps<L>,
 ) -> Result<(), Fail> {
     flat.item_at(item, steps).ok_or("no item")?;
     let text: Txt = flat.item_title(item, steps)?;
-    assert!(rt; text.as_str().as_bytes() == title);
+    assert_eq!(rt; text.as_str(), title);
     Ok(())
 }
 
@@ -341,7 +342,7 @@ fn check_left<L: Ledger>(rt: &impl Abort, flat: &Flat, steps: &mut Steps<L>) -> 
             ..row(*kind, *parent)
         };
         assert!(rt; flat.item_at(ItemId(*id), steps) == Some(want));
-        check_title(rt, flat, ItemId(*id), title.as_bytes(), steps)?;
+        check_title(rt, flat, ItemId(*id), title, steps)?;
     }
     for id in [0, 7, 11, 13, 15, 17] {
         assert!(rt; flat.item_at(ItemId(id), steps).is_none());
@@ -350,19 +351,6 @@ fn check_left<L: Ledger>(rt: &impl Abort, flat: &Flat, steps: &mut Steps<L>) -> 
     check_page(rt, flat, steps);
     assert_eq!(rt; flat.ids(steps).item, 17);
     assert_eq!(rt; (flat.items(steps), flat.live(steps)), (12, 19));
-    Ok(())
-}
-
-// The rows that a file holds, which is written no more.
-fn check_file<L: Ledger>(
-    rt: &impl Abort,
-    alloc: Global,
-    bytes: &[u8],
-    steps: &mut Steps<L>,
-) -> Result<(), Fail> {
-    let mut flat = Flat::check(alloc, bytes)?;
-    check_left(rt, &flat, steps)?;
-    assert_eq!(rt; flat.touched(steps)?.count(), 0);
     Ok(())
 }
 
@@ -397,11 +385,88 @@ fn grow_tree<L: Ledger>(rt: &impl Abort, alloc: Global, blank: Blank) -> Result<
     assert_eq!(rt; flat.live(steps), 9);
     grow(rt, &mut flat, steps)?;
     check_left(rt, &flat, steps)?;
-    let bytes = touched_bytes(rt, alloc, &mut flat, steps)?;
-    check_file(rt, alloc, &bytes, steps)
+    assert_eq!(rt; flat.touched(steps)?.count(), 0);
+    check_left(rt, &flat, steps)
 }
 
-// The item of a file.
+// The item that holds this one, and the child before it among those that are there, or 0: the ones
+// with smaller ids.
+fn place_of(item: u32) -> (u32, u32) {
+    let mut place = (0, 0);
+    for (parent, _, _, _, _, children) in ITEMS {
+        if children.contains(&item) {
+            place = (*parent, before(children, item));
+        }
+    }
+    place
+}
+
+fn before(children: &[u32], item: u32) -> u32 {
+    let mut last = 0;
+    for child in children {
+        if *child == item {
+            return last;
+        }
+        if *child < item {
+            last = *child;
+        }
+    }
+    last
+}
+
+// An item comes to its place among those that are there.
+fn add_item<L: Ledger>(
+    rt: &impl Abort,
+    flat: &mut Flat,
+    item: &Item<'_>,
+    steps: &mut Steps<L>,
+) -> Result<(), Fail> {
+    let (id, kind, page, (added, modified), title, _) = *item;
+    let (parent, after) = place_of(id);
+    let row = ItemRow {
+        kind,
+        parent: Some(ItemId(parent)),
+        page: (page > 0).then_some(PageId(page)),
+        added: Micros(added),
+        modified: Micros(modified),
+    };
+    let new = insert(rt, flat, &row, title, some_item(after), steps)?;
+    assert_eq!(rt; new, ItemId(id));
+    Ok(())
+}
+
+// The one visit, which came from none.
+fn add_visits<L: Ledger>(
+    rt: &impl Abort,
+    flat: &mut Flat,
+    steps: &mut Steps<L>,
+) -> Result<(), Fail> {
+    for (id, page, date, transition, _) in VISITS {
+        let row = VisitRow {
+            page: PageId(*page),
+            date: Micros(*date),
+            transition: *transition,
+            source: None,
+        };
+        assert_eq!(rt; add_visit(flat, &row, steps)?, VisitId(*id));
+    }
+    Ok(())
+}
+
+// The rows of the table, where the roots are there already.
+fn tree<L: Ledger>(rt: &impl Abort, alloc: Global, steps: &mut Steps<L>) -> Result<Flat, Fail> {
+    let mut flat = Flat::opening(alloc)?;
+    for (id, _, url, _) in PAGES {
+        assert_eq!(rt; add_page(alloc, &mut flat, url, steps)?, PageId(*id));
+    }
+    add_visits(rt, &mut flat, steps)?;
+    for item in ITEMS.iter().skip(6) {
+        add_item(rt, &mut flat, item, steps)?;
+    }
+    Ok(flat)
+}
+
+// The item of the table.
 fn check_item<L: Ledger>(
     rt: &impl Abort,
     flat: &Flat,
@@ -410,10 +475,8 @@ fn check_item<L: Ledger>(
 ) -> Result<(), Fail> {
     let (id, kind, page, (added, modified), title, children) = *item;
     let row = flat.item_at(ItemId(id), steps).ok_or("no item")?;
-    assert_eq!(rt;
-        (row.kind.number(), row.page.map_or(0, |page| page.0)),
-        (kind, page)
-    );
+    assert_eq!(rt; row.kind, kind);
+    assert_eq!(rt; row.page.map_or(0, |page| page.0), page);
     assert_eq!(rt;
         (row.added, row.modified),
         (Micros(added), Micros(modified))
@@ -434,7 +497,7 @@ const REFERENCES: &[(u32, &[u32])] = &[
     (6, &[]),
 ];
 
-// The rows of the file, which holds 5 origins, 5 pages, 5 URLs, a visit, 18 items and 6 titles.
+// The rows, which are 5 origins, 5 pages, 5 URLs, a visit, 18 items and 6 titles.
 fn check_rows<L: Ledger>(rt: &impl Abort, flat: &Flat, steps: &mut Steps<L>) -> Result<(), Fail> {
     for item in ITEMS {
         check_item(rt, flat, item, steps)?;
@@ -459,27 +522,17 @@ fn detour<L: Ledger>(rt: &impl Abort, flat: &mut Flat, steps: &mut Steps<L>) -> 
     move_item(rt, flat, ItemId(7), ItemId(2), None, steps)
 }
 
-fn keep_rows<L: Ledger>(
-    rt: &impl Abort,
-    alloc: Global,
-    bytes: &[u8],
-    steps: &mut Steps<L>,
-) -> Result<(), Fail> {
-    let mut flat = Flat::check(alloc, bytes)?;
-    check_rows(rt, &flat, steps)?;
-    check_pages(rt, &flat, steps);
-    detour(rt, &mut flat, steps)?;
-    Ok(check_same_file(rt, alloc, &mut flat, bytes, steps)?)
-}
-
 fn keep_tree<L: Ledger>(rt: &impl Abort, alloc: Global, blank: Blank) -> Result<(), Fail>
     requires name { blank.name ≡ L.name }
     requires parts { blank.parts ≡ L.parts }
     requires some { 0 < blank.parts }
 {
     let steps = &mut Steps::<L>::none(blank);
-    let bytes = file(alloc, NEXT, ROWS, ITEMS)?;
-    keep_rows(rt, alloc, &bytes, steps)
+    let mut flat = tree(rt, alloc, steps)?;
+    check_rows(rt, &flat, steps)?;
+    check_pages(rt, &flat, steps);
+    detour(rt, &mut flat, steps)?;
+    check_rows(rt, &flat, steps)
 }
 
 #[test]

@@ -3,7 +3,6 @@ pub mod BarCases
 pub mod BookmarkFileCases
 pub mod DeskCases
 pub mod DrillCases
-pub mod FileCases
 pub mod FrecencyCases
 pub mod GateCases
 pub mod HistoryCases

@@ -1,7 +1,9 @@
-//! What the tests of items and of their files share: the file of a store with bookmarks and tags,
-//! from its parts. It has no tests, so that it is proved once.
+//! What the tests of rows share: the rows of a store with bookmarks and tags as a table, and calls
+//! that bring pages and visits to any rows. It has no tests, so that it is proved once.
 #![tactic(auto)]
 
-mod tree_file;
+mod calls;
+mod table;
 
-pub use tree_file::{BOOKMARK, FOLDER, ITEMS, Item, LAST, NEXT, ROWS, SEPARATOR, file};
+pub use calls::{add_page, add_visit};
+pub use table::{ITEMS, Item, LAST, NEXT, PAGES, Page, VISITS, Visit};
