@@ -1,8 +1,8 @@
-ghost use Rattle.std.specs.Prelude.{◌≡◌, ◌≤◌, ◌+◌, ◌*◌, ℕ, List, Some, None, Err, true};
+ghost use Rattle.std.specs.Prelude.{◌≡◌, ◌≤◌, ◌<◌, ◌+◌, ◌*◌, ℕ, List, Some, None, Err, true};
 ghost use Rattle.std.specs.Prelude.{IfSome, OnOk};
 ghost use Rattle.pl_base.specs.Touched.{page_size};
 ghost use Rattle.pl_desk.specs.Desk.{last_offset, Only};
-ghost use Rattle.pl_desk.specs.Settling.{Settles};
+ghost use Rattle.pl_desk.specs.Settling.{IsFirstSync, Settles};
 ghost use Rattle.pl_desk.specs.Shown.{AtAnyMoment, Rests};
 ghost use Rattle.pl_desk.specs.Counts.{CountsAt, Writes};
 ghost use Rattle.pl_gate.specs.FileCalls.{CallsFile};
@@ -38,9 +38,12 @@ impl<'d, D: Desk> Gate<'d, D> {
             → Settles D.Desk (result ≡ Err GateError.DeviceFault)
             self.old.desk.now self.new.desk.now (StandsAs file) }
 
-        ensures written { OnOk result
-            ((file : List ℕ) → D.held self.old.desk.now ≡ Some file
-            → D.written self.new.desk.now ≡ D.written self.old.desk.now + recovery_bytes file) }
+        ensures written { (file : List ℕ) → D.held self.old.desk.now ≡ Some file
+            → Writes result (recovery_bytes file)
+            (D.written self.old.desk.now) (D.written self.new.desk.now) }
+        // A byte is written only behind the first sync.
+        ensures synced { D.written self.old.desk.now < D.written self.new.desk.now
+            → (turn : D) × IsFirstSync D.Desk self.old.desk.now turn }
         ensures calls { CallsFile D.Desk (CountsAt (result ≡ Err GateError.DeviceFault))
             self.old.desk.now self.new.desk.now }
         ensures same_desk { self.new.desk.ghost_name ≡ self.old.desk.ghost_name }

@@ -70,6 +70,12 @@ reads_shown g c new file is reads = let desk = g.D.Desk in let turn = c.sync.new
     (sym (MatchOption-at_some _ _ file is c.in_ok-sync.ensures.durable later may))
     (record { gate = refl; laid = refl }))
 
+-- where it stands behind the writes
+abbrev at_len : (g : Over) (c : After-clear_gate g) → After-len g
+at_len g c =
+    let checked = c.before.before.before.before.before in
+    checked.before.before.before.before.before.before.before.before.before.before.before
+
 -- the images are written and the gate is cleared
 gate_shown : (g : Over) (c : After-clear_gate g) (file : List ℕ) → g.D.Desk.held c.args.self.now.desk.now ≡ Some file
     → TurnsTo g.D.Desk c.args.self.now.desk.now c.clear_gate.new.desk
@@ -78,7 +84,7 @@ gate_shown : (g : Over) (c : After-clear_gate g) (file : List ℕ) → g.D.Desk.
 gate_shown g c file is =
     let desk = g.D.Desk in let turn = c.sync.new.self in let mid = c.check_journal.new.desk in
     let checked = c.before.before.before.before.before in
-    let first = checked.before.before.before.before.before.before.before.before.before.before.before in
+    let first = at_len g c in
     let reads = journal_read g checked in
     turns g first c.clear_gate.new.desk file is
     (and_more desk turn mid c.clear_gate.new.desk (StandsAs file) (StandsAs file) reads.line.said
@@ -116,3 +122,9 @@ returns-in_err-clear_gate-clause-any_moment g c file is = inr (gate_shown g c.be
 
 pub returns-in_ok-clear_gate-clause-any_moment : goal.returns-in_ok-clear_gate-clause-any_moment
 returns-in_ok-clear_gate-clause-any_moment g c file is = inr (gate_shown g c.before.before file is)
+
+pub returns-in_err-clear_gate-clause-synced : goal.returns-in_err-clear_gate-clause-synced
+returns-in_err-clear_gate-clause-synced g c wrote = (c.sync.new.self, is_first g (at_len g c.before.before.before))
+
+pub returns-in_ok-clear_gate-clause-synced : goal.returns-in_ok-clear_gate-clause-synced
+returns-in_ok-clear_gate-clause-synced g c wrote = (c.sync.new.self, is_first g (at_len g c.before.before))
