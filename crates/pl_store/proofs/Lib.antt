@@ -1,4 +1,6 @@
+mod BoundLaws
 mod CommitLemmas
 pub mod KeeperLaws
 mod OpenedFiles
+mod OwnPages
 pub mod StandsLaws

@@ -4,8 +4,9 @@ use Rattle.pl_base.specs.Store.{Store}
 use Rattle.pl_desk.specs.Calls.{LeavesNoMore}
 use Rattle.pl_desk.specs.Shown.{AtAnyMoment, Rests}
 use Rattle.pl_desk.specs.declared.desk.Desk.{Ghosts}
-use Rattle.pl_store.specs.Session.{IsPreparedFrom, IsSettled, Stands, memory_limit, memory_store}
-use Rattle.pl_store.specs.Session.{next_limit, next_store, session_limit, session_store}
+use Rattle.pl_store.specs.Session.{IsPreparedFrom, IsSettled, Stands, bytes_to_write, memory_limit}
+use Rattle.pl_store.specs.Session.{memory_store, next_limit, next_store, session_limit}
+use Rattle.pl_store.specs.Session.{session_store}
 use Rattle.pl_store.specs.declared.keeper.Keeper.{Keeper}
 use Rattle.pl_store.specs.declared.keeper.Keeper.TheVariants.{Memory, File}
 use Rattle.pl_store.specs.declared.keeper.Ready.{Ready}
@@ -35,6 +36,11 @@ ready_store (ready.File prepared) = next_store prepared
 abbrev pub ready_limit : Ready → ℕ
 ready_limit (ready.Memory memory) = memory_limit memory
 ready_limit (ready.File prepared) = next_limit prepared
+
+-- how many bytes its commit writes
+abbrev pub ready_bytes : Ready → ℕ
+ready_bytes (ready.Memory memory) = 0
+ready_bytes (ready.File prepared) = bytes_to_write prepared
 
 -- the command was prepared by the keeper
 abbrev pub IsReadyFrom : Keeper → Ready → Type 0

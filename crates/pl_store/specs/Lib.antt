@@ -1,3 +1,4 @@
+pub mod Bounds
 pub mod Ending
 pub mod Errors
 pub mod Keeper

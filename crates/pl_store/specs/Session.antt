@@ -79,11 +79,21 @@ next_limit prepared = prepared.engine.limit
 abbrev pub writes_nothing : Prepared → Type 0
 writes_nothing prepared = prepared.change ≡ None
 
-abbrev bytes_of_change : Option Pending → ℕ
+-- how many pages a change has
+abbrev pub pages_of_change : Option Pending → ℕ
+pages_of_change None = 0
+pages_of_change (Some pending) = length pending.touched.pages
+
+-- how many pages a commit writes
+abbrev pub pages_to_write : Prepared → ℕ
+pages_to_write prepared = pages_of_change prepared.change
+
+-- how many bytes are written of it: each page twice, with its number and a few more
+abbrev pub bytes_of_change : Option Pending → ℕ
 bytes_of_change None = 0
 bytes_of_change (Some pending) = commit_bytes (length pending.touched.pages)
 
--- how many bytes a commit writes: each page twice, with its number and a few more
+-- how many bytes
 abbrev pub bytes_to_write : Prepared → ℕ
 bytes_to_write prepared = bytes_of_change prepared.change
 

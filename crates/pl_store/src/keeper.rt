@@ -1,11 +1,12 @@
 // A store in memory alone, or in a file too.
-ghost use Rattle.std.specs.Prelude.{◌≡◌, ◌≤◌, IfOk};
-ghost use Rattle.pl_desk.specs.Counts.{Counts};
+ghost use Rattle.std.specs.Prelude.{◌≡◌, ◌≤◌, IfOk, IfSome};
+ghost use Rattle.pl_desk.specs.Counts.{Counts, Writes};
 ghost use Rattle.pl_gate.specs.FileCalls.{CallsFile};
 ghost use Rattle.pl_step.specs.Commands.{HasDates};
 ghost use Rattle.pl_step.specs.Step.{perform};
+ghost use Rattle.pl_store.specs.Bounds.{most_bytes};
 ghost use Rattle.pl_store.specs.Keeper.{IsReadyFrom, TakesStep, keeper_limit, keeper_store};
-ghost use Rattle.pl_store.specs.Keeper.{ready_limit, ready_store};
+ghost use Rattle.pl_store.specs.Keeper.{ready_bytes, ready_limit, ready_store};
 
 use crate::memory::Memory;
 use crate::session::{Prepared, Session};
@@ -35,6 +36,9 @@ impl Keeper {
             ≡ perform (keeper_limit self) (keeper_store self) command.now) }
         ensures limit { IfOk result (λ done. ready_limit done.0 ≡ keeper_limit self) }
         ensures from { IfOk result (λ done. IsReadyFrom self done.0) }
+        ensures few { IfOk result
+            (λ done. IfSome (most_bytes (keeper_store self) command.now done.1)
+            (λ most. ready_bytes done.0 ≤ most)) }
     {
         match self {
             Keeper::Memory(memory) => {
@@ -56,7 +60,8 @@ impl Ready {
         ensures limit { IfOk result (λ keeper. keeper_limit keeper ≡ ready_limit self) }
         ensures taken { (before : Keeper) → IsReadyFrom before self
             → TakesStep D.Desk before (ready_store self) result desk.old desk.new }
-        ensures no_less { D.written desk.old ≤ D.written desk.new }
+        ensures written { Writes result (ready_bytes self)
+            (D.written desk.old) (D.written desk.new) }
         ensures calls { CallsFile D.Desk (Counts result) desk.old desk.new }
     {
         match self {

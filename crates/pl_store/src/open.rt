@@ -1,8 +1,9 @@
-ghost use Rattle.std.specs.Prelude.{◌≡◌, ◌≤◌, ℕ, List, Err, Some};
+ghost use Rattle.std.specs.Prelude.{◌≡◌, ◌≤◌, ◌+◌, ℕ, List, Err, Some};
 ghost use Rattle.pl_base.specs.Live.{slot_limit};
 ghost use Rattle.pl_desk.specs.Counts.{CountsAt};
 ghost use Rattle.pl_desk.specs.Settling.{Settles};
 ghost use Rattle.pl_gate.specs.FileCalls.{CallsFile};
+ghost use Rattle.pl_store.specs.Bounds.{reopening_bytes};
 ghost use Rattle.pl_store.specs.Ending.{KeepsFinished, Makes, Opens};
 ghost use Rattle.pl_store.specs.Session.{StandsAlike};
 
@@ -45,6 +46,9 @@ pub fn reopen<D: Desk>(alloc: Global, desk: &mut D, limit: u32) -> Result<Sessio
     ensures any_moment { (file : List ℕ) → D.held desk.old ≡ Some file
         → Settles D.Desk (result ≡ Err Ended.DeviceFault) desk.old desk.new (StandsAlike file) }
     ensures no_less { D.written desk.old ≤ D.written desk.new }
+    // What a recovery of the file writes is the most that is written.
+    ensures no_more { (file : List ℕ) → D.held desk.old ≡ Some file
+        → D.written desk.new ≤ D.written desk.old + reopening_bytes file }
     ensures calls { CallsFile D.Desk (CountsAt (result ≡ Err Ended.DeviceFault)) desk.old desk.new }
 {
     settle(desk)?;

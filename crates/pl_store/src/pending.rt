@@ -16,7 +16,7 @@ pub struct Pending {
 impl Pending {
     ghost use Rattle.std.specs.Prelude.{◌≡◌, ℕ, List, None};
     ghost use Rattle.pl_base.specs.Touched.{bytes_before, changed};
-    ghost use Rattle.pl_store.specs.Session.{LeadsTo};
+    ghost use Rattle.pl_store.specs.Session.{LeadsTo, pages_of_change};
 
     /// None where no page was touched: then the file has all bytes that it is to have.
     pub fn of(touched: Touched) -> Option<Pending>
@@ -25,6 +25,7 @@ impl Pending {
         ensures leads { (before : List ℕ) → length before ≡ bytes_before touched.before
             → LeadsTo before result (changed touched before) }
         ensures none { length touched.pages ≡ 0 → result ≡ None }
+        ensures pages { pages_of_change result ≡ length touched.pages }
     {
         if touched.count() == 0 {
             return None;

@@ -31,15 +31,16 @@ pub struct Prepared {
 }
 
 impl Session {
-    ghost use Rattle.std.specs.Prelude.{◌≡◌, ℕ, false, IfOk};
+    ghost use Rattle.std.specs.Prelude.{◌≡◌, ◌≤◌, ℕ, false, IfOk, IfSome};
     ghost use Rattle.pl_engine.specs.Idle.{IsIdle};
     ghost use Rattle.pl_engine.specs.Returns.{Returns};
     ghost use Rattle.pl_nbwrite.specs.Plain.{IsPlain};
     ghost use Rattle.pl_outline.specs.Outline.{bookmarks};
     ghost use Rattle.pl_step.specs.Commands.{HasDates, is_change};
     ghost use Rattle.pl_step.specs.Step.{perform};
+    ghost use Rattle.pl_store.specs.Bounds.{most_pages};
     ghost use Rattle.pl_store.specs.Session.{IsPreparedFrom, session_limit, next_limit, next_store};
-    ghost use Rattle.pl_store.specs.Session.{session_store, writes_nothing};
+    ghost use Rattle.pl_store.specs.Session.{pages_to_write, session_store, writes_nothing};
 
     /// The bookmarks of the store. The file is not read.
     pub fn tree(&self) -> Result<Tree, NoMemory>
@@ -63,6 +64,9 @@ impl Session {
             (λ done. (refusal : Refusal) → done.1 ≡ Reply.Refused refusal → writes_nothing done.0) }
         ensures unchanged { IfOk result
             (λ done. is_change command.now ≡ false → writes_nothing done.0) }
+        // A visit is written in few pages.
+        ensures few { IfOk result (λ done. IfSome (most_pages command.now (session_store self))
+            (λ most. pages_to_write done.0 ≤ most)) }
         // A title that stands already leaves no page that may differ from the file's.
         ensures idle { IfOk result
             (λ done. IsIdle command.now (session_store self) → writes_nothing done.0) }

@@ -1,13 +1,14 @@
 // The check of a file and the engine's calls where nothing is counted. A caller hands over a blank
 // for `Brand`, and its `Invariants.antt` says that the ledger is the blank's.
-ghost use Rattle.std.specs.Prelude.{◌≡◌, ◌≤◌, ℕ, List, false, length, Err, IfOk, OnOk};
+ghost use Rattle.std.specs.Prelude.{◌≡◌, ◌≤◌, ℕ, List, false, length, Err, IfOk, IfSome, OnOk};
 ghost use Rattle.std.specs.List.{All};
 ghost use Rattle.pl_base.specs.Rows.{IsSound, store_of};
 ghost use Rattle.pl_base.specs.Store.{Store};
 ghost use Rattle.pl_base.specs.Touched.{IsWithin, MayDiffer, bytes_before, changed, page_numbers};
 ghost use Rattle.pl_engine.specs.Idle.{IsIdle};
 ghost use Rattle.pl_engine.specs.Returns.{Returns};
-ghost use Rattle.pl_linked.specs.Linked.{IsBase, bytes_of, kept_of};
+ghost use Rattle.pl_engine.specs.VisitPages.{AddsFewPages};
+ghost use Rattle.pl_linked.specs.Linked.{IsBase, bytes_of, kept_of, pending_of};
 ghost use Rattle.pl_nbwrite.specs.Plain.{IsPlain};
 ghost use Rattle.pl_outline.specs.Outline.{bookmarks};
 ghost use Rattle.pl_reading.specs.File.{FileStandsFor, stored_bytes};
@@ -62,6 +63,9 @@ pub(crate) fn apply<L: Ledger>(
         (λ done. is_change command.now ≡ false → done.0.rows ≡ engine.rows) }
     ensures idle { IfOk result
         (λ done. IsIdle command.now (store_of (kept_of engine.rows)) → done.0.rows ≡ engine.rows) }
+    ensures pages { IfOk result
+        (λ done. AddsFewPages command.now (store_of (kept_of engine.rows)) (pending_of engine.rows)
+        (pending_of done.0.rows)) }
     ensures base { IfOk result
         (λ done. (bytes : List ℕ) → IsBase engine.rows bytes → IsBase done.0.rows bytes) }
     ensures stands { IfOk result
@@ -91,6 +95,8 @@ pub(crate) fn touched<L: Ledger>(
     ensures needed { IfOk result
         (λ change. All (MayDiffer (IsBase engine.old.rows) (bytes_of engine.new.rows))
         (page_numbers change.pages)) }
+    ensures listed { IfOk result
+        (λ change. IfSome (pending_of engine.old.rows) (λ count. length change.pages ≡ count)) }
     ensures base { OnOk result (HasOwnBase engine.new.rows) }
     ensures kept { kept_of engine.new.rows ≡ kept_of engine.old.rows }
     ensures bytes { bytes_of engine.new.rows ≡ bytes_of engine.old.rows }

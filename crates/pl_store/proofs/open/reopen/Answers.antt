@@ -1,10 +1,11 @@
-use Rattle.std.proofs.Common.{ℕ, List, IsSome, inr, sym, ◌∙◌, subst}
+use Rattle.std.proofs.Common.{ℕ, ◌+◌, ◌≤◌, List, IsSome, inr, sym, ◌∙◌, subst}
 use Rattle.pl_desk.proofs.AnyMoment.{some_said}
 use Rattle.pl_desk.proofs.Moments.{shows_less}
 use Rattle.pl_desk.proofs.SettlingLaws.{settles_less, settles_on}
 use Rattle.pl_desk.specs.Settling.{Settles}
 use Rattle.pl_desk.specs.Shown.{Unsaid}
 use Rattle.pl_gate.specs.Recovery.{StandsAs}
+use Rattle.pl_store.specs.Bounds.{reopening_bytes}
 use Rattle.pl_store.specs.Session.{StandsAlike}
 use Rattle.pl_store.proofs.OpenedFiles.{fault_ends, opens, stands_alike, writes_none}
 use Rattle.pl_store.proofs.open.reopen.Given.{Over}
@@ -59,3 +60,11 @@ returns-clause-finished g c file is unset =
       read.written ∙ writes_none file (g.D.Desk.written c.args.desk.now) (g.D.Desk.written c.settle.new.desk) unset
           settle.no_less (settle.no_more file is),
     )
+
+pub returns-in_err-settle-clause-no_more : goal.returns-in_err-settle-clause-no_more
+returns-in_err-settle-clause-no_more g c file is = c.settle.ensures.settles.no_more file is
+
+pub returns-clause-no_more : goal.returns-clause-no_more
+returns-clause-no_more g c file is =
+    subst (λ (n : ℕ). n ≤ g.D.Desk.written c.args.desk.now + reopening_bytes file)
+    (sym c.read_session.ensures.reads.file.written) (c.settle.ensures.settles.no_more file is)

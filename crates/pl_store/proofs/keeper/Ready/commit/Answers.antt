@@ -1,3 +1,4 @@
+use Rattle.std.proofs.Common.{arith}
 use Rattle.std.proofs.lemmas.Result.{err_from_is_err_and}
 use Rattle.pl_store.proofs.CommitLemmas.{fails_in_file, taken_in_file, taken_in_memory}
 use Rattle.pl_store.proofs.keeper.Ready.commit.Goals as goal
@@ -17,3 +18,15 @@ returns-in_err-commit-in-File-clause-taken g c =
     rw (c.in-File.is, p.1) (λ before from.
     fails_in_file g.D.Desk c.args.desk.now c.commit.new.desk c.in-File.prepared c.commit.ensures.any_moment before from
     _ c.commit.ensures.left)
+
+-- what was written
+pub returns-in-Memory-clause-written : goal.returns-in-Memory-clause-written
+returns-in-Memory-clause-written g c = rw c.in-Memory.is (omega arith)
+
+pub returns-in_ok-commit-in-File-clause-written : goal.returns-in_ok-commit-in-File-clause-written
+returns-in_ok-commit-in-File-clause-written g c = rw c.in-File.is c.in_ok-commit-in-File.ensures.written
+
+pub returns-in_err-commit-in-File-clause-written : goal.returns-in_err-commit-in-File-clause-written
+returns-in_err-commit-in-File-clause-written g c =
+    let p = err_from_is_err_and c.from_residual.result c.from_residual.ensures.1 in
+    rw (c.in-File.is, p.1) c.in_err-commit-in-File.ensures.written

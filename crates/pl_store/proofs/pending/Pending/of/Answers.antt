@@ -16,4 +16,5 @@ pub returns-then-count-eq0 : goal.returns-then-count-eq0
 returns-then-count-eq0 c = record {
   leads = λ before len. front_left c.args.touched before (sym c.count.ensures.count ∙ c.if-count-eq0.true);
   none = λ empty. refl;
+  pages = sym (sym c.count.ensures.count ∙ c.if-count-eq0.true);
 }

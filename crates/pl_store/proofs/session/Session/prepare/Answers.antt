@@ -1,5 +1,5 @@
-use Rattle.std.proofs.Common.{◌≡◌, ◌∙◌, ℕ, All, List, [], ◌∷◌, ap, arith, length, take, inl, inr, ⊎_elim, refl}
-use Rattle.std.proofs.Common.{sym, subst}
+use Rattle.std.proofs.Common.{◌≡◌, ◌≤◌, ◌∙◌, ℕ, All, IfSome, List, [], ◌∷◌, ap, arith, length, take, inl, inr, ⊎_elim}
+use Rattle.std.proofs.Common.{refl, sym, subst}
 use Rattle.std.proofs.Math.Seq.{take-length}
 use Rattle.std.proofs.lemmas.Bool.{both_ways}
 use Rattle.std.proofs.lemmas.List.{length-map}
@@ -8,8 +8,12 @@ use Rattle.pl_base.specs.Touched.{MayDiffer, PageImage, page_of, page_numbers}
 use Rattle.pl_linked.specs.declared.linked.Linked.{Linked}
 use Rattle.pl_linked.specs.Linked.{IsBase, bytes_of, kept_of}
 use Rattle.pl_record.specs.Form.{StandsFor}
+use Rattle.pl_record.specs.LinkedRows.{changes}
+use Rattle.pl_store.specs.Bounds.{most_pages}
 use Rattle.pl_store.specs.OwnBase.{HasOwnBase}
-use Rattle.pl_store.specs.Session.{LeadsTo}
+use Rattle.pl_store.specs.Session.{LeadsTo, pages_of_change, session_store}
+use Rattle.pl_store.proofs.BoundLaws.{any_some, few_listed}
+use Rattle.pl_store.proofs.OwnPages.{none_pending}
 use Rattle.pl_store.proofs.session.Session.prepare.Goals.{Then-changes_nothing}
 use Rattle.pl_store.proofs.session.Session.prepare.Goals as goal
 
@@ -54,6 +58,21 @@ returns-clause-refused c refusal is =
 pub returns-clause-unchanged : goal.returns-clause-unchanged
 returns-clause-unchanged c is =
     absurd (both_ways c.changes_nothing.result c.if-changes_nothing.false (c.changes_nothing.ensures.1 (inr is)))
+
+-- a visit is written in few pages
+pub returns-then-changes_nothing-clause-few : goal.returns-then-changes_nothing-clause-few
+returns-then-changes_nothing-clause-few c =
+    any_some (most_pages c.args.command.now (session_store c.args.self)) (λ most. 0 ≤ most) (λ most. omega arith)
+
+pub returns-clause-few : goal.returns-clause-few
+returns-clause-few c =
+    let command = c.args.command.now in let store = session_store c.args.self in
+    let mid = c.in_ok-engine.engine.rows in
+    let pages : ℕ = pages_of_change c.of-change.result in
+    let listed : changes mid.arena ≡ pages = sym (c.of-change.ensures.pages ∙ c.in_ok-touched.ensures.listed) in
+    subst (λ (n : ℕ). IfSome (most_pages command store) (λ most. n ≤ most)) listed
+    (few_listed command store (changes c.args.self.engine.rows.arena) (changes mid.arena)
+    (none_pending c.args.self.engine.rows c.args.self.base) c.in_ok-engine.ensures.pages)
 
 -- no page differs from itself
 none_differ : (base : List ℕ → Type 0) (bytes pages : List ℕ) → ((before : List ℕ) → base before → before ≡ bytes)
