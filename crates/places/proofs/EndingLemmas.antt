@@ -50,12 +50,12 @@ starts_behind start bytes before left said run opens all begun = record {
 }
 
 -- what a piece is of the input
-record IsPiece (read : ℕ) (bytes piece : List ℕ) (left : Option (List ℕ)) : Type 0 where
-  rest_left : left ≡ Some (drop (read + length piece) bytes)
-  in_input : read + length piece ≤ length bytes
-  front : take (read + length piece) bytes ≡ take read bytes ++ piece
+pub record IsPiece (read : ℕ) (bytes piece : List ℕ) (left : Option (List ℕ)) : Type 0 where
+  pub rest_left : left ≡ Some (drop (read + length piece) bytes)
+  pub in_input : read + length piece ≤ length bytes
+  pub front : take (read + length piece) bytes ≡ take read bytes ++ piece
 
-piece_of : (read : ℕ) (bytes piece : List ℕ) (left : Option (List ℕ)) → read ≤ length bytes
+pub piece_of : (read : ℕ) (bytes piece : List ℕ) (left : Option (List ℕ)) → read ≤ length bytes
     → Some (drop read bytes) ≡ option_map (λ rest. piece ++ rest) left → IsPiece read bytes piece left
 piece_of read bytes piece None within taken = absurd (cc)
 piece_of read bytes piece (Some rest) within taken =
@@ -96,14 +96,14 @@ all_read read bytes within none =
     (take_all read bytes (omega arith), whole)
 
 -- an empty piece comes at the end of the input alone
-at_end : (start : Store) (read : ℕ) (bytes before piece : List ℕ) (left said : Option (List ℕ)) (run : ScriptRun)
+pub at_end : (start : Store) (read : ℕ) (bytes before piece : List ℕ) (left said : Option (List ℕ)) (run : ScriptRun)
     → IsBehind start read bytes before left run said → IfSome left (λ rest. rest ≡ [])
     → (take read bytes ≡ bytes) × (length bytes ≡ read)
 at_end start read bytes before piece left said run behind ended =
     all_read read bytes behind.in_input (subst (λ l. IfSome l (λ rest. rest ≡ [])) behind.rest_left ended)
 
 -- nothing is left behind the last piece, which is empty
-none_left : (start : Store) (read : ℕ) (bytes before piece : List ℕ) (left left' said : Option (List ℕ))
+pub none_left : (start : Store) (read : ℕ) (bytes before piece : List ℕ) (left left' said : Option (List ℕ))
     (run : ScriptRun) → IsBehind start read bytes before left run said → length piece ≡ 0
     → left ≡ option_map (λ rest. piece ++ rest) left' → IfSome left (λ rest. rest ≡ []) → left' ≡ Some []
 none_left start read bytes before piece left left' said run behind empty taken ended =
@@ -125,11 +125,11 @@ says_all start read bytes before piece left left' said said' run behind short em
     }
 
 -- a front of the bytes, and the rest
-halves : (read : ℕ) (bytes : List ℕ) → take read bytes ++ drop read bytes ≡ bytes
+pub halves : (read : ℕ) (bytes : List ℕ) → take read bytes ++ drop read bytes ≡ bytes
 halves read bytes = take-append-drop read bytes
 
 -- what was read so far
-read_so_far : (start : Store) (read : ℕ) (bytes before : List ℕ) (left left' said : Option (List ℕ)) (run : ScriptRun)
+pub read_so_far : (start : Store) (read : ℕ) (bytes before : List ℕ) (left left' said : Option (List ℕ)) (run : ScriptRun)
     → IsBehind start read bytes before left run said → left' ≡ left → read ≤ script_limit
     → HasRead bytes (take read bytes) (drop read bytes) left'
 read_so_far start read bytes before left left' said run behind kept few = record {

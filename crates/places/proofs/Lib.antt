@@ -1,5 +1,6 @@
 mod AnswerCounts
 mod AnswerLemmas
+mod BoundLemmas
 mod CompletenessLemmas
 pub mod DrillLemmas
 mod EndingLemmas

@@ -17,6 +17,7 @@ use Rattle.pl_store.specs.Ending.{FindsBytes, IsFinished, SparesBytes}
 use Rattle.pl_store.specs.Keeper.{Keeps}
 use Rattle.pl_store.specs.Session.{Stands}
 use Rattle.pl_script.specs.Script.{script}
+use Rattle.places.specs.Bounded.{WritesFew}
 use Rattle.places.specs.declared.answer_error.AnswerError.{AnswerError}
 use Rattle.places.specs.declared.answer_error.AnswerError.TheVariants as answer
 use Rattle.places.specs.declared.status.Status.{Status}
@@ -159,6 +160,30 @@ EndsScript status.NotAStore start bytes before left said = ⊥
 EndsScript (status.NotEmpty len) start bytes before left said = ⊥
 EndsScript (status.NotBookmarks at) start bytes before left said = ⊥
 EndsScript (status.ImportRefused refusal) start bytes before left said = ⊥
+
+-- ---- what was written
+
+-- P of the file that `run` runs a script on, of its store, and of what the source holds, where that
+-- and what was said are told
+abbrev pub OfRun : {S D : Type 0} (source : sources.Ghosts S) (desk : desks.Ghosts D)
+    → Option Task → S → D
+    → (List ℕ → Store → List ℕ → Type 0) → Type 0
+OfRun source desk task input now P =
+    task ≡ Some tasks.Run → (file : List ℕ) (start : Store) → desk.held now ≡ Some file
+    → Stands file start
+    → IfTold (source.left input) (desk.said now) (λ bytes before. P file start bytes)
+
+-- a front of the input was read, and with this many bytes before no more were written than the
+-- commits of its entries may write
+pub record WritesRead (start : Store) (bytes : List ℕ) (left : Option (List ℕ))
+    (before now : ℕ)
+    : Type 0 where
+  pub read : List ℕ
+  pub rest : List ℕ
+  pub has_read : HasRead bytes read rest left
+  pub few : WritesFew slot_limit start (entries_read read rest) before now
+  -- nor than those of the whole script
+  pub whole : WritesFew slot_limit start (script bytes) before now
 
 -- ---- what was said, and the file
 

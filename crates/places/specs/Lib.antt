@@ -1,3 +1,4 @@
+pub mod Bounded
 pub mod Completeness
 pub mod Drilling
 pub mod Ending

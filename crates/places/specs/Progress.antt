@@ -14,6 +14,7 @@ use Rattle.pl_script.specs.Script.{script}
 use Rattle.places.specs.declared.script_run.ScriptRun.{ScriptRun}
 use Rattle.places.specs.declared.answer_error.AnswerError.{AnswerError}
 use Rattle.pl_task.specs.Task.{script_limit}
+use Rattle.places.specs.Bounded.{WritesFew}
 use Rattle.places.specs.Limits.{kept_of_line}
 use Rattle.places.specs.Lines.{ended_lines, entries_of, open_line}
 use Rattle.places.specs.Said.{Says, texts}
@@ -71,6 +72,14 @@ module _ {D : Type 0} (desk : Ghosts D) where
       → ShowsOnly desk old new
       (ShowsAnswered desk (is_file run.keeper) first slot_limit start (entries bytes) begun)
 
+  -- no more is written while the piece is taken than the entries up to it ask for
+  abbrev pub WritesIn : ScriptRun → (List ℕ → List (Parsed Command)) → D → D → Type 0
+  WritesIn run entries old new =
+      (start : Store) (bytes : List ℕ) (begun : Option (List ℕ)) (before : ℕ)
+      → IsAt start bytes begun run (desk.said old)
+      → WritesFew slot_limit start (ended_entries bytes) before (desk.written old)
+      → WritesFew slot_limit start (entries bytes) before (desk.written new)
+
   -- how the next piece of the input is taken
   pub record Takes (run : ScriptRun) (piece : List ℕ) (result : Result ScriptRun AnswerError)
       (old new : D) : Type 0 where
@@ -81,3 +90,5 @@ module _ {D : Type 0} (desk : Ghosts D) where
         (λ error. StopsIn error run (λ bytes. ended_entries (bytes ++ piece)) old new)
     -- what a stop shows meanwhile
     pub shows : ShowsIn run (λ bytes. ended_entries (bytes ++ piece)) old new
+    -- and what is written
+    pub writes : WritesIn run (λ bytes. ended_entries (bytes ++ piece)) old new

@@ -1,6 +1,6 @@
 // The answer to one line. A command and a reply are dropped by name, here and in an import and a
 // drill, which is cheaper to prove than that they go at a function's end.
-ghost use Rattle.std.specs.Prelude.{◌≡◌, ℕ, List, [], ◌∷◌, Some, Ok, Err};
+ghost use Rattle.std.specs.Prelude.{◌≡◌, ◌≤◌, ◌+◌, ℕ, List, [], ◌∷◌, Some, Ok, Err};
 ghost use Rattle.std.specs.Prelude.{IfOk, IfErr, OnOk};
 ghost use Rattle.pl_desk.specs.Shown.{ShowsOnly};
 ghost use Rattle.pl_desk.specs.Counts.{CountsAt};
@@ -8,8 +8,9 @@ ghost use Rattle.pl_desk.specs.Calls.{LeavesFile};
 ghost use Rattle.pl_step.specs.Run.{replies, after};
 ghost use Rattle.pl_step.specs.Commands.{HasDates};
 ghost use Rattle.pl_store.specs.Keeper.{IsReadyFrom, keeper_limit, keeper_store};
-ghost use Rattle.pl_store.specs.Keeper.{ready_limit, ready_store};
+ghost use Rattle.pl_store.specs.Keeper.{ready_bytes, ready_limit, ready_store};
 ghost use Rattle.pl_script.specs.Reply.{reply_text as text_of_reply};
+ghost use Rattle.places.specs.Bounded.{WritesFew};
 ghost use Rattle.places.specs.Lines.{entries_in};
 ghost use Rattle.places.specs.Said.{Says, SaysOfAnswer, texts};
 ghost use Rattle.places.specs.Serving.{Answers, CountsFaults, Serves, Taking};
@@ -37,6 +38,8 @@ pub fn answer<D: Desk>(
         (replies (keeper_limit keeper) (keeper_store keeper) (entries_in bytes.now))
         result desk.old desk.new }
     ensures limit { IfOk result (λ next. keeper_limit next ≡ keeper_limit keeper) }
+    ensures bounded { WritesFew (keeper_limit keeper) (keeper_store keeper) (entries_in bytes.now)
+        (D.written desk.old) (D.written desk.new) }
     ensures serves { Serves D.Desk keeper (λ next. next) result desk.old desk.new }
     ensures taking { Taking D.Desk keeper
         (after (keeper_limit keeper) (keeper_store keeper) (entries_in bytes.now))
@@ -72,6 +75,8 @@ fn perform<D: Desk>(
         (replies (keeper_limit keeper) (keeper_store keeper) (Ok command.now ∷ []))
         result desk.old desk.new }
     ensures limit { IfOk result (λ next. keeper_limit next ≡ keeper_limit keeper) }
+    ensures bounded { WritesFew (keeper_limit keeper) (keeper_store keeper) (Ok command.now ∷ [])
+        (D.written desk.old) (D.written desk.new) }
     ensures serves { Serves D.Desk keeper (λ next. next) result desk.old desk.new }
     ensures taking { Taking D.Desk keeper
         (after (keeper_limit keeper) (keeper_store keeper) (Ok command.now ∷ []))
@@ -97,6 +102,7 @@ pub(crate) fn conclude<D: Desk>(
     ensures answers { Answers D.Desk (ready_store ready) (reply.now ∷ [])
         result desk.old desk.new }
     ensures limit { IfOk result (λ next. keeper_limit next ≡ ready_limit ready) }
+    ensures bounded { D.written desk.new ≤ D.written desk.old + ready_bytes ready }
     ensures serves { (before : Keeper) → IsReadyFrom before ready
         → Serves D.Desk before (λ next. next) result desk.old desk.new }
     ensures taking { (before : Keeper) → IsReadyFrom before ready

@@ -19,17 +19,18 @@ mod script_run;
 mod status;
 mod stop;
 
-ghost use Rattle.std.specs.Prelude.{◌≡◌, ◌⊎◌, ℕ, List, Some, None, true};
+ghost use Rattle.std.specs.Prelude.{◌≡◌, ◌⊎◌, ◌+◌, ℕ, List, Some, None, true};
 ghost use Rattle.pl_base.specs.Live.{slot_limit};
 ghost use Rattle.pl_desk.specs.Calls.{LeavesFile};
 ghost use Rattle.pl_desk.specs.Counts.{CountsAt};
 ghost use Rattle.pl_desk.specs.Settling.{ShowsThen};
+ghost use Rattle.pl_store.specs.Bounds.{reopening_bytes};
 ghost use Rattle.pl_store.specs.Ending.{KeepsFinished, RefusesFile, StandsForNone};
 ghost use Rattle.pl_script.specs.Script.{script};
 ghost use Rattle.places.specs.Completeness.{NothingFails};
 ghost use Rattle.places.specs.Drilling.{EndsDrill, OfDrill, ShowsDrill};
 ghost use Rattle.places.specs.Ending.{EndsNew, EndsScript, EndsUnopened, LeavesAtEnd, MayEnd};
-ghost use Rattle.places.specs.Ending.{OfScript};
+ghost use Rattle.places.specs.Ending.{OfRun, OfScript, WritesRead};
 ghost use Rattle.places.specs.Exporting.{ComesBack, EndsExport, OfExport, ShowsExport};
 ghost use Rattle.places.specs.Importing.{EndsImport, OfImport, ShowsImport};
 ghost use Rattle.places.specs.Stops.{ShowsAnswered, ShowsRun, ShowsUnopened};
@@ -84,6 +85,14 @@ pub fn run<S: Source, D: Desk>(alloc: Global, words: &[&str], input: &mut S, des
         ShowsRun D.Desk is_file (result ≡ Status.DeviceFault) desk.old desk.new
         (ShowsUnopened D.Desk desk.old before)
         (ShowsAnswered D.Desk is_file desk.old slot_limit start (script bytes) before)) }
+
+    // Where each entry of what `run` read is a refusal, a visit or of a kind that changes nothing,
+    // no more is written than the commits of its accepted visits may write, and what a recovery of
+    // the file does at the start. So it is at each status.
+    ensures bounded { OfRun S.Source D.Desk (asked_of words.now) input.old desk.old
+        (λ file start bytes.
+        WritesRead start bytes (S.left input.new)
+        (D.written desk.old + reopening_bytes file) (D.written desk.new)) }
 
     // `new` says its word once the file holds the new store.
     ensures made { asked_of words.now ≡ Some Task.New → EndsNew D.Desk result desk.old desk.new }

@@ -6,7 +6,7 @@ ghost use Rattle.pl_desk.specs.Counts.{CountsAt};
 ghost use Rattle.pl_desk.specs.Calls.{LeavesFile};
 ghost use Rattle.pl_store.specs.Keeper.{IsKept, is_file, keeper_limit, keeper_store};
 ghost use Rattle.pl_script.specs.Script.{script};
-ghost use Rattle.places.specs.Ending.{IfTold, LeavesAtEnd};
+ghost use Rattle.places.specs.Ending.{IfTold, LeavesAtEnd, WritesRead};
 ghost use Rattle.places.specs.declared.status.Status.{Status};
 ghost use Rattle.places.specs.Status.{EndsAs};
 ghost use Rattle.places.specs.Stops.{ShowsAnswered};
@@ -36,6 +36,9 @@ pub fn run_script<S: Source, D: Desk>(
         → IsKept D.Desk keeper first desk.old → ShowsOnly D.Desk desk.old desk.new
         (ShowsAnswered D.Desk (is_file keeper) first slot_limit (keeper_store keeper) (script bytes)
         before)) }
+    ensures bounded { IfTold (S.left input.old) (D.said desk.old) (λ bytes before.
+        WritesRead (keeper_store keeper) bytes (S.left input.new)
+        (D.written desk.old) (D.written desk.new)) }
     ensures alone { is_file keeper ≡ false → LeavesFile D.Desk desk.old desk.new }
     ensures in_file { result ≡ Err Stop.DeviceFault → is_file keeper ≡ true }
     ensures reads_counted { CountsAt (result ≡ Err Stop.ReadFault) (S.faults input.old)

@@ -1,15 +1,17 @@
 // A script on a store in memory, and on one in a file.
-ghost use Rattle.std.specs.Prelude.{◌≡◌, ℕ, List, Some, true, false};
+ghost use Rattle.std.specs.Prelude.{◌≡◌, ◌+◌, ℕ, List, Some, true, false};
 ghost use Rattle.pl_base.specs.Store.{Store, opening};
 ghost use Rattle.pl_base.specs.Live.{slot_limit};
 ghost use Rattle.pl_desk.specs.Calls.{LeavesFile};
 ghost use Rattle.pl_desk.specs.Counts.{CountsAt};
 ghost use Rattle.pl_desk.specs.Settling.{ShowsThen};
 ghost use Rattle.pl_desk.specs.Shown.{ShowsOnly};
+ghost use Rattle.pl_store.specs.Bounds.{reopening_bytes};
 ghost use Rattle.pl_store.specs.Ending.{KeepsFinished, RefusesFile, StandsForNone};
 ghost use Rattle.pl_store.specs.Session.{Stands};
 ghost use Rattle.pl_script.specs.Script.{script};
 ghost use Rattle.places.specs.Ending.{EndsTask, EndsUnopened, IfTold, LeavesAtEnd};
+ghost use Rattle.places.specs.Ending.{WritesRead};
 ghost use Rattle.places.specs.Status.{EndsAs};
 ghost use Rattle.places.specs.Stops.{ShowsAnswered, ShowsUnopened};
 ghost use Rattle.places.specs.Serving.{CountsFaults};
@@ -54,6 +56,12 @@ pub fn run_stored<S: Source, D: Desk>(alloc: Global, input: &mut S, desk: &mut D
         ShowsThen D.Desk (result ≡ Status.DeviceFault) desk.old desk.new
         (ShowsUnopened D.Desk desk.old before)
         (ShowsAnswered D.Desk true desk.old slot_limit start (script bytes) before)) }
+    // Beside what a recovery of the file writes, no more than the commits of what was read may write.
+    ensures bounded { (file : List ℕ) (start : Store) → D.held desk.old ≡ Some file
+        → Stands file start
+        → IfTold (S.left input.old) (D.said desk.old) (λ bytes before.
+        WritesRead start bytes (S.left input.new)
+        (D.written desk.old + reopening_bytes file) (D.written desk.new)) }
     ensures refused { result ≡ Status.NotAStore
         → RefusesFile D.Desk desk.old desk.new × KeepsFinished D.Desk desk.old desk.new }
     ensures not_run { result ≡ Status.NotAStore

@@ -29,7 +29,7 @@ impl ScriptRun {
     ghost use Rattle.pl_step.specs.Run.{replies, after};
     ghost use Rattle.pl_store.specs.Keeper.{keeper_limit, keeper_store};
     ghost use Rattle.pl_script.specs.Script.{script};
-    ghost use Rattle.places.specs.Progress.{IsAt, ShowsIn, StopsIn, Takes};
+    ghost use Rattle.places.specs.Progress.{IsAt, ShowsIn, StopsIn, Takes, WritesIn};
     ghost use Rattle.places.specs.Said.{Says, texts};
     ghost use Rattle.places.specs.Serving.{CountsFaults, Serves};
 
@@ -121,6 +121,7 @@ impl ScriptRun {
         ensures ends { IfErr result (λ error.
             StopsIn D.Desk error self script desk.old desk.new) }
         ensures shows { ShowsIn D.Desk self script desk.old desk.new }
+        ensures writes { WritesIn D.Desk self script desk.old desk.new }
         ensures counted { CountsFaults D.Desk (result ≡ Err AnswerError.SayFault)
             (result ≡ Err AnswerError.DeviceFault) desk.old desk.new }
     {

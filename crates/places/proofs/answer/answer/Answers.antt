@@ -1,4 +1,4 @@
-use Rattle.std.proofs.Common.{Err, List, Ok, ap, append-nil, option_to_list, refl, subst, sym, ℕ, ◌∙◌}
+use Rattle.std.proofs.Common.{Err, List, Ok, ap, append-nil, arith, option_to_list, refl, subst, sym, ℕ, ◌∙◌}
 use Rattle.std.proofs.lemmas.Result.{err_from_is_err_and}
 use Rattle.pl_script.specs.Reply.{reply_text}
 use Rattle.pl_step.specs.declared.command.Command.{Command}
@@ -7,10 +7,12 @@ use Rattle.pl_step.specs.Parsed.{Parsed}
 use Rattle.pl_step.specs.Run.{after, replies}
 use Rattle.pl_store.specs.Keeper.{keeper_limit, keeper_store}
 use Rattle.pl_store.proofs.KeeperLaws.{kept_keeps, still_kept}
+use Rattle.places.specs.Bounded.{WritesFew}
 use Rattle.places.specs.Lines.{entries_in}
 use Rattle.places.specs.Said.{Says, texts}
 use Rattle.places.specs.Serving.{Answers, Taking}
 use Rattle.places.proofs.AnswerLemmas.{keeps_refused, refusing, unanswered}
+use Rattle.places.proofs.BoundLemmas.{writes_none}
 use Rattle.places.proofs.answer.answer.Goals as goal
 
 -- nothing happens on the desk
@@ -92,3 +94,33 @@ returns-in-Err-Refused-clause-answers g c = let desk = g.D.Desk in
       stopped = tt;
       no_memory = λ same. absurd (cc);
     })
+
+-- what is written
+pub returns-in-Ok-None-clause-bounded : goal.returns-in-Ok-None-clause-bounded
+returns-in-Ok-None-clause-bounded g c =
+    writes_none (keeper_limit c.args.keeper) (keeper_store c.args.keeper) (entries_in c.args.bytes.now)
+    (g.D.Desk.written c.args.desk.now) (g.D.Desk.written c.args.desk.now) (omega arith)
+
+pub returns-in-Err-NoMemory-clause-bounded : goal.returns-in-Err-NoMemory-clause-bounded
+returns-in-Err-NoMemory-clause-bounded g c =
+    writes_none (keeper_limit c.args.keeper) (keeper_store c.args.keeper) (entries_in c.args.bytes.now)
+    (g.D.Desk.written c.args.desk.now) (g.D.Desk.written c.args.desk.now) (omega arith)
+
+pub returns-in-Err-Refused-clause-bounded : goal.returns-in-Err-Refused-clause-bounded
+returns-in-Err-Refused-clause-bounded g c =
+    writes_none (keeper_limit c.args.keeper) (keeper_store c.args.keeper) (entries_in c.args.bytes.now)
+    (g.D.Desk.written c.args.desk.now) (g.D.Desk.written c.refuse.new.desk)
+    (omega (arith, c.refuse.ensures.file.kept.written))
+
+pub returns-in_err-refuse-in-Err-Refused-clause-bounded : goal.returns-in_err-refuse-in-Err-Refused-clause-bounded
+returns-in_err-refuse-in-Err-Refused-clause-bounded g c =
+    writes_none (keeper_limit c.args.keeper) (keeper_store c.args.keeper) (entries_in c.args.bytes.now)
+    (g.D.Desk.written c.args.desk.now) (g.D.Desk.written c.refuse.new.desk)
+    (omega (arith, c.refuse.ensures.file.kept.written))
+
+pub returns-clause-bounded : goal.returns-clause-bounded
+returns-clause-bounded g c = let limit = keeper_limit c.args.keeper in let store = keeper_store c.args.keeper in
+    let read = rw c.in-Ok-Some.field-0-is at c.in-Ok-Some.ensures in
+    subst (λ (entries : List (Parsed Command)). WritesFew limit store entries (g.D.Desk.written c.args.desk.now)
+    (g.D.Desk.written c.perform-answered.new.desk))
+    (sym (ap option_to_list read.entry)) c.perform-answered.ensures.bounded

@@ -1,4 +1,4 @@
-use Rattle.std.proofs.Common.{ℕ, List, append-nil, length, refl, subst, sym, take, ◌∙◌, ◌<◌}
+use Rattle.std.proofs.Common.{ℕ, List, append-nil, arith, length, refl, subst, sym, take, ◌∙◌, ◌<◌}
 use Rattle.std.proofs.lemmas.Result.{err_from_is_err_and}
 use Rattle.pl_desk.specs.Calls.{LeavesFile}
 use Rattle.pl_store.specs.Keeper.{is_file, keeper_store, ready_store}
@@ -152,3 +152,16 @@ returns-clause-answers g c = let desk = g.D.Desk in let text = reply_text c.args
       stopped = subst Stopped (sym (append-nil text)) stopped;
       no_memory = λ same. absurd (cc);
     }
+
+-- what was written
+pub returns-in_err-text-clause-bounded : goal.returns-in_err-text-clause-bounded
+returns-in_err-text-clause-bounded g c = omega arith
+
+pub returns-in_err-next-clause-bounded : goal.returns-in_err-next-clause-bounded
+returns-in_err-next-clause-bounded g c = c.in_err-next.ensures.written.1
+
+pub returns-in-Ok-clause-bounded : goal.returns-in-Ok-clause-bounded
+returns-in-Ok-clause-bounded g c = omega (arith, c.say_all.ensures.file.kept.written, c.in_ok-next.ensures.written)
+
+pub returns-clause-bounded : goal.returns-clause-bounded
+returns-clause-bounded g c = omega (arith, c.say_all.ensures.file.kept.written, c.in_ok-next.ensures.written)

@@ -1,4 +1,4 @@
-use Rattle.std.proofs.Common.{ℕ, List, Ok, ◌∷◌, [], subst, sym}
+use Rattle.std.proofs.Common.{arith, ℕ, List, Ok, ◌∷◌, [], subst, sym}
 use Rattle.std.proofs.lemmas.Result.{err_from_is_err_and}
 use Rattle.pl_base.specs.Store.{Store}
 use Rattle.pl_step.specs.declared.command.Command.{Command}
@@ -6,10 +6,11 @@ use Rattle.pl_step.specs.declared.reply.Reply.{Reply}
 use Rattle.pl_step.specs.Parsed.{Parsed}
 use Rattle.pl_step.specs.Run.{after}
 use Rattle.pl_script.specs.Reply.{reply_text}
-use Rattle.pl_store.specs.Keeper.{keeper_limit, keeper_store, ready_store}
+use Rattle.pl_store.specs.Keeper.{keeper_limit, keeper_store, ready_bytes, ready_store}
 use Rattle.pl_store.proofs.KeeperLaws.{kept_keeps}
 use Rattle.places.specs.Serving.{Answers, Taking}
 use Rattle.places.proofs.AnswerLemmas.{after_command, replies_of_command, text_of_command, unanswered}
+use Rattle.places.proofs.BoundLemmas.{writes_command, writes_none}
 use Rattle.places.proofs.answer.perform.Goals as goal
 
 -- want of memory for the step
@@ -48,3 +49,16 @@ returns-clause-taking g c = let limit = keeper_limit c.args.keeper in let store 
     c.args.desk.now c.conclude-concluded.new.desk)
     (after_command limit store next c.args.command.now ready.reply ready.ensures.step)
     (c.conclude-concluded.ensures.taking c.args.keeper ready.ensures.from))
+
+-- what is written
+pub returns-in_err-ready-clause-bounded : goal.returns-in_err-ready-clause-bounded
+returns-in_err-ready-clause-bounded g c =
+    writes_none (keeper_limit c.args.keeper) (keeper_store c.args.keeper) (Ok c.args.command.now ∷ [])
+    (g.D.Desk.written c.args.desk.now) (g.D.Desk.written c.args.desk.now) (omega arith)
+
+pub returns-clause-bounded : goal.returns-clause-bounded
+returns-clause-bounded g c = let ready = c.in_ok-ready in
+    writes_command (keeper_limit c.args.keeper) (keeper_store c.args.keeper) (ready_store ready.ready)
+    c.args.command.now ready.reply (ready_bytes ready.ready) (g.D.Desk.written c.args.desk.now)
+    (g.D.Desk.written c.conclude-concluded.new.desk) ready.ensures.step ready.ensures.few
+    c.conclude-concluded.ensures.bounded

@@ -1,12 +1,14 @@
 use Rattle.std.specs.Result.{result_err}
-use Rattle.std.proofs.Common.{◌∙◌, [], ap, sym, length, arith, refl, subst, take, ℕ, List, Option}
+use Rattle.std.proofs.Common.{◌∙◌, [], ap, sym, length, arith, refl, subst, take, ℕ, List, Option, Some}
+use Rattle.pl_base.specs.Live.{slot_limit}
 use Rattle.std.proofs.lemmas.Option.{none-some}
 use Rattle.std.proofs.lemmas.Result.{err_from_is_err_and}
 use Rattle.pl_desk.proofs.AnyMoment.{alone_on, left_alone}
 use Rattle.pl_store.specs.declared.keeper.Keeper.{Keeper}
 use Rattle.pl_store.specs.Keeper.{is_file, keeper_store}
 use Rattle.pl_store.proofs.KeeperLaws.{kept_keeps}
-use Rattle.places.specs.Progress.{IsAt}
+use Rattle.places.specs.Progress.{IsAt, ended_entries}
+use Rattle.places.proofs.BoundLemmas.{writes_at_end, writes_in_piece, writes_none, writes_piece, writes_so_far}
 use Rattle.places.proofs.EndingLemmas.{empty_piece, ends_done, ends_last, ends_piece, ends_reading, ends_too_long}
 use Rattle.places.proofs.EndingLemmas.{goes_on_behind, shows_begun, shows_last, shows_piece, starts_behind}
 use Rattle.places.proofs.run_script.run_script.Goals as goal
@@ -24,6 +26,8 @@ loop-read-init g c = let desk = g.D.Desk in let run = c.new-run.result in let st
       shows = λ bytes before all begun first kept.
           shows_begun desk g.met.D.Desk.only_now first start 0 bytes before all_left run c.args.desk.now
           (starts_behind start bytes before all_left (desk.said c.args.desk.now) run opens all begun) kept;
+      writes = λ bytes before all begun. writes_none slot_limit start (ended_entries (take 0 bytes))
+          (desk.written c.args.desk.now) (desk.written c.args.desk.now) (omega arith);
       kind = refl;
       kept = λ first kept. kept;
       in_limit = omega arith;
@@ -85,6 +89,13 @@ loop-read-preserved g c = let desk = g.D.Desk in let is = c.loop-read.invariant 
           behind is.kind (rw c.deref.ensures.value c.in_ok-piece.ensures.taken)
           (is.shows bytes before all begun first kept)
           (c.take_all.ensures.takes.shows start (take c.loop-read.read bytes) before first behind.at (is.kept first kept));
+      writes = λ bytes before all begun. let behind = is.told bytes before all begun in
+          rw (c.len-read.ensures ∙ sym c.deref.ensures.len)
+          (writes_piece start (desk.written c.args.desk.now) c.loop-read.read bytes before c.deref.result.now (g.S.Source.left c.loop-read.input)
+          (g.S.Source.left c.next_piece.new.input) (desk.said c.loop-read.desk) c.loop-read.run behind (desk.written c.take_all.new.desk)
+          (rw c.deref.ensures.value c.in_ok-piece.ensures.taken)
+          (did.takes.writes start (take c.loop-read.read bytes) (Some before) (desk.written c.args.desk.now) behind.at
+          (is.writes bytes before all begun)));
       kind = did.serves.kind ∙ is.kind;
       kept = λ first kept. did.serves.kept first (is.kept first kept);
       in_limit = omega (arith, c.in_ok-piece.ensures.within, c.deref.ensures.len, ap length c.deref.ensures.value);
@@ -171,3 +182,54 @@ returns-clause-ends g c =
     c.loop-read.run (desk.said now) now
     status ends (is.told bytes before all begun) is.kind (is.kept first kept)
     (omega (arith, is.in_limit, c.loop-read-test.false)))
+
+-- ---- what was written
+
+pub returns-in_err-piece-clause-bounded : goal.returns-in_err-piece-clause-bounded
+returns-in_err-piece-clause-bounded g c = rw (← c.new-run.ensures.keeper) (λ bytes before all begun.
+    let desk = g.D.Desk in let is = c.loop-read.invariant in let start = keeper_store c.new-run.result.keeper in
+    let left = g.S.Source.left in
+    writes_so_far start (desk.written c.args.desk.now) c.loop-read.read bytes before [] (left c.loop-read.input) (left c.next_piece.new.input)
+    (desk.said c.loop-read.desk) c.loop-read.run (is.told bytes before all begun) (desk.written c.loop-read.desk) c.in_err-piece.ensures.kept
+    is.in_limit (is.writes bytes before all begun))
+
+pub returns-in_err-finish-clause-bounded : goal.returns-in_err-finish-clause-bounded
+returns-in_err-finish-clause-bounded g c = rw (← c.new-run.ensures.keeper) (λ bytes before all begun.
+    let desk = g.D.Desk in let is = c.loop-read.invariant in let start = keeper_store c.new-run.result.keeper in
+    let left = g.S.Source.left in let behind = is.told bytes before all begun in
+    let nothing = empty_piece _ c.in_ok-piece.piece.ok.0 (sym c.if-is_empty.ensures) in
+    writes_at_end start (desk.written c.args.desk.now) c.loop-read.read bytes before c.in_ok-piece.piece.items (left c.loop-read.input)
+    (left c.next_piece.new.input) (desk.said c.loop-read.desk) c.loop-read.run behind (desk.written c.finish.new.desk) c.in_ok-piece.ensures.taken
+    (c.in_ok-piece.ensures.ended nothing) nothing is.in_limit
+    (c.finish.ensures.writes start (take c.loop-read.read bytes) (Some before) (desk.written c.args.desk.now) behind.at
+    (is.writes bytes before all begun)))
+
+pub returns-then-is_empty-clause-bounded : goal.returns-then-is_empty-clause-bounded
+returns-then-is_empty-clause-bounded g c = rw (← c.new-run.ensures.keeper) (λ bytes before all begun.
+    let desk = g.D.Desk in let is = c.loop-read.invariant in let start = keeper_store c.new-run.result.keeper in
+    let left = g.S.Source.left in let behind = is.told bytes before all begun in
+    let nothing = empty_piece _ c.in_ok-piece.piece.ok.0 (sym c.if-is_empty.ensures) in
+    writes_at_end start (desk.written c.args.desk.now) c.loop-read.read bytes before c.in_ok-piece.piece.items (left c.loop-read.input)
+    (left c.next_piece.new.input) (desk.said c.loop-read.desk) c.loop-read.run behind (desk.written c.finish.new.desk) c.in_ok-piece.ensures.taken
+    (c.in_ok-piece.ensures.ended nothing) nothing is.in_limit
+    (c.finish.ensures.writes start (take c.loop-read.read bytes) (Some before) (desk.written c.args.desk.now) behind.at
+    (is.writes bytes before all begun)))
+
+pub returns-in_err-run-clause-bounded : goal.returns-in_err-run-clause-bounded
+returns-in_err-run-clause-bounded g c = rw (← c.new-run.ensures.keeper) (λ bytes before all begun.
+    let desk = g.D.Desk in let is = c.loop-read.invariant in let start = keeper_store c.new-run.result.keeper in
+    let left = g.S.Source.left in let behind = is.told bytes before all begun in
+    writes_in_piece start (desk.written c.args.desk.now) c.loop-read.read bytes before c.deref.result.now (left c.loop-read.input)
+    (left c.next_piece.new.input) (desk.said c.loop-read.desk) c.loop-read.run behind (desk.written c.take_all.new.desk)
+    (rw c.deref.ensures.value c.in_ok-piece.ensures.taken)
+    (omega (arith, c.in_ok-piece.ensures.within, c.deref.ensures.len, ap length c.deref.ensures.value))
+    (c.take_all.ensures.takes.writes start (take c.loop-read.read bytes) (Some before) (desk.written c.args.desk.now) behind.at
+    (is.writes bytes before all begun)))
+
+pub returns-clause-bounded : goal.returns-clause-bounded
+returns-clause-bounded g c = rw (← c.new-run.ensures.keeper) (λ bytes before all begun.
+    let desk = g.D.Desk in let is = c.loop-read.invariant in let start = keeper_store c.new-run.result.keeper in
+    let left = g.S.Source.left in
+    writes_so_far start (desk.written c.args.desk.now) c.loop-read.read bytes before [] (left c.loop-read.input) (left c.loop-read.input)
+    (desk.said c.loop-read.desk) c.loop-read.run (is.told bytes before all begun) (desk.written c.loop-read.desk) refl is.in_limit
+    (is.writes bytes before all begun))

@@ -1,17 +1,19 @@
-use Rattle.std.proofs.Common.{◌≡◌, ◌≤◌, ◌-◌, false}
+use Rattle.std.proofs.Common.{◌≡◌, ◌≤◌, ◌-◌, false, take}
 use Rattle.pl_base.specs.Live.{slot_limit}
 use Rattle.pl_desk.specs.Shown.{ShowsOnly}
 use Rattle.pl_desk.specs.Calls.{LeavesFile}
 use Rattle.pl_store.specs.Keeper.{IsKept, is_file, keeper_store}
 use Rattle.pl_script.specs.Script.{script}
+use Rattle.places.specs.Bounded.{WritesFew}
 use Rattle.places.specs.Ending.{IfTold}
 use Rattle.pl_task.specs.Task.{script_limit}
+use Rattle.places.specs.Progress.{ended_entries}
 use Rattle.places.specs.Stops.{ShowsAnswered}
 use Rattle.places.proofs.EndingLemmas.{IsBehind}
 use Rattle.places.proofs.run_script.run_script.Given as goal
 
--- the bytes read so far are a front of the input, the run stands behind them, and a stop since the start shows some of
--- the script's answers
+-- the bytes read so far are a front of the input, the run stands behind them, a stop since the start shows some of the
+-- script's answers, and no more was written than the answers so far may write
 abbrev pub invariant-loop-read : goal.invariant-loop-read
 invariant-loop-read g l = let input = g.S.Source in let desk = g.D.Desk in let keeper = l.initial.run.keeper in record {
   told : IfTold (input.left l.initial.input) (desk.said l.initial.desk)
@@ -21,6 +23,9 @@ invariant-loop-read g l = let input = g.S.Source in let desk = g.D.Desk in let k
       → IsKept desk keeper first l.initial.desk
       → ShowsOnly desk l.initial.desk l.desk
       (ShowsAnswered desk (is_file keeper) first slot_limit (keeper_store keeper) (script bytes) before));
+  writes : IfTold (input.left l.initial.input) (desk.said l.initial.desk) (λ bytes before.
+      WritesFew slot_limit (keeper_store keeper) (ended_entries (take l.read bytes)) (desk.written l.initial.desk)
+      (desk.written l.desk));
   kind : is_file l.run.keeper ≡ is_file keeper;
   kept : (first : g.row.D.Denot) → IsKept desk keeper first l.initial.desk
       → IsKept desk l.run.keeper first l.desk;

@@ -1,14 +1,16 @@
-use Rattle.std.proofs.Common.{◌∙◌, ◌≡◌, inr, refl, subst, sym, true}
+use Rattle.std.proofs.Common.{◌∙◌, ◌+◌, ◌≡◌, inr, refl, subst, sym, true}
 use Rattle.std.proofs.lemmas.Option.{MatchOption-at_some}
 use Rattle.pl_base.specs.Store.{Store}
 use Rattle.pl_base.specs.Live.{slot_limit}
 use Rattle.pl_desk.specs.Shown.{ShowsOnly}
 use Rattle.pl_desk.proofs.SettlingLaws.{settles_on}
+use Rattle.pl_store.specs.Bounds.{reopening_bytes}
 use Rattle.pl_store.specs.Session.{session_store}
 use Rattle.pl_script.specs.Script.{script}
 use Rattle.pl_task.specs.declared.task.Task.TheVariants as tasks
-use Rattle.places.specs.Ending.{LeavesAtEnd}
+use Rattle.places.specs.Ending.{LeavesAtEnd, WritesRead}
 use Rattle.places.specs.Stops.{ShowsAnswered, ShowsUnopened}
+use Rattle.places.proofs.BoundLemmas.{writes_from, writes_unread}
 use Rattle.places.proofs.OpeningLemmas.{ends_without, fault_told, no_fault, no_refusal, opening_may_end}
 use Rattle.places.proofs.OpeningLemmas.{script_may_end, shows_opening}
 use Rattle.places.proofs.script.run_stored.Goals as goal
@@ -70,3 +72,19 @@ returns-in-Ok-clause-refused g c =
 pub returns-in-Ok-clause-not_run : goal.returns-in-Ok-clause-not_run
 returns-in-Ok-clause-not_run g c =
     λ none. absurd (no_refusal c.run_script.result c.status_of.result c.status_of.ensures none)
+
+pub returns-in-Ok-clause-bounded : goal.returns-in-Ok-clause-bounded
+returns-in-Ok-clause-bounded g c = λ file start held stands bytes before told begun.
+    let desk = g.D.Desk in let new = c.run_script.new.desk in let left = g.S.Source.left c.run_script.new.input in
+    let is : session_store c.in-Ok.session ≡ start =
+    sym (MatchOption-at_some _ _ file held c.in-Ok.ensures.ends.1.only start stands) in
+    writes_from start bytes left (desk.written c.reopen.new.desk)
+    (desk.written c.args.desk.now + reopening_bytes file) (desk.written new)
+    (c.reopen.ensures.no_more file held)
+    (subst (λ (s : Store). WritesRead s bytes left (desk.written c.reopen.new.desk) (desk.written new)) is
+    (c.run_script.ensures.bounded bytes before told (c.reopen.ensures.calls.line.said ∙ begun)))
+
+pub returns-in-Err-clause-bounded : goal.returns-in-Err-clause-bounded
+returns-in-Err-clause-bounded g c = λ file start held stands bytes before told begun.
+    writes_unread start (g.D.Desk.written c.args.desk.now + reopening_bytes file) bytes (g.S.Source.left c.args.input.now) (g.D.Desk.written c.reopen.new.desk) told
+    (c.reopen.ensures.no_more file held)

@@ -8,6 +8,7 @@ use Rattle.pl_store.specs.Keeper.{is_file}
 use Rattle.places.specs.Progress.{ended_entries}
 use Rattle.places.specs.Said.{texts}
 use Rattle.places.specs.Stops.{ShowsAnswered}
+use Rattle.places.proofs.BoundLemmas.{line_writes}
 use Rattle.places.proofs.EntryLemmas.{line_leaves}
 use Rattle.places.proofs.ProgressLemmas.{line_ended}
 use Rattle.places.proofs.StopLemmas.{line_shows}
@@ -27,6 +28,9 @@ returns-clause-takes g c = let desk = g.D.Desk in let line = c.without_carriage_
           (c.answer.ensures.taking.shows first (begun ++ texts (replies slot_limit start (ended_entries bytes)))
           at.text kept)
           (line_shows desk (is_file c.args.self.keeper) first start bytes line begun _ c.args.self at is_line);
+      writes = λ start bytes begun before at few. line_writes start before bytes line begun
+          (desk.said c.args.desk.now) c.args.self (desk.written c.args.desk.now) (desk.written c.answer.new.desk) at is_line
+          few c.answer.ensures.bounded;
     }
 
 pub returns-in_err-keeper-clause-takes : goal.returns-in_err-keeper-clause-takes
@@ -44,4 +48,7 @@ returns-in_err-keeper-clause-takes g c = let desk = g.D.Desk in let line = c.wit
           (c.answer.ensures.taking.shows first (begun ++ texts (replies slot_limit start (ended_entries bytes)))
           at.text kept)
           (line_shows desk (is_file c.args.self.keeper) first start bytes line begun _ c.args.self at is_line);
+      writes = λ start bytes begun before at few. line_writes start before bytes line begun
+          (desk.said c.args.desk.now) c.args.self (desk.written c.args.desk.now) (desk.written c.answer.new.desk) at is_line
+          few c.answer.ensures.bounded;
     })

@@ -8,6 +8,7 @@ use Rattle.pl_script.specs.Script.{script}
 use Rattle.places.specs.Progress.{ended_entries}
 use Rattle.places.specs.Said.{texts}
 use Rattle.places.specs.Stops.{ShowsAnswered}
+use Rattle.places.proofs.BoundLemmas.{last_writes}
 use Rattle.places.proofs.EntryLemmas.{if_err_both, last_leaves}
 use Rattle.places.proofs.ProgressLemmas.{finished, finished_store}
 use Rattle.places.proofs.StopLemmas.{last_shows}
@@ -39,3 +40,9 @@ returns-clause-shows g c = λ start bytes begun first at kept. let desk = g.D.De
     (c.answer.ensures.taking.shows first (begun ++ texts (replies slot_limit start (ended_entries bytes))) at.text kept)
     (last_shows desk (is_file c.args.self.keeper) first start bytes c.deref.result.now begun _ c.args.self
     at c.deref.ensures.value)
+
+pub returns-clause-writes : goal.returns-clause-writes
+returns-clause-writes g c = λ start bytes begun before at few. let desk = g.D.Desk in
+    last_writes start before bytes c.deref.result.now begun (desk.said c.args.desk.now) c.args.self
+    (desk.written c.args.desk.now) (desk.written c.answer.new.desk) at c.deref.ensures.value few
+    c.answer.ensures.bounded

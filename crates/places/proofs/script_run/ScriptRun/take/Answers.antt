@@ -6,6 +6,7 @@ use Rattle.pl_store.specs.Keeper.{is_file}
 use Rattle.places.specs.declared.answer_error.AnswerError.TheVariants as answer
 use Rattle.places.specs.Progress.{ended_entries}
 use Rattle.places.specs.Stops.{ShowsAnswered}
+use Rattle.places.proofs.BoundLemmas.{writes_later}
 use Rattle.places.proofs.EntryLemmas.{leaves_here, leaves_later}
 use Rattle.places.proofs.StopLemmas.{shows_here, shows_later}
 use Rattle.places.proofs.script_run.ScriptRun.take.Goals as goal
@@ -22,6 +23,8 @@ returns-in_ok-keep-clause-takes g c = let desk = g.D.Desk in let old = c.args.de
       (ended_entries (bytes ++ c.args.byte ∷ [])) begun)
       (shows_here desk g.met.D.Desk.only_now first start bytes begun c.args.self old at kept)
       (shows_later desk (is_file c.args.self.keeper) first start bytes (c.args.byte ∷ []) begun);
+  writes = λ start bytes begun before at few. writes_later start before bytes (c.args.byte ∷ [])
+      (desk.written old) few;
 }
 
 pub returns-in_err-keep-clause-takes : goal.returns-in_err-keep-clause-takes
@@ -37,4 +40,6 @@ returns-in_err-keep-clause-takes g c = let desk = g.D.Desk in let old = c.args.d
           (ended_entries (bytes ++ c.args.byte ∷ [])) begun)
           (shows_here desk g.met.D.Desk.only_now first start bytes begun c.args.self old at kept)
           (shows_later desk (is_file c.args.self.keeper) first start bytes (c.args.byte ∷ []) begun);
+      writes = λ start bytes begun before at few. writes_later start before bytes (c.args.byte ∷ [])
+          (desk.written old) few;
     })

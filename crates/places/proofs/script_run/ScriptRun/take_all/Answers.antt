@@ -6,8 +6,10 @@ use Rattle.pl_base.specs.Live.{slot_limit}
 use Rattle.pl_desk.proofs.Moments.{shows_less}
 use Rattle.pl_desk.proofs.AnyMoment.{alone_on, left_alone}
 use Rattle.pl_store.specs.Keeper.{is_file}
+use Rattle.places.specs.Bounded.{WritesFew}
 use Rattle.places.specs.Progress.{IsAt, ended_entries}
 use Rattle.places.specs.Stops.{ShowsAnswered}
+use Rattle.places.proofs.BoundLemmas.{writes_within}
 use Rattle.places.proofs.EntryLemmas.{leaves_within}
 use Rattle.places.proofs.ProgressLemmas.{taken_further}
 use Rattle.places.proofs.StopLemmas.{shows_here, shows_later, shows_taken}
@@ -28,6 +30,10 @@ returns-in_err-run-clause-takes g c = let desk = g.D.Desk in let is = c.loop-byt
           c.take.new.desk c.loop-byte-test.true is.kind (is.shows start bytes begun first at kept)
           (c.take.ensures.takes.shows start (bytes ++ take i piece) begun first (is.at start bytes (Some begun) at)
           (is.kept first kept));
+      writes = λ start bytes begun before at few.
+          writes_within start before bytes piece i (desk.written c.take.new.desk) c.loop-byte-test.true
+          (c.take.ensures.takes.writes start (bytes ++ take i piece) begun before (is.at start bytes begun at)
+          (is.writes start bytes begun before at few));
     })
 
 pub loop-byte-init : goal.loop-byte-init
@@ -42,6 +48,7 @@ loop-byte-init g c = let desk = g.D.Desk in record {
       (ended_entries (bytes ++ c.args.piece.now)) begun)
       (shows_here desk g.met.D.Desk.only_now first start bytes begun c.args.self c.args.desk.now at kept)
       (shows_later desk (is_file c.args.self.keeper) first start bytes c.args.piece.now begun);
+  writes = λ start bytes begun before at few. rw append-nil few;
   alone = λ memory. left_alone desk c.args.desk.now;
   no_say_fault = refl;
   no_device_fault = refl;
@@ -63,6 +70,12 @@ loop-byte-preserved g c = let is = c.loop-byte.invariant in let did = c.in_ok-ru
       (is.shows start bytes begun first at kept)
       (c.take.ensures.takes.shows start (bytes ++ take i piece) begun first (is.at start bytes (Some begun) at)
       (is.kept first kept));
+  writes = λ start bytes begun before at few.
+      subst
+      (λ (l : List ℕ). WritesFew slot_limit start (ended_entries l) before (g.D.Desk.written c.take.new.desk))
+      (taken_further bytes c.args.piece.now c.loop-byte.byte-index c.loop-byte-test.true)
+      (did.takes.writes start (bytes ++ take c.loop-byte.byte-index c.args.piece.now) begun before
+      (is.at start bytes begun at) (is.writes start bytes begun before at few));
   alone =
       λ memory. alone_on g.D.Desk c.args.desk.now c.loop-byte.desk c.take.new.desk (is.alone memory)
       (did.serves.alone (is.kind ∙ memory));
