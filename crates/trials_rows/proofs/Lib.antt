@@ -1,6 +1,7 @@
 pub mod AddressCases
 pub mod BarCases
 pub mod BookmarkFileCases
+pub mod BoundCases
 pub mod DeskCases
 pub mod DrillCases
 pub mod FrecencyCases
