@@ -120,6 +120,23 @@ const OF_ITEMS: &[Damaged] = &[
     ),
 ];
 
+// Whether the rows with this page at a place are taken.
+fn is_page_taken<'a>(
+    alloc: Global,
+    good: &Tables<'a>,
+    place: usize,
+    page: Page<'a>,
+) -> Result<bool, Fail> {
+    let pages = replaced(Vec::from_slice(alloc, good.pages)?, place, page)?;
+    is_taken(
+        alloc,
+        &Tables {
+            pages: &pages,
+            ..*good
+        },
+    )
+}
+
 // Whether the rows with the damage are taken.
 fn is_damaged_taken(alloc: Global, good: &Tables<'_>, damage: &Damage) -> Result<bool, Fail> {
     match damage {
@@ -131,16 +148,7 @@ fn is_damaged_taken(alloc: Global, good: &Tables<'_>, damage: &Damage) -> Result
                 ..*good
             },
         ),
-        APage(place, page) => {
-            let pages = replaced(Vec::from_slice(alloc, good.pages)?, *place, *page)?;
-            is_taken(
-                alloc,
-                &Tables {
-                    pages: &pages,
-                    ..*good
-                },
-            )
-        }
+        APage(place, page) => is_page_taken(alloc, good, *place, *page),
         AVisit(place, visit) => {
             let visits = replaced(Vec::from_slice(alloc, good.visits)?, *place, *visit)?;
             is_taken(
@@ -198,15 +206,6 @@ fn accepts_the_longest_title_of_a_page(rt: HostRuntime) -> Result<(), Fail> {
     let alloc = rt.alloc();
     let title = longest_title(alloc)?;
     let page = (1, false, A, title.as_str());
-    let pages = replaced(Vec::from_slice(alloc, REDIRECTED.pages)?, 0, page)?;
-    assert!(rt;
-        is_taken(
-            alloc,
-            &Tables {
-                pages: &pages,
-                ..REDIRECTED
-            }
-        )?
-    );
+    assert!(rt; is_page_taken(alloc, &REDIRECTED, 0, page)?);
     Ok(())
 }

@@ -318,8 +318,12 @@ const BAD_TAGS: &[Change] = &[
 ];
 
 // Whether the rows with the changes of their items are taken.
-fn are_taken(alloc: Global, changes: &[(usize, Item<'_>)]) -> Result<bool, Fail> {
-    let mut items = Vec::from_slice(alloc, TREE.items)?;
+fn are_taken<'a>(
+    alloc: Global,
+    good: &Tables<'a>,
+    changes: &[(usize, Item<'a>)],
+) -> Result<bool, Fail> {
+    let mut items = Vec::from_slice(alloc, good.items)?;
     for (place, item) in changes {
         items = replaced(items, *place, *item)?;
     }
@@ -327,7 +331,7 @@ fn are_taken(alloc: Global, changes: &[(usize, Item<'_>)]) -> Result<bool, Fail>
         alloc,
         &Tables {
             items: &items,
-            ..TREE
+            ..*good
         },
     )
 }
@@ -335,7 +339,7 @@ fn are_taken(alloc: Global, changes: &[(usize, Item<'_>)]) -> Result<bool, Fail>
 // The rows with each of the changes.
 fn expect_refusals(rt: &impl Abort, alloc: Global, changes: &[Change]) -> Result<(), Fail> {
     for (what, change) in changes {
-        assert!(rt; !are_taken(alloc, change)?, "{what}");
+        assert!(rt; !are_taken(alloc, &TREE, change)?, "{what}");
     }
     Ok(())
 }
@@ -344,7 +348,7 @@ fn expect_refusals(rt: &impl Abort, alloc: Global, changes: &[Change]) -> Result
 fn accepts_trees(rt: HostRuntime) -> Result<(), Fail> {
     let alloc = rt.alloc();
     for (what, changes) in ACCEPTED {
-        assert!(rt; are_taken(alloc, changes)?, "{what}");
+        assert!(rt; are_taken(alloc, &TREE, changes)?, "{what}");
     }
     Ok(())
 }
@@ -354,7 +358,7 @@ fn accepts_the_longest_title(rt: HostRuntime) -> Result<(), Fail> {
     let alloc = rt.alloc();
     let title = longest_title(alloc)?;
     let item = (11, Bookmark, 2, DATES, title.as_str(), &[][..]);
-    assert!(rt; are_taken(alloc, &[(10, item)])?);
+    assert!(rt; are_taken(alloc, &TREE, &[(10, item)])?);
     Ok(())
 }
 
