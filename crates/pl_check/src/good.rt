@@ -1,6 +1,6 @@
 // Whether the rows of a file are those of a good store.
-ghost use Rattle.std.specs.Prelude.{◌≡◌, ◌==◌, map, nat_lt, true, IfOk};
-ghost use Rattle.std.specs.List.{list_all, list_any};
+ghost use Rattle.std.specs.Prelude.{◌≡◌, List, map, nat_lt, true, IfOk};
+ghost use Rattle.std.specs.List.{list_all};
 ghost use Rattle.std.specs.List.Sorted.{IsStrictlyIncreasing};
 ghost use Rattle.pl_base.specs.Good.{IsGood, IsTree};
 ghost use Rattle.pl_base.specs.Store.{Item, item_id};
@@ -8,15 +8,19 @@ ghost use Rattle.pl_base.specs.Tree.{has_item};
 ghost use Rattle.pl_check.specs.Items.{AreReferences, item_ids};
 ghost use Rattle.pl_base.specs.Touched.{ascends_above};
 ghost use Rattle.pl_check.specs.Readable.{AreReadable};
+ghost use Rattle.pl_check.specs.RowIds.{AreRowIds};
 ghost use Rattle.pl_check.specs.Rows as good;
 ghost use Rattle.pl_check.specs.Tags.{targets};
 ghost use Rattle.pl_check.specs.Visited.{AreVisited};
+ghost use Rattle.pl_stored.specs.declared.stored.StoredPage.{StoredPage};
+ghost use Rattle.pl_stored.specs.declared.stored.StoredVisit.{StoredVisit};
 ghost use Rattle.pl_stored.specs.Stored.{Stored, stored_store};
 
 use crate::distinct::are_distinct_texts;
-use crate::items::{are_item_ids, has_page, have_good_items};
+use crate::items::{are_item_ids, have_good_items};
 use crate::references::References;
 use crate::roots::have_roots;
+use crate::row_ids::RowIds;
 use crate::tags::have_good_tags;
 use crate::visited::Visited;
 use pl_base::{Day, Micros, NoMemory, VisitId};
@@ -71,8 +75,6 @@ fn have_good_rows(
     references: &References,
 ) -> Result<bool, NoMemory>
     requires references { AreReferences rows.now.items references.now }
-    requires pages { IsStrictlyIncreasing (good.stored_page_ids rows.now.pages) }
-    requires visits { IsStrictlyIncreasing (good.stored_visit_ids rows.now.visits) }
     requires items { IsStrictlyIncreasing (item_ids rows.now.items) }
     ensures { IfOk result (λ pass. pass ≡ good.have_good_rows rows.now) }
 {
@@ -80,10 +82,11 @@ fn have_good_rows(
         return Ok(false);
     }
     let visited = Visited::of(alloc, &rows.visits)?;
+    let ids = RowIds::of(alloc, &rows.pages, &rows.visits)?;
     Ok(
         have_good_pages(rows, &visited, references)
-            && have_good_visits(rows)
-            && have_good_items(&rows.pages, &rows.items)
+            && have_good_visits(rows, &ids)
+            && have_good_items(rows, &ids)
             && have_roots(&rows.items),
     )
 }
@@ -107,12 +110,11 @@ fn have_good_pages(rows: &StoredRows, visited: &Visited, references: &References
         .all(|page| is_good_page(visited, references, page))
 }
 
-fn have_good_visits(rows: &StoredRows) -> bool
-    requires pages { IsStrictlyIncreasing (good.stored_page_ids rows.now.pages) }
-    requires visits { IsStrictlyIncreasing (good.stored_visit_ids rows.now.visits) }
+fn have_good_visits(rows: &StoredRows, ids: &RowIds) -> bool
+    requires ids { AreRowIds rows.now.pages rows.now.visits ids.now }
     ensures { result ≡ list_all (good.is_good_visit rows.now) rows.now.visits }
 {
-    rows.visits.iter().all(|visit| is_good_visit(rows, visit))
+    rows.visits.iter().all(|visit| is_good_visit(ids, visit))
 }
 
 fn are_page_ids(pages: &[StoredPage], next: u32) -> bool
@@ -186,31 +188,22 @@ fn is_good_page(visited: &Visited, references: &References, page: &StoredPage) -
     (visited.has(page.id) || references.has(page.id)) && (page.typed || !visited.has_typed(page.id))
 }
 
-fn is_good_visit(rows: &StoredRows, visit: &StoredVisit) -> bool
-    requires pages { IsStrictlyIncreasing (good.stored_page_ids rows.now.pages) }
-    requires visits { IsStrictlyIncreasing (good.stored_visit_ids rows.now.visits) }
-    ensures { result ≡ good.is_good_visit rows.now visit.now }
+// Told the ids of the pages and the visits.
+fn is_good_visit(ids: &RowIds, visit: &StoredVisit) -> bool
+    ensures { (rows : Stored) → AreRowIds rows.pages rows.visits ids.now
+        → result ≡ good.is_good_visit rows visit.now }
 {
     visit.date.0 <= Micros::LAST.0
-        && has_page(&rows.pages, visit.page)
-        && is_good_source(&rows.visits, visit.id, visit.source)
+        && ids.has_page(visit.page)
+        && is_good_source(ids, visit.id, visit.source)
 }
 
 // Whether the source of a visit, if there is one, is a visit with a smaller id.
-fn is_good_source(visits: &[StoredVisit], id: VisitId, source: Option<VisitId>) -> bool
-    requires { IsStrictlyIncreasing (good.stored_visit_ids visits.now) }
-    ensures { result ≡ good.is_good_source visits.now id source }
+fn is_good_source(ids: &RowIds, id: VisitId, source: Option<VisitId>) -> bool
+    ensures { (pages : List StoredPage) (visits : List StoredVisit)
+        → AreRowIds pages visits ids.now → result ≡ good.is_good_source visits id source }
 {
-    source.is_none_or(|source| source.0 < id.0 && has_visit(visits, source))
-}
-
-fn has_visit(visits: &[StoredVisit], id: VisitId) -> bool
-    requires { IsStrictlyIncreasing (good.stored_visit_ids visits.now) }
-    ensures { result ≡ list_any (λ v. v.id.0 == id.0) visits.now }
-{
-    visits
-        .binary_search_by_key(&id.0, |visit| visit.id.0)
-        .is_ok()
+    source.is_none_or(|source| source.0 < id.0 && ids.has_visit(source))
 }
 
 /// The first id of an item that is no root.

@@ -1,16 +1,20 @@
 // The tests of a file's items, one by one, and of its six roots.
-ghost use Rattle.std.specs.Prelude.{◌≡◌, ◌==◌, nat_lt};
-ghost use Rattle.std.specs.List.{list_all, list_any, position};
+ghost use Rattle.std.specs.Prelude.{◌≡◌, ◌==◌, List, nat_lt};
+ghost use Rattle.std.specs.List.{list_all, position};
 ghost use Rattle.std.specs.List.Sorted.{IsStrictlyIncreasing};
 ghost use Rattle.std.specs.Option.{option_copied};
 ghost use Rattle.pl_base.specs.Touched.{ascends_above};
 ghost use Rattle.pl_base.specs.Tree.{item_at};
-ghost use Rattle.pl_check.specs.Rows.{are_ids, stored_page_ids};
+ghost use Rattle.pl_check.specs.RowIds.{AreRowIds};
+ghost use Rattle.pl_check.specs.Rows.{are_ids};
 ghost use Rattle.pl_check.specs.Items as good;
 ghost use Rattle.pl_check.specs.Items.{item_ids};
+ghost use Rattle.pl_stored.specs.declared.stored.StoredPage.{StoredPage};
+ghost use Rattle.pl_stored.specs.declared.stored.StoredVisit.{StoredVisit};
 
+use crate::row_ids::RowIds;
 use pl_base::{ItemId, ItemKind, Micros, PageId, TreeItem};
-use pl_stored::StoredPage;
+use pl_stored::StoredRows;
 
 /// Whether the ids ascend from above 0, and lie below the next one.
 pub fn are_item_ids(items: &[TreeItem], next: u32) -> bool
@@ -38,41 +42,33 @@ fn items_ascend(items: &[TreeItem]) -> bool
     true
 }
 
-/// Whether each item is good by itself.
-pub fn have_good_items(pages: &[StoredPage], items: &[TreeItem]) -> bool
-    requires { IsStrictlyIncreasing (stored_page_ids pages.now) }
-    ensures { result ≡ list_all (good.is_good_item pages.now) items.now }
+/// Whether each item is good by itself, told the ids of the pages.
+pub fn have_good_items(rows: &StoredRows, ids: &RowIds) -> bool
+    requires { AreRowIds rows.now.pages rows.now.visits ids.now }
+    ensures { result ≡ list_all (good.is_good_item rows.now.pages) rows.now.items }
 {
-    items.iter().all(|item| is_good_item(pages, item))
+    rows.items.iter().all(|item| is_good_item(ids, item))
 }
 
-fn is_good_item(pages: &[StoredPage], item: &TreeItem) -> bool
-    requires { IsStrictlyIncreasing (stored_page_ids pages.now) }
-    ensures { result ≡ good.is_good_item pages.now item.now }
+fn is_good_item(ids: &RowIds, item: &TreeItem) -> bool
+    ensures { (pages : List StoredPage) (visits : List StoredVisit)
+        → AreRowIds pages visits ids.now → result ≡ good.is_good_item pages item.now }
 {
     item.added.0 <= Micros::LAST.0
         && item.modified.0 <= Micros::LAST.0
-        && has_own_page(pages, item.kind, item.page)
+        && has_own_page(ids, item.kind, item.page)
         && (item.children.is_empty() || is_folder(item.kind))
 }
 
 // Whether a bookmark has a page that is there, and any other item none.
-fn has_own_page(pages: &[StoredPage], kind: ItemKind, page: Option<PageId>) -> bool
-    requires { IsStrictlyIncreasing (stored_page_ids pages.now) }
-    ensures { result ≡ good.has_own_page pages.now kind page }
+fn has_own_page(ids: &RowIds, kind: ItemKind, page: Option<PageId>) -> bool
+    ensures { (pages : List StoredPage) (visits : List StoredVisit)
+        → AreRowIds pages visits ids.now → result ≡ good.has_own_page pages kind page }
 {
     match page {
-        Some(page) => is_bookmark(kind) && has_page(pages, page),
+        Some(page) => is_bookmark(kind) && ids.has_page(page),
         None => !is_bookmark(kind),
     }
-}
-
-/// Whether one of the pages has the id.
-pub fn has_page(pages: &[StoredPage], id: PageId) -> bool
-    requires { IsStrictlyIncreasing (stored_page_ids pages.now) }
-    ensures { result ≡ list_any (λ p. p.id.0 == id.0) pages.now }
-{
-    pages.binary_search_by_key(&id.0, |page| page.id.0).is_ok()
 }
 
 pub fn is_bookmark(kind: ItemKind) -> bool

@@ -7,8 +7,12 @@ mod items;
 mod numbers;
 mod references;
 mod roots;
+mod row_ids;
+mod search;
 mod tags;
 mod visited;
 
 pub use good::are_good;
+pub use numbers::Numbers;
 pub use references::References;
+pub use search::find_visit;

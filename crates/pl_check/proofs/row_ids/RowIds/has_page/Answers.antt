@@ -1,0 +1,5 @@
+use Rattle.std.proofs.Common.{◌∙◌}
+use Rattle.pl_check.proofs.row_ids.RowIds.has_page.Goals as goal
+
+pub returns : goal.returns
+returns c = λ pages visits are. c.has.ensures ∙ are.pages c.args.id.0
