@@ -13,6 +13,7 @@ use Rattle.pl_base.specs.declared.id.PageId.{PageId}
 use Rattle.pl_base.specs.declared.id.Slot.{Slot}
 use Rattle.pl_base.specs.declared.id.VisitId.{VisitId}
 use Rattle.pl_base.specs.Good.{IsTitle}
+use Rattle.pl_base.specs.Live.{slot_limit}
 use Rattle.pl_base.specs.Store.{Item as TreeItem}
 use Rattle.pl_base.proofs.KeyCounts.{count-append}
 use Rattle.pl_base.proofs.ListLaws.{AllPairs-from_map, weaker}
@@ -36,7 +37,7 @@ use Rattle.pl_record.specs.declared.rows.Place.{Place}
 use Rattle.pl_record.specs.declared.rows.Visit.{Visit}
 use Rattle.pl_record.specs.Rows.{page_in, visit_in}
 use Rattle.pl_record.proofs.LaidSlots.{kind_live}
-use Rattle.pl_record.proofs.SlotCounts.{distinct_few, few_times}
+use Rattle.pl_record.proofs.SlotCounts.{distinct_few, few_times, times}
 use Rattle.pl_record.proofs.SlotSteps.{origin_by_kind}
 use Rattle.pl_sheets.specs.Sheets.{Pages}
 use Rattle.pl_slot.specs.declared.kind.SlotKind.{SlotKind}
@@ -80,19 +81,22 @@ named_below held pages slot (Some id) below names = below id names
 
 -- ---- lists
 
--- of numbers that stand once, those in the middle do
-middle_distinct : (a b c d e : List ℕ) → IsDistinct eqb (a ++ b ++ c ++ d ++ e) → IsDistinct eqb b
-middle_distinct a b c d e once =
-    distinct_few b
-    (λ n.
-    omega (
-      arith,
-      few_times (a ++ b ++ c ++ d ++ e) once n,
-      count-append (λ (m : ℕ). m) n (a ++ b ++ c ++ d) e,
-      count-append (λ (m : ℕ). m) n (a ++ b ++ c) d,
-      count-append (λ (m : ℕ). m) n (a ++ b) c,
-      count-append (λ (m : ℕ). m) n a b,
-    ))
+-- of numbers that stand once, those of the second and the third part do
+module _ (a b c d e : List ℕ) (once : IsDistinct eqb (a ++ b ++ c ++ d ++ e)) where
+  once_each : (n : ℕ) → (times n b ≤ 1) × (times n c ≤ 1)
+  once_each n =
+      let all = few_times (a ++ b ++ c ++ d ++ e) once n in
+      let four = count-append (λ (m : ℕ). m) n (a ++ b ++ c ++ d) e in
+      let three = count-append (λ (m : ℕ). m) n (a ++ b ++ c) d in
+      let two = count-append (λ (m : ℕ). m) n (a ++ b) c in
+      let one = count-append (λ (m : ℕ). m) n a b in
+      (omega arith, omega arith)
+
+  second_distinct : IsDistinct eqb b
+  second_distinct = distinct_few b (λ n. (once_each n).0)
+
+  third_distinct : IsDistinct eqb c
+  third_distinct = distinct_few c (λ n. (once_each n).1)
 
 -- ---- what was read
 
@@ -183,18 +187,43 @@ module _ (pages : Pages) (reads : Reads) (from : AreReadFrom pages reads) where
 
   places_once : IsDistinct eqb (numbers reads.place_slots)
   places_once =
-      middle_distinct (numbers reads.origins) (numbers reads.place_slots) (numbers reads.visit_slots)
+      second_distinct (numbers reads.origins) (numbers reads.place_slots) (numbers reads.visit_slots)
       (numbers reads.item_slots) (flat_map (text_parts pages) (row_texts reads.places reads.items)) from.once
 
-  pub few_pages : IsArena pages → length reads.stored.pages < 2 ^ 32
-  few_pages arena =
+  pub few_places : IsArena pages → length reads.places ≤ slot_limit
+  few_places arena =
       omega (
         arith,
         few pages (numbers reads.place_slots) places_once places_live,
         arena.few,
-        pages_each,
         row_each.places,
         length-map reads.place_slots (λ (s : Slot). s.0),
+      )
+
+  pub few_pages : IsArena pages → length reads.stored.pages < 2 ^ 32
+  few_pages arena = omega (arith, few_places arena, pages_each)
+
+  -- so are the visits
+  visits_live : AllByRecursion (λ (n : ℕ). is_live n pages ≡ true) (numbers reads.visit_slots)
+  visits_live =
+      weaker (λ (n : ℕ). kind_at n pages ≡ Some kinds.Visit) (λ (n : ℕ). is_live n pages ≡ true)
+      (numbers reads.visit_slots) (λ n is. kind_live n kinds.Visit pages is (λ free. absurd (cc)))
+      (of_kind pages reads from kinds.Visit)
+
+  visits_once : IsDistinct eqb (numbers reads.visit_slots)
+  visits_once =
+      third_distinct (numbers reads.origins) (numbers reads.place_slots) (numbers reads.visit_slots)
+      (numbers reads.item_slots) (flat_map (text_parts pages) (row_texts reads.places reads.items)) from.once
+
+  pub few_visits : IsArena pages → length reads.stored.visits ≤ slot_limit
+  few_visits arena =
+      omega (
+        arith,
+        few pages (numbers reads.visit_slots) visits_once visits_live,
+        arena.few,
+        AllZip-long (IsVisitRead pages) reads.visits reads.stored.visits from.stored_visits,
+        row_each.visits,
+        length-map reads.visit_slots (λ (s : Slot). s.0),
       )
 
   -- ids of visits that ascend differ

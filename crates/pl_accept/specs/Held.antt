@@ -45,7 +45,7 @@ pub record HasIdEach (reads : Reads) : Type 0 where
   pub visits : length reads.visit_slots ≡ length reads.stored.visits
   pub items : length reads.item_slots ≡ length reads.stored.items
 
--- the slots of rows are beside the numbers of their ids, and the pages are those that were read
+-- the slots of rows are beside the numbers of their ids
 pub record AreByIds (reads : Reads) (a : Accepted) : Type 0 where
   pub pages : a.pages.entries
       ≡ zip (map (λ (p : StoredPage). p.id.0) reads.stored.pages) reads.place_slots
@@ -53,4 +53,3 @@ pub record AreByIds (reads : Reads) (a : Accepted) : Type 0 where
       ≡ zip (map (λ (v : StoredVisit). v.id.0) reads.stored.visits) reads.visit_slots
   pub items : a.items.entries
       ≡ zip (map (λ (i : TreeItem). i.id.0) reads.stored.items) reads.item_slots
-  pub stored : a.stored.items ≡ reads.stored.pages

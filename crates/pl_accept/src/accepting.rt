@@ -1,9 +1,8 @@
-// What a file of linked slots stands for but for its marks and totals.
+// What a file of linked slots stands for.
 ghost use Rattle.std.specs.Prelude.{List, IfOk, IsErrOf};
 ghost use Rattle.pl_accept.specs.Accepted.{IsAccepted};
 ghost use Rattle.pl_base.specs.declared.id.VisitId.{VisitId};
-ghost use Rattle.pl_base.specs.Good.{IsGood};
-ghost use Rattle.pl_base.specs.Rows.{Kept, store_of};
+ghost use Rattle.pl_base.specs.Rows.{IsSound, Kept};
 ghost use Rattle.pl_base.specs.Store.{Visit};
 ghost use Rattle.pl_reading.specs.File.{IsNamed};
 ghost use Rattle.pl_record.specs.Form.{IsForm};
@@ -17,13 +16,15 @@ use crate::linked::are_linked;
 use pl_base::{CheckError, Steps};
 use pl_load::read_file;
 use pl_slot::Arena;
+use pl_sound::are_right;
 use std::alloc::Global;
 use std::sync::ledger::Ledger;
 
 /// The rows of a file whose header names the form. `NotAStore` comes exactly where its slots are
-/// the form of no good store; what was computed of pages and origins is not asked.
+/// the form of no good store's rows with the marks and totals that the definitions give.
 ///
-/// It reads each slot a few times, sorts each kind of row, and parses each URL once.
+/// It reads each slot a few times, sorts each kind of row, parses each URL once, and computes each
+/// mark and total afresh.
 pub fn accept<L: Ledger>(
     alloc: Global,
     arena: &Arena,
@@ -34,7 +35,7 @@ pub fn accept<L: Ledger>(
     ensures accepted { IfOk result (IsAccepted arena.now) }
     ensures none { IsErrOf result CheckError.NotAStore → (kept : Kept)
         → (targets : VisitId → List Visit) → IsForm kept targets arena.now
-        → IsGood (store_of kept) → ⊥ }
+        → IsSound kept → ⊥ }
 {
     let rows = read_file(alloc, arena, steps)?;
     if !have_good_rows(alloc, &rows.stored)? {
@@ -44,6 +45,9 @@ pub fn accept<L: Ledger>(
         return Err(CheckError::NotAStore);
     }
     if !are_linked(alloc, arena, &rows, steps)? {
+        return Err(CheckError::NotAStore);
+    }
+    if !are_right(alloc, &rows)? {
         return Err(CheckError::NotAStore);
     }
     rows_by_ids(alloc, rows)

@@ -37,7 +37,6 @@ pub(crate) fn rows_by_ids(alloc: Global, rows: FileRows) -> Result<Accepted, Che
         pages: page_slots(alloc, &pages, &live.places)?,
         visits: visit_slots(alloc, &visits, &live.visits)?,
         items: item_slots(alloc, &items, &live.items)?,
-        stored: pages,
     };
     match Items::planted(alloc, items)? {
         Some(_tree) => Ok(accepted),

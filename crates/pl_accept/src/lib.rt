@@ -1,5 +1,5 @@
-//! Whether a file of linked slots is a store's but for its marks and totals: its rows are those of
-//! a good store, and its links make the lists that they demand. What is accepted is found by ids.
+//! Whether a file of linked slots is a store's: its rows are those of a good store, its links make
+//! the lists that they demand, and its marks and totals are right. What is accepted is found by ids.
 #![tactic(auto)]
 
 mod accepted;

@@ -1,5 +1,5 @@
 -- What the bytes of a file tell of the rows that were read of it.
-use Rattle.std.proofs.Common.{◌≡◌, ◌≤◌, ◌↔◌, ◌∙◌, ◌++◌, ◌/◌, ℕ, Bool, List, ap, arith, drop, false, length, map, replicate, subst, sym}
+use Rattle.std.proofs.Common.{◌≡◌, ◌≤◌, ◌↔◌, ◌∙◌, ◌++◌, ◌/◌, ℕ, Bool, List, ap, arith, drop, false, length, replicate, subst, sym}
 use Rattle.std.proofs.Math.Logic.{∥∥₁_elim}
 use Rattle.std.proofs.Math.Seq.{drop-append_seam}
 use Rattle.std.proofs.Props.{props}
@@ -7,17 +7,15 @@ use Rattle.std.proofs.lemmas.List.{length-replicate}
 use Rattle.pl_accept.specs.declared.accepted.Accepted.{Accepted}
 use Rattle.pl_accept.specs.Accepted.{IsAccepted}
 use Rattle.pl_base.specs.declared.id.VisitId.{VisitId}
-use Rattle.pl_base.specs.Good.{IsGood}
-use Rattle.pl_base.specs.Rows.{IsSound, Kept, store_of}
+use Rattle.pl_base.specs.Rows.{IsSound, Kept}
 use Rattle.pl_base.specs.Store.{Store, Visit}
 use Rattle.pl_base.specs.Touched.{page_size}
 use Rattle.pl_reading.specs.File.{FileStandsFor, HasSlots, stored_pages}
 use Rattle.pl_record.specs.Form.{IsForm, bytes_in, pages_of}
-use Rattle.pl_record.specs.LinkedRows.{Entries, IsBaseOf, Keeps}
+use Rattle.pl_record.specs.LinkedRows.{IsBaseOf, Keeps}
 use Rattle.pl_record.proofs.Changes.{settled_base}
 use Rattle.pl_record.proofs.OneForm.{one_form}
 use Rattle.pl_sheets.specs.Sheets.{ArePages, Pages, settled, unchanged}
-use Rattle.pl_stored.specs.Stored.{stored_page}
 
 -- ---- bytes
 
@@ -58,42 +56,21 @@ form_slots file kept targets form =
           };
     }
 
--- where no good store's rows have the form, the file stands for none
+-- where no sound rows have the form, the file stands for no store
 pub no_store : (file : List ℕ)
-    → ((kept : Kept) (targets : VisitId → List Visit) → IsForm kept targets (stored_pages file) → IsGood (store_of kept) → ⊥)
+    → ((kept : Kept) (targets : VisitId → List Visit) → IsForm kept targets (stored_pages file) → IsSound kept → ⊥)
     → (store : Store) → FileStandsFor file store → ⊥
 no_store file none store stands =
-    ∥∥₁_elim stands.form (Prim.hlevel props) (λ form. none stands.kept stands.targets form stands.sound.good)
+    ∥∥₁_elim stands.form (Prim.hlevel props) (λ form. none stands.kept stands.targets form stands.sound)
 
--- the rows that were read are those of the store for which the file stands
-pub sound_read : (file : List ℕ) (sheets : Pages) (pages visits items : Entries) (k : Keeps sheets pages visits items)
-    → sheets ≡ stored_pages file → (store : Store) → FileStandsFor file store → IsSound k.kept
-sound_read file sheets pages visits items k same store stands =
+-- the rows that were accepted are those that the pages keep
+pub sound_kept : (sheets : Pages) (a : Accepted) (accepted : IsAccepted sheets a)
+    (k : Keeps sheets a.pages.entries a.visits.entries a.items.entries) → IsSound k.kept
+sound_kept sheets a accepted k =
     subst IsSound
-    (∥∥₁_elim stands.form (Prim.hlevel props)
-    (λ form. ∥∥₁_elim k.linked (Prim.hlevel props)
+    (∥∥₁_elim k.linked (Prim.hlevel props)
     (λ linked.
-    let again : IsForm k.kept k.targets sheets =
-    record { at = linked.at; rows = linked.rows; laid = linked.laid } in
-    (one_form stands.kept k.kept stands.targets k.targets (stored_pages file) form
-    (subst (IsForm k.kept k.targets) same again)).0)))
-    stands.sound
-
--- ---- what was accepted
-
-module _ (sheets : Pages) (a : Accepted) (accepted : IsAccepted sheets a)
-    (k : Keeps sheets a.pages.entries a.visits.entries a.items.entries) where
-  -- the rows that were accepted are those that the pages keep
-  same_kept : accepted.kept ≡ k.kept
-  same_kept =
-      ∥∥₁_elim k.linked (Prim.hlevel props)
-      (λ linked.
-      (one_form accepted.kept k.kept accepted.targets k.targets sheets
-      (record { at = accepted.linked.at; rows = accepted.linked.rows; laid = accepted.linked.laid })
-      (record { at = linked.at; rows = linked.rows; laid = linked.laid })).0)
-
-  pub good_kept : IsGood (store_of k.kept)
-  good_kept = subst (λ (kept : Kept). IsGood (store_of kept)) same_kept accepted.good
-
-  pub pages_kept : map stored_page a.stored.items ≡ (store_of k.kept).pages
-  pages_kept = accepted.stored ∙ ap (λ (kept : Kept). (store_of kept).pages) same_kept
+    (one_form accepted.kept k.kept accepted.targets k.targets sheets
+    (record { at = accepted.linked.at; rows = accepted.linked.rows; laid = accepted.linked.laid })
+    (record { at = linked.at; rows = linked.rows; laid = linked.laid })).0))
+    accepted.sound

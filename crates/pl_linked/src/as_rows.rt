@@ -93,7 +93,6 @@ impl Rows for Linked {
         Linked::set_total(self, origin, total, steps);
     }
 
-    #[inline(always)]
     fn visit_at<L: Ledger>(&self, visit: VisitId, steps: &mut Steps<L>) -> Option<VisitRow> {
         Linked::visit_at(self, visit, steps)
     }

@@ -1,29 +1,16 @@
 // What a file of linked slots stands for.
-ghost use Rattle.std.specs.Prelude.{◌≡◌, ◌↔◌, ℕ, List, map, IfOk, IsErrOf};
-ghost use Rattle.pl_base.specs.declared.id.VisitId.{VisitId as Id};
-ghost use Rattle.pl_base.specs.Good.{IsGood};
-ghost use Rattle.pl_base.specs.Rows.{IsSound, Kept, store_of};
-ghost use Rattle.pl_base.specs.Store.{Store, Visit};
+ghost use Rattle.std.specs.Prelude.{◌≡◌, ◌↔◌, ℕ, List, IfOk, IsErrOf};
+ghost use Rattle.pl_base.specs.Rows.{IsSound, store_of};
+ghost use Rattle.pl_base.specs.Store.{Store};
 ghost use Rattle.pl_linked.specs.Linked as rows;
-ghost use Rattle.pl_reading.specs.File.{FileStandsFor, stored_bytes, stored_pages};
-ghost use Rattle.pl_record.specs.Form.{IsForm};
-ghost use Rattle.pl_stored.specs.Stored.{stored_page};
+ghost use Rattle.pl_reading.specs.File.{FileStandsFor, stored_bytes};
 
 use crate::linked::Linked;
 use pl_accept::{Accepted, accept};
 use pl_base::{CheckError, Steps};
 use pl_reading::arena_in;
-use pl_sound::are_right;
-use pl_stored::StoredPage;
 use std::alloc::Global;
 use std::sync::ledger::Ledger;
-
-/// Rows of a good store, whose marks and totals may be any, and its pages with their texts.
-#[derive(Drop)]
-struct Unmarked {
-    linked: Linked,
-    pages: Vec<StoredPage>,
-}
 
 impl Linked {
     /// The store that a file stands for, which takes its bytes over. Page 0, the gate's, is not
@@ -50,44 +37,18 @@ impl Linked {
         ensures not_a_store { IsErrOf result CheckError.NotAStore → (store : Store)
             → FileStandsFor bytes.items store → ⊥ }
     {
-        let Unmarked { linked, pages } = Linked::unmarked(alloc, bytes, steps)?;
-        if !are_right(alloc, &linked, &pages, steps)? {
-            return Err(CheckError::NotAStore);
-        }
-        Ok(linked)
-    }
-
-    // The same, but that marks and totals may be any.
-    fn unmarked<L: Ledger>(
-        alloc: Global,
-        bytes: Vec<u8>,
-        steps: &mut Steps<L>,
-    ) -> Result<Unmarked, CheckError>
-        ensures arena { IfOk result (λ read. read.linked.arena ≡ stored_pages bytes.items) }
-        ensures good { IfOk result (λ read. IsGood (store_of (rows.kept_of read.linked))) }
-        ensures pages { IfOk result (λ read.
-            map stored_page read.pages.items ≡ (store_of (rows.kept_of read.linked)).pages) }
-        ensures none { IsErrOf result CheckError.NotAStore → (kept : Kept)
-            → (targets : Id → List Visit) → IsForm kept targets (stored_pages bytes.items)
-            → IsGood (store_of kept) → ⊥ }
-    {
         let arena = arena_in(bytes)?;
         let Accepted {
             pages,
             visits,
             items,
-            stored,
         } = accept(alloc, &arena, steps)?;
-        let linked = Linked {
+        Ok(Linked {
             alloc,
             arena,
             pages,
             visits,
             items,
-        };
-        Ok(Unmarked {
-            linked,
-            pages: stored,
         })
     }
 }

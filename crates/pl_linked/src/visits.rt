@@ -44,8 +44,7 @@ impl Linked {
         }
     }
 
-    // Inlined, so that a caller which asks for no page or source reads no slot of one.
-    #[inline(always)]
+    /// The visit with this id, without its id.
     pub fn visit_at<L: Ledger>(&self, visit: VisitId, steps: &mut Steps<L>) -> Option<VisitRow>
         ensures row { result ≡ option_map row_of (visit_at (kept_of self.now) visit) }
         ensures cost { steps.new ≤ steps.old + most_reads }

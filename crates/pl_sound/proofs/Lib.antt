@@ -1,4 +1,6 @@
-mod CountedVisits
+mod ByPage
 mod NamedSums
+mod RedirectedVisits
 mod RightMarks
-mod StoredPages
+mod SameLists
+pub mod WholeRows

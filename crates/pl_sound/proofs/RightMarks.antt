@@ -1,89 +1,177 @@
--- Which marks are right.
-use Rattle.std.proofs.Common.{◌≡◌, ◌==◌, ◌&&◌, ◌∙◌, ℕ, All, Bool, true, false, List, Result, Ok, Err, ap, eq-eqb, sym}
-use Rattle.std.proofs.Math.Bool.{beq}
-use Rattle.std.specs.Cmp.{booleans_Decides}
-use Rattle.std.specs.List.{AllByRecursion}
-use Rattle.std.specs.Ordering.{int_eq}
+-- The marks of pages, computed from their visits by page.
+use Rattle.std.proofs.Common.{◌≡◌, ◌≤◌, ◌<◌, ◌^◌, ◌+◌, ◌∙◌, ◌&&◌, ◌||◌, ◌==◌, ℕ, Bool, true, false, List, [], ◌∷◌, All, ap}
+use Rattle.std.proofs.Common.{Err, Ok, Result, arith, filter, if◌then◌else◌, length, map, not, refl, suc, sym, take, zero}
+use Rattle.std.specs.List.{AllByRecursion, count_by, list_all, list_any}
 use Rattle.std.specs.Result.{IsOkAnd}
-use Rattle.std.proofs.lemmas.Bool.{and_from, and_parts, eqb-true}
-use Rattle.std.proofs.lemmas.Bool.Decides.{Decides-int_eq}
-use Rattle.std.proofs.lemmas.List.Elements.{All-from_recursion, recursion_from_All}
-use Rattle.pl_base.specs.declared.row.Mark.{Mark}
+use Rattle.std.proofs.lemmas.Bool.{ne_eqb}
+use Rattle.std.proofs.lemmas.List.{length-map, take-map}
+use Rattle.std.proofs.lemmas.List.Folds.{list_all-map}
+use Rattle.std.proofs.lemmas.List.Sums.{count_by-le-length, length-filter, sum_by-cons}
+use Rattle.pl_base.specs.declared.id.PageId.{PageId}
 use Rattle.pl_base.specs.Address.{is_place, is_place_url, record_of}
-use Rattle.pl_base.specs.Frecency.{frecency_of}
-use Rattle.pl_base.specs.Marks.{is_hidden, visit_count}
-use Rattle.pl_base.specs.Rows.{IsRight, Kept, KeptPage, mark_of, store_of}
-use Rattle.pl_base.proofs.ListLaws.{weaker}
-use Rattle.pl_base.proofs.LookUps.{found_holds}
+use Rattle.pl_base.specs.Frecency.{frecency_from, frecency_of}
+use Rattle.pl_base.specs.Live.{slot_limit}
+use Rattle.pl_base.specs.Marks.{is_counted, is_framed, is_hidden, is_referenced, visit_count}
+use Rattle.pl_base.specs.Redirects.{is_redirect_source}
+use Rattle.pl_base.specs.Store.{Store, Visit}
+use Rattle.pl_base.specs.Tables.{greatest_bonus}
+use Rattle.pl_base.specs.Visits.{latest_first, sample_of, sample_size, visits_of}
+use Rattle.pl_base.proofs.IdsLaws.{same_page}
+use Rattle.pl_base.proofs.ListLaws.{map-map, sum_by-map}
+use Rattle.pl_base.proofs.VisitLists.{any-latest_first}
+use Rattle.pl_base.proofs.VisitsLaws.{latest_first-same, length-latest_first}
+use Rattle.pl_score.specs.declared.sample.Sampled.{Sampled}
+use Rattle.pl_score.specs.Sample.{points_of, sampled_of}
+use Rattle.pl_score.proofs.StoreSamples.{frecency-sampled, sampled-small}
+use Rattle.pl_sound.specs.Marks.{are_unseen, told_sample}
+use Rattle.pl_sound.specs.Visits.{AreByPage, of_page}
 use Rattle.pl_stored.specs.declared.stored.StoredPage.{StoredPage}
-use Rattle.pl_sound.specs.Marks.{HasRightMark}
-use Rattle.pl_sound.proofs.StoredPages.{KeptAt}
+use Rattle.pl_stored.specs.declared.stored.StoredVisit.{StoredVisit}
+use Rattle.pl_stored.specs.Stored.{Stored, stored_page, stored_store, visit_of}
 
--- marks are right where that of each page is
-pub all_right : (kept : Kept) → AllByRecursion (HasRightMark kept) kept.pages → IsRight kept
-all_right kept all =
-    let each : (P : KeptPage → Type 0) → ((p : KeptPage) → HasRightMark kept p → P p) → All P kept.pages =
-    λ P told. All-from_recursion P kept.pages (weaker (HasRightMark kept) P kept.pages told all) in
-    record {
-      frecencies = each (λ (p : KeptPage). p.frecency ≡ frecency_of (store_of kept) p.page) (λ p h. h.frecency);
-      counts = each (λ (p : KeptPage). p.count ≡ visit_count (store_of kept) p.page.id) (λ p h. h.count);
-      hidden = each (λ (p : KeptPage). p.hidden ≡ is_hidden (store_of kept) p.page) (λ p h. h.hidden);
-    }
+-- ---- lists
 
-pub right_here : (kept : Kept) (stored : StoredPage) (k : ℕ) (s : KeptAt kept stored k) → IsRight kept
-    → HasRightMark kept s.page
-right_here kept stored k s right =
-    let here : (P : KeptPage → Type 0) → All P kept.pages → P s.page =
-    λ P all.
-    found_holds P (λ (p : KeptPage). p.page.id.0 == stored.id.0) kept.pages s.page (recursion_from_All P kept.pages all)
-    s.at in
-    record {
-      frecency = here (λ (p : KeptPage). p.frecency ≡ frecency_of (store_of kept) p.page) right.frecencies;
-      count = here (λ (p : KeptPage). p.count ≡ visit_count (store_of kept) p.page.id) right.counts;
-      hidden = here (λ (p : KeptPage). p.hidden ≡ is_hidden (store_of kept) p.page) right.hidden;
-    }
+abbrev counts : Visit → Bool
+counts v = is_counted v.transition
 
--- ---- the mark of one page
+abbrev Passes : {X : Type 0} → (X → Bool) → X → Type 0
+Passes p x = p x ≡ true
 
--- the mark of the page as the definitions give it, with the typed mark that it has
-pub record IsComputed (kept : Kept) (p : KeptPage) (mark : Mark) : Type 0 where
-  pub frecency : mark.frecency ≡ frecency_of (store_of kept) p.page
-  pub count : mark.count ≡ visit_count (store_of kept) p.page.id
-  pub typed : mark.typed ≡ p.page.typed
-  pub hidden : mark.hidden ≡ is_hidden (store_of kept) p.page
+all_kept : {X : Type 0} (p : X → Bool) (xs : List X) → AllByRecursion (Passes p) (filter p xs)
+all_kept p [] = tt
+all_kept {X} p (x ∷ xs) = choose (p x) refl (all_kept p xs)
+  where
+    choose : (b : Bool) → p x ≡ b → AllByRecursion (Passes p) (filter p xs)
+        → AllByRecursion (Passes p) (if b then x ∷ filter p xs else filter p xs)
+    choose true is rest = (is, rest)
+    choose false is rest = rest
 
--- two marks are the same
-abbrev are_equal : Mark → Mark → Bool
-are_equal a b =
-    int_eq a.frecency b.frecency && ((a.count == b.count) && (beq a.typed b.typed && beq a.hidden b.hidden))
+all_first : {X : Type 0} (P : X → Type 0) (n : ℕ) (xs : List X) → AllByRecursion P xs → AllByRecursion P (take n xs)
+all_first P zero xs all = tt
+all_first P (suc n) [] all = tt
+all_first P (suc n) (x ∷ xs) all = (all.0, all_first P n xs all.1)
 
-module _ (kept : Kept) (p : KeptPage) (was mark : Mark) (is : was ≡ mark_of p) (m : IsComputed kept p mark) where
-  pub right_if : are_equal mark was ≡ true → HasRightMark kept p
-  right_if same =
-      let equal : are_equal mark (mark_of p) ≡ true = sym (ap (are_equal mark) is) ∙ same in
-      let first =
-      and_parts (int_eq mark.frecency p.frecency)
-      ((mark.count == p.count) && (beq mark.typed p.page.typed && beq mark.hidden p.hidden)) equal in
-      let second =
-      and_parts (mark.count == p.count) (beq mark.typed p.page.typed && beq mark.hidden p.hidden) first.1 in
-      let third = and_parts (beq mark.typed p.page.typed) (beq mark.hidden p.hidden) second.1 in
-      record {
-        frecency = sym ((Decides-int_eq mark.frecency p.frecency).0 first.0) ∙ m.frecency;
-        count = sym (eqb-true mark.count p.count second.0) ∙ m.count;
-        hidden = sym ((booleans_Decides mark.hidden p.hidden).0 third.1) ∙ m.hidden;
-      }
+-- all pass where none fails
+all_by_any : {X : Type 0} (p : X → Bool) (xs : List X) → list_all p xs ≡ not (list_any (λ x. not (p x)) xs)
+all_by_any p [] = refl
+all_by_any p (x ∷ xs) = ap (λ b. p x && b) (all_by_any p xs) ∙ both (p x) (list_any (λ y. not (p y)) xs)
+  where
+    both : (a b : Bool) → (a && not b) ≡ not (not a || b)
+    both true b = refl
+    both false b = refl
 
-  pub if_right : HasRightMark kept p → are_equal mark was ≡ true
-  if_right right =
-      ap (are_equal mark) is
-      ∙ and_from (int_eq mark.frecency p.frecency)
-      ((mark.count == p.count) && (beq mark.typed p.page.typed && beq mark.hidden p.hidden))
-      ((Decides-int_eq mark.frecency p.frecency).1 (m.frecency ∙ sym right.frecency))
-      (and_from (mark.count == p.count) (beq mark.typed p.page.typed && beq mark.hidden p.hidden)
-      (eq-eqb mark.count p.count (m.count ∙ sym right.count))
-      (and_from (beq mark.typed p.page.typed) (beq mark.hidden p.hidden)
-      ((booleans_Decides mark.typed p.page.typed).1 m.typed)
-      ((booleans_Decides mark.hidden p.hidden).1 (m.hidden ∙ sym right.hidden))))
+all_latest : (p : Visit → Bool) (vs : List Visit) → list_all p (latest_first vs) ≡ list_all p vs
+all_latest p vs =
+    all_by_any p (latest_first vs) ∙ ap not (any-latest_first (λ v. not (p v)) vs) ∙ sym (all_by_any p vs)
+
+counted_part : (p : Visit → Bool) (vs : List Visit)
+    → count_by counts (filter p vs) ≡ count_by (λ v. p v && counts v) vs
+counted_part p [] = refl
+counted_part p (v ∷ vs) =
+    choose (p v) (counted_part p vs) ∙ sym (sum_by-cons (λ w. if p w && counts w then 1 else 0) v vs)
+  where
+    choose : (b : Bool) → count_by counts (filter p vs) ≡ count_by (λ w. p w && counts w) vs
+        → count_by counts (if b then v ∷ filter p vs else filter p vs)
+        ≡ (if b && counts v then 1 else 0) + count_by (λ w. p w && counts w) vs
+    choose true rest = omega (arith, rest, sum_by-cons (λ w. if counts w then 1 else 0) v (filter p vs))
+    choose false rest = omega (arith, rest)
+
+-- ---- the visits of a page
+
+module _ (rows : Stored) (sorted : List StoredVisit) (by : AreByPage rows.visits sorted) (page : PageId) where
+  abbrev store : Store
+  store = stored_store rows
+
+  abbrev own : List StoredVisit
+  own = filter (of_page page) sorted
+
+  -- there are no more than all
+  pub few_own : length rows.visits ≤ slot_limit → length own < 2 ^ 32
+  few_own few =
+      omega (
+        arith,
+        few,
+        ap length (by page),
+        length-map own visit_of,
+        length-latest_first (visits_of store page),
+        length-filter (λ (v : Visit). v.page.0 == page.0) store.visits,
+        count_by-le-length (λ (v : Visit). v.page.0 == page.0) store.visits,
+        length-map rows.visits visit_of,
+      )
+
+  pub count_is : count_by (λ (v : StoredVisit). is_counted v.transition) own ≡ visit_count store page
+  count_is =
+      sym (sum_by-map (λ (v : Visit). if counts v then 1 else 0) visit_of own)
+      ∙ ap (count_by counts) (by page) ∙ latest_first-same counts (visits_of store page)
+      ∙ counted_part (λ (v : Visit). v.page.0 == page.0) store.visits
+
+  -- ---- the sample
+
+  abbrev sampled : List StoredVisit
+  sampled = take sample_size own
+
+  told_right : (vs : List StoredVisit) → AllByRecursion (Passes (of_page page)) vs
+      → map (told_sample rows (is_referenced store page)) vs ≡ map (λ (v : StoredVisit). sampled_of store (visit_of v)) vs
+  told_right [] all = refl
+  told_right (v ∷ vs) all = rw (same_page v.page page all.0, told_right vs all.1) refl
+
+  pub sample_is : (referenced : Bool) → referenced ≡ is_referenced store page
+      → map (told_sample rows referenced) sampled ≡ map (sampled_of store) (sample_of store page)
+  sample_is referenced told =
+      ap (λ (b : Bool). map (told_sample rows b) sampled) told
+      ∙ told_right sampled (all_first (Passes (of_page page)) sample_size own (all_kept (of_page page) sorted))
+      ∙ sym (map-map (sampled_of store) visit_of sampled)
+      ∙ ap (map (sampled_of store)) (sym (take-map visit_of sample_size own) ∙ ap (take sample_size) (by page))
+
+  -- ---- hidden pages
+
+  abbrev unseen : Visit → Bool
+  unseen v = is_framed v.transition || is_redirect_source store v
+
+  -- as `is_hidden` has it
+  abbrev hidden_by : List Visit → Bool
+  hidden_by [] = false
+  hidden_by (v ∷ vs) = list_all unseen (v ∷ vs)
+
+  by_all : (vs : List Visit) → hidden_by vs
+      ≡ (not (length vs == 0) && list_all unseen vs)
+  by_all [] = refl
+  by_all (v ∷ vs) =
+      sym (ap (λ (b : Bool). not b && list_all unseen (v ∷ vs)) (ne_eqb (length (v ∷ vs)) 0 (λ none. omega (arith, none))))
+
+  unseen_is : are_unseen rows own ≡ hidden_by (visits_of store page)
+  unseen_is =
+      ap (λ (b : Bool). not (length own == 0) && b)
+      (sym (list_all-map unseen visit_of own)
+      ∙ ap (list_all unseen) (by page)
+      ∙ all_latest unseen (visits_of store page))
+      ∙ ap (λ (n : ℕ). not (n == 0)
+      && list_all unseen (visits_of store page))
+      (sym (length-map own visit_of) ∙ ap length (by page) ∙ length-latest_first (visits_of store page))
+      ∙ sym (by_all (visits_of store page))
+
+-- a page is hidden as its address and its visits say
+module _ (rows : Stored) (sorted : List StoredVisit) (by : AreByPage rows.visits sorted) (p : StoredPage) where
+  pub hidden_is : is_hidden (stored_store rows) (stored_page p)
+      ≡ (is_place_url p.url || are_unseen rows (filter (of_page p.id) sorted))
+  hidden_is = ap (λ (b : Bool). is_place_url p.url || b) (sym (unseen_is rows sorted by p.id))
+
+-- ---- the frecency
+
+pub small_bonuses : (store : Store) (vs : List Visit) (sampled : List Sampled) → sampled ≡ map (sampled_of store) vs
+    → All (λ (s : Sampled). s.bonus ≤ greatest_bonus) sampled
+small_bonuses store vs sampled is = rw is (sampled-small store vs)
+
+pub score_is : (rows : Stored) (p : StoredPage) (sampled : List Sampled) (count : ℕ) (referenced place : Bool)
+    → sampled ≡ map (sampled_of (stored_store rows)) (sample_of (stored_store rows) p.id)
+    → count ≡ visit_count (stored_store rows) p.id → referenced ≡ is_referenced (stored_store rows) p.id
+    → place ≡ is_place_url p.url
+    → frecency_from (points_of rows.day sampled) (length sampled) count referenced p.typed place
+    ≡ frecency_of (stored_store rows) (stored_page p)
+score_is rows p sampled count referenced place is counted refers places =
+    rw (is, counted, refers, places) (frecency-sampled (stored_store rows) (stored_page p))
+
+-- ---- queries
 
 abbrev passes : {T E : Type 0} → (T → Bool) → Result T E → Bool
 passes test (Ok found) = test found

@@ -1,2 +1,5 @@
 pub mod Marks
+pub mod Redirects
+pub mod Right
 pub mod Sums
+pub mod Visits

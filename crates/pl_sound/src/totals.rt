@@ -1,57 +1,46 @@
-// Whether the totals of origins are those that the definition gives.
-ghost use Rattle.std.specs.Prelude.{◌≡◌, ◌↔◌, ◌≤◌, ℕ, IfOk, IsTrue, map};
+// Whether the totals of origins are the sums of their pages' frecencies.
+ghost use Rattle.std.specs.Prelude.{◌≡◌, ◌↔◌, ◌≤◌, ℕ, IfOk, IsTrue, length, map};
 ghost use Rattle.std.specs.List.{All};
-ghost use Rattle.pl_base.specs.Rows.{HaveTotals, IsRight, KeptPage, store_of};
+ghost use Rattle.pl_base.specs.Live.{slot_limit};
 ghost use Rattle.pl_base.specs.Totals as spec;
 ghost use Rattle.pl_base.specs.Totals.{most_share};
-ghost use Rattle.pl_stored.specs.Stored.{stored_page};
-ghost use Rattle.pl_sound.specs.Sums.{named_sum, sum_in};
+ghost use Rattle.pl_record.specs.declared.rows.Place.{Place as Row};
+ghost use Rattle.pl_sound.specs.Sums.{named_sum, origin_sum, sum_in};
 
 use crate::sums::Sums;
-use pl_base::{NoMemory, Rows, Steps};
-use pl_stored::StoredPage;
+use pl_base::{NoMemory, Slot};
+use pl_record::Place;
 use std::alloc::Global;
-use std::sync::ledger::Ledger;
 
-/// Whether the total of each page's origin is what the definition gives, where the marks are right.
-pub(crate) fn are_totals_right<R: Rows, L: Ledger>(
+/// Whether each of these totals is the sum of the positive frecencies of its origin's pages.
+pub(crate) fn are_totals(
     alloc: Global,
-    rows: &R,
-    pages: &[StoredPage],
-    steps: &mut Steps<L>,
+    places: &[Place],
+    origins: &[Slot],
+    totals: &[u64],
 ) -> Result<bool, NoMemory>
-    requires pages { map stored_page pages.now ≡ (store_of (R.kept rows.now)).pages }
-    requires right { IsRight (R.kept rows.now) }
-    ensures { IfOk result (λ right. IsTrue right ↔ HaveTotals (R.kept rows.now)) }
+    requires few { length places.now ≤ slot_limit }
+    requires small { All (λ (p : Row). spec.share p.mark.frecency ≤ most_share) places.now }
+    ensures { IfOk result (λ right.
+        IsTrue right ↔ (map (origin_sum places.now) origins.now ≡ totals.now)) }
 {
-    let sums = sums_of(alloc, rows, pages, steps)?;
-    for page in pages {
-        let origin = rows.origin_of(page.id, steps);
-        if rows.origin_at(origin, steps).total != sums.of(origin) {
-            return Ok(false);
-        }
-    }
-    Ok(true)
+    let sums = sums_of(alloc, places)?;
+    let right: Vec<u64> = origins
+        .iter()
+        .map(|origin| sums.of(*origin))
+        .collect(alloc)?;
+    Ok(right.as_slice() == totals)
 }
 
 // The sums of the positive frecencies of pages, by the names of their origins.
-fn sums_of<R: Rows, L: Ledger>(
-    alloc: Global,
-    rows: &R,
-    pages: &[StoredPage],
-    steps: &mut Steps<L>,
-) -> Result<Sums, NoMemory>
-    requires pages { map stored_page pages.now ≡ (store_of (R.kept rows.now)).pages }
-    requires small { All (λ (p : KeptPage). spec.share p.frecency ≤ most_share)
-        (R.kept rows.now).pages }
-    ensures { IfOk result (λ sums. (name : ℕ) → sum_in sums name
-        ≡ named_sum (R.kept rows.now).pages name) }
+fn sums_of(alloc: Global, places: &[Place]) -> Result<Sums, NoMemory>
+    requires few { length places.now ≤ slot_limit }
+    requires small { All (λ (p : Row). spec.share p.mark.frecency ≤ most_share) places.now }
+    ensures { IfOk result (λ sums. (name : ℕ) → sum_in sums name ≡ named_sum places.now name) }
 {
     let mut sums = Sums::new(alloc);
-    for page in pages {
-        let mark = rows.page_at(page.id, steps).unwrap();
-        let origin = rows.origin_of(page.id, steps);
-        sums.add(origin, share(mark.frecency))?;
+    for place in places {
+        sums.add(place.origin, share(place.mark.frecency))?;
     }
     Ok(sums)
 }

@@ -1,61 +1,49 @@
-use Rattle.std.proofs.Common.{◌≡◌, ◌∙◌, ◌==◌, ap, rules, sym, w64}
+use Rattle.std.proofs.Common.{◌≡◌, ◌+◌, ◌++◌, ◌∙◌, ◌∷◌, [], List, ap, false, get_or, pos, rules, take, w64}
 use Rattle.std.proofs.lemmas.Int.{to_z-of_z}
-use Rattle.pl_base.specs.declared.row.Mark.{Mark}
-use Rattle.pl_base.specs.Rows.{Kept, KeptPage, mark_of}
+use Rattle.std.proofs.lemmas.List.{take_all, take_more}
 use Rattle.pl_base.specs.Totals.{share}
-use Rattle.pl_base.proofs.LookUps.{found_where}
-use Rattle.pl_base.proofs.PageLaws.{mark_is}
-use Rattle.pl_sound.specs.Sums.{sum_in}
+use Rattle.pl_record.specs.declared.rows.Place.{Place}
+use Rattle.pl_sound.specs.Sums.{named_sum, sum_in}
 use Rattle.pl_sound.proofs.NamedSums.{sum_fits, sums_more}
-use Rattle.pl_sound.proofs.StoredPages.{KeptAt, kept_at, origin_there, page_there}
 use Rattle.pl_sound.proofs.totals.sums_of.Goals as goal
+use Rattle.pl_sound.proofs.totals.sums_of.Goals.{After-share}
 
-pub unwrap-mark-requires : goal.unwrap-mark-requires
-unwrap-mark-requires g c =
-    let kept : Kept = g.R.Rows.kept c.args.rows.now in
-    found_where (λ (p : KeptPage). p.page.id.0 == c.page-item.result.id.0) mark_of kept.pages c.page_at.result
-    (page_there kept c.page-item.result c.loop-page.page-index
-    (kept_at kept c.args.pages.now c.loop-page.page-index c.page-item.result (g.met.R.Rows.well_kept c.args.rows.now)
-    c.requires.pages c.loop-page-test.true c.page-item.is))
-    c.page_at.ensures.mark
+-- what a page beyond the last would be
+abbrev none : Place
+none =
+    record {
+      id = record { 0 = 0 };
+      mark = record { frecency = pos 0; count = 0; typed = false; hidden = false };
+      origin = record { 0 = 0 };
+      url = record { slot = record { 0 = 0 }; length = 0 };
+      title = record { slot = record { 0 = 0 }; length = 0 };
+    }
 
-pub origin_of-origin-requires : goal.origin_of-origin-requires
-origin_of-origin-requires g c =
-    let kept : Kept = g.R.Rows.kept c.args.rows.now in
-    page_there kept c.page-item.result c.loop-page.page-index
-    (kept_at kept c.args.pages.now c.loop-page.page-index c.page-item.result (g.met.R.Rows.well_kept c.args.rows.now)
-    c.requires.pages c.loop-page-test.true c.page-item.is)
+abbrev place : After-share → Place
+place c = get_or c.args.places.now c.loop-place.place-index none
+
+more : (c : After-share) → take (c.loop-place.place-index + 1) c.args.places.now
+    ≡ take c.loop-place.place-index c.args.places.now ++ place c ∷ []
+more c = take_more c.args.places.now c.loop-place.place-index none c.loop-place-test.true
+
+added : (c : After-share) → c.share.result ≡ share (place c).mark.frecency
+added c = c.share.ensures ∙ ap share (to_z-of_z w64 (place c).mark.frecency (search rules))
 
 pub add-requires : goal.add-requires
-add-requires g c =
-    let kept : Kept = g.R.Rows.kept c.args.rows.now in
-    let s : KeptAt kept c.page-item.result c.loop-page.page-index =
-    kept_at kept c.args.pages.now c.loop-page.page-index c.page-item.result (g.met.R.Rows.well_kept c.args.rows.now)
-    c.requires.pages c.loop-page-test.true c.page-item.is in
-    let mark : c.unwrap-mark.result ≡ mark_of s.page =
-    mark_is kept c.page-item.result.id s.page c.unwrap-mark.result s.at
-    (sym c.unwrap-mark.ensures ∙ c.page_at.ensures.mark) in
-    sum_fits kept c.page-item.result c.loop-page.page-index s (sum_in c.loop-page.sums c.origin_of-origin.result.0)
-    c.share.result c.origin_of-origin.result (g.met.R.Rows.well_kept c.args.rows.now) c.requires.small
-    (c.loop-page.invariant c.origin_of-origin.result.0)
-    (origin_there kept c.page-item.result c.loop-page.page-index s c.origin_of-origin.result
-    c.origin_of-origin.ensures.origin)
-    (c.share.ensures ∙ ap share (to_z-of_z w64 c.unwrap-mark.result.frecency (search rules))
-    ∙ ap (λ (m : Mark). share m.frecency) mark)
+add-requires c =
+    sum_fits c.args.places.now c.loop-place.place-index (place c) (more c)
+    (sum_in c.loop-place.sums (place c).origin.0) c.share.result c.requires.few c.requires.small
+    (c.loop-place.invariant (place c).origin.0) (added c)
 
-pub loop-page-preserved : goal.loop-page-preserved
-loop-page-preserved g c name =
-    let kept : Kept = g.R.Rows.kept c.args.rows.now in
-    let s : KeptAt kept c.page-item.result c.loop-page.page-index =
-    kept_at kept c.args.pages.now c.loop-page.page-index c.page-item.result (g.met.R.Rows.well_kept c.args.rows.now)
-    c.requires.pages c.loop-page-test.true c.page-item.is in
-    let mark : c.unwrap-mark.result ≡ mark_of s.page =
-    mark_is kept c.page-item.result.id s.page c.unwrap-mark.result s.at
-    (sym c.unwrap-mark.ensures ∙ c.page_at.ensures.mark) in
-    sums_more kept c.page-item.result c.loop-page.page-index s name (sum_in c.loop-page.sums name)
-    (sum_in c.add.new.self name) c.share.result c.origin_of-origin.result (c.loop-page.invariant name)
-    (origin_there kept c.page-item.result c.loop-page.page-index s c.origin_of-origin.result
-    c.origin_of-origin.ensures.origin)
-    (c.share.ensures ∙ ap share (to_z-of_z w64 c.unwrap-mark.result.frecency (search rules))
-    ∙ ap (λ (m : Mark). share m.frecency) mark)
+pub loop-place-preserved : goal.loop-place-preserved
+loop-place-preserved c name =
+    let s : After-share = c.before.before.before in
+    sums_more s.args.places.now s.loop-place.place-index (place s) (more s) name
+    (sum_in s.loop-place.sums name) (sum_in c.add.new.self name) s.share.result (s.loop-place.invariant name) (added s)
     (c.in_ok-add.ensures name)
+
+pub returns : goal.returns
+returns c name =
+    c.loop-place.invariant name
+    ∙ ap (λ (ps : List Place). named_sum ps name)
+    (take_all c.loop-place.place-index c.args.places.now c.loop-place-test.false)
