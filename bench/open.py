@@ -3,11 +3,12 @@
 
     bench/open.py [PROGRAM]    by default crates/files_main/out/files_main, which `rt ci files_main` builds
 
-The files are made by `linked_file.py`: histories of about 1, 10 and 80 MB, and 148,000 items. The databases have the
-tables and indexes of `schema.sql` with the other fields of the rows, and bookmarks with their indexes. By turns each
-file is checked and each database opened for `PRAGMA integrity_check` and `PRAGMA quick_check`: of three times the least
-is told. The peak of memory is that of one more run, by `/usr/bin/time`. It is no timed test: it fails only where a file
-is not accepted, or said to have another number of slots, or where SQLite finds a fault.
+The files are made by `linked_file.py`: histories of about 1, 10 and 80 MB, 148,000 items, and as many slots as a store may
+take, which the longest URLs fill. The databases have the tables and indexes of `schema.sql` with the other fields of the
+rows, and bookmarks with their indexes. By turns each file is checked and each database opened for `PRAGMA
+integrity_check` and `PRAGMA quick_check`: of three times the least is told. The peak of memory is that of one more run, by
+`/usr/bin/time`. It is no timed test: it fails only where a file is not accepted, or said to have another number of slots,
+or where SQLite finds a fault.
 """
 import os
 import pathlib
@@ -26,6 +27,7 @@ SCHEMA = pathlib.Path(__file__).with_name("schema.sql")
 RUNS = 3
 FIRST_DAY, DAYS = 19_000, 120
 VISITS_EACH, PAGES_PER_BOOKMARK = 3, 20
+LONGEST_URL = 65_536
 WORDS = ("alpha bravo charlie delta echo foxtrot golf hotel india juliett kilo lima mike november oscar papa quebec "
          "romeo sierra tango uniform victor whiskey xray yankee").split()
 
@@ -35,6 +37,7 @@ STORES = [
     ("history of 10 MB", "history", 12_500),
     ("history of 80 MB", "history", 100_000),
     ("148,000 items", "items", 50_000),
+    ("the most slots", "longest", 4_194_304),
 ]
 
 # What the rows have beside the columns that `schema.sql` makes, which a script of visits fills.
@@ -106,6 +109,20 @@ def bookmarks(count):
     return Store.of(0, pages, [], items.rows())
 
 
+def longest(slots):
+    """So many slots: pages of one host with a visit each and the longest URLs, and one whose URL fills the rest."""
+    left = slots - len(roots({})) - 1
+    urls = []
+    while left:
+        parts = min(linked_file.parts(bytes(LONGEST_URL)), left - 2)
+        start = b"https://h.example/%d/" % len(urls)
+        urls.append(start.ljust(min(LONGEST_URL, parts * linked_file.PART_SIZE), b"x"))
+        left -= 2 + parts
+    pages = [Page(id, address, b"", False) for id, address in enumerate(urls, 1)]
+    visits = [Visit(page.id, page.id, FIRST_DAY * DAY + page.id, LINK, 0) for page in pages]
+    return Store.of(FIRST_DAY, pages, visits, roots({}))
+
+
 class Items:
     """Items behind the roots, each at the end of its folder."""
 
@@ -149,7 +166,7 @@ def database(store, path):
 
 def make(kind, count, file, base):
     """Writes the file and the database, and says how many slots are live."""
-    store = {"history": history, "items": bookmarks}[kind](int(count))
+    store = {"history": history, "items": bookmarks, "longest": longest}[kind](int(count))
     layout = linked_file.layout_of(store)
     pathlib.Path(file).write_bytes(linked_file.file_bytes(store, layout))
     database(store, base)
