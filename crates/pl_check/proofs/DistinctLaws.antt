@@ -1,6 +1,6 @@
 -- Values that were sorted are distinct exactly where each is below the next.
 use Rattle.std.proofs.Common.{Bor, ◌≡◌, ◌≢◌, ◌↔◌, ◌∙◌, ◌+◌, ◌<◌, ℕ, Bool, true, false, Decides, IsTrue, List}
-use Rattle.std.proofs.Common.{[], ◌∷◌, ap, arith, get_or, length, nat_lt, refl, subst, sym}
+use Rattle.std.proofs.Common.{[], ◌∷◌, ap, arith, get_or, length, map, nat_lt, refl, subst, sym}
 use Rattle.std.specs.Cmp.{IsTotalOrder}
 use Rattle.std.specs.Cmp.Lexicographic.{slice_cmp}
 use Rattle.std.specs.List.{AllPairs, IsAllAdjacentAnswer, IsDistinct}
@@ -16,7 +16,7 @@ use Rattle.std.proofs.lemmas.Map.Keys.{apart_from_distinct, sorted_from_all_adja
 use Rattle.std.proofs.lemmas.Map.Text.{is_eq-slice_cmp}
 use Rattle.std.proofs.lemmas.Slice.Eq.{bytes_eq-Decides}
 use Rattle.pl_base.proofs.ListLaws.{AllPairs-from_map, AllPairs-map}
-use Rattle.pl_check.specs.Tags.{AreDistinct, targets}
+use Rattle.pl_check.specs.Tags.{AreDistinct, hash_of, targets}
 
 is_less : (r : Ordering) → true ≡ is_lt r → r ≡ Less
 is_less Less h = refl
@@ -108,3 +108,8 @@ texts_apart r refs means = (
   λ t. AllPairs-map (λ (a b : List ℕ). a ≢ b) (λ (s : Bor (List ℕ)). s.now) refs (means.0 t),
   λ h. means.1 (AllPairs-from_map (λ (a b : List ℕ). a ≢ b) (λ (s : Bor (List ℕ)). s.now) refs h),
 )
+
+-- texts of different hashes differ
+pub apart_by_hashes : (texts : List (List ℕ)) → AreDistinct (map hash_of texts) → AreDistinct texts
+apart_by_hashes texts apart i j d before within same =
+    AllPairs-from_map (λ (m n : ℕ). m ≢ n) hash_of texts apart i j d before within (ap hash_of same)

@@ -1,6 +1,10 @@
 // Whether no two of some values are the same.
-ghost use Rattle.std.specs.Prelude.{◌↔◌, IsTrue};
-ghost use Rattle.pl_check.specs.Tags.{AreDistinct, targets};
+ghost use Rattle.std.specs.Prelude.{◌≡◌, ◌↔◌, map, IfOk, IsTrue};
+ghost use Rattle.pl_check.specs.Tags.{AreDistinct, hash_of, targets};
+
+use pl_base::NoMemory;
+use std::alloc::Global;
+use std::hash::{FoldHasher, Hasher};
 
 pub fn are_distinct(mut numbers: Vec<u32>) -> bool
     ensures { IsTrue result ↔ AreDistinct numbers.items }
@@ -9,10 +13,31 @@ pub fn are_distinct(mut numbers: Vec<u32>) -> bool
     numbers.is_sorted_by(|a, b| a < b)
 }
 
+pub fn are_distinct_hashes(mut hashes: Vec<u64>) -> bool
+    ensures { IsTrue result ↔ AreDistinct hashes.items }
+{
+    hashes.sort_unstable();
+    hashes.is_sorted_by(|a, b| a < b)
+}
+
 /// Compares byte by byte.
 pub fn are_distinct_texts(mut texts: Vec<&str>) -> bool
     ensures { IsTrue result ↔ AreDistinct (targets texts.entry.items) }
 {
     texts.sort_unstable_by(|a, b| a.cmp(b));
     texts.is_sorted_by(|a, b| a < b)
+}
+
+pub fn hashes(alloc: Global, texts: &[&str]) -> Result<Vec<u64>, NoMemory>
+    ensures { IfOk result (λ hashes. hashes.items ≡ map hash_of (targets texts.now)) }
+{
+    Ok(texts.iter().map(|text| hash(text)).collect(alloc)?)
+}
+
+fn hash(text: &str) -> u64
+    ensures { result ≡ hash_of text.now }
+{
+    let mut hasher = FoldHasher::default();
+    hasher.write(text.as_bytes());
+    hasher.finish()
 }

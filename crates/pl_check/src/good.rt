@@ -16,7 +16,7 @@ ghost use Rattle.pl_stored.specs.declared.stored.StoredPage.{StoredPage};
 ghost use Rattle.pl_stored.specs.declared.stored.StoredVisit.{StoredVisit};
 ghost use Rattle.pl_stored.specs.Stored.{Stored, stored_store};
 
-use crate::distinct::are_distinct_texts;
+use crate::distinct::{are_distinct_hashes, are_distinct_texts, hashes};
 use crate::items::{are_item_ids, have_good_items};
 use crate::references::References;
 use crate::roots::have_roots;
@@ -170,7 +170,12 @@ fn visits_ascend(visits: &[StoredVisit]) -> bool
 fn have_own_urls(alloc: Global, pages: &[StoredPage]) -> Result<bool, NoMemory>
     ensures { IfOk result (λ own. own ≡ good.have_own_urls pages.now) }
 {
-    Ok(are_distinct_texts(urls(alloc, pages)?))
+    let urls = urls(alloc, pages)?;
+    // Where no two hashes are the same, the URLs themselves need not be compared.
+    if are_distinct_hashes(hashes(alloc, &urls)?) {
+        return Ok(true);
+    }
+    Ok(are_distinct_texts(urls))
 }
 
 fn urls(alloc: Global, pages: &[StoredPage]) -> Result<Vec<&str>, NoMemory>

@@ -1,4 +1,4 @@
-ghost use Rattle.std.specs.Prelude.{◌≡◌, ◌==◌, ℕ};
+ghost use Rattle.std.specs.Prelude.{◌≡◌, ◌==◌, ℕ, true};
 ghost use Rattle.std.specs.List.{list_any};
 
 use std::marker::Model;
@@ -33,6 +33,19 @@ impl Numbers {
     pub fn has(&self, number: u32) -> bool
         ensures { result ≡ list_any (λ n. n == number) self.now }
     {
-        self.numbers.binary_search(&number).is_ok()
+        stands_in_line(&self.numbers, number) || self.numbers.binary_search(&number).is_ok()
+    }
+}
+
+// Whether the number stands where it must if they ascend without a gap.
+fn stands_in_line(numbers: &[u32], number: u32) -> bool
+    ensures { result ≡ true → list_any (λ n. n == number) numbers.now ≡ true }
+{
+    let Some(first) = numbers.first() else {
+        return false;
+    };
+    match number.checked_sub(*first) {
+        Some(place) => numbers.get(place as usize) == Some(&number),
+        None => false,
     }
 }
