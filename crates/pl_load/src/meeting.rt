@@ -36,7 +36,7 @@ pub fn meet<L: Ledger>(
     let texts = row_texts(alloc, &held.places, &held.items)?;
     let slots = texts_met(alloc, arena, &texts, steps)?;
     let met = all_met(alloc, &held.live, slots)?;
-    if !are_all_live(arena, met, steps) {
+    if !are_all_live(alloc, arena, &met, steps)? {
         return Err(CheckError::NotAStore);
     }
     Ok(())

@@ -1,6 +1,5 @@
-mod LiveWalk
+mod Marks
 mod OneOrder
-mod OneRising
 mod OwnedSteps
 pub mod OwnersTold
 mod RedirectFronts

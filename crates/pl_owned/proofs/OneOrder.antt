@@ -6,7 +6,8 @@ use Rattle.std.specs.List.{AllByRecursion}
 use Rattle.std.specs.List.Sorted.{IsNonDecreasingBy, IsPermutation}
 use Rattle.std.proofs.lemmas.Bool.{cases_lt, true≢false}
 use Rattle.std.proofs.lemmas.List.Elements.{recursion_from_All}
-use Rattle.std.proofs.lemmas.List.Sorted.{IsPermutation-sym, IsPermutation-trans, sum_by-IsPermutation}
+use Rattle.std.proofs.lemmas.List.Sorted.{IsPermutation-refl, IsPermutation-sym, IsPermutation-trans}
+use Rattle.std.proofs.lemmas.List.Sorted.{sum_by-IsPermutation}
 use Rattle.std.proofs.lemmas.Slice.Eq.{slice_eq-Decides}
 use Rattle.pl_base.specs.declared.id.Slot.{Slot}
 use Rattle.pl_base.proofs.KeyCounts.{count, count-cons, tick, tick_other, tick_same}
@@ -105,6 +106,12 @@ module _ (rail : Rail) (owner : Owner) (slots wanted : List Slot) (pages : Pages
   not_listed is others =
       true≢false (sym ((slice_eq-Decides same_slots slots wanted same told).1
       (one_list rail owner slots wanted pages lists others)) ∙ is)
+
+-- two lists, compared as they are
+pub all_same : (slots others : List Slot) (same : Bool) → same ≡ pointwise (λ (a b : Slot). eqb a.0 b.0) slots others
+    → same ≡ true → IsPermutation slots others
+all_same slots others same told is =
+    subst (IsPermutation slots) ((slice_eq-Decides same_slots slots others same told).0 is) (IsPermutation-refl slots)
 
 -- two lists, compared as they are sorted
 module _ (slots others xs ys : List Slot) (same : Bool)

@@ -15,7 +15,7 @@ are_all_live-requires g c =
     ∙ (λ i. row_texts (c.deref.ensures.value i) (c.deref-2.ensures.value i)) in
     record {
       live =
-          subst (All (Live c.args.arena.now)) (sym c.in_ok-met.ensures)
+          subst (All (Live c.args.arena.now)) (sym (c.deref-4.ensures.value ∙ c.in_ok-met.ensures))
           (all_live c.args.arena.now c.args.held.now c.requires.held
           (subst (All (IsHeld c.args.arena.now)) texts c.in_ok-slots.ensures.held) c.in_ok-slots.slots.items
           (c.in_ok-slots.ensures.slots ∙ ap (flat_map (text_parts c.args.arena.now)) texts));
@@ -33,21 +33,21 @@ returns-in_err-slots-clause-none g c told reads from =
     (subst (λ ts. IsDistinct eqb (flat_map (text_parts c.args.arena.now) ts)) (sym texts)
     (texts_once c.args.arena.now c.args.held.now c.requires.held reads from))
 
-pub returns-then-not-are_all_live-clause-none : goal.returns-then-not-are_all_live-clause-none
-returns-then-not-are_all_live-clause-none g c told reads from =
+pub returns-then-not-branch-clause-none : goal.returns-then-not-branch-clause-none
+returns-then-not-branch-clause-none g c told reads from =
     let h = c.args.held.now in
     let texts =
     c.in_ok-slots.ensures.slots
     ∙ ap (flat_map (text_parts c.args.arena.now))
     (c.deref-3.ensures.value ∙ c.in_ok-texts.ensures
     ∙ (λ i. row_texts (c.deref.ensures.value i) (c.deref-2.ensures.value i))) in
-    let met : c.in_ok-met.met.items ≡ held_slots c.args.arena.now h =
-    c.in_ok-met.ensures
+    let met : c.deref-4.result.now ≡ held_slots c.args.arena.now h =
+    c.deref-4.ensures.value ∙ c.in_ok-met.ensures
     ∙ ap
     (λ ts.
     numbers h.live.origins.items ++ numbers h.live.places.items ++ numbers h.live.visits.items
     ++ numbers h.live.items.items ++ ts) texts in
-    c.are_all_live.ensures.no c.if-not-are_all_live.true
+    c.in_ok-are_all_live.ensures.no c.if-not-branch.true
     (subst (IsDistinct eqb) (sym met) (met_once c.args.arena.now h c.requires.held reads from))
     (λ n is.
     subst (λ ns. is_among n ns ≡ true) (sym met) (met_whole c.args.arena.now h c.requires.held reads from n is))
