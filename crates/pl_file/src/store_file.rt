@@ -101,11 +101,26 @@ impl StoreFile {
     ) -> io::Result<()>
         ensures doubt { self.new ≡ self.old }
     {
-        let len = self.len(rt)?;
+        if bytes.is_empty() {
+            return self.lengthen(rt, at);
+        }
+        self.open(rt)?;
         self.make(rt)?;
         match &self.file {
-            Some(file) if bytes.is_empty() && at > len => file.as_file().set_len(at),
             Some(file) => file.as_file().write_all_at(bytes, at),
+            None => Err(ErrorKind::NotFound.into()),
+        }
+    }
+
+    // Makes the file where it is missing, and as long as this where it is shorter.
+    fn lengthen(&mut self, rt: &(impl Files<File = File> + AllocGlobal), len: u64) -> io::Result<()>
+        ensures doubt { self.new ≡ self.old }
+    {
+        let old = self.len(rt)?;
+        self.make(rt)?;
+        match &self.file {
+            Some(file) if old < len => file.as_file().set_len(len),
+            Some(_) => Ok(()),
             None => Err(ErrorKind::NotFound.into()),
         }
     }
