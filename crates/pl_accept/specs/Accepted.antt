@@ -7,8 +7,8 @@ use Rattle.pl_base.specs.Store.{Visit}
 use Rattle.pl_record.specs.LinkedRows.{AreLinked}
 use Rattle.pl_sheets.specs.Sheets.{Pages}
 
--- the pages are the form of a store's rows, which are good and whose marks and totals are right, and
--- these maps name their slots
+-- the pages are the form of a store's rows, which are good and whose marks and totals are right,
+-- and these maps name their slots
 pub record IsAccepted (pages : Pages) (a : Accepted) : Type 0 where
   pub kept : Kept
   pub targets : VisitId → List Visit

@@ -1,4 +1,4 @@
--- What the bytes of a file in the form say: the rows of its store and their links, and nothing else.
+-- What the bytes of a file in the form say: the rows of its store and their links, and no more.
 use Rattle.std.specs.Prelude.{◌≡◌, ◌⊎◌, ◌++◌, ◌-◌, ℕ, true, List, replicate}
 use Rattle.pl_base.specs.declared.id.Slot.{Slot}
 use Rattle.pl_base.specs.Live.{slot_size}

@@ -1,5 +1,5 @@
 -- Each byte of a file in the form is of a row of its store, of a link or of the header, or is 0.
-use Rattle.std.proofs.Common.{◌≡◌, ◌∙◌, ◌⊎◌, ℕ, List, Option, IsSome, Some, None, true, ap}
+use Rattle.std.proofs.Common.{◌≡◌, ◌∙◌, ℕ, List, Option, IsSome, Some, None, true, ap}
 use Rattle.std.proofs.Common.{inl, inr, is_some, refl, sym}
 use Rattle.std.proofs.Math.Logic.{∥∥₁_elim, ∥∥₁_prop}
 use Rattle.std.specs.Option.{option_and_then}

@@ -1,6 +1,6 @@
 -- The bytes of a store, and what lies behind them.
-use Rattle.std.proofs.Common.{◌≡◌, ◌∙◌, ◌+◌, ◌*◌, ◌≤◌, ◌++◌, ℕ, List, ap, arith, length, sym, take}
-use Rattle.std.proofs.lemmas.List.{length-take, take-take}
+use Rattle.std.proofs.Common.{◌≡◌, ◌∙◌, ◌+◌, ◌*◌, ◌≤◌, ℕ, List, ap, arith, length, sym, take}
+use Rattle.std.proofs.lemmas.List.{take-take}
 use Rattle.pl_base.specs.Touched.{bytes_before, page_size}
 use Rattle.pl_reading.specs.File.{first_header, front_bytes}
 use Rattle.pl_record.specs.Form.{pages_of}

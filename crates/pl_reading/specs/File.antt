@@ -12,8 +12,8 @@ use Rattle.pl_slot.specs.Header.{Header, header_in}
 abbrev pub first_header : List ℕ → Header
 first_header bytes = header_in (take page_size bytes)
 
--- of the bytes from page 1 on those of the store: as many pages as the header says. What lies behind
--- them is free
+-- of the bytes from page 1 on those of the store: as many pages as the header says. What lies
+-- behind them is free
 abbrev pub front_bytes : List ℕ → List ℕ
 front_bytes bytes = take (bytes_before (first_header bytes).pages) bytes
 

@@ -56,7 +56,7 @@ pub fn run_stored<S: Source, D: Desk>(alloc: Global, input: &mut S, desk: &mut D
         ShowsThen D.Desk (result ≡ Status.DeviceFault) desk.old desk.new
         (ShowsUnopened D.Desk desk.old before)
         (ShowsAnswered D.Desk true desk.old slot_limit start (script bytes) before)) }
-    // Beside what a recovery of the file writes, no more than the commits of what was read may write.
+    // Beside what a recovery of the file writes, no more than the commits of what was read may.
     ensures bounded { (file : List ℕ) (start : Store) → D.held desk.old ≡ Some file
         → Stands file start
         → IfTold (S.left input.old) (D.said desk.old) (λ bytes before.
