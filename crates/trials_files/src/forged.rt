@@ -113,6 +113,26 @@ const FORGED: &[(&str, &[Change])] = &[
         "a frecency and the total with it",
         &[(Slot(9, 64), 20), (Slot(7, 24), 120)],
     ),
+    // 100 in place of 2000, which its source was worth.
+    (
+        "a page that a redirect led to, as one by a link",
+        &[
+            (Slot(13, 64), 100),
+            (Slot(13, 65), 0),
+            (Slot(11, 24), 100),
+            (Slot(11, 25), 0),
+        ],
+    ),
+    // 2250 in place of 275, and 2350 in place of 375: visit 1 is worth 2000 and not 25.
+    (
+        "a page that a redirect left, as one that was typed",
+        &[
+            (Slot(9, 64), 202),
+            (Slot(9, 65), 8),
+            (Slot(7, 24), 46),
+            (Slot(7, 25), 9),
+        ],
+    ),
     ("a number of visits", &[(Slot(9, 72), 3)]),
     ("a hidden mark", &[(Slot(13, 1), 2)]),
     ("a total", &[(Slot(11, 24), 209)]),
