@@ -45,6 +45,34 @@ fn with_folder<L: Ledger>(
     Ok(flat)
 }
 
+// Folder 7 gets so many items, which are of this kind.
+fn fill_folder<L: Ledger>(
+    rt: &impl Abort,
+    flat: &mut Flat,
+    kind: ItemKind,
+    steps: &mut Steps<L>,
+) -> Result<(), Fail> {
+    let mut last = None;
+    for _item in 0..COUNT {
+        let item = insert(rt, flat, &row(kind, ItemId(7)), "", last, steps)?;
+        last = Some(item);
+    }
+    Ok(())
+}
+
+// Each folder from 7 on gets the next one.
+fn fill_folders<L: Ledger>(
+    rt: &impl Abort,
+    flat: &mut Flat,
+    steps: &mut Steps<L>,
+) -> Result<(), Fail> {
+    let mut parent = ItemId(7);
+    for _item in 0..COUNT {
+        parent = insert(rt, flat, &row(ItemKind::Folder, parent), "", None, steps)?;
+    }
+    Ok(())
+}
+
 // Folder 7 holds all others, which are of this kind.
 fn wide<L: Ledger>(
     rt: &impl Abort,
@@ -53,22 +81,14 @@ fn wide<L: Ledger>(
     steps: &mut Steps<L>,
 ) -> Result<Flat, Fail> {
     let mut flat = with_folder(rt, alloc, kind, steps)?;
-    let mut last = None;
-    for _item in 0..COUNT {
-        let item = insert(rt, &mut flat, &row(kind, ItemId(7)), "", last, steps)?;
-        last = Some(item);
-    }
+    fill_folder(rt, &mut flat, kind, steps)?;
     Ok(flat)
 }
 
 // Each folder holds the next one.
 fn deep<L: Ledger>(rt: &impl Abort, alloc: Global, steps: &mut Steps<L>) -> Result<Flat, Fail> {
-    let folder = ItemKind::Folder;
-    let mut flat = with_folder(rt, alloc, folder, steps)?;
-    let mut parent = ItemId(7);
-    for _item in 0..COUNT {
-        parent = insert(rt, &mut flat, &row(folder, parent), "", None, steps)?;
-    }
+    let mut flat = with_folder(rt, alloc, ItemKind::Folder, steps)?;
+    fill_folders(rt, &mut flat, steps)?;
     Ok(flat)
 }
 
