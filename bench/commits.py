@@ -4,9 +4,9 @@
     bench/commits.py [PROGRAM]
 
 A first run is traced by strace, which gives each write and sync of the store's file. The peer makes the same calls on
-another file of the same folder, with nothing between them. Each is then timed without a trace, and of three runs the
-least wall time is shown. It is no timed test: it fails only where a program fails. It needs python3, and installs strace
-by `apt-get` where it is missing.
+another file of the same folder, with nothing between them. A run of as many `page` lines about the same pages shows what
+looking them up takes. Each is timed without a trace, by turns, and of so many runs the least wall time is shown. It is no
+timed test: it fails only where a program fails. It needs python3, and installs strace by `apt-get` where it is missing.
 """
 import os
 import pathlib
@@ -21,7 +21,7 @@ from program import new_store, program
 
 LINES = 1000
 PAGES = 100
-RUNS = 3
+RUNS = 7
 
 WRITE = re.compile(r"pwrite64\((\d+), .*, (\d+), (\d+)\) += (\d+)$")
 SYNC = re.compile(r"(?:fsync|fdatasync)\((\d+)\) += 0$")
@@ -32,8 +32,16 @@ def install_strace():
         subprocess.run("apt-get update && apt-get install -y strace", shell=True, check=True, stdout=sys.stderr)
 
 
+def url(number):
+    return f"https://h{number % PAGES}.example/"
+
+
 def script():
-    return "".join(f"visit\thttps://h{i % PAGES}.example/\t1\t{i}\n" for i in range(LINES)).encode()
+    return "".join(f"visit\t{url(i)}\t1\t{i}\n" for i in range(LINES)).encode()
+
+
+def questions():
+    return "".join(f"page\t{url(i)}\n" for i in range(LINES)).encode()
 
 
 def timed(command, **options):
@@ -72,26 +80,31 @@ def make_calls(path, calls):
     return took
 
 
-def run_time(places, work, number):
-    store = work / f"store{number}"
+def run_time(places, store):
     new_store(places, store)
     return timed([places, "run", store], input=script())
 
 
+def look_up_time(places, store):
+    """The time of the questions on a store that has the pages."""
+    return timed([places, "run", store], input=questions())
+
+
 def main():
     install_strace()
-    places = program()
+    places, times = program(), []
     with tempfile.TemporaryDirectory(dir=".") as folder:
         work = pathlib.Path(folder)
         calls = traced_calls(places, work)
-        syncs = calls.count(None)
-        written = sum(call[1] for call in calls if call)
-        ours = min(run_time(places, work, number) for number in range(RUNS))
-        bare = min(make_calls(work / f"bare{number}", calls) for number in range(RUNS))
+        for number in range(RUNS):
+            store = work / f"store{number}"
+            times.append((run_time(places, store), make_calls(work / f"bare{number}", calls), look_up_time(places, store)))
+    syncs, written = calls.count(None), sum(call[1] for call in calls if call)
+    ours, bare, asked = map(min, zip(*times))
     print(f"{LINES} visits to {PAGES} pages: {syncs} syncs, {len(calls) - syncs} writes, {written} bytes written")
-    print(f"{'':24}{'wall, s':>10}{'a visit, ms':>14}")
-    print(f"{'places run':24}{ours:10.2f}{1000 * ours / LINES:14.2f}")
-    print(f"{'the bare device calls':24}{bare:10.2f}{1000 * bare / LINES:14.2f}")
+    print(f"{'':36}{'wall, s':>10}{'a line, ms':>12}{'of the bare calls':>20}")
+    for name, took in (("visits by `places run`", ours), ("the bare device calls", bare), ("`page` lines about the pages", asked)):
+        print(f"{name:36}{took:10.2f}{1000 * took / LINES:12.3f}{took / bare:20.2f}")
 
 
 main()
