@@ -273,8 +273,9 @@ def trace_of(work, command, lines=None):
     return log
 
 
-def peer_command(mode, path, *words):
-    return [sys.executable, __file__, *words[:1], mode, path, *words[1:]]
+def peer_command(work, mode, *words):
+    """This script with some work on a database of a mode."""
+    return [sys.executable, __file__, work, mode, *words]
 
 
 # ---- the drill
@@ -302,7 +303,7 @@ def measure_drill(places, work, count):
     bytes_written = {OURS: written(trace_of(work, [places, "drill", store, str(count), str(SEED)]), store.name)}
     for name, mode in MODES.items():
         path = work / f"peer{mode}{count}"
-        bytes_written[name] = written(trace_of(work, peer_command(mode, path, "--drill", str(count))), path.name)
+        bytes_written[name] = written(trace_of(work, peer_command("--drill", mode, path, str(count))), path.name)
     store = work / f"visits{count}"
     new_store(places, store)
     pages = pages_of_visits(trace_of(work, [places, "run", store], "\n".join([*lines, ""]).encode()), store.name)
@@ -327,7 +328,7 @@ def answer_visits(mode, path):
 
 
 def piped(command, lines):
-    """How long each line waits for its answer, and all of them together, in seconds."""
+    """How long each line waits for its answer, in seconds."""
     child, times = subprocess.Popen(command, stdin=subprocess.PIPE, stdout=subprocess.PIPE, bufsize=0), []
     said = child.stdout
     for line in lines:
@@ -373,7 +374,7 @@ def measure_visits(places, work, what, lines, traced_lines, make):
     """`make` gives the paths of a new file and a new database of a mode, which it makes."""
     waits, spans, wrote = {}, {}, {}
     for name in (OURS, *MODES):
-        command = [places, "run"] if name == OURS else peer_command(MODES[name], None, "--pipe")[:-1]
+        command = [places, "run"] if name == OURS else peer_command("--pipe", MODES[name])
         path = make(MODES.get(name))
         waits[name] = piped([*command, path], lines)
         path = make(MODES.get(name))
