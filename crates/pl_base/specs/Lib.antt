@@ -1,6 +1,7 @@
 pub mod Address
 pub mod Date
 pub mod Days
+pub mod Due
 pub mod Expiration
 pub mod Fold
 pub mod Frecency

@@ -6,6 +6,7 @@ use Rattle.std.specs.Option.{option_map}
 use Rattle.pl_base.specs.declared.id.PageId.{PageId}
 use Rattle.pl_base.specs.declared.view.View.{View}
 use Rattle.pl_base.specs.Address.{origin_of_url}
+use Rattle.pl_base.specs.Due.{IsDue}
 use Rattle.pl_base.specs.Frecency.{frecency_of}
 use Rattle.pl_base.specs.Marks.{is_hidden, is_referenced, last_date_of, visit_count}
 use Rattle.pl_base.specs.Store.{Store, Page, Item}
@@ -50,6 +51,7 @@ pub record IsViewOf (store : Store) (p : Page) (view : View) : Type 0 where
   pub frecency : view.frecency ≡ frecency_of store p
   pub count : view.count ≡ visit_count store p.id
   pub last : view.last ≡ last_date_of store p.id
+  pub due : IsDue store p.id view.due
   pub typed : view.typed ≡ p.typed
   pub hidden : view.hidden ≡ is_hidden store p
   pub bookmarked : view.bookmarked ≡ is_bookmarked store p.id

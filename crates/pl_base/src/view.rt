@@ -1,4 +1,4 @@
-use crate::{Micros, PageId, Txt};
+use crate::{Day, Micros, PageId, Txt};
 
 /// What is known of a page: what the totals of origins, queries and the address bar see of it.
 #[derive(Debug, PartialEq, Eq, Drop)]
@@ -19,6 +19,9 @@ pub struct View {
     pub count: u32,
     /// The date of its latest visit.
     pub last: Option<Micros>,
+    /// The first day after the store's on which a visit of its sample has another weight than on
+    /// the day before; none up to the last day of all where the sample weighs the same to the end.
+    pub due: Option<Day>,
     pub typed: bool,
     pub hidden: bool,
     pub bookmarked: bool,
