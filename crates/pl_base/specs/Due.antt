@@ -26,7 +26,7 @@ some_weighs_anew dates day = list_any (weighs_anew day) dates
 pub record IsFirst (holds : ℕ → Bool) (after : Day) (day : Day) : Type 0 where
   pub later : after.0 < day.0
   pub within : day.0 ≤ last_day
-  pub holds : holds day.0 ≡ true
+  pub found : holds day.0 ≡ true
   pub first : (other : ℕ) → after.0 < other → other < day.0 → holds other ≡ false
 
 -- that day, or none where it holds on no such day
