@@ -1,0 +1,6 @@
+//! What is kept in memory of the views of a store, and follows each change of them.
+#![tactic(auto)]
+
+mod follow;
+
+pub use follow::Follow;
