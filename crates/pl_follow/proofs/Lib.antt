@@ -1,1 +1,2 @@
+pub mod ChangedLists
 pub mod Parted

@@ -1,17 +1,17 @@
 -- A list of views, one of them, and the others: where one comes in or goes, the rest stay as they are.
-use Rattle.std.proofs.Common.{◌≡◌, ◌≢◌, ◌∙◌, ◌+◌, ◌<◌, ◌++◌, ◌==◌, ◌||◌, ℕ, Bool, true, false, List, [], ◌∷◌, All}
-use Rattle.std.proofs.Common.{ap, arith, eq-eqb, filter, get_or, if◌then◌else◌, length, nat_lt, not, refl, subst, suc, sym, zero}
-use Rattle.std.specs.List.{AllByRecursion, AllPairs, Contains, list_any, sum_by}
+use Rattle.std.proofs.Common.{◌≡◌, ◌∙◌, ◌+◌, ◌<◌, ◌++◌, ◌==◌, ◌||◌, ℕ, Bool, true, false, List, [], ◌∷◌}
+use Rattle.std.proofs.Common.{ap, arith, eq-eqb, get_or, if◌then◌else◌, length, nat_lt, not, refl, subst, suc, sym, zero}
+use Rattle.std.specs.List.{AllByRecursion, Contains, list_any, sum_by}
 use Rattle.std.proofs.lemmas.Bool.{ne_eqb}
-use Rattle.std.proofs.lemmas.List.Elements.{All-from_recursion, filter-append, recursion_from_All}
+use Rattle.std.proofs.lemmas.List.{length-append}
+use Rattle.std.proofs.lemmas.List.Elements.{All-from_recursion, recursion_from_All}
 use Rattle.std.proofs.lemmas.List.Folds.{list_any-append}
 use Rattle.std.proofs.lemmas.List.Kept.{AllPairs-cons, AllPairs-filter}
 use Rattle.std.proofs.lemmas.List.Sums.{sum_by-append, sum_by-cons}
-use Rattle.std.proofs.lemmas.Bool.Decides.{nat_tests}
 use Rattle.pl_base.specs.declared.id.PageId.{PageId}
 use Rattle.pl_base.specs.declared.view.View.{View}
 use Rattle.pl_base.proofs.ListLaws.{all_stay, weaker}
-use Rattle.pl_follow.specs.Changes.{AreInOrder, has_view, with_view, without_id}
+use Rattle.pl_follow.specs.Changes.{AreInOrder, with_view, without_id}
 
 -- what holds of all holds of the one at a place
 all_at : {X : Type 0} (P : X → Type 0) (xs : List X) → AllByRecursion P xs → (k : ℕ) (x : X) → k < length xs
@@ -48,6 +48,15 @@ parted_any test views others view p =
     swapped true false c = refl
     swapped false true c = refl
     swapped false false c = refl
+
+pub parted_length : (views others : List View) (view : View) → Parted views view others
+    → length views ≡ length others + 1
+parted_length views others view p =
+    let one : length views ≡ length p.front + length (view ∷ p.back) =
+    ap (λ (vs : List View). length vs) p.whole ∙ length-append p.front (view ∷ p.back) in
+    let two : length others ≡ length p.front + length p.back =
+    ap (λ (vs : List View). length vs) p.rest ∙ length-append p.front p.back in
+    omega (arith, one, two)
 
 -- ---- a view that comes
 
