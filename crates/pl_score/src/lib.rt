@@ -2,8 +2,10 @@
 //! with the defaults of its preferences.
 #![tactic(auto)]
 
+mod due;
 mod sample;
 mod table;
 
+pub use due::next_due;
 pub use sample::{SAMPLE_SIZE, Sampled, score};
 pub use table::{bonus, weight};

@@ -23,6 +23,9 @@ pub fn weight(age: i64) -> u32
     }
 }
 
+/// The ages in days, ascending, at which the weight of a visit is another than on the day before.
+pub(crate) const CHANGES: [u32; 4] = [5, 15, 32, 91];
+
 /// What a visit counts, by its own transition, the transition of the visit that it came from by a
 /// redirect, whether it led to a redirect itself, and whether the bookmark tree refers to its page.
 pub fn bonus(own: Transition, source: Option<Transition>, is_source: bool, referenced: bool) -> u32
