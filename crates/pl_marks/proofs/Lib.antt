@@ -2,6 +2,7 @@ pub mod FreshestItem
 pub mod KeptUrls
 pub mod LatestVisit
 mod MovedTotals
+pub mod PageDue
 pub mod PageRows
 pub mod PageScore
 pub mod PageTags

@@ -103,8 +103,8 @@ fn sampled<R: Rows, L: Ledger>(
     }
 }
 
-// What the ten latest visits of a page count, the latest first.
-fn sample<R: Rows, L: Ledger>(
+/// What the ten latest visits of a page count, the latest first.
+pub(crate) fn sample<R: Rows, L: Ledger>(
     alloc: Global,
     rows: &R,
     page: PageId,

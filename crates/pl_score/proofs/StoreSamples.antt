@@ -10,10 +10,10 @@ use Rattle.pl_base.specs.Redirects.{is_redirect_source, source_transition}
 use Rattle.pl_base.specs.Store.{Page, Store, Visit}
 use Rattle.pl_base.specs.Tables.{greatest_bonus}
 use Rattle.pl_base.specs.Visits.{sample_of}
-use Rattle.pl_base.proofs.ListLaws.{sum_by-map}
+use Rattle.pl_base.proofs.ListLaws.{map-map, sum_by-map}
 use Rattle.pl_base.proofs.TablesLaws.{bonus_of-le}
 use Rattle.pl_score.specs.declared.sample.Sampled.{Sampled}
-use Rattle.pl_score.specs.Sample.{points_of, sampled_of}
+use Rattle.pl_score.specs.Sample.{dates_of, points_of, sampled_of}
 
 pub sampled-small : (store : Store) (vs : List Visit)
     → All (λ (s : Sampled). s.bonus ≤ greatest_bonus) (map (sampled_of store) vs)
@@ -27,6 +27,10 @@ points_of-sampled : (store : Store) (vs : List Visit)
     → points_of store.day (map (sampled_of store) vs)
     ≡ sum_by (λ (v : Visit). points store.day v.date (visit_bonus store v)) vs
 points_of-sampled store vs = sum_by-map (λ (s : Sampled). points store.day s.date s.bonus) (sampled_of store) vs
+
+pub dates_of-sampled : (store : Store) (vs : List Visit)
+    → dates_of (map (sampled_of store) vs) ≡ map (λ (v : Visit). v.date) vs
+dates_of-sampled store vs = map-map (λ (s : Sampled). s.date) (sampled_of store) vs
 
 -- the frecency of a page is what its sample scores
 pub frecency-sampled : (store : Store) (p : Page)

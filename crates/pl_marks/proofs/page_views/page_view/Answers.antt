@@ -1,7 +1,9 @@
-use Rattle.std.proofs.Common.{◌≡◌, ◌==◌, ◌∙◌, ap, List, Some, ℕ, rules, sym, w64}
+use Rattle.std.proofs.Common.{◌≡◌, ◌==◌, ◌∙◌, ap, List, Some, ℕ, rules, subst, sym, w64}
 use Rattle.std.proofs.lemmas.Int.{to_z-of_z}
+use Rattle.pl_base.specs.declared.id.PageId.{PageId}
 use Rattle.pl_base.specs.declared.row.Mark.{Mark}
 use Rattle.pl_base.specs.Address.{origin_of_url}
+use Rattle.pl_base.specs.Due.{IsDue}
 use Rattle.pl_base.specs.Marks.{is_referenced, last_date_of}
 use Rattle.pl_base.specs.Rows.{Kept, KeptPage, mark_of, store_of}
 use Rattle.pl_base.specs.Store.{Store}
@@ -50,8 +52,9 @@ returns g c p at =
           to_z-of_z w64 c.unwrap-mark.result.frecency (search rules) ∙ ap (λ (m : Mark). m.frecency) marks;
       count = ap (λ (m : Mark). m.count) marks;
       last = c.last_date.ensures ∙ ap (last_date_of store) same;
+      due = subst (λ (id : PageId). IsDue store id c.in_ok-due.due) same c.in_ok-due.ensures;
       typed = ap (λ (m : Mark). m.typed) marks;
       hidden = ap (λ (m : Mark). m.hidden) marks;
       bookmarked = c.is_bookmarked.ensures ∙ ap (is_bookmarked store) same;
-      referenced = c.is_referenced.ensures ∙ ap (is_referenced store) same;
+      referenced = c.is_referenced-referenced.ensures ∙ ap (is_referenced store) same;
     }
