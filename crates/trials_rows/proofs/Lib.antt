@@ -4,6 +4,7 @@ pub mod BookmarkFileCases
 pub mod BoundCases
 pub mod DeskCases
 pub mod DrillCases
+pub mod DueRows
 pub mod FrecencyCases
 pub mod GateCases
 pub mod HistoryCases
