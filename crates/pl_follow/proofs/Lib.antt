@@ -1,2 +1,4 @@
 pub mod ChangedLists
 pub mod Parted
+pub mod Told
+pub mod UrlsFollow

@@ -2,5 +2,7 @@
 #![tactic(auto)]
 
 mod follow;
+mod urls;
 
 pub use follow::Follow;
+pub use urls::UrlIndex;
