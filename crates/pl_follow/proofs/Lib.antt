@@ -1,4 +1,5 @@
 pub mod ChangedLists
 pub mod Parted
+pub mod TextsFollow
 pub mod Told
 pub mod UrlsFollow

@@ -2,7 +2,9 @@
 #![tactic(auto)]
 
 mod follow;
+mod texts;
 mod urls;
 
 pub use follow::Follow;
+pub use texts::{Folded, FoldedTexts};
 pub use urls::UrlIndex;
