@@ -1,5 +1,9 @@
 pub mod ChangedLists
+pub mod LastKey
 pub mod Parted
+pub mod RankLists
+pub mod RanksChange
 pub mod TextsFollow
 pub mod Told
 pub mod UrlsFollow
+pub mod ViewRanks

@@ -2,9 +2,11 @@
 #![tactic(auto)]
 
 mod follow;
+mod order;
 mod texts;
 mod urls;
 
 pub use follow::Follow;
+pub use order::OrderIndex;
 pub use texts::{Folded, FoldedTexts};
 pub use urls::UrlIndex;

@@ -1,0 +1,99 @@
+-- Two orders of the views, by frecency and by the latest visit, and how their ranks come and go.
+use Rattle.std.specs.Prelude.{◌≡◌, ◌≢◌, ◌==◌, ◌&&◌, ◌||◌, ℤ, Bool, true, Option, Some, None, List}
+use Rattle.std.specs.Prelude.{IfSome, int_lt, map, nat_lt}
+use Rattle.std.specs.List.{All, cons_option, filter, filter_map, slice_get}
+use Rattle.std.specs.Option.{option_map}
+use Rattle.std.specs.Ordering.{int_eq, is_gt, is_lt}
+use Rattle.std.specs.declared.cmp.Ordering.{Ordering}
+use Rattle.std.specs.declared.cmp.Ordering.TheVariants.{Equal}
+use Rattle.pl_base.specs.declared.date.Micros.{Micros}
+use Rattle.pl_base.specs.declared.id.PageId.{PageId}
+use Rattle.pl_base.specs.declared.view.View.{View}
+use Rattle.pl_base.specs.Sorting.{sorted_by}
+use Rattle.pl_follow.specs.declared.order.OrderIndex.{OrderIndex}
+use Rattle.pl_follow.specs.Changes.{AreInOrder}
+
+-- ---- ranks
+
+-- the frecency of a view, and its id
+abbrev pub rank_of : View → ℤ × PageId
+rank_of v = (v.frecency, v.id)
+
+-- the date of the latest visit of a view, if it has one, and its id
+abbrev pub visit_rank_of : View → Option (Micros × PageId)
+visit_rank_of v = option_map (λ (date : Micros). (date, v.id)) v.last
+
+-- the frecencies and ids of the views
+abbrev pub frecency_ranks : List View → List (ℤ × PageId)
+frecency_ranks views = map rank_of views
+
+-- the dates of the latest visits, and the ids of the views that have one
+abbrev pub visit_ranks : List View → List (Micros × PageId)
+visit_ranks views = filter_map visit_rank_of views
+
+-- ---- their order
+
+-- the first has the greater frecency, or the same and the greater id
+abbrev pub is_ahead : ℤ × PageId → ℤ × PageId → Bool
+is_ahead x y = int_lt y.0 x.0 || (int_eq x.0 y.0 && nat_lt y.1.0 x.1.0)
+
+-- the first has the later date, or the same and the greater id
+abbrev pub is_later : Micros × PageId → Micros × PageId → Bool
+is_later x y = nat_lt y.0.0 x.0.0 || ((x.0.0 == y.0.0) && nat_lt y.1.0 x.1.0)
+
+-- a rank stands behind a place, where there is one
+abbrev pub is_behind : {R : Type 0} → (R → R → Bool) → Option R → R → Bool
+is_behind ahead None rank = true
+is_behind ahead (Some place) rank = ahead place rank
+
+-- the first of the ranks behind a place
+abbrev pub next_rank : {R : Type 0} → (R → R → Bool) → Option R → List R → Option R
+next_rank ahead place ranks =
+    slice_get (sorted_by ahead (filter (is_behind ahead place) ranks)) 0
+
+-- the greater of two comes before the other
+abbrev pub is_above : {R : Type 0} → (R → R → Ordering) → R → R → Bool
+is_above cmp x y = is_gt (cmp x y)
+
+-- the lesser of two comes before the other
+abbrev pub is_below : {R : Type 0} → (R → R → Ordering) → R → R → Bool
+is_below cmp x y = is_lt (cmp x y)
+
+-- ---- what is kept
+
+-- the views are in the order of their ids, and the two sets have their ranks, from the last to the
+-- first
+pub record Orders (index : OrderIndex) (views : List View) : Type 0 where
+  pub ordered : AreInOrder views
+  pub frecencies : index.frecencies.keys ≡ sorted_by (λ x y. is_ahead y x) (frecency_ranks views)
+  pub visits : index.visits.keys ≡ sorted_by (λ x y. is_later y x) (visit_ranks views)
+
+-- no two ranks are equal but one and itself
+abbrev pub IsExact : {R : Type 0} → (R → R → Ordering) → Type 0
+IsExact {R} cmp = (x y : R) → cmp x y ≡ Equal → x ≡ y
+
+-- a rank, if there is one, is none of the others
+abbrev pub IsOther : {R : Type 0} → Option R → List R → Type 0
+IsOther rank others = IfSome rank (λ r. All (λ other. other ≢ r) others)
+
+-- a set without a rank that it has beside others
+abbrev pub Loses : {R : Type 0} → (R → R → Ordering) → Option R → List R → List R → Type 0
+Loses {R} cmp leaving old new =
+    IsExact cmp → (others : List R) → IsOther leaving others
+    → old ≡ sorted_by (is_below cmp) (cons_option leaving others)
+    → new ≡ sorted_by (is_below cmp) others
+
+-- a set with one rank more
+abbrev pub Gains : {R : Type 0} → (R → R → Ordering) → Option R → List R → List R → Type 0
+Gains {R} cmp coming old new =
+    IsExact cmp → (others : List R) → IsOther coming others
+    → old ≡ sorted_by (is_below cmp) others
+    → new ≡ sorted_by (is_below cmp) (cons_option coming others)
+
+-- a set in which one rank takes the place of another
+abbrev pub Replaces : {R : Type 0} → (R → R → Ordering) → Option R → Option R → List R → List R
+    → Type 0
+Replaces {R} cmp leaving coming old new =
+    IsExact cmp → (others : List R) → IsOther leaving others → IsOther coming others
+    → old ≡ sorted_by (is_below cmp) (cons_option leaving others)
+    → new ≡ sorted_by (is_below cmp) (cons_option coming others)
