@@ -1,8 +1,11 @@
 pub mod Best
 mod FillingRows
-pub mod Grown
-pub mod Kept
+pub mod Followed
+pub mod HeldLaws
 mod Members
+pub mod OriginPages
 pub mod Pushed
 mod Sorted
+pub mod Stepped
+pub mod TextKeys
 mod Told

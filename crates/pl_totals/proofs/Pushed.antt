@@ -5,7 +5,7 @@ use Rattle.std.proofs.Common.{refl, sym}
 use Rattle.std.specs.List.{list_any, sum_by}
 use Rattle.std.proofs.lemmas.Bool.{and_from, and_parts, false_from_ne_true, or_parts}
 use Rattle.std.proofs.lemmas.List.{append-nil, length-map, map-append}
-use Rattle.std.proofs.lemmas.List.Sums.{count_by-le-length, length-filter, sum_by-cons, sum_by_push}
+use Rattle.std.proofs.lemmas.List.Sums.{count_by-le-length, length-filter, sum_by-append, sum_by-cons, sum_by_push}
 use Rattle.std.proofs.lemmas.Slice.Eq.{bytes_eq-Decides}
 use Rattle.std.proofs.lemmas.Bool.Decides.{nat_tests}
 use Rattle.pl_base.specs.Totals.{Origin, Scored, distinct, group_total, is_in_group, is_origin, origins_of}
@@ -289,3 +289,73 @@ group-le pages group =
       sum_by-le (λ x. grouped group x (total_of pages x)) (λ x. positive x (total_of pages x)) (origins_of pages)
           (grouped-le pages group),
     )
+
+-- ---- a page that stands last in place of among the others
+
+sum-alike : {X : Type 0} (f g : X → ℕ) (xs : List X) → ((x : X) → f x ≡ g x) → sum_by f xs ≡ sum_by g xs
+sum-alike f g [] same = refl
+sum-alike f g (x ∷ xs) same =
+    omega (arith, sum_by-cons f x xs, sum_by-cons g x xs, same x, sum-alike f g xs same)
+
+distinct-moved : (h : Origin → ℕ) (front : List Origin) (o : Origin) (back : List Origin)
+    → sum_by h (distinct (front ++ o ∷ back)) ≡ sum_by h (distinct ((front ++ back) ++ o ∷ []))
+distinct-moved h [] o back =
+    let none : but o h o ≡ 0 = but_same o h o (itself o) in
+    let law = distinct-push (but o h) h o back (λ x apart. sym (but_other o h x apart)) (λ _. none) in
+    omega (arith, distinct-cons h o back, law, none)
+distinct-moved h (x ∷ front) o back =
+    omega (
+      arith,
+      distinct-cons h x (front ++ o ∷ back),
+      distinct-cons h x ((front ++ back) ++ o ∷ []),
+      distinct-moved (but x h) front o back,
+    )
+
+pub total-moved : (front back : List Scored) (s : Scored) (o : Origin)
+    → total_of (front ++ s ∷ back) o ≡ total_of ((front ++ back) ++ s ∷ []) o
+total-moved front back s o =
+    omega (
+      arith,
+      total-sum (front ++ s ∷ back) o,
+      total-sum ((front ++ back) ++ s ∷ []) o,
+      sum_by-append (part o) front (s ∷ back),
+      sum_by-cons (part o) s back,
+      sum_by_push (part o) (front ++ back) s,
+      sum_by-append (part o) front back,
+    )
+
+moved : (count : Origin → ℕ → ℕ) (front back : List Scored) (s : Scored)
+    → sum_by (λ x. count x (total_of (front ++ s ∷ back) x)) (origins_of (front ++ s ∷ back))
+    ≡ sum_by (λ x. count x (total_of ((front ++ back) ++ s ∷ []) x)) (origins_of ((front ++ back) ++ s ∷ []))
+moved count front back s =
+    let name : Scored → Origin = λ (t : Scored). t.0 in
+    let h : Origin → ℕ = λ x. count x (total_of ((front ++ back) ++ s ∷ []) x) in
+    sum-alike (λ x. count x (total_of (front ++ s ∷ back) x)) h (origins_of (front ++ s ∷ back))
+    (λ x. ap (count x) (total-moved front back s x))
+    ∙ ap (λ (os : List Origin). sum_by h (distinct os)) (map-append name front (s ∷ back))
+    ∙ distinct-moved h (map name front) s.0 (map name back)
+    ∙ sym (ap (λ (os : List Origin). sum_by h (distinct os))
+    (map-append name (front ++ back) (s ∷ []) ∙ ap (λ (os : List Origin). os ++ s.0 ∷ []) (map-append name front back)))
+
+pub sum-moved : (front back : List Scored) (s : Scored)
+    → sum_of_totals (front ++ s ∷ back) ≡ sum_of_totals ((front ++ back) ++ s ∷ [])
+sum-moved front back s =
+    omega (arith, sums-sum (front ++ s ∷ back), sums-sum ((front ++ back) ++ s ∷ []), moved positive front back s)
+
+pub count-moved : (front back : List Scored) (s : Scored)
+    → origins_with_total (front ++ s ∷ back) ≡ origins_with_total ((front ++ back) ++ s ∷ [])
+count-moved front back s =
+    omega (arith, count-sum (front ++ s ∷ back), count-sum ((front ++ back) ++ s ∷ []), moved one-if front back s)
+
+pub group-moved : (front back : List Scored) (s : Scored) (group : List ℕ)
+    → group_total (front ++ s ∷ back) group ≡ group_total ((front ++ back) ++ s ∷ []) group
+group-moved front back s group =
+    omega (
+      arith,
+      group-sum (front ++ s ∷ back) group,
+      group-sum ((front ++ back) ++ s ∷ []) group,
+      moved (grouped group) front back s,
+    )
+
+pub shares-push : (pages : List Scored) (s : Scored) → shares (pages ++ s ∷ []) ≡ shares pages + share s.1
+shares-push pages s = sum_by_push (λ (t : Scored). share t.1) pages s

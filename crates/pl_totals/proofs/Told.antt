@@ -2,12 +2,17 @@
 use Rattle.std.proofs.Common.{◌≡◌, ◌∙◌, ◌<◌, ◌==◌, ◌*◌, ℕ, Bool, true, false, List, [], ◌∷◌, String, Global}
 use Rattle.std.proofs.Common.{Option, Some, None, ap, arith, bytes_eq, filter, if◌then◌else◌, inl, inr, length, map}
 use Rattle.std.proofs.Common.{nat_eq, nat_le, nat_lt, not, refl, subst, sym, unwrap_or}
-use Rattle.std.specs.HashMap.{HashMap, IsUnique, get_by_text}
+use Rattle.std.specs.BTreeMap.{BTreeMap, IsOrdered, get_by_text, is_at}
+use Rattle.std.specs.Cmp.Lexicographic.{slice_cmp}
 use Rattle.std.specs.List.{slice_get, starts_with, sum_by}
 use Rattle.std.specs.Option.{option_map}
-use Rattle.std.specs.String.{string_bytes, string_eq, string_eq_equiv}
+use Rattle.std.specs.Ordering.{is_eq, nat_cmp}
+use Rattle.std.specs.String.{string_bytes, string_cmp, string_cmp_total}
+use Rattle.std.specs.declared.cmp.Ordering.{Ordering}
+use Rattle.std.specs.declared.cmp.Ordering.TheVariants.{Less, Equal, Greater}
 use Rattle.std.proofs.lemmas.Bool.{and_parts, false≢true, ltb-true}
-use Rattle.std.proofs.lemmas.Map.Entries.{hash_map_get_place, place_from_lookup}
+use Rattle.std.proofs.lemmas.Map.Entries.{btree_map_get_place, place_from_lookup}
+use Rattle.std.proofs.lemmas.Map.Lookups.{exact_bytes}
 use Rattle.std.proofs.lemmas.Slice.Eq.{bytes_eq-Decides}
 use Rattle.pl_base.specs.Sorting.{sorted_by}
 use Rattle.pl_base.specs.Totals.{Origin, Scored, distinct, group_passes, group_total, is_in_group, is_origin}
@@ -24,17 +29,25 @@ use Rattle.pl_totals.proofs.Sorted.{first_sorted, none_sorted}
 
 -- ---- the entries
 
-module _ {S : Type 0} (m : HashMap (String Global) ℕ S) where
+same_bytes : (a b : List ℕ) → is_eq (slice_cmp nat_cmp a b) ≡ true → a ≡ b
+same_bytes a b is = choose (slice_cmp nat_cmp a b) refl is
+  where
+    choose : (o : Ordering) → slice_cmp nat_cmp a b ≡ o → is_eq o ≡ true → a ≡ b
+    choose Less found other = absurd (false≢true other)
+    choose Equal found is = exact_bytes a b found
+    choose Greater found other = absurd (false≢true other)
+
+module _ (m : BTreeMap (String Global) ℕ) where
   -- the total of a group, and 0 of one that is not kept
   abbrev total_in : List ℕ → ℕ
   total_in group = unwrap_or (get_by_text m group) 0
 
-  pub entry_told : IsUnique string_eq m → (g : Grouped) → In g (map entry m.entries) → total_in g.0 ≡ g.1
-  entry_told unique g member =
+  pub entry_told : IsOrdered string_cmp m → (g : Grouped) → In g (map entry m.entries) → total_in g.0 ≡ g.1
+  entry_told ordered g member =
       let from = from_map entry m.entries g member in
       let place = place_of from.0 m.entries from.1 in
       let found : get_by_text m (string_bytes from.0.0) ≡ Some from.0.1
-      = hash_map_get_place string_eq_equiv m place.0 from.0.0 from.0.1 unique place.1 in
+      = btree_map_get_place string_cmp_total m place.0 from.0.0 from.0.1 ordered place.1 in
       ap (λ (h : Grouped). total_in h.0) from.2 ∙ ap (λ r. unwrap_or r 0) found
       ∙ sym (ap (λ (h : Grouped). h.1) from.2)
 
@@ -45,8 +58,10 @@ module _ {S : Type 0} (m : HashMap (String Global) ℕ S) where
           → In (group, unwrap_or r 0) (map entry m.entries)
       choose None is none = absurd (omega arith)
       choose (Some n) is some =
-          let place = place_from_lookup (λ (k : String Global). bytes_eq group (string_bytes k)) m.entries n is in
-          let same : group ≡ string_bytes place.1 = (bytes_eq-Decides group (string_bytes place.1)).0 place.3 in
+          let place =
+          place_from_lookup (λ (k : String Global). is_at (λ (x : String Global). slice_cmp nat_cmp group (string_bytes x)) k)
+          m.entries n is in
+          let same : group ≡ string_bytes place.1 = same_bytes group (string_bytes place.1) place.3 in
           subst (λ (g : List ℕ). In (g, n) (map entry m.entries)) (sym same)
           (in_map entry m.entries (place.1, n) (at_place (place.1, n) m.entries place.0 place.2))
 
@@ -85,12 +100,12 @@ named pages group some =
 -- ---- the best of the groups
 
 module _ (totals : Totals) (text : List ℕ) (pages : List Scored) (stands : StandsFor totals pages)
-    (unique : IsUnique string_eq totals.groups) where
+    (ordered : IsOrdered string_cmp totals.groups.totals) where
   abbrev with_total : List ℕ → Grouped
   with_total group = (group, group_total pages group)
 
   abbrev entries : List Grouped
-  entries = map entry totals.groups.entries
+  entries = map entry totals.groups.totals.entries
 
   abbrev filling : List (List ℕ)
   filling = filter (is_filling pages text) (group_names pages)
@@ -113,14 +128,14 @@ module _ (totals : Totals) (text : List ℕ) (pages : List Scored) (stands : Sta
       let kept = from_filter (is_filling pages text) (group_names pages) group from.1 in
       let told : kept_group totals group ≡ group_total pages group = stands.groups group in
       let some : 0 < kept_group totals group = omega (arith, positive group kept.1) in
-      let here : In (group, kept_group totals group) entries = total_entered totals.groups group some in
+      let here : In (group, kept_group totals group) entries = total_entered totals.groups.totals group some in
       let same : (group, kept_group totals group) ≡ g = ap (λ n. (group, n)) told ∙ sym from.2 in
       (subst (λ (h : Grouped). In h entries) same here, ap (fills totals text) from.2 ∙ fills_as group ∙ kept.1)
 
   -- and an entry that passes is such a group
   kept_filling : (g : Grouped) → In g entries → fills totals text g ≡ true → In g (map with_total filling)
   kept_filling g member passes =
-      let total : group_total pages g.0 ≡ g.1 = sym (stands.groups g.0) ∙ entry_told totals.groups unique g member in
+      let total : group_total pages g.0 ≡ g.1 = sym (stands.groups g.0) ∙ entry_told totals.groups.totals ordered g member in
       let same : with_total g.0 ≡ g = ap (λ n. (g.0, n)) total in
       let is : is_filling pages text g.0 ≡ true = sym (fills_as g.0) ∙ ap (fills totals text) same ∙ passes in
       subst (λ (h : Grouped). In h (map with_total filling)) same

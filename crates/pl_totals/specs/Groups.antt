@@ -1,11 +1,17 @@
 -- Groups of hosts with their totals, as they are gone through.
 use Rattle.std.specs.Prelude.{ℕ, ◌*◌, ◌==◌, ◌&&◌, ◌||◌, Bool, List, nat_eq, nat_le, nat_lt}
-use Rattle.std.specs.Prelude.{Option, Some, None, if◌then◌else◌}
+use Rattle.std.specs.Prelude.{Option, Some, None, if◌then◌else◌, unwrap_or}
+use Rattle.std.specs.BTreeMap.{get_by_text}
 use Rattle.std.specs.Cmp.Lexicographic.{slice_cmp}
 use Rattle.std.specs.List.{starts_with}
 use Rattle.std.specs.Ordering.{is_lt, nat_cmp}
-use Rattle.pl_totals.specs.declared.totals.Group.{Group}
+use Rattle.pl_totals.specs.declared.groups.Group.{Group}
+use Rattle.pl_totals.specs.declared.groups.Groups.{Groups}
 use Rattle.pl_totals.specs.declared.totals.Totals.{Totals}
+
+-- the total that is kept of a group, and 0 where none is
+abbrev pub total_in : Groups → List ℕ → ℕ
+total_in groups group = unwrap_or (get_by_text groups.totals group) 0
 
 -- a group of hosts, and its total
 abbrev pub Grouped : Type 0

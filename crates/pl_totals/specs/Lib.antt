@@ -1,4 +1,4 @@
 pub mod Filling
 pub mod Groups
-pub mod Keys
+pub mod Held
 pub mod Standing

@@ -1,6 +1,11 @@
-//! The totals of origins and of groups of hosts, which the address bar goes by.
+//! The totals of origins and of groups of hosts, which the address bar goes by, and the pages of
+//! each origin.
 #![tactic(auto)]
 
+mod groups;
+mod kept;
+mod origins;
 mod totals;
 
-pub use totals::{Totals, without_www};
+pub use groups::without_www;
+pub use totals::Totals;

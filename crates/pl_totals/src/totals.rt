@@ -1,54 +1,29 @@
-// The totals of origins and of groups of hosts.
-ghost use Rattle.std.specs.Prelude.{◌≡◌, ◌∷◌, ◌++◌, ◌^◌, ◌<◌, [], ℕ, List};
-ghost use Rattle.std.specs.Prelude.{IfOk, OnOk, length};
-ghost use Rattle.std.specs.List.{sum_by};
-ghost use Rattle.std.specs.Option.{option_map};
-ghost use Rattle.pl_base.specs.Live.{slot_limit};
+// The totals of origins and of groups of hosts, and the pages of origins.
+ghost use Rattle.std.specs.Prelude.{◌≡◌, ◌^◌, ◌<◌, ◌&&◌, ◌==◌, [], ℕ, Bool, List, Some, true, bytes_eq};
+ghost use Rattle.std.specs.Prelude.{IfOk, OnOk, length, if◌then◌else◌};
+ghost use Rattle.std.specs.List.{Contains, slice_get};
+ghost use Rattle.std.specs.Option.{option_copied};
+ghost use Rattle.pl_base.specs.declared.view.View.{View};
 ghost use Rattle.pl_base.specs.Totals as spec;
-ghost use Rattle.pl_base.specs.Totals.{Scored, group_passes, origins_with_total, share};
-ghost use Rattle.pl_base.specs.Totals.{sum_of_totals, total_of};
+ghost use Rattle.pl_base.specs.Totals.{Scored, group_passes, is_in_group, origins_with_total};
+ghost use Rattle.pl_base.specs.Totals.{share, sum_of_totals, total_of};
 ghost use Rattle.pl_base.specs.View.{scored_views};
+ghost use Rattle.pl_follow.specs.Changes.{IsChange, Suits, changed, has_view, with_view, without_id};
 ghost use Rattle.pl_totals.specs.Filling.{best_group};
-ghost use Rattle.pl_totals.specs.Groups.{fills, grouped, is_ahead, is_enough, or_best};
-ghost use Rattle.pl_totals.specs.Standing.{HasRoom, RaisesGroup, RaisesOrigin, StandsFor};
-ghost use Rattle.pl_totals.specs.Standing.{kept_group, kept_total, scored};
+ghost use Rattle.pl_totals.specs.Groups.{fills, grouped, is_enough};
+ghost use Rattle.pl_totals.specs.Standing.{AreOfOne, HasRoom, MayCome, MayGo, MayTurn, Stands};
+ghost use Rattle.pl_totals.specs.Standing.{StandsWith, Steps, Takes, kept_group, kept_total, pages_of, stepped};
 
-use indexmap::{Equivalent, IndexMap};
-use pl_base::{NoMemory, Txt, View};
+use crate::groups::{Group, Groups, without_www};
+use crate::kept::{Pages, Step};
+use crate::origins::Origins;
+use pl_base::{NoMemory, PageId, Txt, View};
+use pl_follow::Follow;
 use std::alloc::Global;
 
-// An origin that has a total.
-#[derive(PartialEq, Eq, Hash, Drop)]
-struct Origin {
-    prefix: String,
-    host: String,
-}
-
-// An origin that is asked for.
-#[derive(Clone, Copy, PartialEq, Eq, Hash)]
-struct Named<'a> {
-    prefix: &'a str,
-    host: &'a str,
-}
-
-impl Equivalent<Origin> for Named<'_> {
-    ghost use Rattle.std.specs.String.{string_bytes};
-    ghost use Rattle.pl_totals.specs.Keys.{alike, hashed, is_key};
-
-    ghost equivalent = { λ q. is_key q.prefix.now q.host.now };
-
-    ghost respects_hash = { λ q k. hashed q.prefix.now (string_bytes k.prefix)
-        q.host.now (string_bytes k.host) };
-
-    ghost respects_eq = { λ q x y. alike q.prefix.now q.host.now x y };
-
-    fn equivalent(&self, key: &Origin) -> bool {
-        self.prefix == key.prefix.as_str() && self.host == key.host.as_str()
-    }
-}
-
-/// The totals of origins, and which groups of hosts pass, after `moz_origins` of Mozilla Places
-/// and its threshold: the mean, plus 0 times the standard deviation.
+/// The totals of origins, which groups of hosts pass, and which pages an origin has, after
+/// `moz_origins` of Mozilla Places and its threshold: the mean, plus 0 times the standard
+/// deviation.
 ///
 /// An origin is a prefix, such as `https://`, and a host with its port, both as they stand in a
 /// URL; its total is the sum of the positive frecencies of its pages. A frecency of -1, where the
@@ -58,48 +33,16 @@ impl Equivalent<Origin> for Named<'_> {
 /// their prefixes; an origin without a host is in none. A group passes where its total is
 /// positive and no less than the mean of the totals that are positive. A bookmark exempts no group
 /// from it.
+///
+/// A change costs the logarithm of the hosts, and of the pages of the origin where the page comes
+/// or goes.
 #[derive(Drop)]
 pub struct Totals {
-    // Those that are positive.
-    origins: IndexMap<Origin, u64>,
-    // By the host without `www.`.
-    groups: IndexMap<String, u64>,
+    origins: Origins,
+    groups: Groups,
     // How many origins have a total.
     count: u32,
     sum: u64,
-}
-
-// A group of hosts, and its total.
-#[derive(Clone, Copy)]
-struct Group<'a> {
-    name: &'a str,
-    total: u64,
-}
-
-impl<'a> Group<'a> {
-    // Whether it has the greater total, or the same and the name that is first.
-    fn is_ahead(self, other: Group) -> bool
-        ensures { result ≡ is_ahead (grouped self.entry) (grouped other.entry) }
-    {
-        self.total > other.total || (self.total == other.total && self.name < other.name)
-    }
-
-    // The group, or the best so far, where it is not ahead of that.
-    fn or_best(self, best: Option<Group<'a>>) -> Group<'a>
-        ensures { grouped result ≡ or_best (grouped self.entry) (option_map grouped best.entry) }
-    {
-        match best {
-            Some(best) if !self.is_ahead(best) => best,
-            _ => self,
-        }
-    }
-}
-
-/// The host without one leading `www.`: the name of its group.
-pub fn without_www(host: &str) -> &str
-    ensures { result.now ≡ spec.without_www host.now }
-{
-    host.strip_prefix("www.").unwrap_or(host)
 }
 
 // What a frecency adds to the total of its origin.
@@ -110,106 +53,173 @@ fn share(frecency: i64) -> u64
     u64::try_from(frecency).unwrap_or(0)
 }
 
+// Whether the views are of the same page and the same origin.
+fn are_of_one(old: &View, new: &View) -> bool
+    ensures { result ≡ (old.now.id.0 == new.now.id.0 && (bytes_eq old.now.prefix new.now.prefix
+        && bytes_eq old.now.host new.now.host)) }
+{
+    old.id == new.id
+        && old.prefix.as_str() == new.prefix.as_str()
+        && old.host.as_str() == new.host.as_str()
+}
+
+impl Follow for Totals {
+    ghost stands = { λ totals views. Stands totals views };
+
+    fn change(
+        &mut self,
+        alloc: Global,
+        old: Option<&View>,
+        new: Option<&View>,
+    ) -> Result<(), NoMemory> {
+        match (old, new) {
+            (Some(old), Some(new)) => self.replace(alloc, old, new),
+            (Some(old), None) => self.lose(alloc, old),
+            (None, Some(new)) => self.gain(alloc, new),
+            (None, None) => Ok(()),
+        }
+    }
+}
+
 impl Totals {
-    fn none(alloc: Global) -> Totals
-        ensures { StandsFor result [] }
+    /// The totals of no view.
+    pub fn new(alloc: Global) -> Totals
+        ensures { Stands result [] }
     {
         Totals {
-            origins: IndexMap::new(alloc),
-            groups: IndexMap::new(alloc),
+            origins: Origins::new(alloc),
+            groups: Groups::new(alloc),
             count: 0,
             sum: 0,
         }
     }
 
-    fn kept_total(&self, prefix: &str, host: &str) -> u64
-        ensures { result ≡ kept_total self.now (prefix.now, host.now) }
+    // A page comes to the origin or goes, or its share changes.
+    fn apply(&mut self, alloc: Global, prefix: &str, host: &str, step: Step) -> Result<(), NoMemory>
+        requires room { HasRoom (prefix.now, host.now) step self.old }
+        ensures steps { OnOk result (Steps (prefix.now, host.now) step self.old self.new) }
     {
-        self.origins
-            .get(Named { prefix, host })
-            .copied()
-            .unwrap_or(0)
-    }
-
-    fn kept_group(&self, group: &str) -> u64
-        ensures { result ≡ kept_group self.now group.now }
-    {
-        self.groups.get(group).copied().unwrap_or(0)
-    }
-
-    /// The totals over views, one for each page.
-    pub fn over(alloc: Global, views: &[View]) -> Result<Totals, NoMemory>
-        requires few { length views.now < slot_limit }
-        requires sum { sum_by (λ (s : Scored). share s.1) (scored_views views.now) < 2 ^ 36 }
-        ensures stands { IfOk result (λ totals. StandsFor totals (scored_views views.now)) }
-    {
-        let mut totals = Totals::none(alloc);
-        for view in views {
-            totals.add(alloc, view)?;
-        }
-        Ok(totals)
-    }
-
-    // A page more.
-    fn add(&mut self, alloc: Global, view: &View) -> Result<(), NoMemory>
-        requires room { HasRoom self.old }
-        ensures { OnOk result ((pages : List Scored) → StandsFor self.old pages
-            → StandsFor self.new (pages ++ scored view.now ∷ [])) }
-    {
-        let share = share(view.frecency);
-        if share > 0 {
-            self.raise_origin(alloc, view.prefix.as_str(), view.host.as_str(), share)?;
-            self.raise_group(alloc, view.host.as_str(), share)?;
-        }
+        let was = self.kept_total(prefix, host);
+        let is = was - step.from + step.to;
+        self.origins.apply(alloc, prefix, host, step)?;
+        self.apply_to_group(alloc, host, step)?;
+        self.count = self.count + u32::from(is > 0) - u32::from(was > 0);
+        self.sum = self.sum - step.from + step.to;
         Ok(())
     }
 
-    // A share more for an origin, and in the sum.
-    fn raise_origin(
-        &mut self,
-        alloc: Global,
-        prefix: &str,
-        host: &str,
-        share: u64,
-    ) -> Result<(), NoMemory>
-        requires room { HasRoom self.old }
-        requires share { share < 2 ^ 63 }
-        ensures raised { OnOk result (RaisesOrigin (prefix.now, host.now) share self.old self.new) }
-    {
-        let total = self.kept_total(prefix, host);
-        let key = Origin {
-            prefix: String::from_str(alloc, prefix)?,
-            host: String::from_str(alloc, host)?,
-        };
-        self.origins.insert(key, total + share)?;
-        self.count += u32::from(total == 0);
-        self.sum += share;
-        Ok(())
-    }
-
-    // A share more for the group of a host, if it has one.
-    fn raise_group(&mut self, alloc: Global, host: &str, share: u64) -> Result<(), NoMemory>
-        requires room { (group : List ℕ) → kept_group self.old group < 2 ^ 36 }
-        requires share { share < 2 ^ 63 }
-        ensures raised { OnOk result (RaisesGroup host.now share self.old self.new) }
+    // The same for the group of a host, if it has one.
+    fn apply_to_group(&mut self, alloc: Global, host: &str, step: Step) -> Result<(), NoMemory>
+        requires room { (group : List ℕ) → is_in_group group ([], host.now) ≡ true
+            → Takes step (kept_group self.old group) }
+        ensures groups { OnOk result ((group : List ℕ) → kept_group self.new group
+            ≡ (if is_in_group group ([], host.now)
+            then stepped step (kept_group self.old group) else kept_group self.old group)) }
+        ensures others { OnOk result (self.new ≡ record self.old { groups = self.new.groups }) }
     {
         if host.is_empty() {
             return Ok(());
         }
         let group = without_www(host);
-        let total = self.kept_group(group);
-        let name = String::from_str(alloc, group)?;
-        self.groups.insert(name, total + share)?;
-        Ok(())
+        let total = self.groups.total(group) - step.from + step.to;
+        self.groups.set(alloc, group, total)
+    }
+
+    // A view goes.
+    fn lose(&mut self, alloc: Global, view: &View) -> Result<(), NoMemory>
+        requires may { StandsWith self.old (MayGo view.now) }
+        ensures stands { OnOk result ((views : List View) → Stands self.old views
+            → MayGo view.now views → Stands self.new (without_id view.now.id views)) }
+    {
+        let step = Step {
+            pages: Pages::Goes(view.id),
+            from: share(view.frecency),
+            to: 0,
+        };
+        self.apply(alloc, view.prefix.as_str(), view.host.as_str(), step)
+    }
+
+    // A view comes.
+    fn gain(&mut self, alloc: Global, view: &View) -> Result<(), NoMemory>
+        requires may { StandsWith self.old (MayCome view.now) }
+        ensures stands { OnOk result ((views : List View) → Stands self.old views
+            → MayCome view.now views → Stands self.new (with_view view.now views)) }
+    {
+        let step = Step {
+            pages: Pages::Comes(view.id),
+            from: 0,
+            to: share(view.frecency),
+        };
+        self.apply(alloc, view.prefix.as_str(), view.host.as_str(), step)
+    }
+
+    // A view of the same page and origin comes in place of another.
+    fn turn(&mut self, alloc: Global, old: &View, new: &View) -> Result<(), NoMemory>
+        requires may { StandsWith self.old (MayTurn old.now new.now) }
+        ensures stands { OnOk result ((views : List View) → Stands self.old views
+            → MayTurn old.now new.now views
+            → Stands self.new (with_view new.now (without_id old.now.id views))) }
+    {
+        let step = Step {
+            pages: Pages::Stay,
+            from: share(old.frecency),
+            to: share(new.frecency),
+        };
+        if step.from == step.to {
+            return Ok(());
+        }
+        self.apply(alloc, new.prefix.as_str(), new.host.as_str(), step)
+    }
+
+    // A view comes in place of another.
+    fn replace(&mut self, alloc: Global, old: &View, new: &View) -> Result<(), NoMemory>
+        requires may { StandsWith self.old (Suits (Some old.now) (Some new.now)) }
+        ensures stands { OnOk result ((views : List View) → Stands self.old views
+            → Suits (Some old.now) (Some new.now) views
+            → Stands self.new (with_view new.now (without_id old.now.id views))) }
+    {
+        if are_of_one(old, new) {
+            return self.turn(alloc, old, new);
+        }
+        self.lose(alloc, old)?;
+        self.gain(alloc, new)
+    }
+
+    fn kept_total(&self, prefix: &str, host: &str) -> u64
+        ensures { result ≡ kept_total self.now (prefix.now, host.now) }
+    {
+        match self.origins.at(prefix, host) {
+            Some(kept) => kept.total,
+            None => 0,
+        }
     }
 
     /// The total of the origin with this prefix and host, in points of frecency; 0 where no page
     /// with a positive frecency has it.
     pub fn total(&self, prefix: &str, host: &str) -> u64
-        ensures { (pages : List Scored) → StandsFor self.now pages
-            → result ≡ total_of pages (prefix.now, host.now) }
+        ensures { (views : List View) → Stands self.now views
+            → result ≡ total_of (scored_views views) (prefix.now, host.now) }
     {
         self.kept_total(prefix, host)
+    }
+
+    /// How many pages have the origin with this prefix and host.
+    pub fn pages(&self, prefix: &str, host: &str) -> usize
+        ensures { (views : List View) → Stands self.now views
+            → result ≡ length (pages_of (prefix.now, host.now) views) }
+    {
+        match self.origins.at(prefix, host) {
+            Some(kept) => kept.pages.len(),
+            None => 0,
+        }
+    }
+
+    /// The page with the smallest id that has the origin with this prefix and host, if any has.
+    pub fn first_page(&self, prefix: &str, host: &str) -> Option<PageId>
+        ensures { (views : List View) → Stands self.now views
+            → result ≡ slice_get (pages_of (prefix.now, host.now) views) 0 }
+    {
+        self.origins.at(prefix, host)?.pages.first().copied()
     }
 
     // Whether a group with this total passes.
@@ -222,18 +232,18 @@ impl Totals {
     /// Whether the group with this name passes: a host without one leading `www.`, as
     /// `example.org` or `example.org:8080`. The host `www.` makes the group with the empty name.
     pub fn passes(&self, group: &str) -> bool
-        ensures { (pages : List Scored) → StandsFor self.now pages
-            → result ≡ group_passes pages group.now }
+        ensures { (views : List View) → Stands self.now views
+            → result ≡ group_passes (scored_views views) group.now }
     {
-        self.is_enough(self.kept_group(group))
+        self.is_enough(self.groups.total(group))
     }
 
     /// How many origins have a positive total, and the sum of these totals.
     pub fn sums(&self) -> (u32, u64)
-        ensures count { (pages : List Scored) → StandsFor self.now pages
-            → result.0 ≡ origins_with_total pages }
-        ensures sum { (pages : List Scored) → StandsFor self.now pages
-            → result.1 ≡ sum_of_totals pages }
+        ensures count { (views : List View) → Stands self.now views
+            → result.0 ≡ origins_with_total (scored_views views) }
+        ensures sum { (views : List View) → Stands self.now views
+            → result.1 ≡ sum_of_totals (scored_views views) }
     {
         (self.count, self.sum)
     }
@@ -249,11 +259,11 @@ impl Totals {
     /// total, and that total. Of several with the same total it is the one whose name is first,
     /// byte by byte.
     pub fn best(&self, alloc: Global, text: &str) -> Result<Option<(Txt, u64)>, NoMemory>
-        ensures { IfOk result (λ best. (pages : List Scored) → StandsFor self.now pages
-            → best ≡ best_group pages text.now) }
+        ensures { IfOk result (λ best. (views : List View) → Stands self.now views
+            → best ≡ best_group (scored_views views) text.now) }
     {
         let mut best: Option<Group> = None;
-        for (name, total) in self.groups.iter() {
+        for (name, total) in self.groups.totals.iter() {
             let group = Group {
                 name: name.as_str(),
                 total: *total,

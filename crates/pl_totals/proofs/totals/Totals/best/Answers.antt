@@ -2,6 +2,7 @@ use Rattle.std.proofs.Common.{rules, ◌≡◌, ◌∷◌, ◌++◌, ◌∙◌, 
 use Rattle.std.specs.Map.Iter.{deref_pair}
 use Rattle.std.specs.Option.{option_map}
 use Rattle.std.proofs.lemmas.Map.Iter.{iter_end}
+use Rattle.pl_base.specs.View.{scored_views}
 use Rattle.pl_totals.specs.Groups.{Grouped, fills, grouped, or_best}
 use Rattle.pl_totals.proofs.Best.{IsBest, best_more, best_passed, entry, shown, shown_more}
 use Rattle.pl_totals.proofs.Told.{best_is}
@@ -28,20 +29,20 @@ loop-name-preserved c =
     (sym c.fills.ensures ∙ c.if-fills.false) c.loop-name.invariant)
 
 pub returns-in_ok-copied-in-Some-best : goal.returns-in_ok-copied-in-Some-best
-returns-in_ok-copied-in-Some-best c pages stands =
-    let whole : map deref_pair c.loop-name.yielded ≡ c.args.self.now.groups.entries = search (rules, iter_end) in
+returns-in_ok-copied-in-Some-best c views stands =
+    let whole : map deref_pair c.loop-name.yielded ≡ c.args.self.now.groups.totals.entries = search (rules, iter_end) in
     ap (λ (t : List ℕ). Some (t, c.in-Some-best.group.total)) c.in_ok-copied-in-Some-best.ensures
     ∙ sym (ap (option_map grouped) c.in-Some-best.is)
-    ∙ best_is c.args.self.now c.args.text.now pages stands c.iter-name-items.ensures.unique
+    ∙ best_is c.args.self.now c.args.text.now (scored_views views) stands.told c.iter-name-items.ensures.ordered
     (option_map grouped c.loop-name.best)
     (subst (λ (es : List (String Global × ℕ)). IsBest (fills c.args.self.now c.args.text.now) (map entry es)
     (option_map grouped c.loop-name.best)) whole c.loop-name.invariant)
 
 pub returns-in-None-best : goal.returns-in-None-best
-returns-in-None-best c pages stands =
-    let whole : map deref_pair c.loop-name.yielded ≡ c.args.self.now.groups.entries = search (rules, iter_end) in
+returns-in-None-best c views stands =
+    let whole : map deref_pair c.loop-name.yielded ≡ c.args.self.now.groups.totals.entries = search (rules, iter_end) in
     ap (option_map grouped) (sym c.in-None-best.is)
-    ∙ best_is c.args.self.now c.args.text.now pages stands c.iter-name-items.ensures.unique
+    ∙ best_is c.args.self.now c.args.text.now (scored_views views) stands.told c.iter-name-items.ensures.ordered
     (option_map grouped c.loop-name.best)
     (subst (λ (es : List (String Global × ℕ)). IsBest (fills c.args.self.now c.args.text.now) (map entry es)
     (option_map grouped c.loop-name.best)) whole c.loop-name.invariant)
