@@ -1,5 +1,6 @@
 pub mod ChangedLists
 pub mod LastKey
+pub mod OneByOne
 pub mod Parted
 pub mod RankLists
 pub mod RanksChange
