@@ -1,7 +1,8 @@
 // The host that the address bar fills in.
 ghost use Rattle.std.specs.Prelude.{◌≡◌, List, IfOk};
-ghost use Rattle.pl_base.specs.Totals.{Scored};
-ghost use Rattle.pl_totals.specs.Standing.{StandsFor};
+ghost use Rattle.pl_base.specs.declared.view.View.{View};
+ghost use Rattle.pl_base.specs.View.{scored_views};
+ghost use Rattle.pl_totals.specs.Standing.{Stands};
 ghost use Rattle.pl_bar.specs.Filled.{filled};
 
 use pl_base::{NoMemory, Txt};
@@ -12,8 +13,8 @@ use std::alloc::Global;
 /// names begin with the text, without regard to the case of ASCII letters and to one leading
 /// `www.`, the one with the greatest total. None where nothing is left of the text.
 pub fn fill(alloc: Global, totals: &Totals, text: &str) -> Result<Option<(Txt, u64)>, NoMemory>
-    ensures { IfOk result (λ group. (pages : List Scored) → StandsFor totals.now pages
-        → group ≡ filled pages text.now) }
+    ensures { IfOk result (λ group. (views : List View) → Stands totals.now views
+        → group ≡ filled (scored_views views) text.now) }
 {
     let mut lower = String::from_str(alloc, text)?;
     lower.make_ascii_lowercase();

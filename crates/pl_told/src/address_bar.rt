@@ -5,10 +5,10 @@ ghost use Rattle.pl_base.specs.Rows.{IsSound, KeptPage, has_page, page_at, store
 ghost use Rattle.pl_base.specs.Totals.{scored_pages};
 ghost use Rattle.pl_step.specs.Step as spec;
 
+use crate::totals::totals_of;
 use pl_base::{NoMemory, PageId, Rows, Seq, Steps, Txt};
 use pl_marks::views;
 use pl_step::{BarRow, Reply};
-use pl_totals::Totals;
 use std::alloc::Global;
 use std::sync::ledger::Ledger;
 
@@ -63,7 +63,7 @@ pub fn fill<R: Rows, L: Ledger>(
         ≡ spec.group_reply (filled (scored_pages (store_of (R.kept rows.now))) text.now)) }
 {
     let views = views(alloc, rows, steps)?;
-    let totals = Totals::over(alloc, &views)?;
+    let totals = totals_of(alloc, &views)?;
     Ok(match pl_bar::fill(alloc, &totals, text.as_str())? {
         Some((group, total)) => Reply::Fill { group, total },
         None => Reply::NoFill,

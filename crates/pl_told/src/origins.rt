@@ -1,13 +1,15 @@
 // What is known of the origin of an address, and of the whole store.
-ghost use Rattle.std.specs.Prelude.{◌≡◌, ◌&&◌, ℕ, List, bytes_eq, IfOk};
+ghost use Rattle.std.specs.Prelude.{◌≡◌, ℕ, List, IfOk};
+ghost use Rattle.pl_base.specs.declared.view.View.{View};
 ghost use Rattle.pl_base.specs.Address.{record_of};
 ghost use Rattle.pl_base.specs.Rows.{IsSound, store_of};
-ghost use Rattle.pl_base.specs.Totals.{Scored, scored_pages};
+ghost use Rattle.pl_base.specs.Totals.{scored_pages};
 ghost use Rattle.pl_base.specs.View.{scored_views};
-ghost use Rattle.pl_totals.specs.Standing.{StandsFor};
+ghost use Rattle.pl_totals.specs.Standing.{Stands};
 ghost use Rattle.pl_step.specs.Step as spec;
 
-use pl_base::{NoMemory, Refusal, Rows, Steps, View};
+use crate::totals::totals_of;
+use pl_base::{NoMemory, Refusal, Rows, Steps};
 use pl_link::{Canon, Parts, split};
 use pl_marks::views;
 use pl_step::Reply;
@@ -15,24 +17,10 @@ use pl_totals::{Totals, without_www};
 use std::alloc::Global;
 use std::sync::ledger::Ledger;
 
-fn has_origin(view: &View, parts: &Parts) -> bool
-    ensures { result
-        ≡ (bytes_eq view.now.prefix parts.now.prefix && bytes_eq view.now.host parts.now.host) }
-{
-    view.prefix.as_str() == parts.prefix.as_str() && view.host.as_str() == parts.host.as_str()
-}
-
-// How many of the pages have the origin of these parts.
-fn pages_of(views: &[View], parts: &Parts) -> usize
-    ensures { result ≡ spec.pages_of (scored_views views.now) (parts.now.prefix, parts.now.host) }
-{
-    views.iter().filter(|view| has_origin(view, parts)).count()
-}
-
 // Whether the group of a host passes; the empty host has none.
 fn passes(totals: &Totals, host: &str) -> bool
-    ensures { (pages : List Scored) → StandsFor totals.now pages → (prefix : List ℕ)
-        → result ≡ spec.origin_passes pages (prefix, host.now) }
+    ensures { (views : List View) → Stands totals.now views → (prefix : List ℕ)
+        → result ≡ spec.origin_passes (scored_views views) (prefix, host.now) }
 {
     !host.is_empty() && totals.passes(without_www(host))
 }
@@ -50,11 +38,11 @@ pub fn origin<R: Rows, L: Ledger>(
 {
     let parts = split(alloc, url)?;
     let views = views(alloc, rows, steps)?;
-    let pages = pages_of(&views, &parts);
+    let totals = totals_of(alloc, &views)?;
+    let pages = totals.pages(parts.prefix.as_str(), parts.host.as_str());
     if pages == 0 {
         return Ok(Reply::Refused(Refusal::NoPage));
     }
-    let totals = Totals::over(alloc, &views)?;
     let total = totals.total(parts.prefix.as_str(), parts.host.as_str());
     let passes = passes(&totals, parts.host.as_str());
     Ok(Reply::Origin {
@@ -77,7 +65,7 @@ pub fn stats<R: Rows, L: Ledger>(
     ensures { IfOk result (λ reply. reply ≡ spec.stats_reply (store_of (R.kept rows.now))) }
 {
     let views = views(alloc, rows, steps)?;
-    let totals = Totals::over(alloc, &views)?;
+    let totals = totals_of(alloc, &views)?;
     let (origins, sum) = totals.sums();
     Ok(Reply::Stats {
         pages: views.len() as u32,
