@@ -9,7 +9,7 @@ use Rattle.std.proofs.lemmas.List.Kept.{AllPairs-cons}
 use Rattle.pl_base.specs.declared.view.View.{View}
 use Rattle.pl_base.specs.Totals.{share}
 use Rattle.pl_base.proofs.ListLaws.{weaker}
-use Rattle.pl_follow.specs.Changes.{AreInOrder, AreViews, Suits, changed, has_view, removed, with_view, without_id}
+use Rattle.pl_follow.specs.Changes.{AreInOrder, FitStore, Suits, changed, has_view, removed, with_view, without_id}
 use Rattle.pl_follow.proofs.Parted.{Ascend, Parted, added_parted, ascend, in_order, parted_length}
 use Rattle.pl_follow.proofs.Parted.{parted_sum, removed_in_order, removed_parted}
 
@@ -144,15 +144,15 @@ parted_url views others view p each =
     among : (front : List View) → Pairs (λ (v w : View). v.url ≢ w.url) (front ++ view ∷ p.back)
         → AllByRecursion (λ (w : View). w.url ≢ view.url) (front ++ p.back)
     among [] each =
-        weaker (λ (w : View). view.url ≢ w.url) (λ (w : View). w.url ≢ view.url) p.back (λ w differ same. differ (sym same))
-        each.0
+        weaker (λ (w : View). view.url ≢ w.url) (λ (w : View). w.url ≢ view.url) p.back
+        (λ w differ same. differ (sym same)) each.0
     among (v ∷ front) each = (with_it v front each.0, among front each.1)
 
 -- ---- the others are views too
 
-pub others_are_views : (views others : List View) (view : View) → Parted views view others → AreViews views
-    → AreViews others
-others_are_views views others view p are =
+pub others_fit : (views others : List View) (view : View) → Parted views view others → FitStore views
+    → FitStore others
+others_fit views others view p are =
     record {
       urls = parted_pairs (λ (v w : View). v.url ≢ w.url) views others view p are.urls;
       prefixes = parted_all (λ (v : View). starts_with nat_eq v.url v.prefix ≡ true) views others view p are.prefixes;
@@ -161,8 +161,8 @@ others_are_views views others view p are =
     }
 
 -- what stays where a view goes is a list of views
-pub stay_views : (old new : Option View) (views : List View) → Suits old new views → AreViews (removed old views)
-stay_views old None views suits = suits.becomes
-stay_views old (Some new) views suits =
-    others_are_views (with_view new (removed old views)) (removed old views) new
+pub rest_fits : (old new : Option View) (views : List View) → Suits old new views → FitStore (removed old views)
+rest_fits old None views suits = suits.becomes
+rest_fits old (Some new) views suits =
+    others_fit (with_view new (removed old views)) (removed old views) new
     (added_parted new (removed old views)) suits.becomes

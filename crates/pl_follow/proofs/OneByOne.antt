@@ -1,8 +1,8 @@
 -- Views that come one after another, in the order of their ids.
-use Rattle.std.proofs.Common.{◌≡◌, ◌≢◌, ◌+◌, ◌<◌, ◌≤◌, ◌++◌, ◌==◌, ◌||◌, ◌^◌, ◌∙◌, ℕ, Bool, true, false, List, [], ◌∷◌}
-use Rattle.std.proofs.Common.{All, None, Some, ap, arith, get_or, if◌then◌else◌, length, nat_eq, nat_lt, refl, subst, suc}
+use Rattle.std.proofs.Common.{◌≡◌, ◌≢◌, ◌+◌, ◌<◌, ◌++◌, ◌==◌, ◌∙◌, ℕ, Bool, true, false, List, [], ◌∷◌}
+use Rattle.std.proofs.Common.{None, Some, ap, arith, get_or, if◌then◌else◌, length, nat_eq, nat_lt, refl, subst, suc}
 use Rattle.std.proofs.Common.{sym, take}
-use Rattle.std.specs.List.{AllByRecursion, AllPairs, list_any, starts_with, sum_by}
+use Rattle.std.specs.List.{AllByRecursion, AllPairs, starts_with}
 use Rattle.std.proofs.Math.Seq.{take-suc}
 use Rattle.std.proofs.lemmas.Bool.{ne_eqb}
 use Rattle.std.proofs.lemmas.Bool.Decides.{nat_tests}
@@ -10,12 +10,10 @@ use Rattle.std.proofs.lemmas.List.{get_or-take, get_or_default, length-take}
 use Rattle.std.proofs.lemmas.List.Elements.{All-from_recursion, All-take, recursion_from_All}
 use Rattle.std.proofs.lemmas.List.Folds.{list_any_none}
 use Rattle.std.proofs.lemmas.List.Sums.{sum_by-take-le}
-use Rattle.pl_base.specs.declared.id.PageId.{PageId}
 use Rattle.pl_base.specs.declared.view.View.{View}
-use Rattle.pl_base.specs.Live.{slot_limit}
 use Rattle.pl_base.specs.Totals.{share}
 use Rattle.pl_base.proofs.ListLaws.{weaker}
-use Rattle.pl_follow.specs.Changes.{AreInOrder, AreViews, Suits, changed, has_view, with_view}
+use Rattle.pl_follow.specs.Changes.{AreInOrder, FitStore, Suits, changed, with_view}
 
 -- ---- the first of views
 
@@ -29,8 +27,8 @@ pairs-take R n views each = λ i j d below within.
 pub first_in_order : (n : ℕ) (views : List View) → AreInOrder views → AreInOrder (take n views)
 first_in_order n views ordered = pairs-take (λ (v w : View). v.id.0 < w.id.0) n views ordered
 
-pub first_are_views : (n : ℕ) (views : List View) → AreViews views → AreViews (take n views)
-first_are_views n views are =
+pub first_fit : (n : ℕ) (views : List View) → FitStore views → FitStore (take n views)
+first_fit n views are =
     record {
       urls = pairs-take (λ (v w : View). v.url ≢ w.url) n views are.urls;
       prefixes = All-take (λ (v : View). starts_with nat_eq v.url v.prefix ≡ true) n views are.prefixes;
@@ -76,7 +74,7 @@ module _ (views : List View) (i : ℕ) (view : View) (ordered : AreInOrder views
       plus_one : (n : ℕ) → n + 1 ≡ suc n
       plus_one n = omega arith
 
-  pub next_suits : AreViews views → Suits None (Some view) (take i views)
+  pub next_suits : FitStore views → Suits None (Some view) (take i views)
   next_suits are =
       record {
         some = refl;
@@ -86,5 +84,5 @@ module _ (views : List View) (i : ℕ) (view : View) (ordered : AreInOrder views
             (All-from_recursion (λ (w : View). (w.id.0 == view.id.0) ≡ false) (take i views)
             (weaker (λ (w : View). w.id.0 < view.id.0) (λ (w : View). (w.id.0 == view.id.0) ≡ false) (take i views)
             (λ w smaller. ne_eqb w.id.0 view.id.0 (λ same. absurd (omega (arith, smaller, same)))) below));
-        becomes = subst AreViews (sym next_taken) (first_are_views (i + 1) views are);
+        becomes = subst FitStore (sym next_taken) (first_fit (i + 1) views are);
       }

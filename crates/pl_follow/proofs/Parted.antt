@@ -1,6 +1,7 @@
 -- A list of views, one of them, and the others: where one comes in or goes, the rest stay as they are.
 use Rattle.std.proofs.Common.{◌≡◌, ◌∙◌, ◌+◌, ◌<◌, ◌++◌, ◌==◌, ◌||◌, ℕ, Bool, true, false, List, [], ◌∷◌}
-use Rattle.std.proofs.Common.{ap, arith, eq-eqb, get_or, if◌then◌else◌, length, nat_lt, not, refl, subst, suc, sym, zero}
+use Rattle.std.proofs.Common.{ap, arith, eq-eqb, get_or, if◌then◌else◌, length, nat_lt, not, refl, subst, suc, sym}
+use Rattle.std.proofs.Common.{zero}
 use Rattle.std.specs.List.{AllByRecursion, Contains, list_any, sum_by}
 use Rattle.std.proofs.lemmas.Bool.{ne_eqb}
 use Rattle.std.proofs.lemmas.List.{length-append}
@@ -89,7 +90,8 @@ Ascend (v ∷ vs) = AllByRecursion (λ (w : View). v.id.0 < w.id.0) vs × Ascend
 pub ascend : (views : List View) → AreInOrder views → Ascend views
 ascend [] in_order = tt
 ascend (v ∷ vs) in_order = (
-  recursion_from_All (λ (w : View). v.id.0 < w.id.0) vs (λ k d within. in_order 0 (suc k) d (omega arith) (omega arith)),
+  recursion_from_All (λ (w : View). v.id.0 < w.id.0) vs
+      (λ k d within. in_order 0 (suc k) d (omega arith) (omega arith)),
   ascend vs (λ i j d below within. in_order (suc i) (suc j) d (omega (arith, below)) (omega (arith, within))),
 )
 
@@ -120,7 +122,8 @@ removed_parted old (v ∷ vs) a (zero, within, is) =
     let same : v ≡ old = is in
     let stays : without_id old.id vs ≡ vs =
     all_above old.id vs (subst (λ (o : View). AllByRecursion (λ (w : View). o.id.0 < w.id.0) vs) same a.0) in
-    let goes : (v.id.0 == old.id.0) ≡ true = ap (λ (o : View). o.id.0 == old.id.0) same ∙ eq-eqb old.id.0 old.id.0 refl in
+    let goes : (v.id.0 == old.id.0) ≡ true =
+    ap (λ (o : View). o.id.0 == old.id.0) same ∙ eq-eqb old.id.0 old.id.0 refl in
     record {
       front = [];
       back = vs;

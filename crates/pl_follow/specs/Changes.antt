@@ -1,4 +1,5 @@
--- Lists of views in the order of their ids, and how a view that goes and one that comes change them.
+-- Lists of views in the order of their ids, and what a view that goes and one that comes make of
+-- them.
 use Rattle.std.specs.Prelude.{◌≡◌, ◌≢◌, ◌<◌, ◌^◌, ◌==◌, ◌||◌, not, Bool, true, false, nat_eq}
 use Rattle.std.specs.Prelude.{List, [], ◌∷◌, length, Option, Some, None, is_some, IfSome}
 use Rattle.std.specs.Prelude.{nat_lt, if◌then◌else◌}
@@ -44,21 +45,21 @@ changed old new views = added new (removed old views)
 abbrev pub has_view : PageId → List View → Bool
 has_view id views = list_any (λ (v : View). v.id.0 == id.0) views
 
--- what holds of every list of views: its URLs are distinct, each begins with its prefix, and the
--- views and their positive frecencies are no more than a store can have
-pub record AreViews (views : List View) : Type 0 where
+-- the views fit a store: their URLs are distinct, each begins with its prefix, and they and the sum
+-- of their positive frecencies are no more than a store can have
+pub record FitStore (views : List View) : Type 0 where
   pub urls : AllPairs (λ (v w : View). v.url ≢ w.url) views
   pub prefixes : All (λ (v : View). starts_with nat_eq v.url v.prefix ≡ true) views
   pub few : length views < slot_limit
   pub sum : sum_by (λ (v : View). share v.frecency) views < 2 ^ 36
 
 -- a list of views suits a change: the old view is in it, the new one has the old one's id or one
--- that is not in it, and what becomes of it is a list of views
+-- that is not in it, and what becomes of it fits a store
 pub record Suits (old new : Option View) (views : List View) : Type 0 where
   pub some : (is_some old || is_some new) ≡ true
   pub goes : IfSome old (λ v. Contains views v)
   pub comes : IfSome new (λ v. has_view v.id (removed old views) ≡ false)
-  pub becomes : AreViews (changed old new views)
+  pub becomes : FitStore (changed old new views)
 
 -- a change of some list that is stood for
 pub record IsChange (stands : List View → Type 0) (old new : Option View) : Type 0 where

@@ -1,6 +1,6 @@
 // The totals of all views.
 ghost use Rattle.std.specs.Prelude.{IfOk};
-ghost use Rattle.pl_follow.specs.Changes.{AreInOrder, AreViews};
+ghost use Rattle.pl_follow.specs.Changes.{AreInOrder, FitStore};
 ghost use Rattle.pl_totals.specs.Standing.{Stands};
 
 use pl_base::{NoMemory, View};
@@ -11,7 +11,7 @@ use std::alloc::Global;
 /// The totals of these views, which come one after another.
 pub fn totals_of(alloc: Global, views: &[View]) -> Result<Totals, NoMemory>
     requires ordered { AreInOrder views.now }
-    requires views { AreViews views.now }
+    requires fit { FitStore views.now }
     ensures { IfOk result (λ totals. Stands totals views.now) }
 {
     let mut totals = Totals::new(alloc);

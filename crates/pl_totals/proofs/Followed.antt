@@ -15,8 +15,8 @@ use Rattle.pl_base.specs.Totals.{Origin, Scored, is_origin, share}
 use Rattle.pl_base.specs.View.{scored_views}
 use Rattle.pl_base.proofs.IdsLaws.{same_page}
 use Rattle.pl_base.proofs.ListLaws.{sum_by-map}
-use Rattle.pl_follow.specs.Changes.{AreInOrder, AreViews, Suits, removed, with_view, without_id}
-use Rattle.pl_follow.proofs.ChangedLists.{added_in_order, stay_views}
+use Rattle.pl_follow.specs.Changes.{AreInOrder, FitStore, Suits, removed, with_view, without_id}
+use Rattle.pl_follow.proofs.ChangedLists.{added_in_order, rest_fits}
 use Rattle.pl_follow.proofs.Parted.{Parted, added_parted, ascend, parted_length, parted_sum, removed_in_order}
 use Rattle.pl_follow.proofs.Parted.{removed_parted}
 use Rattle.pl_totals.specs.declared.kept.Pages.{Pages}
@@ -40,13 +40,13 @@ step_of pages from to = record { pages = pages; from = from; to = to }
 
 -- ---- sizes
 
-small_others : (views : List View) → AreViews views → shares (scored_views views) < 2 ^ 36
+small_others : (views : List View) → FitStore views → shares (scored_views views) < 2 ^ 36
 small_others views are = omega (arith, are.sum, sum_by-map (λ (s : Scored). share s.1) scored views)
 
-few_others : (views : List View) → AreViews views → length (scored_views views) < slot_limit
+few_others : (views : List View) → FitStore views → length (scored_views views) < slot_limit
 few_others views are = omega (arith, are.few, length-map views scored)
 
-small_with : (views others : List View) (view : View) → Parted views view others → AreViews views
+small_with : (views others : List View) (view : View) → Parted views view others → FitStore views
     → shares (scored_views others ++ scored view ∷ []) < 2 ^ 36
 small_with views others view p are =
     omega (
@@ -57,7 +57,7 @@ small_with views others view p are =
       shares-push (scored_views others) (scored view),
     )
 
-few_with : (views others : List View) (view : View) → Parted views view others → AreViews views
+few_with : (views others : List View) (view : View) → Parted views view others → FitStore views
     → length (scored_views others) < slot_limit
 few_with views others view p are =
     omega (arith, are.few, parted_length views others view p, length-map others scored)
@@ -165,7 +165,8 @@ lost old new view views stands may steps =
 
 -- ---- a view in place of one of the same page and origin
 
-module _ (old : Totals) (was is : View) (views : List View) (stands : Stands old views) (may : MayTurn was is views) where
+module _ (old : Totals) (was is : View) (views : List View) (stands : Stands old views)
+    (may : MayTurn was is views) where
   abbrev others : List View
   others = without_id was.id views
 
@@ -252,7 +253,7 @@ module _ (old : Totals) (was is : View) (views : List View) (stands : Stands old
 -- ---- what suits a change
 
 pub goes : (old : View) (new : Option View) (views : List View) → Suits (Some old) new views → MayGo old views
-goes old new views suits = record { contains = suits.goes; others = stay_views (Some old) new views suits }
+goes old new views suits = record { contains = suits.goes; others = rest_fits (Some old) new views suits }
 
 pub comes : (old : Option View) (new : View) (views : List View) → Suits old (Some new) views
     → MayCome new (removed old views)

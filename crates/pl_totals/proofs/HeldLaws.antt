@@ -1,5 +1,6 @@
 -- What is held of origins, once the maps have changed at one key.
-use Rattle.std.proofs.Common.{◌≡◌, ◌∙◌, ◌↔◌, ◌&&◌, Bool, true, false, IsTrue, List, [], ◌∷◌, ℕ, Some, None, Global, String}
+use Rattle.std.proofs.Common.{◌≡◌, ◌∙◌, ◌↔◌, ◌&&◌, Bool, true, false, IsTrue, List, [], ◌∷◌, ℕ, Some, None}
+use Rattle.std.proofs.Common.{Global, String}
 use Rattle.std.proofs.Common.{ap, bytes_eq, if◌then◌else◌, refl, sym}
 use Rattle.std.specs.BTreeMap.{BTreeMap, UpdatesBy}
 use Rattle.std.specs.Cmp.Lexicographic.{slice_cmp}

@@ -210,7 +210,8 @@ module _ (others : List Scored) (o : Origin) (f g : ℤ) (pages : Pages) where
             ap (λ (h : Held). h.0) (steps.origins x) ∙ choose_origin x (is_origin o x) refl was
             ∙ sym (total-push others (o, g) x);
         groups = λ group.
-            steps.groups group ∙ choose_group group (is_in_group group o) refl (stands.groups group) (group-push others (o, f) group)
+            steps.groups group
+            ∙ choose_group group (is_in_group group o) refl (stands.groups group) (group-push others (o, f) group)
             ∙ sym (group-push others (o, g) group);
         count =
             omega (

@@ -59,8 +59,7 @@ module _ (m : BTreeMap (String Global) ℕ) where
       choose None is none = absurd (omega arith)
       choose (Some n) is some =
           let place =
-          place_from_lookup (λ (k : String Global). is_at (λ (x : String Global). slice_cmp nat_cmp group (string_bytes x)) k)
-          m.entries n is in
+          place_from_lookup (is_at (λ (k : String Global). slice_cmp nat_cmp group (string_bytes k))) m.entries n is in
           let same : group ≡ string_bytes place.1 = same_bytes group (string_bytes place.1) place.3 in
           subst (λ (g : List ℕ). In (g, n) (map entry m.entries)) (sym same)
           (in_map entry m.entries (place.1, n) (at_place (place.1, n) m.entries place.0 place.2))
@@ -135,7 +134,8 @@ module _ (totals : Totals) (text : List ℕ) (pages : List Scored) (stands : Sta
   -- and an entry that passes is such a group
   kept_filling : (g : Grouped) → In g entries → fills totals text g ≡ true → In g (map with_total filling)
   kept_filling g member passes =
-      let total : group_total pages g.0 ≡ g.1 = sym (stands.groups g.0) ∙ entry_told totals.groups.totals ordered g member in
+      let total : group_total pages g.0 ≡ g.1 =
+      sym (stands.groups g.0) ∙ entry_told totals.groups.totals ordered g member in
       let same : with_total g.0 ≡ g = ap (λ n. (g.0, n)) total in
       let is : is_filling pages text g.0 ≡ true = sym (fills_as g.0) ∙ ap (fills totals text) same ∙ passes in
       subst (λ (h : Grouped). In h (map with_total filling)) same

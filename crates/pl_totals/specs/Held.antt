@@ -34,7 +34,8 @@ held_in prefixes prefix = unwrap_or (option_map held_of (get_by_text prefixes.ma
 -- what is held of an origin
 abbrev pub held_at : Origins → Origin → Held
 held_at origins origin =
-    unwrap_or (option_map (λ (p : Prefixes). held_in p origin.0) (get_by_text origins.hosts origin.1))
+    unwrap_or
+    (option_map (λ (p : Prefixes). held_in p origin.0) (get_by_text origins.hosts origin.1))
     nothing
 
 -- the order of ids

@@ -8,7 +8,7 @@ use Rattle.pl_base.specs.Live.{slot_limit}
 use Rattle.pl_base.specs.Totals.{Origin, Scored, group_total, is_in_group, is_origin}
 use Rattle.pl_base.specs.Totals.{origins_with_total, sum_of_totals, total_of}
 use Rattle.pl_base.specs.View.{scored_views}
-use Rattle.pl_follow.specs.Changes.{AreInOrder, AreViews, has_view, with_view, without_id}
+use Rattle.pl_follow.specs.Changes.{AreInOrder, FitStore, has_view, with_view, without_id}
 use Rattle.pl_totals.specs.declared.kept.Step.{Step}
 use Rattle.pl_totals.specs.declared.totals.Totals.{Totals}
 use Rattle.pl_totals.specs.Groups.{total_in}
@@ -61,7 +61,8 @@ pub record Takes (step : Step) (n : ℕ) : Type 0 where
 -- a step of an origin is one of the totals
 pub record HasRoom (origin : Origin) (step : Step) (totals : Totals) : Type 0 where
   pub total : Takes step (kept_total totals origin)
-  pub group : (group : List ℕ) → is_in_group group origin ≡ true → Takes step (kept_group totals group)
+  pub group : (group : List ℕ) → is_in_group group origin ≡ true
+      → Takes step (kept_group totals group)
   pub sum : Takes step totals.sum
   pub counted : one_if (kept_total totals origin)
       ≤ totals.count + one_if (stepped step (kept_total totals origin))
@@ -73,7 +74,8 @@ pub record Steps (origin : Origin) (step : Step) (old new : Totals) : Type 0 whe
       ≡ (if is_origin origin other
       then settled (after step (held_at old.origins origin)) else held_at old.origins other)
   pub groups : (group : List ℕ) → kept_group new group
-      ≡ (if is_in_group group origin then stepped step (kept_group old group) else kept_group old group)
+      ≡ (if is_in_group group origin
+      then stepped step (kept_group old group) else kept_group old group)
   pub count : new.count + one_if (kept_total old origin)
       ≡ old.count + one_if (stepped step (kept_total old origin))
   pub sum : new.sum ≡ stepped step old.sum
@@ -83,12 +85,12 @@ pub record Steps (origin : Origin) (step : Step) (old new : Totals) : Type 0 whe
 -- this view may go from the views
 pub record MayGo (view : View) (views : List View) : Type 0 where
   pub contains : Contains views view
-  pub others : AreViews (without_id view.id views)
+  pub others : FitStore (without_id view.id views)
 
 -- this view may come to the views
 pub record MayCome (view : View) (views : List View) : Type 0 where
   pub fresh : has_view view.id views ≡ false
-  pub becomes : AreViews (with_view view views)
+  pub becomes : FitStore (with_view view views)
 
 -- two views are of the same page and origin
 pub record AreOfOne (old new : View) : Type 0 where
@@ -100,7 +102,7 @@ pub record AreOfOne (old new : View) : Type 0 where
 pub record MayTurn (old new : View) (views : List View) : Type 0 where
   pub contains : Contains views old
   pub fresh : has_view new.id (without_id old.id views) ≡ false
-  pub becomes : AreViews (with_view new (without_id old.id views))
+  pub becomes : FitStore (with_view new (without_id old.id views))
   pub one : AreOfOne old new
 
 -- the totals stand for views of which this holds

@@ -1,18 +1,17 @@
 // The totals of origins and of groups of hosts, and the pages of origins.
-ghost use Rattle.std.specs.Prelude.{◌≡◌, ◌^◌, ◌<◌, ◌&&◌, ◌==◌, [], ℕ, Bool, List, Some, true, bytes_eq};
-ghost use Rattle.std.specs.Prelude.{IfOk, OnOk, length, if◌then◌else◌};
-ghost use Rattle.std.specs.List.{Contains, slice_get};
-ghost use Rattle.std.specs.Option.{option_copied};
+ghost use Rattle.std.specs.Prelude.{◌≡◌, ◌^◌, ◌<◌, ◌&&◌, ◌==◌, [], ℕ, List, Some, true};
+ghost use Rattle.std.specs.Prelude.{IfOk, OnOk, bytes_eq, length, if◌then◌else◌};
+ghost use Rattle.std.specs.List.{slice_get};
 ghost use Rattle.pl_base.specs.declared.view.View.{View};
 ghost use Rattle.pl_base.specs.Totals as spec;
-ghost use Rattle.pl_base.specs.Totals.{Scored, group_passes, is_in_group, origins_with_total};
-ghost use Rattle.pl_base.specs.Totals.{share, sum_of_totals, total_of};
+ghost use Rattle.pl_base.specs.Totals.{group_passes, is_in_group, origins_with_total};
+ghost use Rattle.pl_base.specs.Totals.{sum_of_totals, total_of};
 ghost use Rattle.pl_base.specs.View.{scored_views};
-ghost use Rattle.pl_follow.specs.Changes.{IsChange, Suits, changed, has_view, with_view, without_id};
+ghost use Rattle.pl_follow.specs.Changes.{Suits, with_view, without_id};
 ghost use Rattle.pl_totals.specs.Filling.{best_group};
 ghost use Rattle.pl_totals.specs.Groups.{fills, grouped, is_enough};
-ghost use Rattle.pl_totals.specs.Standing.{AreOfOne, HasRoom, MayCome, MayGo, MayTurn, Stands};
-ghost use Rattle.pl_totals.specs.Standing.{StandsWith, Steps, Takes, kept_group, kept_total, pages_of, stepped};
+ghost use Rattle.pl_totals.specs.Standing.{HasRoom, MayCome, MayGo, MayTurn, Stands, StandsWith};
+ghost use Rattle.pl_totals.specs.Standing.{Steps, Takes, kept_group, kept_total, pages_of, stepped};
 
 use crate::groups::{Group, Groups, without_www};
 use crate::kept::{Pages, Step};
