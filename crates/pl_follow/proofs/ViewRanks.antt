@@ -37,12 +37,12 @@ visit_total =
     then_total (on_total (λ (x : Micros × PageId). x.0.0) nat_cmp_total)
     (on_total (λ (x : Micros × PageId). x.1.0) nat_cmp_total)
 
-both_equal : (a b : Ordering) → ordering_then a b ≡ Equal → (a ≡ Equal) × (b ≡ Equal)
+pub both_equal : (a b : Ordering) → ordering_then a b ≡ Equal → (a ≡ Equal) × (b ≡ Equal)
 both_equal Less b is = absurd (cc)
 both_equal Equal b is = (refl, is)
 both_equal Greater b is = absurd (cc)
 
-same_id : (p q : PageId) → p.0 ≡ q.0 → p ≡ q
+pub same_id : (p q : PageId) → p.0 ≡ q.0 → p ≡ q
 same_id p q is = ap (λ (n : ℕ). record { 0 = n }) is
 
 same_date : (p q : Micros) → p.0 ≡ q.0 → p ≡ q

@@ -7,6 +7,6 @@ mod texts;
 mod urls;
 
 pub use follow::Follow;
-pub use order::OrderIndex;
+pub use order::{OrderIndex, replace_rank};
 pub use texts::{Folded, FoldedTexts};
 pub use urls::UrlIndex;

@@ -90,12 +90,12 @@ impl Follow for OrderIndex {
         old: Option<&View>,
         new: Option<&View>,
     ) -> Result<(), NoMemory> {
-        replace(
+        replace_rank(
             &mut self.frecencies,
             rank_by_frecency(old),
             rank_by_frecency(new),
         )?;
-        replace(&mut self.visits, rank_by_visit(old), rank_by_visit(new))
+        replace_rank(&mut self.visits, rank_by_visit(old), rank_by_visit(new))
     }
 }
 
@@ -115,8 +115,11 @@ fn rank_by_visit(view: Option<&View>) -> Option<(Micros, PageId)>
     Some((view.last?, view.id))
 }
 
-// One rank goes and another comes, unless the two are the same.
-fn replace<K: Ord + Copy>(
+/// One rank goes and another comes, as far as there are any; where the two are the same, nothing is
+/// touched.
+///
+/// Takes time in the logarithm of the number of ranks, and memory where one comes.
+pub fn replace_rank<K: Ord + Copy>(
     ranks: &mut BTreeSet<K>,
     leaving: Option<K>,
     coming: Option<K>,
