@@ -1,0 +1,2 @@
+pub mod DueLists
+pub mod EntryOrder
