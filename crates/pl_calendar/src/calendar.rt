@@ -16,20 +16,17 @@ use std::collections::BTreeSet;
 /// compares these alone.
 #[derive(Debug, Drop)]
 pub struct Calendar {
-    // The day from which it was made.
-    day: Day,
     // The due day of each view that has one, and its id.
     entries: BTreeSet<(Day, PageId)>,
 }
 
 impl Calendar {
-    /// That of no views, made from the store's day. Due days lie behind it, but no answer counts on
-    /// that: views that are due on any day may come.
-    pub fn new(alloc: Global, day: Day) -> Calendar
+    /// That of no views, on the store's day. The due days of its views lie behind that day, but
+    /// nothing rests on it: views that are due on any day may come.
+    pub fn new(alloc: Global, _day: Day) -> Calendar
         ensures { KeepsDays result [] }
     {
         Calendar {
-            day,
             entries: BTreeSet::new(alloc),
         }
     }

@@ -1,4 +1,5 @@
 mod Listed
 mod Offered
 mod PageTold
+pub mod StoreViews
 mod Views

@@ -1,12 +1,13 @@
 -- What the views of a store tell of its origins.
-use Rattle.std.proofs.Common.{◌≡◌, ◌≢◌, ◌∙◌, ◌<◌, ◌≤◌, ◌==◌, ℕ, List, [], ◌∷◌, Some, ap, arith, eq-eqb, filter_map}
+use Rattle.std.proofs.Common.{◌≡◌, ◌≢◌, ◌∙◌, ◌<◌, ◌≤◌, ◌==◌, ℕ, List, [], ◌∷◌, Some, ap, arith, eq-eqb, filter}
+use Rattle.std.specs.List.{filter_map}
 use Rattle.std.proofs.Common.{if◌then◌else◌, length, refl, subst, suc, sym, Ok, Err, Bool, ◌^◌}
 use Rattle.std.specs.List.{sum_by}
 use Rattle.std.specs.Option.{option_map}
 use Rattle.std.specs.Result.{IsOkAnd}
 use Rattle.std.proofs.lemmas.Bool.{ne_eqb}
 use Rattle.std.proofs.lemmas.List.{length-map}
-use Rattle.std.proofs.lemmas.List.Sums.{count_by-le-length}
+use Rattle.std.proofs.lemmas.List.Sums.{count_by-le-length, length-filter}
 use Rattle.url.specs.Parser.{Parsed}
 use Rattle.url.specs.Parts.{Parts as Record}
 use Rattle.pl_base.specs.declared.refusal.Refusal.TheVariants.{NoPage}
@@ -20,12 +21,15 @@ use Rattle.pl_base.specs.Store.{Item, Page, Store, item_id, root_folder, top_fol
 use Rattle.pl_base.specs.Tree.{item_at}
 use Rattle.pl_base.specs.Totals.{Origin, Scored, is_origin, scored_pages, share, total_of}
 use Rattle.pl_base.specs.View.{AreViews, AreViewsOf, scored_views}
+use Rattle.pl_base.proofs.ListLaws.{sum_by-map}
 use Rattle.pl_history.proofs.SmallTotals.{few_points}
 use Rattle.pl_link.specs.declared.parts.Parts.{Parts}
 use Rattle.pl_link.specs.Parts.{ArePartsOf}
 use Rattle.pl_step.specs.declared.reply.Reply.{Reply}
 use Rattle.pl_step.specs.declared.reply.Reply.TheVariants.{Origin as OriginReply, Refused}
 use Rattle.pl_step.specs.Step.{origin_passes, pages_of, told_origin}
+use Rattle.pl_totals.specs.Standing.{has_origin}
+use Rattle.pl_totals.specs.Standing as held
 
 scored : (store : Store) (ps : List Page) (vs : List View) → AreViews store ps vs
     → scored_views vs
@@ -125,6 +129,15 @@ pub small_sum : (kept : Kept) (views given : List View) → IsWellKept kept → 
 small_sum kept views given h are is =
     of_views (λ (ss : List Scored). sum_by (λ (s : Scored). share s.1) ss < 2 ^ 36) (store_of kept) views given are is
     (few_points kept h)
+
+-- the pages of an origin that totals tell are as many as the definition counts
+pub counted : (views : List View) (origin : Origin)
+    → length (held.pages_of origin views) ≡ pages_of (scored_views views) origin
+counted views origin =
+    length-map (filter (has_origin origin) views) (λ (v : View). v.id)
+    ∙ length-filter (has_origin origin) views
+    ∙ sym (sum_by-map (λ (s : Scored). if is_origin s.0 origin then 1 else 0)
+    (λ (v : View). ((v.prefix, v.host), v.frecency)) views)
 
 -- no origin has more pages than there are views
 pub few_pages : (views : List View) (origin : Origin) → pages_of (scored_views views) origin ≤ length views
