@@ -1,14 +1,14 @@
 -- Pages in the order in which they are offered: that is an order, and the one of a sort's comparisons.
-use Rattle.std.proofs.Common.{◌≡◌, ◌∙◌, ◌&&◌, ◌||◌, ℕ, Bool, true, false, Ordering, arith, ap, is_lt, ltb}
+use Rattle.std.proofs.Common.{◌≡◌, ◌∙◌, ◌&&◌, ◌||◌, ℕ, Bool, true, false, Ordering, ap, is_lt, ltb}
 use Rattle.std.proofs.Common.{if◌then◌else◌, int_lt, nat_cmp, nat_lt, not, refl, sym}
 use Rattle.std.specs.declared.cmp.Ordering.TheVariants.{Less, Equal, Greater}
 use Rattle.std.specs.Cmp.{IsStrictWeakOrder}
 use Rattle.std.specs.List.Sorted.{ties}
 use Rattle.std.specs.Ordering.{int_cmp, is_eq, ordering_then}
-use Rattle.std.proofs.lemmas.Bool.Decides.{nat_tests}
 use Rattle.std.proofs.lemmas.List.Sorted.{IsStrictWeakOrder-by_number, IsStrictWeakOrder-flip, ranks_by}
 use Rattle.std.proofs.lemmas.Cmp.{int_cmp_total}
 use Rattle.pl_base.proofs.SortLaws.{ranks_alike, then_by, then_ranks, then_ties, tied_numbers}
+use Rattle.pl_follow.proofs.ViewRanks.{compared}
 use Rattle.pl_bar.specs.declared.ranked.Ranked.{Ranked}
 use Rattle.pl_bar.specs.declared.ranked.Tier.{Tier}
 use Rattle.pl_bar.specs.declared.ranked.Tier.TheVariants.{Boundary, Anywhere}
@@ -84,14 +84,6 @@ tied_pages a b tie =
     (then_ties higher newer a b (sym (greater_ties a b) ∙ then_ties first_tier is_greater a b tie)))
 
 -- ---- the comparisons
-
-compared : (p q : Bool) (m n : ℕ)
-    → is_lt (ordering_then (if q then Less else if p then Greater else Equal) (nat_cmp m n))
-    ≡ (q || (is_eq (if p then Less else if q then Greater else Equal) && nat_lt m n))
-compared true true m n = refl
-compared true false m n = refl
-compared false true m n = refl
-compared false false m n = grind (arith, nat_tests)
 
 -- what a comparison answers is that order
 pub answered : (a b : Ranked)

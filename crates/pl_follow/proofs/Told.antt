@@ -1,10 +1,9 @@
 -- What a look-up tells of the views: of the one that passes a test, where one comes, goes, or takes another's place.
-use Rattle.std.proofs.Common.{◌≡◌, ◌==◌, ◌∙◌, ◌++◌, ℕ, All, Bool, true, false, List, [], ◌∷◌, Option, Some, None, ap}
-use Rattle.std.proofs.Common.{cond, eqb-true, find, if◌then◌else◌, refl, subst, sym}
+use Rattle.std.proofs.Common.{◌≡◌, ◌∙◌, ◌++◌, All, Bool, true, false, List, [], ◌∷◌, Option, Some, None, ap}
+use Rattle.std.proofs.Common.{cond, find, if◌then◌else◌, refl, subst, sym}
 use Rattle.std.specs.List.{AllByRecursion}
 use Rattle.std.specs.Option.{option_map}
 use Rattle.std.proofs.lemmas.List.Elements.{recursion_from_All}
-use Rattle.pl_base.specs.declared.id.PageId.{PageId}
 use Rattle.pl_base.specs.declared.view.View.{View}
 use Rattle.pl_base.proofs.LookUps.{front}
 use Rattle.pl_follow.proofs.Parted.{Parted}
@@ -88,11 +87,3 @@ told_same {B} test f views others changed old new p q only_old only_new tests gi
         ≡ option_map f (if b then Some new else find test others)
     choose true = ap (λ (y : B). Some y) gives
     choose false = refl
-
--- the page with this number
-abbrev numbered : ℕ → PageId
-numbered n = record { 0 = n }
-
--- ids with the same number are the same
-pub one_page : (a b : PageId) → (a.0 == b.0) ≡ true → a ≡ b
-one_page a b same = ap numbered (eqb-true a.0 b.0 same)

@@ -63,7 +63,8 @@ visit_exact x y is =
       same_id x.1 y.1 (exact_unsigned x.1.0 y.1.0 parts.1) i,
     )
 
-compared : (p q : Bool) (m n : ℕ)
+-- a comparison by which of two numbers is greater, and then by two more
+pub compared : (p q : Bool) (m n : ℕ)
     → is_lt (ordering_then (if q then Less else if p then Greater else Equal) (nat_cmp m n))
     ≡ (q || (is_eq (if p then Less else if q then Greater else Equal) && nat_lt m n))
 compared true true m n = refl

@@ -4,13 +4,13 @@ use Rattle.std.proofs.lemmas.Result.{on_ok_weaker}
 use Rattle.pl_follow.specs.Changes.{without_id}
 use Rattle.pl_follow.specs.Texts.{folded_of}
 use Rattle.pl_follow.proofs.TextsFollow.{left_alone, new_prefix, old_kept, taken_out}
-use Rattle.pl_follow.proofs.Told.{one_page}
+use Rattle.pl_base.proofs.IdsLaws.{same_page}
 use Rattle.pl_follow.proofs.texts.FoldedTexts.replace.Goals as goal
 
 pub returns-then-have_same_texts : goal.returns-then-have_same_texts
 returns-then-have_same_texts c views stands suits =
     left_alone c.args.self.now c.args.old.now c.args.new.now views stands suits
-    (one_page c.args.old.now.id c.args.new.now.id (sym c.eq.ensures ∙ c.if-eq.true))
+    (same_page c.args.old.now.id c.args.new.now.id (sym c.eq.ensures ∙ c.if-eq.true))
     (c.have_same_texts.ensures c.if-have_same_texts.true)
 
 pub unwrap-kept-requires : goal.unwrap-kept-requires
