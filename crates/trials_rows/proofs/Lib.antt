@@ -4,7 +4,7 @@ pub mod BookmarkFileCases
 pub mod BoundCases
 pub mod DeskCases
 pub mod DrillCases
-pub mod DueRows
+pub mod DueCases
 pub mod FrecencyCases
 pub mod GateCases
 pub mod HistoryCases
