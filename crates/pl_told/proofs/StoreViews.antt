@@ -1,6 +1,6 @@
 -- The views of a store stand in the order of their ids, and fit a store.
 use Rattle.std.proofs.Common.{◌≡◌, ◌≢◌, ◌<◌, ◌^◌, ◌∙◌, ℕ, All, List, [], ◌∷◌, Ok, Err, Some, ap, arith, length, map, nat_eq}
-use Rattle.std.proofs.Common.{nat_le, refl, subst, sym, true}
+use Rattle.std.proofs.Common.{nat_le, refl, subst, sym, true, unwrap_or, Option, None}
 use Rattle.std.specs.List.{AllByRecursion, AllPairs, starts_with, sum_by}
 use Rattle.std.proofs.lemmas.Bool.{and_parts}
 use Rattle.std.proofs.lemmas.List.Elements.{All-from_recursion, recursion_from_All}
@@ -70,10 +70,12 @@ prefix_first text start host good origin =
         → starts_with nat_eq text start ≡ true
     choose (Ok f) same is =
         let whole : serialize f ≡ text = (bytes_eq-Decides (serialize f) text).0 same in
-        let first : prefix f ≡ start = cc in
+        let first : prefix f ≡ start = ap (λ (o : Option (List ℕ × List ℕ)). (unwrap_or o ([], [])).0) is in
         subst (λ (s : List ℕ). starts_with nat_eq text s ≡ true) first
         (subst (λ (t : List ℕ). starts_with nat_eq t (prefix f) ≡ true) whole (starts_with-prefix f))
-    choose (Err e) same is = absurd (cc)
+    choose (Err e) same is =
+        let none : None ≡ Some (start, host) = is in
+        absurd (cc)
 
 prefixes : (store : Store) (ps : List Page) (vs : List View) → AllByRecursion (IsGoodPage store) ps
     → AreViews store ps vs → AllByRecursion (λ (v : View). starts_with nat_eq v.url v.prefix ≡ true) vs
