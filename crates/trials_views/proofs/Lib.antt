@@ -1,0 +1,4 @@
+pub mod Between
+pub mod InOrder
+pub mod Listed
+pub mod NewUrls
