@@ -49,14 +49,14 @@ told_removed f none text m mid n x first second other =
 
 -- a key in each of two maps is an origin
 pub two_keys : (old : Origin → Held) (prefix host : List ℕ) (h : Held) (other : Origin)
-    → (if bytes_eq host other.1 then if bytes_eq prefix other.0 then h else old (other.0, host) else old other)
+    → (if bytes_eq prefix other.0 then if bytes_eq host other.1 then h else old (prefix, other.1) else old other)
     ≡ (if is_origin (prefix, host) other then h else old other)
-two_keys old prefix host h other = choose (bytes_eq host other.1) refl (bytes_eq prefix other.0)
+two_keys old prefix host h other = choose (bytes_eq prefix other.0) refl (bytes_eq host other.1)
   where
-    choose : (b : Bool) → bytes_eq host other.1 ≡ b → (a : Bool)
-        → (if b then if a then h else old (other.0, host) else old other) ≡ (if a && b then h else old other)
+    choose : (a : Bool) → bytes_eq prefix other.0 ≡ a → (b : Bool)
+        → (if a then if b then h else old (prefix, other.1) else old other) ≡ (if a && b then h else old other)
     choose true same true = refl
     choose true same false =
-        ap (λ (x : List ℕ). old (other.0, x)) ((bytes_eq-Decides host other.1).0 same)
+        ap (λ (x : List ℕ). old (x, other.1)) ((bytes_eq-Decides prefix other.0).0 same)
     choose false apart true = refl
     choose false apart false = refl

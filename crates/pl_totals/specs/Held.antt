@@ -13,7 +13,7 @@ use Rattle.pl_totals.specs.declared.kept.Pages.{Pages}
 use Rattle.pl_totals.specs.declared.kept.Pages.TheVariants.{Comes, Goes, Stay}
 use Rattle.pl_totals.specs.declared.kept.Step.{Step}
 use Rattle.pl_totals.specs.declared.origins.Origins.{Origins}
-use Rattle.pl_totals.specs.declared.origins.Prefixes.{Prefixes}
+use Rattle.pl_totals.specs.declared.origins.Hosts.{Hosts}
 
 -- a total, and the ids of pages, which ascend
 abbrev pub Held : Type 0
@@ -27,15 +27,15 @@ nothing = (0, [])
 abbrev pub held_of : Kept → Held
 held_of kept = (kept.total, kept.pages.keys)
 
--- what is held of a host's origin with this prefix
-abbrev pub held_in : Prefixes → List ℕ → Held
-held_in prefixes prefix = unwrap_or (option_map held_of (get_by_text prefixes.map prefix)) nothing
+-- what is held of a prefix's origin with this host
+abbrev pub held_in : Hosts → List ℕ → Held
+held_in hosts host = unwrap_or (option_map held_of (get_by_text hosts.map host)) nothing
 
 -- what is held of an origin
 abbrev pub held_at : Origins → Origin → Held
 held_at origins origin =
     unwrap_or
-    (option_map (λ (p : Prefixes). held_in p origin.0) (get_by_text origins.hosts origin.1))
+    (option_map (λ (h : Hosts). held_in h origin.1) (get_by_text origins.prefixes origin.0))
     nothing
 
 -- the order of ids

@@ -1,4 +1,4 @@
-// What is kept of each origin, by its host and then its prefix.
+// What is kept of each origin, by its prefix and then its host.
 ghost use Rattle.std.specs.Prelude.{◌≡◌, ◌+◌, ◌-◌, ◌<◌, ◌≤◌, ◌^◌, ℕ, List, [], OnOk, Option};
 ghost use Rattle.std.specs.Prelude.{true, bytes_eq, if◌then◌else◌, unwrap_or};
 ghost use Rattle.std.specs.Option.{option_copied, option_map};
@@ -10,39 +10,39 @@ use pl_base::NoMemory;
 use std::alloc::Global;
 use std::collections::BTreeMap;
 
-// The origins of one host, by their prefixes.
+// The origins of one prefix, by their hosts.
 #[derive(Drop)]
-pub struct Prefixes {
+pub struct Hosts {
     pub map: BTreeMap<String, Kept>,
 }
 
-// All origins, by their hosts.
+// All origins, by their prefixes.
 #[derive(Drop)]
 pub struct Origins {
-    pub hosts: BTreeMap<String, Prefixes>,
+    pub prefixes: BTreeMap<String, Hosts>,
 }
 
-impl Prefixes {
-    fn new(alloc: Global) -> Prefixes
-        ensures { (prefix : List ℕ) → held_in result prefix ≡ nothing }
+impl Hosts {
+    fn new(alloc: Global) -> Hosts
+        ensures { (host : List ℕ) → held_in result host ≡ nothing }
     {
-        Prefixes {
+        Hosts {
             map: BTreeMap::new(alloc),
         }
     }
 
     fn is_empty(&self) -> bool
-        ensures { result ≡ true → (prefix : List ℕ) → held_in self.now prefix ≡ nothing }
+        ensures { result ≡ true → (host : List ℕ) → held_in self.now host ≡ nothing }
     {
         self.map.is_empty()
     }
 
     // The first page of an origin.
-    fn begin(&mut self, alloc: Global, prefix: &str, step: Step) -> Result<(), NoMemory>
-        requires none { held_in self.old prefix.now ≡ nothing }
+    fn begin(&mut self, alloc: Global, host: &str, step: Step) -> Result<(), NoMemory>
+        requires none { held_in self.old host.now ≡ nothing }
         requires from { step.from ≡ 0 }
         ensures { OnOk result ((other : List ℕ) → held_in self.new other
-            ≡ (if bytes_eq prefix.now other
+            ≡ (if bytes_eq host.now other
             then settled (after step nothing)
             else held_in self.old other)) }
     {
@@ -51,26 +51,26 @@ impl Prefixes {
         if kept.is_empty() {
             return Ok(());
         }
-        let prefix = String::from_str(alloc, prefix)?;
-        self.map.insert(prefix, kept)?;
+        let host = String::from_str(alloc, host)?;
+        self.map.insert(host, kept)?;
         Ok(())
     }
 
-    fn apply(&mut self, alloc: Global, prefix: &str, step: Step) -> Result<(), NoMemory>
-        requires from { step.from ≤ (held_in self.old prefix.now).0 }
-        requires fits { (held_in self.old prefix.now).0 - step.from + step.to < 2 ^ 64 }
+    fn apply(&mut self, alloc: Global, host: &str, step: Step) -> Result<(), NoMemory>
+        requires from { step.from ≤ (held_in self.old host.now).0 }
+        requires fits { (held_in self.old host.now).0 - step.from + step.to < 2 ^ 64 }
         ensures { OnOk result ((other : List ℕ) → held_in self.new other
-            ≡ (if bytes_eq prefix.now other
-            then settled (after step (held_in self.old prefix.now))
+            ≡ (if bytes_eq host.now other
+            then settled (after step (held_in self.old host.now))
             else held_in self.old other)) }
     {
-        let Some(kept) = self.map.get_mut(prefix) else {
-            return self.begin(alloc, prefix, step);
+        let Some(kept) = self.map.get_mut(host) else {
+            return self.begin(alloc, host, step);
         };
         kept.apply(step)?;
         let is_empty = kept.is_empty();
         if is_empty {
-            self.map.remove(prefix);
+            self.map.remove(host);
         }
         Ok(())
     }
@@ -81,7 +81,7 @@ impl Origins {
         ensures { (origin : Origin) → held_at result origin ≡ nothing }
     {
         Origins {
-            hosts: BTreeMap::new(alloc),
+            prefixes: BTreeMap::new(alloc),
         }
     }
 
@@ -89,22 +89,22 @@ impl Origins {
         ensures { unwrap_or (option_map held_of (option_copied result)) nothing
             ≡ held_at self.now (prefix.now, host.now) }
     {
-        self.hosts.get(host)?.map.get(prefix)
+        self.prefixes.get(prefix)?.map.get(host)
     }
 
-    // The first page of a host.
+    // The first page of a prefix.
     fn begin(&mut self, alloc: Global, prefix: &str, host: &str, step: Step) -> Result<(), NoMemory>
         requires from { step.from ≡ 0 }
-        requires none { (other : List ℕ) → held_at self.old (other, host.now) ≡ nothing }
+        requires none { (other : List ℕ) → held_at self.old (prefix.now, other) ≡ nothing }
         ensures { OnOk result ((other : Origin) → held_at self.new other
             ≡ (if is_origin (prefix.now, host.now) other
             then settled (after step nothing)
             else held_at self.old other)) }
     {
-        let mut prefixes = Prefixes::new(alloc);
-        prefixes.apply(alloc, prefix, step)?;
-        let host = String::from_str(alloc, host)?;
-        self.hosts.insert(host, prefixes)?;
+        let mut hosts = Hosts::new(alloc);
+        hosts.apply(alloc, host, step)?;
+        let prefix = String::from_str(alloc, prefix)?;
+        self.prefixes.insert(prefix, hosts)?;
         Ok(())
     }
 
@@ -124,13 +124,13 @@ impl Origins {
             then settled (after step (held_at self.old (prefix.now, host.now)))
             else held_at self.old other)) }
     {
-        let Some(prefixes) = self.hosts.get_mut(host) else {
+        let Some(hosts) = self.prefixes.get_mut(prefix) else {
             return self.begin(alloc, prefix, host, step);
         };
-        prefixes.apply(alloc, prefix, step)?;
-        let is_empty = prefixes.is_empty();
+        hosts.apply(alloc, host, step)?;
+        let is_empty = hosts.is_empty();
         if is_empty {
-            self.hosts.remove(host);
+            self.prefixes.remove(prefix);
         }
         Ok(())
     }
