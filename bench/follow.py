@@ -140,10 +140,10 @@ def kept_texts(rows):
     """The bytes of the texts that each follower keeps of the views: all are ASCII, and folds are as long."""
     urls = sum(len(row[1]) for row in rows)
     texts = sum(len(row[1]) - len(row[3]) + len(row[2]) for row in rows)
-    hosts = {row[4] for row in rows}
-    groups = {host.removeprefix("www.") for host in hosts}
-    origins = {(row[4], row[3]) for row in rows}
-    totals = sum(map(len, hosts)) + sum(map(len, groups)) + sum(len(prefix) for _, prefix in origins)
+    prefixes = {row[3] for row in rows}
+    origins = {(row[3], row[4]) for row in rows}
+    groups = {host.removeprefix("www.") for _, host in origins}
+    totals = sum(map(len, prefixes)) + sum(len(host) for _, host in origins) + sum(map(len, groups))
     return {"urls": urls, "orders": 0, "texts": texts, "days": 0, "totals": totals, "all": urls + texts + totals}
 
 
