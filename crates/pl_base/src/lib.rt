@@ -3,6 +3,7 @@
 //! documentation of Mozilla Places.
 #![tactic(auto)]
 
+mod change;
 mod check_error;
 mod date;
 mod fault;
@@ -21,6 +22,7 @@ mod transition;
 mod txt;
 mod view;
 
+pub use change::Change;
 pub use check_error::CheckError;
 pub use date::{Day, MICROS_PER_DAY, MICROS_PER_SECOND, Micros};
 pub use fault::DeviceFault;

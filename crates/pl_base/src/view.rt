@@ -1,4 +1,7 @@
-use crate::{Day, Micros, PageId, Txt};
+ghost use Rattle.std.specs.Prelude.{◌≡◌, IfOk};
+
+use crate::{Day, Micros, NoMemory, PageId, Txt};
+use std::alloc::Global;
 
 /// What is known of a page: what the totals of origins, queries and the address bar see of it.
 #[derive(Debug, PartialEq, Eq, Drop)]
@@ -27,4 +30,29 @@ pub struct View {
     pub bookmarked: bool,
     /// Whether an item has it: a bookmark or a tag.
     pub referenced: bool,
+}
+
+impl View {
+    /// The same, with texts of its own.
+    pub fn copied(&self, alloc: Global) -> Result<View, NoMemory>
+        ensures { IfOk result (λ copy. copy ≡ self.now) }
+    {
+        Ok(View {
+            id: self.id,
+            url: Txt::copied(alloc, self.url.as_str())?,
+            title: Txt::copied(alloc, self.title.as_str())?,
+            mark_title: Txt::copied(alloc, self.mark_title.as_str())?,
+            tags: Txt::copied(alloc, self.tags.as_str())?,
+            prefix: Txt::copied(alloc, self.prefix.as_str())?,
+            host: Txt::copied(alloc, self.host.as_str())?,
+            frecency: self.frecency,
+            count: self.count,
+            last: self.last,
+            due: self.due,
+            typed: self.typed,
+            hidden: self.hidden,
+            bookmarked: self.bookmarked,
+            referenced: self.referenced,
+        })
+    }
 }

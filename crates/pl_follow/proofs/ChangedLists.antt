@@ -16,7 +16,7 @@ use Rattle.pl_follow.proofs.Parted.{parted_sum, removed_in_order, removed_parted
 -- ---- the order of ids
 
 -- what holds of a view and of others holds of all with it among them
-all_with : (P : View → Type 0) (view : View) (views : List View) → P view → AllByRecursion P views
+pub all_with : (P : View → Type 0) (view : View) (views : List View) → P view → AllByRecursion P views
     → AllByRecursion P (with_view view views)
 all_with P view [] one all = (one, tt)
 all_with P view (v ∷ vs) one all = choose (nat_lt view.id.0 v.id.0) (all_with P view vs one all.1)
@@ -79,7 +79,7 @@ old_parted old new views ordered suits = removed_parted old views (ascend views 
 -- ---- what holds of all, and of each two
 
 -- one fewer
-all_but : (P : View → Type 0) (front : List View) (view : View) (back : List View)
+pub all_but : (P : View → Type 0) (front : List View) (view : View) (back : List View)
     → AllByRecursion P (front ++ view ∷ back) → AllByRecursion P (front ++ back)
 all_but P [] view back all = all.1
 all_but P (v ∷ front) view back all = (all.0, all_but P front view back all.1)
@@ -100,18 +100,18 @@ parted_one P views others view p all =
     among [] each = each.0
     among (v ∷ front) each = among front each.1
 
-abbrev Pairs : (View → View → Type 0) → List View → Type 0
+abbrev pub Pairs : (View → View → Type 0) → List View → Type 0
 Pairs R [] = Unit {0}
 Pairs R (v ∷ vs) = AllByRecursion (R v) vs × Pairs R vs
 
-pairs : (R : View → View → Type 0) (views : List View) → AllPairs R views → Pairs R views
+pub pairs : (R : View → View → Type 0) (views : List View) → AllPairs R views → Pairs R views
 pairs R [] each = tt
 pairs R (v ∷ vs) each = (
   recursion_from_All (R v) vs (λ k d within. each 0 (suc k) d (omega arith) (omega (arith, within))),
   pairs R vs (λ i j d below within. each (suc i) (suc j) d (omega (arith, below)) (omega (arith, within))),
 )
 
-all_pairs : (R : View → View → Type 0) (views : List View) → Pairs R views → AllPairs R views
+pub all_pairs : (R : View → View → Type 0) (views : List View) → Pairs R views → AllPairs R views
 all_pairs R [] each = λ i j d below within. absurd (omega (arith, within))
 all_pairs R (v ∷ vs) each =
     AllPairs-cons R v vs (All-from_recursion (R v) vs each.0) (all_pairs R vs each.1)

@@ -33,8 +33,8 @@ use std::alloc::Global;
 /// positive and no less than the mean of the totals that are positive. A bookmark exempts no group
 /// from it.
 ///
-/// A change costs the logarithm of the hosts, and of the pages of the origin where the page comes
-/// or goes.
+/// A change costs the logarithm of the prefixes and of the hosts, and of the pages of the origin
+/// where the page comes or goes.
 #[derive(Drop)]
 pub struct Totals {
     origins: Origins,
