@@ -1,3 +1,5 @@
+pub mod Alike
+pub mod Figures
 pub mod Freshest
 pub mod Refreshed
 pub mod TagFolders

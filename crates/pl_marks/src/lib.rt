@@ -4,6 +4,7 @@
 
 mod bookmarks;
 mod dates;
+mod figures;
 mod mark;
 mod page_views;
 mod tags;
@@ -12,8 +13,9 @@ mod url_parts;
 
 pub use bookmarks::mark_title;
 pub use dates::last_date;
+pub use figures::{Figures, page_figures};
 pub use mark::{computed_mark, refresh, unvisited_mark, visited_mark};
-pub use page_views::views;
+pub use page_views::{page_view, views};
 pub use tags::{is_bookmarked, is_tagged, page_tags, tag_folder, tag_text};
 pub use totals::keep_mark;
 pub use url_parts::{canon_of, parts_of};

@@ -1,6 +1,6 @@
 use Rattle.std.proofs.Common.{◌∙◌}
 use Rattle.pl_marks.proofs.PageDue.{due_is}
-use Rattle.pl_marks.proofs.page_views.due_day.Goals as goal
+use Rattle.pl_marks.proofs.figures.due_day.Goals as goal
 
 pub returns : goal.returns
 returns g c =
