@@ -1,4 +1,4 @@
-use Rattle.std.proofs.Common.{◌≡◌, ◌==◌, ◌∙◌, ap, List, Some, ℕ, rules, subst, sym, w64}
+use Rattle.std.proofs.Common.{◌≡◌, ◌==◌, ◌∙◌, ap, Some, rules, subst, sym, w64}
 use Rattle.std.specs.Option.{option_map}
 use Rattle.std.proofs.lemmas.Int.{to_z-of_z}
 use Rattle.pl_base.specs.declared.id.PageId.{PageId}
