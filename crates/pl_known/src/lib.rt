@@ -1,0 +1,6 @@
+//! What is known in memory of the pages of a store: their views, and what follows these.
+#![tactic(auto)]
+
+mod known;
+
+pub use known::Known;
