@@ -1,5 +1,5 @@
 -- A list of changes, and what it makes of views.
-use Rattle.std.specs.Prelude.{◌≡◌, ◌≢◌, ◌<◌, ◌^◌, ℕ, List, [], ◌∷◌, Option, Some, None}
+use Rattle.std.specs.Prelude.{◌≡◌, ◌≢◌, ◌<◌, ◌^◌, ℕ, List, [], ◌∷◌, Option, Some, None, IfSome}
 use Rattle.std.specs.List.{All, AllPairs}
 use Rattle.pl_base.specs.declared.change.Change.{Change}
 use Rattle.pl_base.specs.declared.view.View.{View}
@@ -18,14 +18,23 @@ abbrev pub AllSuit : List Change → List View → Type 0
 AllSuit [] views = Unit {0}
 AllSuit (c ∷ cs) views = Suits c.old c.new views × AllSuit cs (changed c.old c.new views)
 
+-- the id of the first of two views that is there
+abbrev page_id : Option View → Option View → ℕ
+page_id (Some old) new = old.id.0
+page_id None (Some new) = new.id.0
+page_id None None = 0
+
 -- the id of the page that changes
 abbrev pub id_of : Change → ℕ
-id_of (record { old = Some old; new = new }) = old.id.0
-id_of (record { old = None; new = Some new }) = new.id.0
-id_of (record { old = None; new = None }) = 0
+id_of c = page_id c.old c.new
+
+-- a view that comes in place of another is of the same page
+abbrev pub IsOfOnePage : Change → Type 0
+IsOfOnePage c = IfSome c.old (λ (v : View). IfSome c.new (λ (w : View). v.id ≡ w.id))
 
 -- one change a page, by ascending ids, and none where a view stays the same
 pub record AreEachOnce (changes : List Change) : Type 0 where
+  pub pages : All IsOfOnePage changes
   pub ascending : AllPairs (λ (c d : Change). id_of c < id_of d) changes
   pub differ : All (λ (c : Change). c.old ≢ c.new) changes
 
@@ -33,5 +42,5 @@ pub record AreEachOnce (changes : List Change) : Type 0 where
 pub record LeadTo (store : Store) (views : List View) (changes : List Change) : Type 0 where
   pub each_once : AreEachOnce changes
   pub suit : AllSuit changes views
-  pub views : AreViewsOf store (after changes views)
+  pub become : AreViewsOf store (after changes views)
   pub small : shares (after changes views) < 2 ^ 35

@@ -1,10 +1,10 @@
 // The views of a store and their followers.
-ghost use Rattle.std.specs.Prelude.{◌≡◌, IfOk, List, OnOk};
-ghost use Rattle.std.specs.Option.{option_and_then, option_copied};
+ghost use Rattle.std.specs.Prelude.{◌≡◌, IfOk, OnOk, bytes_eq};
+ghost use Rattle.std.specs.List.{find};
+ghost use Rattle.std.specs.Option.{option_copied};
 ghost use Rattle.pl_base.specs.declared.view.View.{View};
 ghost use Rattle.pl_follow.specs.Changes.{AreInOrder, FitStore};
-ghost use Rattle.pl_follow.specs.Urls.{id_of_url};
-ghost use Rattle.pl_known.specs.Changes.{AllSuit, after};
+ghost use Rattle.pl_known.specs.Changes.{AllSuit, AreEachOnce, after};
 ghost use Rattle.pl_known.specs.Known.{AreFollowed, view_of};
 
 use pl_base::{Change, Day, NoMemory, PageId, View};
@@ -26,6 +26,68 @@ pub struct Known {
 }
 
 impl Known {
+    /// Of these views, on the store's day.
+    pub fn of(alloc: Global, day: Day, views: Vec<View>) -> Result<Known, NoMemory>
+        requires order { AreInOrder views.items }
+        requires fit { FitStore views.items }
+        ensures views { IfOk result (λ known. known.views.items ≡ views.items) }
+        ensures followed { IfOk result AreFollowed }
+    {
+        let mut known = Known {
+            views: Vec::new(alloc),
+            urls: UrlIndex::new(alloc),
+            order: OrderIndex::new(alloc),
+            texts: FoldedTexts::new(alloc),
+            calendar: Calendar::new(alloc, day),
+            totals: Totals::new(alloc),
+        };
+        for view in &views {
+            known.tell(alloc, None, Some(view))?;
+        }
+        known.views = views;
+        Ok(known)
+    }
+
+    // Each follower is told of a change.
+    fn tell(
+        &mut self,
+        alloc: Global,
+        old: Option<&View>,
+        new: Option<&View>,
+    ) -> Result<(), NoMemory> {
+        self.urls.change(alloc, old, new)?;
+        self.order.change(alloc, old, new)?;
+        self.texts.change(alloc, old, new)?;
+        self.calendar.change(alloc, old, new)?;
+        self.totals.change(alloc, old, new)
+    }
+
+    /// The view of the page with the URL; none where no page has it.
+    pub fn find(&self, url: &str) -> Option<&View>
+        requires { AreFollowed self.now }
+        ensures { option_copied result
+            ≡ find (λ (v : View). bytes_eq v.url url.now) self.now.views.items }
+    {
+        self.view(self.urls.find(url)?)
+    }
+
+    /// The views and what follows them, after these changes.
+    ///
+    /// Where pages go, the views are gone over once for all of them.
+    pub fn follow(&mut self, alloc: Global, changes: &[Change]) -> Result<(), NoMemory>
+        requires followed { AreFollowed self.old }
+        requires each_once { AreEachOnce changes.now }
+        requires suit { AllSuit changes.now self.old.views.items }
+        ensures views { OnOk result (self.new.views.items
+            ≡ after changes.now self.old.views.items) }
+        ensures followed { OnOk result (AreFollowed self.new) }
+    {
+        for change in changes {
+            self.tell(alloc, change.old.as_ref(), change.new.as_ref())?;
+        }
+        Ok(())
+    }
+
     /// The view of the page with this id.
     pub fn view(&self, id: PageId) -> Option<&View>
         requires { AreFollowed self.now }

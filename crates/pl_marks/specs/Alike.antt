@@ -1,8 +1,9 @@
 -- Two stores that tell the same of some pages, and stores whose pages have the same texts.
-use Rattle.std.specs.Prelude.{◌≡◌, ◌==◌, Bool, false, List}
+use Rattle.std.specs.Prelude.{◌≡◌, ◌==◌, ◌<◌, Bool, false, List}
 use Rattle.std.specs.List.{Contains, list_any}
 use Rattle.pl_base.specs.declared.id.PageId.{PageId}
 use Rattle.pl_base.specs.declared.view.View.{View}
+use Rattle.pl_base.specs.Good.{has_page_at}
 use Rattle.pl_base.specs.Store.{Page, Store}
 use Rattle.pl_base.specs.View.{IsViewOf}
 
@@ -16,6 +17,12 @@ pub record AreOthersAlike (ids : List PageId) (old new : Store) : Type 0 where
   pub stood : (p : Page) → Contains new.pages p → is_one_of ids p.id ≡ false → Contains old.pages p
   pub views : (p : Page) → Contains old.pages p → is_one_of ids p.id ≡ false
       → (view : View) → IsViewOf old p view → IsViewOf new p view
+
+-- a page that was not there before comes behind all that were
+abbrev pub ComeBehind : Store → Store → Type 0
+ComeBehind old new =
+    (p q : Page) → Contains new.pages p → has_page_at old p.id ≡ false → Contains old.pages q
+    → q.id.0 < p.id.0
 
 -- the items are the same, and a page that stays has the URL and the title that it had
 pub record HaveSameTexts (old new : Store) : Type 0 where

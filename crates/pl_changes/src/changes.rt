@@ -1,0 +1,94 @@
+// The changes of views that a command on history makes.
+ghost use Rattle.std.specs.Prelude.{IfOk, map};
+ghost use Rattle.std.specs.List.Sorted.{IsStrictlyIncreasing};
+ghost use Rattle.pl_base.specs.declared.id.PageId.{PageId};
+ghost use Rattle.pl_base.specs.Rows.{IsSound, store_of};
+ghost use Rattle.pl_changes.specs.CameFrom.{CameFrom};
+ghost use Rattle.pl_known.specs.Changes.{LeadTo};
+
+use pl_base::{Change, NoMemory, PageId, Rows, Steps, View};
+use pl_known::Known;
+use pl_marks::{Figures, page_figures, page_view};
+use std::alloc::Global;
+use std::sync::ledger::Ledger;
+
+// What becomes of a page that is known.
+fn renewed<R: Rows, L: Ledger>(
+    alloc: Global,
+    rows: &R,
+    old: &View,
+    steps: &mut Steps<L>,
+) -> Result<Option<Change>, NoMemory> {
+    if rows.page_at(old.id, steps).is_none() {
+        return Ok(Some(Change {
+            old: Some(old.copied(alloc)?),
+            new: None,
+        }));
+    }
+    let figures = page_figures(alloc, rows, old.id, old.referenced, steps)?;
+    if figures == Figures::of(old) {
+        return Ok(None);
+    }
+    Ok(Some(Change {
+        old: Some(old.copied(alloc)?),
+        new: Some(with_figures(alloc, old, figures)?),
+    }))
+}
+
+// The view with other figures.
+fn with_figures(alloc: Global, old: &View, figures: Figures) -> Result<View, NoMemory> {
+    Ok(View {
+        frecency: figures.frecency,
+        count: figures.count,
+        last: figures.last,
+        due: figures.due,
+        typed: figures.typed,
+        hidden: figures.hidden,
+        ..old.copied(alloc)?
+    })
+}
+
+// The change of one page, if its view is another one.
+fn change<R: Rows, L: Ledger>(
+    alloc: Global,
+    rows: &R,
+    known: &Known,
+    page: PageId,
+    steps: &mut Steps<L>,
+) -> Result<Option<Change>, NoMemory> {
+    if let Some(old) = known.view(page) {
+        return renewed(alloc, rows, old, steps);
+    }
+    if rows.page_at(page, steps).is_none() {
+        return Ok(None);
+    }
+    Ok(Some(Change {
+        old: None,
+        new: Some(page_view(alloc, rows, page, steps)?),
+    }))
+}
+
+/// The changes of the views of these pages, by which what is known becomes what the rows tell.
+///
+/// The texts of a page that is known are copied, and neither read nor parsed.
+pub fn changes<R: Rows, L: Ledger>(
+    alloc: Global,
+    rows: &R,
+    known: &Known,
+    pages: &[PageId],
+    steps: &mut Steps<L>,
+) -> Result<Vec<Change>, NoMemory>
+    requires sound { IsSound (R.kept rows.now) }
+    requires ascending { IsStrictlyIncreasing (map (λ (page : PageId). page.0) pages.now) }
+    requires came { CameFrom pages.now known.now (store_of (R.kept rows.now)) }
+    ensures { IfOk result (λ changes. LeadTo (store_of (R.kept rows.now))
+        known.now.views.items changes.items) }
+{
+    let mut changes = Vec::new(alloc);
+    for page in pages {
+        if let Some(change) = change(alloc, rows, known, *page, steps)? {
+            changes.push(change)?;
+        }
+    }
+    Ok(changes)
+}
