@@ -11,6 +11,7 @@ pub mod OriginParts
 pub mod PageCounts
 pub mod PageOrder
 pub mod PagesTold
+pub mod PlaceViews
 pub mod ReadyPage
 pub mod RedirectPages
 pub mod RemovedRows
