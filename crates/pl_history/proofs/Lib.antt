@@ -4,6 +4,7 @@ pub mod GoodRows
 pub mod GrownItems
 pub mod ItemMarks
 pub mod ItemPages
+pub mod KeptAddresses
 pub mod KeptMark
 pub mod KnownPage
 pub mod LiveAfter
