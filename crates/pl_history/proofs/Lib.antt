@@ -9,6 +9,7 @@ pub mod KeptMark
 pub mod KnownPage
 pub mod LiveAfter
 pub mod OriginParts
+pub mod OthersAlike
 pub mod PageCounts
 pub mod PageOrder
 pub mod PagesTold
@@ -31,6 +32,7 @@ pub mod StandingPages
 pub mod TakenVisits
 pub mod Targets
 pub mod TrimmedPages
+pub mod ViewsLeft
 pub mod VisitMade
 pub mod VisitRows
 pub mod VisitedPages

@@ -8,6 +8,8 @@ ghost use Rattle.pl_base.specs.declared.id.PageId.{PageId};
 ghost use Rattle.pl_base.specs.declared.id.VisitId.{VisitId};
 ghost use Rattle.pl_base.specs.Removal.{visits_left, without_visits};
 ghost use Rattle.pl_base.specs.Rows.{IsSound, has_visit, store_of};
+ghost use Rattle.pl_base.specs.Store.{Store};
+ghost use Rattle.pl_marks.specs.Alike.{AreOthersAlike};
 ghost use Rattle.pl_marks.specs.Refreshed as marks;
 ghost use Rattle.pl_history.specs.Addresses.{HaveAddresses};
 ghost use Rattle.pl_history.specs.Bears.{BearsOnlyOn};
@@ -102,6 +104,9 @@ fn remove_visit<R: Rows, L: Ledger>(
           visits = visits_left (visit ∷ []) (R.kept rows.old).visits;
         }) }
     ensures settled { OnOk result (AreOthersSettled pages.new.items (R.kept rows.new)) }
+    ensures alike { OnOk result ((first : Store)
+        → AreOthersAlike pages.old.items first (store_of (R.kept rows.old))
+        → AreOthersAlike pages.new.items first (store_of (R.kept rows.new))) }
     ensures base { OnOk result ((bytes : List ℕ) → R.base rows.old bytes → R.base rows.new bytes) }
 {
     let row = rows.visit_at(visit, steps).unwrap();
