@@ -33,6 +33,7 @@ pub mod TakenVisits
 pub mod Targets
 pub mod TrimmedPages
 pub mod ViewsLeft
+pub mod VisitBears
 pub mod VisitMade
 pub mod VisitRows
 pub mod VisitedPages

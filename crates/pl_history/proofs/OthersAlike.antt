@@ -15,7 +15,7 @@ use Rattle.pl_base.specs.Removal.{is_standing, without_idle_pages}
 use Rattle.pl_base.specs.Rows.{IsWellKept, Kept, KeptPage, store_of}
 use Rattle.pl_base.specs.Store.{Page, Store}
 use Rattle.pl_base.specs.View.{IsViewOf}
-use Rattle.pl_base.proofs.Among.{In, from_filter, in_filter}
+use Rattle.pl_base.proofs.Among.{In, from_filter, from_map, in_filter, in_map}
 use Rattle.pl_base.proofs.ListLaws.{AllPairs-from_map, AllPairs-map}
 use Rattle.pl_base.proofs.LookUps.{none_at}
 use Rattle.pl_marks.specs.Alike.{AreOthersAlike, ComeBehind, HaveSameTexts, is_one_of}
@@ -43,6 +43,16 @@ pub contains_unfiltered : {X : Type 0} (test : X → Bool) (xs : List X) (x : X)
     → Contains xs x
 contains_unfiltered test xs x there =
     contains_in xs x (from_filter test xs x (in_contained (filter test xs) there.0 x there.1 there.2)).0
+
+pub contains_map : {X Y : Type 0} (f : X → Y) (xs : List X) (x : X) → Contains xs x → Contains (map f xs) (f x)
+contains_map f xs x there =
+    contains_in (map f xs) (f x) (in_map f xs x (in_contained xs there.0 x there.1 there.2))
+
+pub contains_from_map : {X Y : Type 0} (f : X → Y) (xs : List X) (y : Y) → Contains (map f xs) y
+    → (x : X) × Contains xs x × (f x ≡ y)
+contains_from_map f xs y there =
+    let r = from_map f xs y (in_contained (map f xs) there.0 y there.1 there.2) in
+    (r.0, contains_in xs r.0 r.1, sym r.2)
 
 -- ---- one change after another, and more pages
 
