@@ -50,7 +50,7 @@ any_left gone test (x ∷ xs) none = choose (gone x) none.0 (any_left gone test 
 -- ---- the pages
 
 -- what holds of the other pages, whatever their origins' names, holds of the pages
-along : (P : KeptPage → Type 0) (page : PageId) (old new : List KeptPage)
+pub along : (P : KeptPage → Type 0) (page : PageId) (old new : List KeptPage)
     → map unnamed new ≡ map unnamed (other_pages page old)
     → All (λ (p : KeptPage). (p.page.id.0 == page.0) ≡ false → P (unnamed p)) old
     → All (λ (p : KeptPage). P (unnamed p)) new

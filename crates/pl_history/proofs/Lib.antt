@@ -4,13 +4,16 @@ pub mod GoodRows
 pub mod GrownItems
 pub mod ItemMarks
 pub mod ItemPages
+pub mod KeptAddresses
 pub mod KeptMark
 pub mod KnownPage
 pub mod LiveAfter
 pub mod OriginParts
+pub mod OthersAlike
 pub mod PageCounts
 pub mod PageOrder
 pub mod PagesTold
+pub mod PlaceViews
 pub mod ReadyPage
 pub mod RedirectPages
 pub mod RemovedRows
@@ -29,6 +32,8 @@ pub mod StandingPages
 pub mod TakenVisits
 pub mod Targets
 pub mod TrimmedPages
+pub mod ViewsLeft
+pub mod VisitBears
 pub mod VisitMade
 pub mod VisitRows
 pub mod VisitedPages

@@ -18,7 +18,8 @@ same_origin-by_parts text url own parts alike kept_url owns has is stands =
     (sym (same_origin-by_texts text url (own.prefix, own.host) (parts.prefix, parts.host)
     (origin_by_parts text own owns) (origin_by_parts url parts has))))
 
-abbrev passes : {T E : Type 0} → (T → Bool) → Result T E → Bool
+-- what a URL parsed to passes the test
+abbrev pub passes : {T E : Type 0} → (T → Bool) → Result T E → Bool
 passes test (Ok found) = test found
 passes test (Err e) = false
 

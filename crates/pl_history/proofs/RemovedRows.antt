@@ -21,21 +21,24 @@ use Rattle.pl_base.specs.Redirects.{is_redirect, is_source, redirects_from}
 use Rattle.pl_base.specs.Removal.{is_standing, visits_left}
 use Rattle.pl_base.specs.Rows.{HaveSums, IsWellKept, Kept, KeptOrigin, KeptPage, has_page, mark_of, marked, page_at}
 use Rattle.pl_base.specs.Rows.{row_of, store_of, visit_at, with_mark, with_origins, without_visit}
-use Rattle.pl_base.specs.Store.{Page, Visit}
+use Rattle.pl_base.specs.Store.{Page, Store, Visit}
 use Rattle.pl_base.specs.Totals.{most_share, share}
 use Rattle.pl_base.proofs.IdsLaws.{same_page}
 use Rattle.pl_base.proofs.ListLaws.{list_any-alike, list_any-map, weaker}
 use Rattle.pl_base.proofs.LookUps.{found_holds, none_pass, where_passed}
 use Rattle.pl_base.proofs.TargetsRun.{differ_all}
+use Rattle.pl_marks.specs.Alike.{AreOthersAlike}
 use Rattle.pl_marks.specs.Refreshed.{HaveCounts, IsRightPage, source_page, unvisited_mark}
 use Rattle.pl_history.specs.Borne.{WithRedirectPages}
 use Rattle.pl_history.specs.Settled.{AreOthersSettled}
 use Rattle.pl_history.specs.Sound.{IsTypedRight}
 use Rattle.pl_history.proofs.GoodRows.{items_still}
 use Rattle.pl_history.proofs.KeptMark.{IsMarkAt, count_at, mark_at, typed_at}
+use Rattle.pl_history.proofs.OthersAlike.{alike_more, alike_on}
 use Rattle.pl_history.proofs.PageOrder.{is_one}
 use Rattle.pl_history.proofs.RightAfter.{each_marked, other_way}
 use Rattle.pl_history.proofs.RightRemoved.{IsApart, computed_left, count_apart, visited_left}
+use Rattle.pl_history.proofs.ViewsLeft.{view_left}
 use Rattle.pl_history.proofs.VisitRows.{store_same}
 use Rattle.pl_history.proofs.VisitsLeft.{all_left, count_one_fewer}
 
@@ -288,3 +291,26 @@ unvisited_settled old new id row mark before mid after h told marks own w is sum
     (subst (λ (r : VisitRow). Some mark ≡ option_map mark_of (page_at old r.page)) g.same marks) s.counts before mid
     after (subst (λ (r : VisitRow). mid ≡ before ++ r.page ∷ option_to_list (source_page old r)) g.same own) w
     new.origins (subst HaveSums all sums) s)
+
+-- the other pages are as they were before
+pub unvisited_alike : (old new : Kept) (id : VisitId) (row : VisitRow) (mark : Mark) (before mid after : List PageId)
+    → IsWellKept old → HaveCounts old → Some row ≡ option_map row_of (visit_at old id)
+    → Some mark ≡ option_map mark_of (page_at old row.page)
+    → mid ≡ before ++ row.page ∷ option_to_list (source_page old row) → WithRedirectPages old id mid after
+    → store_of new ≡ store_of (without_visit id old) → (first : Store)
+    → AreOthersAlike before first (store_of old) → AreOthersAlike after first (store_of new)
+unvisited_alike old new id row mark before mid after h counts told marks own w is first a =
+    let g : IsGone old id row = gone_at old id row told in
+    let apart : (page : PageId) → is_one page after ≡ false
+    → IsApart old id g.visit page × (is_one page before ≡ false) =
+    others_apart old id g.visit mark h g.at
+    (subst (λ (r : VisitRow). Some mark ≡ option_map mark_of (page_at old r.page)) g.same marks) counts before mid
+    after (subst (λ (r : VisitRow). mid ≡ before ++ r.page ∷ option_to_list (source_page old r)) g.same own) w in
+    subst (AreOthersAlike after first) (sym is)
+    (alike_on after first (store_of old) (store_of (without_visit id old))
+    (alike_more before after first (store_of old) (λ page other. (apart page other).1) a)
+    (record {
+      stay = λ p there other. there;
+      stood = λ p there other. there;
+      views = λ p there other view of. view_left old id g.visit h g.at p view (apart p.id other).0 of;
+    }))

@@ -2,7 +2,7 @@
 use Rattle.std.proofs.Common.{◌≡◌, ◌≢◌, ◌∙◌, ◌+◌, ◌<◌, ◌≤◌, ◌==◌, ◌||◌, ℕ, All, Bool, true, false, IsTrue}
 use Rattle.std.proofs.Common.{List, [], ◌∷◌, ap, arith, eq-eqb, eqb-true, get_or}
 use Rattle.std.proofs.Common.{length, refl, subst, suc, sym, take, zero}
-use Rattle.std.specs.List.{AllByRecursion, AllPairs, list_any}
+use Rattle.std.specs.List.{AllByRecursion, AllPairs, Contains, list_any}
 use Rattle.std.specs.List.Sorted.{IsStrictlyIncreasing}
 use Rattle.std.proofs.lemmas.Bool.{false_from_ne_true, false≢true, ne_eqb, or_from}
 use Rattle.std.proofs.lemmas.List.{take_all, take_more}
@@ -11,16 +11,20 @@ use Rattle.std.proofs.lemmas.List.Kept.{AllPairs-from_increasing}
 use Rattle.pl_base.specs.declared.id.PageId.{PageId}
 use Rattle.pl_base.specs.declared.id.VisitId.{VisitId}
 use Rattle.pl_base.specs.Good.{IsGoodPage}
-use Rattle.pl_base.specs.Removal.{is_among, visits_left, without_idle_pages, without_visits}
+use Rattle.pl_base.specs.Removal.{is_among, is_standing, visits_left, without_idle_pages, without_visits}
 use Rattle.pl_base.specs.Rows.{IsSound, IsWellKept, Kept, KeptPage, has_page, has_visit, store_of}
-use Rattle.pl_base.specs.Store.{Store, Visit}
+use Rattle.pl_base.specs.Store.{Page, Store, Visit}
 use Rattle.pl_base.proofs.IdsLaws.{same_page}
 use Rattle.pl_base.proofs.ListLaws.{All-from_map, AllPairs-from_map}
 use Rattle.pl_base.proofs.OriginSums.{sums_of_sound}
 use Rattle.pl_base.proofs.PageOrder.{numbers}
 use Rattle.pl_base.proofs.TargetsRun.{differ_all}
+use Rattle.pl_marks.specs.Alike.{AreOthersAlike}
+use Rattle.pl_history.specs.Bears.{BearsOnlyOn}
 use Rattle.pl_history.specs.Settled.{AreOthersSettled, AreSettledBut}
 use Rattle.pl_history.proofs.GoodRows.{items_of}
+use Rattle.pl_history.proofs.OthersAlike.{alike_on, alike_ordered, bears_on, contains_unfiltered, pages_once}
+use Rattle.pl_history.proofs.OthersAlike.{settled_alike}
 use Rattle.pl_history.proofs.PageOrder.{is_one}
 use Rattle.pl_history.proofs.VisitsLeft.{Keeps, any_left, left_none, left_twice, one_fewer}
 
@@ -159,3 +163,22 @@ all_gone old now new ids k past so_far settled =
     settled ∙ ap without_idle_pages so_far
     ∙ ap (λ (gone : List VisitId). without_idle_pages (record (store_of old) { visits = visits_left gone old.visits }))
     (take_all k ids past)
+
+-- the visits bore on the pages that were told, and on no others
+pub all_borne : (old now new : Kept) (visits : List VisitId) (ids pages : List PageId) → IsWellKept old
+    → ((id : PageId) → is_one id pages ≡ is_one id ids) → AreSettledBut pages now
+    → AreOthersAlike ids (store_of old) (store_of now) → store_of new ≡ without_idle_pages (store_of now)
+    → store_of new ≡ without_visits visits (store_of old) → BearsOnlyOn pages (store_of old) (store_of new)
+all_borne old now new visits ids pages h same s alike idle is =
+    let left : Store = record (store_of old) { visits = visits_left visits old.visits } in
+    bears_on pages (store_of old) (store_of new) (pages_once old h) (ap (λ (t : Store). t.items) is)
+    (λ q there. (
+      q,
+      contains_unfiltered (λ (p : Page). is_standing left p.id) (store_of old).pages q
+          (subst (λ (t : Store). Contains t.pages q) is there),
+      refl,
+      refl,
+      refl,
+    ))
+    (alike_on pages (store_of old) (store_of now) (store_of new)
+    (alike_ordered ids pages (store_of old) (store_of now) same alike) (settled_alike pages now new s idle))

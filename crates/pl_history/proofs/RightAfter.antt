@@ -86,7 +86,7 @@ led_apart now true (Some id) page w other found of =
     false≢true (sym apart ∙ eq-eqb page.0 w.page.0 (sym (eqb-true w.page.0 page.0 of))))
 
 -- no visit to this page, and no redirect from one
-record IsElsewhere (row : VisitRow) (old : Kept) (page : PageId) : Type 0 where
+pub record IsElsewhere (row : VisitRow) (old : Kept) (page : PageId) : Type 0 where
   pub visited : (row.page.0 == page.0) ≡ false
   pub led : list_any (λ (id : PageId). page.0 == id.0) (option_to_list (source_page (with_visit row old) row)) ≡ false
 
@@ -111,11 +111,11 @@ visits_alike old row page h made e =
     (front (λ (w : Visit). visit_at now w.id ≡ Some w) old.visits (next_visit row old ∷ [])
     (each_visit_found now made)))
 
-visits_same : (old : Kept) (row : VisitRow) (page : PageId) → IsElsewhere row old page
+pub visits_same : (old : Kept) (row : VisitRow) (page : PageId) → IsElsewhere row old page
     → visits_of (store_of (with_visit row old)) page ≡ visits_of (store_of old) page
 visits_same old row page e = filter_last (λ (w : Visit). w.page.0 == page.0) old.visits (next_visit row old) e.visited
 
-count_same : (old : Kept) (row : VisitRow) (page : PageId) → (row.page.0 == page.0) ≡ false
+pub count_same : (old : Kept) (row : VisitRow) (page : PageId) → (row.page.0 == page.0) ≡ false
     → visit_count (store_of (with_visit row old)) page ≡ visit_count (store_of old) page
 count_same old row page other =
     count_last (λ (w : Visit). (w.page.0 == page.0) && is_counted w.transition) old.visits (next_visit row old)
@@ -131,7 +131,7 @@ points_alike store after w days items alike =
     alike.came
     ∙ ap (λ (b : Bool). bonus_of w.transition (source_transition store w) b (is_referenced store w.page)) alike.led)
 
-frecency_same : (old : Kept) (row : VisitRow) (p : Page) → IsWellKept old → IsWellKept (with_visit row old)
+pub frecency_same : (old : Kept) (row : VisitRow) (p : Page) → IsWellKept old → IsWellKept (with_visit row old)
     → IsElsewhere row old p.id → frecency_of (store_of (with_visit row old)) p ≡ frecency_of (store_of old) p
 frecency_same old row p h made e =
     let store : Store = store_of old in
@@ -168,7 +168,7 @@ hidden_by-alike store after (v ∷ vs) alike =
     (weaker (IsAlike store after) (λ (w : Visit). is_passing after w ≡ is_passing store w) (v ∷ vs)
     (λ w a. ap (λ (b : Bool). is_framed w.transition || b) a.led) alike)
 
-hidden_same : (old : Kept) (row : VisitRow) (p : Page) → IsWellKept old → IsWellKept (with_visit row old)
+pub hidden_same : (old : Kept) (row : VisitRow) (p : Page) → IsWellKept old → IsWellKept (with_visit row old)
     → IsElsewhere row old p.id → is_hidden (store_of (with_visit row old)) p ≡ is_hidden (store_of old) p
 hidden_same old row p h made e =
     let after : Store = store_of (with_visit row old) in

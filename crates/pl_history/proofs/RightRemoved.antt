@@ -139,7 +139,7 @@ module _ (old : Kept) (id : VisitId) (gone : Visit) (h : IsWellKept old) (at : v
       count_left (id ∷ []) q q old.visits
       (keeps q (ap (λ (b : Bool). b && is_counted gone.transition) other) (λ v. refl))
 
-  visits_apart : (page : PageId) → (gone.page.0 == page.0) ≡ false
+  pub visits_apart : (page : PageId) → (gone.page.0 == page.0) ≡ false
       → visits_of (store_of (without_visit id old)) page
       ≡ map (visit_left (id ∷ [])) (visits_of (store_of old) page)
   visits_apart page other =
@@ -194,7 +194,7 @@ module _ (old : Kept) (id : VisitId) (gone : Visit) (h : IsWellKept old) (at : v
       bonus_of w.transition o (is_redirect_source after left) (is_referenced store w.page)) alike.came
       ∙ ap (λ (b : Bool). bonus_of w.transition (source_transition store w) b (is_referenced store w.page)) alike.led)
 
-  sample_left : (page : PageId) → (gone.page.0 == page.0) ≡ false
+  pub sample_left : (page : PageId) → (gone.page.0 == page.0) ≡ false
       → sample_of (store_of (without_visit id old)) page
       ≡ map (visit_left (id ∷ [])) (sample_of (store_of old) page)
   sample_left page other =
@@ -202,7 +202,7 @@ module _ (old : Kept) (id : VisitId) (gone : Visit) (h : IsWellKept old) (at : v
       ∙ ap (take 10) (order_left (id ∷ []) (visits_of (store_of old) page))
       ∙ take-map (visit_left (id ∷ [])) 10 (latest_first (visits_of (store_of old) page))
 
-  frecency_left : (p : Page) → IsApart old id gone p.id
+  pub frecency_left : (p : Page) → IsApart old id gone p.id
       → frecency_of (store_of (without_visit id old)) p ≡ frecency_of (store_of old) p
   frecency_left p e =
       let store : Store = store_of old in
@@ -242,7 +242,7 @@ module _ (old : Kept) (id : VisitId) (gone : Visit) (h : IsWellKept old) (at : v
   hidden_by_left [] alike = refl
   hidden_by_left (v ∷ vs) alike = all_passing (v ∷ vs) alike
 
-  hidden_left : (p : Page) → IsApart old id gone p.id
+  pub hidden_left : (p : Page) → IsApart old id gone p.id
       → is_hidden (store_of (without_visit id old)) p ≡ is_hidden (store_of old) p
   hidden_left p e =
       let after : Store = store_of (without_visit id old) in

@@ -28,7 +28,7 @@ page_of_row (Some v) row is =
     let same : row ≡ row_of v = cc in
     ap (λ (r : VisitRow). Some r.page) (sym same)
 
-source_is : (now : Kept) (row from : VisitRow) (id : VisitId) → is_redirect row.transition ≡ true
+pub source_is : (now : Kept) (row from : VisitRow) (id : VisitId) → is_redirect row.transition ≡ true
     → row.source ≡ Some id → Some from ≡ option_map row_of (visit_at now id) → source_page now row ≡ Some from.page
 source_is now row from id redirect is some =
     ap (λ (b : Bool).

@@ -164,10 +164,10 @@ sound_after old now new row is_place frecency r a h same right sums =
     }
 
 pub added_after : (old now new : Kept) (row : VisitRow) (visit : VisitId) (frecency : ℤ)
-    → IsAfresh row old now frecency → store_of new ≡ store_of now → visit.0 ≡ old.ids.visit
+    (source : Option PageId) → IsAfresh row old now frecency → store_of new ≡ store_of now → visit.0 ≡ old.ids.visit
     → AddsVisit row (store_of old) (store_of new)
-    (record { visit = visit; page = row.page; frecency = frecency })
-added_after old now new row visit frecency a same given =
+    (record { visit = visit; page = row.page; frecency = frecency; source = source })
+added_after old now new row visit frecency source a same given =
     record {
       store = same ∙ a.store;
       visit = ap (λ (n : ℕ). record { 0 = n }) given;

@@ -1,4 +1,6 @@
 pub mod Added
+pub mod Addresses
+pub mod Bears
 pub mod Borne
 pub mod Fresh
 pub mod Marked

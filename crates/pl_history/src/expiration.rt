@@ -1,15 +1,19 @@
 // History that a user no longer wants, or that is old.
-ghost use Rattle.std.specs.Prelude.{◌≡◌, ◌++◌, ◌∷◌, [], ℕ, List, Some, true, IfOk, OnOk};
+ghost use Rattle.std.specs.Prelude.{◌≡◌, ◌++◌, ◌∷◌, [], ℕ, List, Some, true, map, IfOk, OnOk};
 ghost use Rattle.std.specs.List.{filter};
+ghost use Rattle.std.specs.List.Sorted.{IsStrictlyIncreasing};
+ghost use Rattle.pl_base.specs.declared.id.PageId.{PageId};
 ghost use Rattle.pl_base.specs.Expiration as spec;
 ghost use Rattle.pl_base.specs.Removal.{forgotten};
 ghost use Rattle.pl_base.specs.Rows.{IsSound, has_visit, page_visits, store_of, visit_at};
 ghost use Rattle.pl_base.specs.Store.{Visit};
+ghost use Rattle.pl_history.specs.Addresses.{HaveAddresses};
+ghost use Rattle.pl_history.specs.Bears.{BearsOnlyOn};
 ghost use Rattle.pl_history.specs.Taken.{AreThese, ids_of, is_before};
 ghost use Rattle.pl_history.specs.Went.{went};
 
-use crate::removal::{Removed, remove_visits};
-use pl_base::{Day, NoMemory, PageId, Rows, Steps, VisitId};
+use crate::removal::{Removal, remove_visits};
+use pl_base::{Day, NoMemory, PageId, Rows, Steps, View, VisitId};
 use std::alloc::Global;
 use std::sync::ledger::Ledger;
 
@@ -35,20 +39,26 @@ pub(crate) fn add_visits<R: Rows, L: Ledger>(
 pub fn forget<R: Rows, L: Ledger>(
     alloc: Global,
     rows: &mut R,
+    views: &[View],
     page: PageId,
     steps: &mut Steps<L>,
-) -> Result<Removed, NoMemory>
+) -> Result<Removal, NoMemory>
     requires sound { IsSound (R.kept rows.old) }
+    requires views { HaveAddresses views.now (R.kept rows.old) }
     ensures store { OnOk result (store_of (R.kept rows.new)
         ≡ forgotten page (store_of (R.kept rows.old))) }
-    ensures went { IfOk result (λ removed. removed
+    ensures went { IfOk result (λ removal. removal.went
         ≡ went (store_of (R.kept rows.old)) (store_of (R.kept rows.new))) }
+    ensures ascending { IfOk result (λ removal. IsStrictlyIncreasing
+        (map (λ (page : PageId). page.0) removal.pages.items)) }
+    ensures borne { IfOk result (λ removal. BearsOnlyOn removal.pages.items
+        (store_of (R.kept rows.old)) (store_of (R.kept rows.new))) }
     ensures sound { OnOk result (IsSound (R.kept rows.new)) }
     ensures base { OnOk result ((bytes : List ℕ) → R.base rows.old bytes → R.base rows.new bytes) }
 {
     let mut visits = Vec::new(alloc);
     add_visits(rows, page, &mut visits, steps)?;
-    remove_visits(alloc, rows, &visits, steps)
+    remove_visits(alloc, rows, views, &visits, steps)
 }
 
 // The visit joins the others where its day is before this one.
@@ -113,17 +123,23 @@ fn visits_before<R: Rows, L: Ledger>(
 pub fn expire<R: Rows, L: Ledger>(
     alloc: Global,
     rows: &mut R,
+    views: &[View],
     day: Day,
     steps: &mut Steps<L>,
-) -> Result<Removed, NoMemory>
+) -> Result<Removal, NoMemory>
     requires sound { IsSound (R.kept rows.old) }
+    requires views { HaveAddresses views.now (R.kept rows.old) }
     ensures store { OnOk result (store_of (R.kept rows.new)
         ≡ spec.expired day (store_of (R.kept rows.old))) }
-    ensures went { IfOk result (λ removed. removed
+    ensures went { IfOk result (λ removal. removal.went
         ≡ went (store_of (R.kept rows.old)) (store_of (R.kept rows.new))) }
+    ensures ascending { IfOk result (λ removal. IsStrictlyIncreasing
+        (map (λ (page : PageId). page.0) removal.pages.items)) }
+    ensures borne { IfOk result (λ removal. BearsOnlyOn removal.pages.items
+        (store_of (R.kept rows.old)) (store_of (R.kept rows.new))) }
     ensures sound { OnOk result (IsSound (R.kept rows.new)) }
     ensures base { OnOk result ((bytes : List ℕ) → R.base rows.old bytes → R.base rows.new bytes) }
 {
     let visits = visits_before(alloc, rows, day, steps)?;
-    remove_visits(alloc, rows, &visits, steps)
+    remove_visits(alloc, rows, views, &visits, steps)
 }

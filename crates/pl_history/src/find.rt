@@ -1,15 +1,16 @@
 // The page with a URL, and where a visit goes: to that page, or else to the origin of the URL.
-ghost use Rattle.std.specs.Prelude.{◌≡◌, ◌&&◌, ℕ, List, Some, true, bytes_eq, IfOk};
+ghost use Rattle.std.specs.Prelude.{◌≡◌, ◌&&◌, ℕ, List, Some, true, bytes_eq, IfOk, IfSome};
 ghost use Rattle.std.specs.Option.{option_map};
 ghost use Rattle.pl_base.specs.Address as address;
 ghost use Rattle.pl_base.specs.Address.{is_place_url};
-ghost use Rattle.pl_base.specs.Rows.{IsOriginOf, has_page, store_of, url_of};
+ghost use Rattle.pl_base.specs.Rows.{IsOriginOf, Kept, has_page, store_of, url_of};
 ghost use Rattle.pl_base.specs.Store.{Page};
 ghost use Rattle.pl_base.specs.Visiting as spec;
+ghost use Rattle.pl_history.specs.Addresses.{HasAddress, HaveAddresses};
 ghost use Rattle.pl_history.specs.Target.{IsTargetOf, is_new};
 ghost use Rattle.pl_marks.specs.UrlParts.{HasParts};
 
-use pl_base::{NoMemory, PageId, Rows, Slot, Steps};
+use pl_base::{NoMemory, PageId, Rows, Slot, Steps, View};
 use pl_link::{Canon, Parts};
 use pl_marks::parts_of;
 use std::alloc::Global;
@@ -64,17 +65,47 @@ pub fn find_page<R: Rows, L: Ledger>(
     Ok(None)
 }
 
-/// Whether the page's URL is a query.
+// Whether the prefix is that of a query.
+fn has_place_prefix(view: &View) -> bool
+    ensures { (kept : Kept) → HasAddress kept view.now → has_page kept view.now.id ≡ true
+        → Some result ≡ option_map is_place_url (url_of kept view.now.id) }
+{
+    let prefix = view.prefix.as_str();
+    prefix == "place:" || prefix == "place://"
+}
+
+// The same of the view of the page, where it is found among the views.
+fn is_place_by_view(views: &[View], page: PageId) -> Option<bool>
+    ensures { IfSome result (λ place. (kept : Kept)
+        → HaveAddresses views.now kept → has_page kept page ≡ true
+        → Some place ≡ option_map is_place_url (url_of kept page)) }
+{
+    let place = views.partition_point(|view| view.id.0 < page.0);
+    let view = views.get(place)?;
+    if view.id == page {
+        Some(has_place_prefix(view))
+    } else {
+        None
+    }
+}
+
+/// Whether the page's URL is a query. No text is read where its view is among these, which stand by
+/// ascending id.
 pub fn is_place<R: Rows, L: Ledger>(
     alloc: Global,
     rows: &R,
+    views: &[View],
     page: PageId,
     steps: &mut Steps<L>,
 ) -> Result<bool, NoMemory>
-    requires { has_page (R.kept rows.now) page ≡ true }
+    requires page { has_page (R.kept rows.now) page ≡ true }
+    requires views { HaveAddresses views.now (R.kept rows.now) }
     ensures { IfOk result (λ place. Some place
         ≡ option_map is_place_url (url_of (R.kept rows.now) page)) }
 {
+    if let Some(is_place) = is_place_by_view(views, page) {
+        return Ok(is_place);
+    }
     let text = rows.url(page, steps)?;
     let parts = parts_of(alloc, text.as_str())?;
     Ok(parts.is_place)

@@ -19,7 +19,7 @@ pub use bookmarks::add_bookmark;
 pub use days::set_day;
 pub use expiration::{expire, forget};
 pub use find::{Target, find_page, find_target, is_place};
-pub use removal::{Removed, remove_visits};
+pub use removal::{Removal, Removed, put_in_order, remove_visits};
 pub use settle::settle_all;
 pub use slots::slots_after;
 pub use tags::{add_tag, is_tagged};

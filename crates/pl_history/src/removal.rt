@@ -8,13 +8,17 @@ ghost use Rattle.pl_base.specs.declared.id.PageId.{PageId};
 ghost use Rattle.pl_base.specs.declared.id.VisitId.{VisitId};
 ghost use Rattle.pl_base.specs.Removal.{visits_left, without_visits};
 ghost use Rattle.pl_base.specs.Rows.{IsSound, has_visit, store_of};
+ghost use Rattle.pl_base.specs.Store.{Store};
+ghost use Rattle.pl_marks.specs.Alike.{AreOthersAlike};
 ghost use Rattle.pl_marks.specs.Refreshed as marks;
+ghost use Rattle.pl_history.specs.Addresses.{HaveAddresses};
+ghost use Rattle.pl_history.specs.Bears.{BearsOnlyOn};
 ghost use Rattle.pl_history.specs.Borne.{WithRedirectPages};
 ghost use Rattle.pl_history.specs.Settled.{AreOthersSettled};
 ghost use Rattle.pl_history.specs.Went.{went};
 
 use crate::settle::settle_all;
-use pl_base::{NoMemory, PageId, Rows, Steps, VisitId, VisitRow};
+use pl_base::{NoMemory, PageId, Rows, Steps, View, VisitId, VisitRow};
 use pl_marks::{keep_mark, unvisited_mark};
 use std::alloc::Global;
 use std::sync::ledger::Ledger;
@@ -24,6 +28,15 @@ use std::sync::ledger::Ledger;
 pub struct Removed {
     pub visits: u32,
     pub pages: u32,
+}
+
+/// What went, and the pages that it bore on: of each visit its page, the page of its source and the
+/// pages of the redirects that came from it. The pages stand by ascending id, and some of them may
+/// be gone.
+#[derive(Debug, PartialEq, Eq, Drop)]
+pub struct Removal {
+    pub went: Removed,
+    pub pages: Vec<PageId>,
 }
 
 // The page of the visit that a redirect came from.
@@ -91,6 +104,9 @@ fn remove_visit<R: Rows, L: Ledger>(
           visits = visits_left (visit ∷ []) (R.kept rows.old).visits;
         }) }
     ensures settled { OnOk result (AreOthersSettled pages.new.items (R.kept rows.new)) }
+    ensures alike { OnOk result ((first : Store)
+        → AreOthersAlike pages.old.items first (store_of (R.kept rows.old))
+        → AreOthersAlike pages.new.items first (store_of (R.kept rows.new))) }
     ensures base { OnOk result ((bytes : List ℕ) → R.base rows.old bytes → R.base rows.new bytes) }
 {
     let row = rows.visit_at(visit, steps).unwrap();
@@ -102,8 +118,8 @@ fn remove_visit<R: Rows, L: Ledger>(
     Ok(())
 }
 
-// The pages by ascending id, each once.
-fn put_in_order(pages: &mut Vec<PageId>)
+/// The pages by ascending id, each once.
+pub fn put_in_order(pages: &mut Vec<PageId>)
     ensures ascending { IsStrictlyIncreasing (map (λ (page : PageId). page.0) pages.new.items) }
     ensures same { (page : PageId)
         → list_any (λ (id : PageId). page.0 == id.0) pages.new.items
@@ -118,16 +134,22 @@ fn put_in_order(pages: &mut Vec<PageId>)
 pub fn remove_visits<R: Rows, L: Ledger>(
     alloc: Global,
     rows: &mut R,
+    views: &[View],
     visits: &[VisitId],
     steps: &mut Steps<L>,
-) -> Result<Removed, NoMemory>
+) -> Result<Removal, NoMemory>
     requires there { All (λ (id : VisitId). has_visit (R.kept rows.old) id ≡ true) visits.now }
     requires apart { AllPairs (λ (a b : VisitId). a.0 ≢ b.0) visits.now }
     requires sound { IsSound (R.kept rows.old) }
+    requires views { HaveAddresses views.now (R.kept rows.old) }
     ensures store { OnOk result (store_of (R.kept rows.new)
         ≡ without_visits visits.now (store_of (R.kept rows.old))) }
-    ensures went { IfOk result (λ removed. removed
+    ensures went { IfOk result (λ removal. removal.went
         ≡ went (store_of (R.kept rows.old)) (store_of (R.kept rows.new))) }
+    ensures ascending { IfOk result (λ removal. IsStrictlyIncreasing
+        (map (λ (page : PageId). page.0) removal.pages.items)) }
+    ensures borne { IfOk result (λ removal. BearsOnlyOn removal.pages.items
+        (store_of (R.kept rows.old)) (store_of (R.kept rows.new))) }
     ensures sound { OnOk result (IsSound (R.kept rows.new)) }
     ensures base { OnOk result ((bytes : List ℕ) → R.base rows.old bytes → R.base rows.new bytes) }
 {
@@ -136,9 +158,10 @@ pub fn remove_visits<R: Rows, L: Ledger>(
         remove_visit(rows, *visit, &mut pages, steps)?;
     }
     put_in_order(&mut pages);
-    let gone = settle_all(alloc, rows, &pages, steps)?;
-    Ok(Removed {
+    let gone = settle_all(alloc, rows, views, &pages, steps)?;
+    let went = Removed {
         visits: visits.len() as u32,
         pages: gone,
-    })
+    };
+    Ok(Removal { went, pages })
 }

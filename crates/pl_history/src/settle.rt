@@ -5,10 +5,11 @@ ghost use Rattle.pl_base.specs.declared.id.PageId.{PageId};
 ghost use Rattle.pl_base.specs.Removal as spec;
 ghost use Rattle.pl_base.specs.Rows.{HaveSums, IsSound, has_page, store_of};
 ghost use Rattle.pl_marks.specs.Refreshed.{HaveCounts};
+ghost use Rattle.pl_history.specs.Addresses.{HaveAddresses};
 ghost use Rattle.pl_history.specs.Settled.{AreSettledBut, Drops};
 
 use crate::find::is_place;
-use pl_base::{Mark, NoMemory, PageId, Rows, Steps};
+use pl_base::{Mark, NoMemory, PageId, Rows, Steps, View};
 use pl_marks::{keep_mark, refresh};
 use std::alloc::Global;
 use std::sync::ledger::Ledger;
@@ -44,18 +45,21 @@ fn drop_page<R: Rows, L: Ledger>(rows: &mut R, page: PageId, steps: &mut Steps<L
 fn settle<R: Rows, L: Ledger>(
     alloc: Global,
     rows: &mut R,
+    views: &[View],
     page: PageId,
     steps: &mut Steps<L>,
 ) -> Result<bool, NoMemory>
     requires page { has_page (R.kept rows.old) page ≡ true }
     requires counts { HaveCounts (R.kept rows.old) }
     requires sums { HaveSums (R.kept rows.old) }
+    requires views { HaveAddresses views.now (R.kept rows.old) }
     ensures store { OnOk result (spec.without_idle_pages (store_of (R.kept rows.new))
         ≡ spec.without_idle_pages (store_of (R.kept rows.old))) }
     ensures went { IfOk result (λ went. length (R.kept rows.old).pages
         ≡ length (R.kept rows.new).pages + (if went then 1 else 0)) }
     ensures settled { OnOk result ((rest : List PageId)
         → AreSettledBut (page ∷ rest) (R.kept rows.old) → AreSettledBut rest (R.kept rows.new)) }
+    ensures views { OnOk result (HaveAddresses views.now (R.kept rows.new)) }
     ensures base { OnOk result ((bytes : List ℕ) → R.base rows.old bytes → R.base rows.new bytes) }
 {
     if !is_standing(rows, page, steps) {
@@ -63,7 +67,7 @@ fn settle<R: Rows, L: Ledger>(
         return Ok(true);
     }
     let mark = rows.page_at(page, steps).unwrap();
-    let is_place = is_place(alloc, rows, page, steps)?;
+    let is_place = is_place(alloc, rows, views, page, steps)?;
     refresh(alloc, rows, page, mark, is_place, steps)?;
     Ok(false)
 }
@@ -72,10 +76,12 @@ fn settle<R: Rows, L: Ledger>(
 pub fn settle_all<R: Rows, L: Ledger>(
     alloc: Global,
     rows: &mut R,
+    views: &[View],
     pages: &[PageId],
     steps: &mut Steps<L>,
 ) -> Result<u32, NoMemory>
-    requires { AreSettledBut pages.now (R.kept rows.old) }
+    requires settled { AreSettledBut pages.now (R.kept rows.old) }
+    requires views { HaveAddresses views.now (R.kept rows.old) }
     ensures store { OnOk result (store_of (R.kept rows.new)
         ≡ spec.without_idle_pages (store_of (R.kept rows.old))) }
     ensures went { IfOk result (λ went. length (R.kept rows.old).pages
@@ -85,7 +91,7 @@ pub fn settle_all<R: Rows, L: Ledger>(
 {
     let mut went = 0;
     for page in pages {
-        went += u32::from(settle(alloc, rows, *page, steps)?);
+        went += u32::from(settle(alloc, rows, views, *page, steps)?);
     }
     Ok(went)
 }

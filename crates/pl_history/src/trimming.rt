@@ -2,16 +2,20 @@
 ghost use Rattle.std.specs.Prelude.{◌≡◌, ◌≢◌, ◌++◌, ◌∷◌, [], ℕ, List, length, map};
 ghost use Rattle.std.specs.Prelude.{IfOk, OnOk};
 ghost use Rattle.std.specs.List.{AllPairs};
+ghost use Rattle.std.specs.List.Sorted.{IsStrictlyIncreasing};
+ghost use Rattle.pl_base.specs.declared.id.PageId.{PageId};
 ghost use Rattle.pl_base.specs.Expiration as spec;
 ghost use Rattle.pl_base.specs.Rows.{IsSound, KeptPage, store_of};
 ghost use Rattle.pl_history.specs.declared.trimming.StalePage.{StalePage};
+ghost use Rattle.pl_history.specs.Addresses.{HaveAddresses};
+ghost use Rattle.pl_history.specs.Bears.{BearsOnlyOn};
 ghost use Rattle.pl_history.specs.Stale.{stale, stale_page, visits_of_pages};
 ghost use Rattle.pl_history.specs.Taken.{AreThese};
 ghost use Rattle.pl_history.specs.Went.{went};
 
 use crate::expiration::add_visits;
-use crate::removal::{Removed, remove_visits};
-use pl_base::{Micros, NoMemory, PageId, Rows, Steps, VisitId};
+use crate::removal::{Removal, remove_visits};
+use pl_base::{Micros, NoMemory, PageId, Rows, Steps, View, VisitId};
 use pl_marks::last_date;
 use std::alloc::Global;
 use std::sync::ledger::Ledger;
@@ -96,14 +100,20 @@ fn visits_to<R: Rows, L: Ledger>(
 pub fn trim<R: Rows, L: Ledger>(
     alloc: Global,
     rows: &mut R,
+    views: &[View],
     most: u32,
     steps: &mut Steps<L>,
-) -> Result<Removed, NoMemory>
+) -> Result<Removal, NoMemory>
     requires sound { IsSound (R.kept rows.old) }
+    requires views { HaveAddresses views.now (R.kept rows.old) }
     ensures store { OnOk result (store_of (R.kept rows.new)
         ≡ spec.trimmed most (store_of (R.kept rows.old))) }
-    ensures went { IfOk result (λ removed. removed
+    ensures went { IfOk result (λ removal. removal.went
         ≡ went (store_of (R.kept rows.old)) (store_of (R.kept rows.new))) }
+    ensures ascending { IfOk result (λ removal. IsStrictlyIncreasing
+        (map (λ (page : PageId). page.0) removal.pages.items)) }
+    ensures borne { IfOk result (λ removal. BearsOnlyOn removal.pages.items
+        (store_of (R.kept rows.old)) (store_of (R.kept rows.new))) }
     ensures sound { OnOk result (IsSound (R.kept rows.new)) }
     ensures base { OnOk result ((bytes : List ℕ) → R.base rows.old bytes → R.base rows.new bytes) }
 {
@@ -111,5 +121,5 @@ pub fn trim<R: Rows, L: Ledger>(
     let mut pages = stale_pages(alloc, rows, steps)?;
     pages.truncate(excess as usize);
     let visits = visits_to(alloc, rows, &pages, steps)?;
-    remove_visits(alloc, rows, &visits, steps)
+    remove_visits(alloc, rows, views, &visits, steps)
 }

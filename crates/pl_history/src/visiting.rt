@@ -1,5 +1,5 @@
 // A visit that is added, and the page that it goes to.
-ghost use Rattle.std.specs.Prelude.{◌≡◌, ◌<◌, ℕ, List, [], true, IfOk, IfSome, OnOk};
+ghost use Rattle.std.specs.Prelude.{◌≡◌, ◌<◌, ◌∷◌, ℕ, List, [], true, IfOk, IfSome, OnOk};
 ghost use Rattle.std.specs.Option.{option_to_list};
 ghost use Rattle.pl_base.specs.Date.{IsDate};
 ghost use Rattle.pl_base.specs.Good.{end_of_ids};
@@ -8,11 +8,13 @@ ghost use Rattle.pl_base.specs.Rows.{HaveSums, IsSound, has_visit, store_of};
 ghost use Rattle.pl_base.specs.Touched.{IsAtMostMore};
 ghost use Rattle.pl_marks.specs.Refreshed.{AreRightBut, HaveCounts, mark_pages, source_page};
 ghost use Rattle.pl_history.specs.Added.{AddsVisit, visit_pages};
+ghost use Rattle.pl_history.specs.Addresses.{HaveAddresses};
+ghost use Rattle.pl_history.specs.Bears.{BearsOnlyOn};
 ghost use Rattle.pl_history.specs.Ready.{IsReady};
 ghost use Rattle.pl_history.specs.Target.{HasRoom, IsTargetOf, WithTarget, target_pages};
 
 use crate::{Target, is_place};
-use pl_base::{NoMemory, PageId, Rows, Steps, VisitId, VisitRow};
+use pl_base::{NoMemory, PageId, Rows, Steps, View, VisitId, VisitRow};
 use pl_link::Canon;
 use pl_marks::{refresh, visited_mark};
 use std::alloc::Global;
@@ -24,6 +26,8 @@ pub struct AddedVisit {
     pub visit: VisitId,
     pub page: PageId,
     pub frecency: i64,
+    /// The page that a redirect came from, whose frecency was computed afresh too.
+    pub source: Option<PageId>,
 }
 
 /// The page where a visit goes: the known one, or a new one with the URL and the next id.
@@ -36,6 +40,8 @@ pub fn page_for<R: Rows, L: Ledger>(
     requires target { IsTargetOf (R.kept rows.old) url.now target }
     requires room { HasRoom url.now target (R.kept rows.old) }
     ensures page { IfOk result (WithTarget url.now target (R.kept rows.old) (R.kept rows.new)) }
+    ensures borne { IfOk result (λ page. BearsOnlyOn (page ∷ [])
+        (store_of (R.kept rows.old)) (store_of (R.kept rows.new))) }
     ensures pages { OnOk result (IsAtMostMore (target_pages url.now target)
         (R.pending rows.old) (R.pending rows.new)) }
     ensures base { OnOk result ((bytes : List ℕ) → R.base rows.old bytes → R.base rows.new bytes) }
@@ -46,18 +52,21 @@ pub fn page_for<R: Rows, L: Ledger>(
     }
 }
 
-// A redirect bears on the page of its source too.
+// A redirect bears on the page of its source too, which is the answer.
 fn refresh_source<R: Rows, L: Ledger>(
     alloc: Global,
     rows: &mut R,
+    views: &[View],
     row: &VisitRow,
     steps: &mut Steps<L>,
-) -> Result<(), NoMemory>
+) -> Result<Option<PageId>, NoMemory>
     requires source { IfSome row.now.source (λ id. has_visit (R.kept rows.old) id ≡ true) }
     requires counts { HaveCounts (R.kept rows.old) }
     requires sums { HaveSums (R.kept rows.old) }
     requires right { AreRightBut (option_to_list (source_page (R.kept rows.old) row.now))
         (R.kept rows.old) }
+    requires views { HaveAddresses views.now (R.kept rows.old) }
+    ensures source { IfOk result (λ source. source ≡ source_page (R.kept rows.old) row.now) }
     ensures right { OnOk result (AreRightBut [] (R.kept rows.new)) }
     ensures store { OnOk result (store_of (R.kept rows.new) ≡ store_of (R.kept rows.old)) }
     ensures sums { OnOk result (HaveSums (R.kept rows.new)) }
@@ -66,16 +75,16 @@ fn refresh_source<R: Rows, L: Ledger>(
     ensures base { OnOk result ((bytes : List ℕ) → R.base rows.old bytes → R.base rows.new bytes) }
 {
     if !row.transition.is_redirect() {
-        return Ok(());
+        return Ok(None);
     }
     let Some(source) = row.source else {
-        return Ok(());
+        return Ok(None);
     };
     let page = rows.visit_at(source, steps).unwrap().page;
     let mark = rows.page_at(page, steps).unwrap();
-    let is_place = is_place(alloc, rows, page, steps)?;
+    let is_place = is_place(alloc, rows, views, page, steps)?;
     refresh(alloc, rows, page, mark, is_place, steps)?;
-    Ok(())
+    Ok(Some(page))
 }
 
 /// The visit with the next id, to a page that is there. What is computed of it is computed afresh,
@@ -83,6 +92,7 @@ fn refresh_source<R: Rows, L: Ledger>(
 pub fn add_visit<R: Rows, L: Ledger>(
     alloc: Global,
     rows: &mut R,
+    views: &[View],
     row: &VisitRow,
     is_place: bool,
     steps: &mut Steps<L>,
@@ -92,7 +102,10 @@ pub fn add_visit<R: Rows, L: Ledger>(
     requires source { IfSome row.now.source (λ id. has_visit (R.kept rows.old) id ≡ true) }
     requires id { (R.kept rows.old).ids.visit < end_of_ids }
     requires live { live_slots (store_of (R.kept rows.old)) < slot_limit }
+    requires views { HaveAddresses views.now (R.kept rows.old) }
     ensures added { IfOk result (AddsVisit row.now
+        (store_of (R.kept rows.old)) (store_of (R.kept rows.new))) }
+    ensures borne { IfOk result (λ added. BearsOnlyOn (added.page ∷ option_to_list added.source)
         (store_of (R.kept rows.old)) (store_of (R.kept rows.new))) }
     ensures sound { OnOk result (IsSound (R.kept rows.new)) }
     ensures pages { OnOk result (IsAtMostMore visit_pages
@@ -104,10 +117,11 @@ pub fn add_visit<R: Rows, L: Ledger>(
     let mark = rows.page_at(page, steps).unwrap();
     let told = visited_mark(mark, row.transition);
     let frecency = refresh(alloc, rows, page, told, is_place, steps)?;
-    refresh_source(alloc, rows, row, steps)?;
+    let source = refresh_source(alloc, rows, views, row, steps)?;
     Ok(AddedVisit {
         visit,
         page,
         frecency,
+        source,
     })
 }

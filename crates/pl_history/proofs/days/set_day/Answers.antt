@@ -1,9 +1,10 @@
 use Rattle.std.proofs.Common.{◌≡◌, ◌∙◌, ◌+◌, ◌≤◌, ℕ, Bool, true, false, ap, arith, if◌then◌else◌, refl, subst, sym}
 use Rattle.std.specs.Int.{from_bool}
-use Rattle.pl_base.specs.Rows.{Kept}
+use Rattle.pl_base.specs.Rows.{Kept, store_of}
 use Rattle.pl_base.proofs.OriginSums.{sums_of_sound, sums_still}
 use Rattle.pl_history.proofs.Freshened.{all_moved, at_page, counts_there, few_moved, goes_on, nearer, page_there}
 use Rattle.pl_history.proofs.Freshened.{WalkedTo, sound_walked, starts, store_walked}
+use Rattle.pl_history.proofs.KeptAddresses.{addresses_fresh, addresses_same}
 use Rattle.pl_history.proofs.days.set_day.Given.{Over}
 use Rattle.pl_history.proofs.days.set_day.Goals as goal
 use Rattle.pl_history.proofs.days.set_day.Goals.{After-page_after-next-in-Some}
@@ -27,6 +28,9 @@ loop-next-init g c =
           sums_still (g.R.Rows.kept c.args.rows.now) (g.R.Rows.kept c.set_day.new.self)
           (ap (λ (k : Kept). k.pages) c.set_day.ensures.kept) (ap (λ (k : Kept). k.origins) c.set_day.ensures.kept)
           (sums_of_sound (g.R.Rows.kept c.args.rows.now) (g.met.R.Rows.well_kept c.args.rows.now) c.requires.sound);
+      views =
+          addresses_same c.args.views.now (g.R.Rows.kept c.args.rows.now) (g.R.Rows.kept c.set_day.new.self)
+          (ap (λ (k : Kept). (store_of k).pages) c.set_day.ensures.kept) c.requires.views;
       base = c.set_day.ensures.base;
     }
 
@@ -86,6 +90,9 @@ loop-next-preserved g c =
     record {
       walked = walked_on g c;
       sums = c.in_ok-is_moved.ensures.sums;
+      views =
+          addresses_fresh c.args.views.now (g.R.Rows.kept c.loop-next.rows) (g.R.Rows.kept c.refresh_page.new.rows)
+          c.in-Some.page c.in_ok-is_moved.ensures.rows c.loop-next.invariant.views;
       base = λ bytes was. c.in_ok-is_moved.ensures.base bytes (c.loop-next.invariant.base bytes was);
     }
 

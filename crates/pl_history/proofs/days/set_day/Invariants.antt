@@ -2,6 +2,7 @@ use Rattle.std.proofs.Common.{length, ℕ, List}
 use Rattle.pl_base.specs.Rows.{HaveSums}
 use Rattle.pl_base.proofs.PagesRun.{following}
 use Rattle.pl_base.proofs.Walk.{left}
+use Rattle.pl_history.specs.Addresses.{HaveAddresses}
 use Rattle.pl_history.proofs.Freshened.{WalkedTo}
 use Rattle.pl_history.proofs.days.set_day.Given as goal
 
@@ -10,6 +11,7 @@ invariant-loop-next g l =
     record {
       walked : WalkedTo l.fn.day (g.R.Rows.kept l.fn.rows) (g.R.Rows.kept l.rows) l.next l.moved;
       sums : HaveSums (g.R.Rows.kept l.rows);
+      views : HaveAddresses l.views (g.R.Rows.kept l.rows);
       base : (bytes : List ℕ) → g.R.Rows.base l.fn.rows bytes → g.R.Rows.base l.rows bytes;
     }
 

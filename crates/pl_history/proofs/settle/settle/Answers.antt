@@ -3,6 +3,7 @@ use Rattle.pl_base.specs.Rows.{KeptPage, mark_of}
 use Rattle.pl_base.specs.Removal.{without_idle_pages}
 use Rattle.pl_base.proofs.LookUps.{found_where}
 use Rattle.pl_history.proofs.Dropped.{dropped_fewer, dropped_settled, dropped_store}
+use Rattle.pl_history.proofs.KeptAddresses.{addresses_dropped, addresses_refreshed}
 use Rattle.pl_history.proofs.KeptMark.{count_at, mark_at}
 use Rattle.pl_history.proofs.Settled.{refreshed_settled}
 use Rattle.pl_history.proofs.SourcePage.{source_store}
@@ -51,3 +52,14 @@ pub returns-then-not-is_standing-clause-went : goal.returns-then-not-is_standing
 returns-then-not-is_standing-clause-went g c =
     dropped_fewer c.args.page (g.R.Rows.kept c.args.rows.now) (g.R.Rows.kept c.drop_page.new.rows)
     (g.met.R.Rows.well_kept c.args.rows.now) c.requires.page c.drop_page.ensures.dropped
+
+pub returns-then-not-is_standing-clause-views : goal.returns-then-not-is_standing-clause-views
+returns-then-not-is_standing-clause-views g c =
+    addresses_dropped c.args.views.now c.args.page (g.R.Rows.kept c.args.rows.now) (g.R.Rows.kept c.drop_page.new.rows)
+    c.drop_page.ensures.dropped c.requires.views
+
+pub returns-clause-views : goal.returns-clause-views
+returns-clause-views g c =
+    addresses_refreshed c.args.views.now (g.R.Rows.kept c.args.rows.now) (g.R.Rows.kept c.refresh.new.rows) c.args.page
+    c.unwrap-mark.result c.in_ok-is_place.is_place c.in_ok-refresh.field-0 c.in_ok-refresh.ensures.refreshed
+    c.requires.views

@@ -25,6 +25,7 @@ loop-page-preserved g c =
           ∙ went_more c.in_ok-settle.field-0 c.from.result (length (g.R.Rows.kept c.loop-page.rows).pages)
           (length (g.R.Rows.kept c.settle.new.rows).pages) c.loop-page.went c.in_ok-settle.ensures.went
           (λ is. rw is at c.from.ensures) (λ is. rw is at c.from.ensures);
+      views = c.in_ok-settle.ensures.views;
       base = λ bytes was. c.in_ok-settle.ensures.base bytes (c.loop-page.invariant.base bytes was);
     }
 

@@ -8,8 +8,10 @@ use Rattle.pl_base.proofs.LookUps.{found_where}
 use Rattle.pl_base.proofs.PagesMore.{more_and_more}
 use Rattle.pl_marks.specs.Refreshed.{Refreshes, mark_pages}
 use Rattle.pl_history.specs.Added.{AddsVisit}
+use Rattle.pl_history.proofs.KeptAddresses.{addresses_refreshed, addresses_same}
 use Rattle.pl_history.proofs.RightAfter.{counts_refreshed, counts_visited}
 use Rattle.pl_history.proofs.KeptMark.{count_told, few_counted, mark_made}
+use Rattle.pl_history.proofs.VisitBears.{visit_bears}
 use Rattle.pl_history.proofs.VisitMade.{added_after, afresh_made, right_still, sound_after, sums_made}
 use Rattle.pl_history.proofs.visiting.add_visit.Goals as goal
 
@@ -70,15 +72,16 @@ returns-clause-added g c =
     let row : VisitRow = c.args.row.now in
     subst
     (λ (z : ℤ). AddsVisit row (store_of old) (store_of new)
-    (record { visit = c.in_ok-visit.visit; page = row.page; frecency = z }))
+    (record { visit = c.in_ok-visit.visit; page = row.page; frecency = z; source = c.in_ok-source.source }))
     (sym (to_z-of_z w64 c.in_ok-frecency.frecency (search rules)))
     (added_after old (g.R.Rows.kept c.refresh.new.rows) new row c.in_ok-visit.visit c.in_ok-frecency.frecency
+    c.in_ok-source.source
     (afresh_made old (g.R.Rows.kept c.insert_visit.new.self) (g.R.Rows.kept c.refresh.new.rows) row c.args.is_place
     c.unwrap-mark.result c.visited_mark-told.result c.in_ok-frecency.frecency c.requires.ready
     (g.met.R.Rows.well_kept c.insert_visit.new.self) c.in_ok-visit.ensures.kept
     (sym c.unwrap-mark.ensures ∙ c.page_at.ensures.mark) c.visited_mark-told.ensures
     c.in_ok-frecency.ensures.refreshed)
-    c.in_ok-refresh_source.ensures.store c.in_ok-visit.ensures.visit)
+    c.in_ok-source.ensures.store c.in_ok-visit.ensures.visit)
 
 pub returns-clause-sound : goal.returns-clause-sound
 returns-clause-sound g c =
@@ -89,8 +92,8 @@ returns-clause-sound g c =
     c.in_ok-frecency.frecency c.requires.ready (g.met.R.Rows.well_kept c.insert_visit.new.self)
     c.in_ok-visit.ensures.kept (sym c.unwrap-mark.ensures ∙ c.page_at.ensures.mark) c.visited_mark-told.ensures
     c.in_ok-frecency.ensures.refreshed)
-    (g.met.R.Rows.well_kept c.refresh_source.new.rows) c.in_ok-refresh_source.ensures.store
-    c.in_ok-refresh_source.ensures.right c.in_ok-refresh_source.ensures.sums
+    (g.met.R.Rows.well_kept c.refresh_source.new.rows) c.in_ok-source.ensures.store
+    c.in_ok-source.ensures.right c.in_ok-source.ensures.sums
 
 pub returns-clause-pages : goal.returns-clause-pages
 returns-clause-pages g c =
@@ -99,4 +102,26 @@ returns-clause-pages g c =
     c.in_ok-visit.ensures.pages
     (more_and_more mark_pages mark_pages (g.R.Rows.pending c.insert_visit.new.self)
     (g.R.Rows.pending c.refresh.new.rows) (g.R.Rows.pending c.refresh_source.new.rows)
-    c.in_ok-frecency.ensures.pages c.in_ok-refresh_source.ensures.pages)
+    c.in_ok-frecency.ensures.pages c.in_ok-source.ensures.pages)
+
+pub refresh_source-requires-clause-views : goal.refresh_source-requires-clause-views
+refresh_source-requires-clause-views g c =
+    addresses_refreshed c.args.views.now (g.R.Rows.kept c.insert_visit.new.self) (g.R.Rows.kept c.refresh.new.rows)
+    c.args.row.now.page c.visited_mark-told.result c.args.is_place c.in_ok-frecency.frecency
+    c.in_ok-frecency.ensures.refreshed
+    (addresses_same c.args.views.now (g.R.Rows.kept c.args.rows.now) (g.R.Rows.kept c.insert_visit.new.self)
+    (ap (λ (k : Kept). (store_of k).pages) c.in_ok-visit.ensures.kept) c.requires.views)
+
+pub returns-clause-borne : goal.returns-clause-borne
+returns-clause-borne g c =
+    visit_bears (g.R.Rows.kept c.args.rows.now) (g.R.Rows.kept c.insert_visit.new.self)
+    (g.R.Rows.kept c.refresh.new.rows) (g.R.Rows.kept c.refresh_source.new.rows) c.args.row.now
+    c.visited_mark-told.result c.args.is_place c.in_ok-frecency.frecency c.in_ok-source.source
+    (g.met.R.Rows.well_kept c.args.rows.now) (g.met.R.Rows.well_kept c.insert_visit.new.self)
+    c.in_ok-visit.ensures.kept c.in_ok-frecency.ensures.refreshed c.in_ok-source.ensures.source
+    (c.in_ok-source.ensures.store
+    ∙ (afresh_made (g.R.Rows.kept c.args.rows.now) (g.R.Rows.kept c.insert_visit.new.self)
+    (g.R.Rows.kept c.refresh.new.rows) c.args.row.now c.args.is_place c.unwrap-mark.result c.visited_mark-told.result
+    c.in_ok-frecency.frecency c.requires.ready (g.met.R.Rows.well_kept c.insert_visit.new.self)
+    c.in_ok-visit.ensures.kept (sym c.unwrap-mark.ensures ∙ c.page_at.ensures.mark) c.visited_mark-told.ensures
+    c.in_ok-frecency.ensures.refreshed).store)

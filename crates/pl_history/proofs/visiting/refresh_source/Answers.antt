@@ -3,7 +3,7 @@ use Rattle.pl_base.specs.Rows.{KeptPage, has_visit, mark_of, row_of}
 use Rattle.pl_base.specs.Store.{Visit}
 use Rattle.pl_base.proofs.LookUps.{found_where}
 use Rattle.pl_history.proofs.KeptMark.{count_at, mark_at}
-use Rattle.pl_history.proofs.SourcePage.{page_there, source_right, source_store}
+use Rattle.pl_history.proofs.SourcePage.{page_there, source_is, source_right, source_store}
 use Rattle.pl_history.proofs.visiting.refresh_source.Goals as goal
 
 pub unwrap-requires : goal.unwrap-requires
@@ -20,8 +20,8 @@ unwrap-mark-requires g c =
     (page_there (g.R.Rows.kept c.args.rows.now) c.in-Some.source c.unwrap.result
     (g.met.R.Rows.well_kept c.args.rows.now) (sym c.unwrap.ensures ∙ c.visit_at.ensures.row)) c.page_at.ensures.mark
 
-pub is_place-requires : goal.is_place-requires
-is_place-requires g c =
+pub is_place-requires-clause-page : goal.is_place-requires-clause-page
+is_place-requires-clause-page g c =
     page_there (g.R.Rows.kept c.args.rows.now) c.in-Some.source c.unwrap.result
     (g.met.R.Rows.well_kept c.args.rows.now) (sym c.unwrap.ensures ∙ c.visit_at.ensures.row)
 
@@ -50,3 +50,9 @@ returns-clause-store g c =
     source_store (g.R.Rows.kept c.args.rows.now) (g.R.Rows.kept c.refresh.new.rows) c.unwrap.result.page
     c.unwrap-mark.result c.in_ok-is_place.is_place c.in_ok-refresh.field-0 (g.met.R.Rows.well_kept c.args.rows.now)
     (sym c.unwrap-mark.ensures ∙ c.page_at.ensures.mark) c.in_ok-refresh.ensures.refreshed
+
+pub returns-clause-source : goal.returns-clause-source
+returns-clause-source g c =
+    sym (source_is (g.R.Rows.kept c.args.rows.now) c.args.row.now c.unwrap.result c.in-Some.source
+    (sym c.is_redirect.ensures ∙ c.if-not-is_redirect.false) c.in-Some.is
+    (sym c.unwrap.ensures ∙ c.visit_at.ensures.row))
