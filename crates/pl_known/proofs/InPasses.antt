@@ -1,6 +1,6 @@
 -- Changes that are made in two passes: first the views of pages that go, and then those that come.
-use Rattle.std.proofs.Common.{◌≡◌, ◌<◌, ◌==◌, ◌||◌, ◌∙◌, ℕ, Bool, true, false, List, [], ◌∷◌, Option, Some, None}
-use Rattle.std.proofs.Common.{ap, eqb-true, find, if◌then◌else◌, nat_eq, not, refl, subst, sym}
+use Rattle.std.proofs.Common.{◌≡◌, ◌<◌, ◌==◌, ◌∙◌, ℕ, Bool, true, false, List, [], ◌∷◌, Option, Some, None}
+use Rattle.std.proofs.Common.{ap, eqb-true, find, if◌then◌else◌, not, refl, subst, sym}
 use Rattle.std.specs.List.{AllByRecursion, list_any}
 use Rattle.std.specs.Option.{is_none, option_map_or, option_or}
 use Rattle.std.proofs.lemmas.Bool.{or_parts}

@@ -1,14 +1,14 @@
 -- The page with a URL and its view, and views that followers stand for while changes come.
-use Rattle.std.proofs.Common.{◌≡◌, ◌<◌, ◌==◌, ◌∙◌, Bool, true, false, List, [], ◌∷◌, Option, Some, None}
-use Rattle.std.proofs.Common.{ap, arith, bytes_eq, eq-eqb, find, if◌then◌else◌, nat_eq, refl, subst, sym}
-use Rattle.std.specs.List.{AllByRecursion}
+use Rattle.std.proofs.Common.{◌≡◌, ◌+◌, ◌<◌, ◌∙◌, ℕ, Bool, true, false, List, [], ◌∷◌, Option, Some, None}
+use Rattle.std.proofs.Common.{ap, arith, drop, eq-eqb, find, get_or, if◌then◌else◌, length, refl, subst, sym}
 use Rattle.std.specs.Option.{option_map}
 use Rattle.std.proofs.lemmas.Bool.{ne_eqb}
+use Rattle.std.proofs.lemmas.List.{drop_more}
 use Rattle.pl_base.specs.declared.change.Change.{Change}
 use Rattle.pl_base.specs.declared.id.PageId.{PageId}
 use Rattle.pl_base.specs.declared.view.View.{View}
 use Rattle.pl_base.proofs.LookUps.{found_holds}
-use Rattle.pl_follow.specs.Changes.{AreInOrder}
+use Rattle.pl_follow.specs.Changes.{AreInOrder, Suits, changed}
 use Rattle.pl_follow.proofs.Parted.{Ascend, ascend}
 use Rattle.pl_known.specs.Changes.{AllSuit, after}
 use Rattle.pl_known.specs.Known.{FollowersStand, view_of}
@@ -56,7 +56,11 @@ pub found_by_id : (test : View → Bool) (id : PageId) (views : List View) → A
     → page_of test views ≡ Some id → view_of id views ≡ find test views
 found_by_id test id views ordered found = by_its_id test id views (ascend views ordered) found
 
--- ---- followers
+-- ---- changes one after another
+
+pub more : {X : Type 0} (xs : List X) (i : ℕ) (x : X) → i < length xs → x ≡ get_or xs i x
+    → drop i xs ≡ x ∷ drop (i + 1) xs
+more {X} xs i x within is = drop_more xs i x within ∙ ap (λ (y : X). y ∷ drop (i + 1) xs) (sym is)
 
 -- the followers stand for views that the changes that are left lead on to the last ones
 pub record OnTheWay (known : Known) (left : List Change) (last : List View) : Type 0 where
@@ -64,3 +68,26 @@ pub record OnTheWay (known : Known) (left : List Change) (last : List View) : Ty
   pub stand : FollowersStand known views
   pub suit : AllSuit left views
   pub lead : after left views ≡ last
+
+-- what the followers are told of a change makes of the views that they stand for
+abbrev Follows : Known → Known → Option View → Option View → Type 0
+Follows known told old new =
+    (views : List View) → FollowersStand known views → Suits old new views → FollowersStand told (changed old new views)
+
+-- one change more
+pub way_on : (known told : Known) (changes : List Change) (i : ℕ) (c : Change) (old new : Option View) (last : List View)
+    → i < length changes → c ≡ get_or changes i c → old ≡ c.old → new ≡ c.new
+    → OnTheWay known (drop i changes) last → Follows known told old new → OnTheWay told (drop (i + 1) changes) last
+way_on known told changes i c old new last within is is_old is_new way follows =
+    let next : drop i changes ≡ c ∷ drop (i + 1) changes = more changes i c within is in
+    let suit : AllSuit (c ∷ drop (i + 1) changes) way.views =
+    subst (λ (cs : List Change). AllSuit cs way.views) next way.suit in
+    let made : Follows known told c.old c.new =
+    subst (λ (o : Option View). Follows known told o c.new) is_old
+    (subst (λ (n : Option View). Follows known told old n) is_new follows) in
+    record {
+      views = changed c.old c.new way.views;
+      stand = made way.views way.stand suit.0;
+      suit = suit.1;
+      lead = ap (λ (cs : List Change). after cs way.views) (sym next) ∙ way.lead;
+    }

@@ -1,10 +1,10 @@
 -- A view that comes at its place among views in order, or in place of that of its page.
 use Rattle.std.proofs.Common.{◌≡◌, ◌+◌, ◌<◌, ◌≤◌, ◌==◌, ◌∙◌, ℕ, Bool, true, false, List, [], ◌∷◌, ap, arith}
-use Rattle.std.proofs.Common.{eq-eqb, get_or, if◌then◌else◌, length, map, nat_eq, nat_lt, not, refl, set, subst, suc, sym, zero}
+use Rattle.std.proofs.Common.{eq-eqb, get_or, if◌then◌else◌, length, map, nat_lt, not, refl, set, subst, suc, sym, zero}
 use Rattle.std.specs.List.{AllByRecursion, AllPairs, insert}
-use Rattle.std.specs.List.Sorted.{IsPartitionPoint, IsStrictlyIncreasing}
-use Rattle.std.specs.Ordering.{nat_cmp}
-use Rattle.std.specs.declared.cmp.Ordering.TheVariants.{Equal, Greater, Less}
+use Rattle.std.specs.List.Sorted.{IsNonDecreasingBy, IsPartitionPoint, IsStrictlyIncreasing}
+use Rattle.std.specs.Ordering.{nat_cmp, ordering_index}
+use Rattle.std.specs.declared.cmp.Ordering.TheVariants.{Greater, Less}
 use Rattle.std.proofs.lemmas.Bool.{ne_eqb}
 use Rattle.std.proofs.lemmas.Bool.Decides.{nat_tests}
 use Rattle.std.proofs.lemmas.Cmp.{ranked}
@@ -12,8 +12,9 @@ use Rattle.std.proofs.lemmas.List.Elements.{All-from_recursion, recursion_from_A
 use Rattle.pl_base.specs.declared.id.PageId.{PageId}
 use Rattle.pl_base.specs.declared.view.View.{View}
 use Rattle.pl_base.proofs.ListLaws.{AllPairs-map, all_stay, weaker}
+use Rattle.pl_base.proofs.Searches.{never_falls}
 use Rattle.pl_follow.specs.Changes.{AreInOrder, with_view, without_id}
-use Rattle.pl_follow.proofs.Parted.{Ascend, ascend}
+use Rattle.pl_follow.proofs.Parted.{Ascend}
 
 -- numbers of which each is less than all behind it
 pub increasing : {X : Type 0} (n : X → ℕ) (xs : List X) → AllPairs (λ x y. n x < n y) xs → IsStrictlyIncreasing (map n xs)
@@ -95,3 +96,13 @@ between_ids views id place parts = (
   λ k d low high. ranked (get_or views k d).id.0 id Less (sym (parts.0 k d low high)),
   λ k d low high. ranked (get_or views k d).id.0 id Greater (sym (parts.1 k d low high)),
 )
+
+-- the answers of such a search rise
+pub ids_rise : (id : ℕ) (views : List View) → AreInOrder views
+    → IsNonDecreasingBy (λ (w : View). ordering_index (nat_cmp w.id.0 id)) views
+ids_rise id views ordered i j d before within =
+    higher (get_or views i d).id.0 (get_or views j d).id.0
+    (never_falls (λ (w : View). w.id.0) views (increasing (λ (w : View). w.id.0) views ordered) i j d before within)
+  where
+    higher : (a b : ℕ) → a ≤ b → ordering_index (nat_cmp a id) ≤ ordering_index (nat_cmp b id)
+    higher a b le = grind (arith, nat_tests)

@@ -1,14 +1,14 @@
 -- What look-ups by id tell of views in order: that they tell the list, and what a change makes of them.
-use Rattle.std.proofs.Common.{◌≡◌, ◌≢◌, ◌<◌, ◌==◌, ◌||◌, ◌∙◌, ℕ, Bool, true, false, List, [], ◌∷◌, All, Option, Some, None}
-use Rattle.std.proofs.Common.{ap, arith, eq-eqb, eqb-true, filter, find, if◌then◌else◌, nat_eq, nat_lt, not, refl, subst, sym}
+use Rattle.std.proofs.Common.{◌≡◌, ◌<◌, ◌==◌, ◌||◌, ◌∙◌, ℕ, Bool, true, false, List, [], ◌∷◌, All, Some, None}
+use Rattle.std.proofs.Common.{ap, arith, eq-eqb, eqb-true, filter, if◌then◌else◌, nat_lt, not, refl, subst, sym}
 use Rattle.std.specs.List.{AllByRecursion}
 use Rattle.std.proofs.lemmas.Bool.{ne_eqb}
 use Rattle.std.proofs.lemmas.Bool.Decides.{nat_tests}
 use Rattle.pl_base.specs.declared.id.PageId.{PageId}
 use Rattle.pl_base.specs.declared.view.View.{View}
 use Rattle.pl_base.proofs.ListLaws.{weaker}
-use Rattle.pl_base.proofs.LookUps.{any_none, none_at}
-use Rattle.pl_follow.specs.Changes.{AreInOrder, Suits, changed, has_view, with_view, without_id}
+use Rattle.pl_base.proofs.LookUps.{none_at}
+use Rattle.pl_follow.specs.Changes.{AreInOrder, has_view, with_view, without_id}
 use Rattle.pl_follow.proofs.Parted.{Ascend, added_parted, ascend}
 use Rattle.pl_follow.proofs.Told.{IsOnly, parted_find}
 use Rattle.pl_known.specs.Known.{view_of}

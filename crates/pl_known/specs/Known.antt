@@ -1,5 +1,5 @@
 -- What is known of the pages of a store.
-use Rattle.std.specs.Prelude.{◌≡◌, ◌==◌, ◌<◌, ◌^◌, ℕ, List, Option}
+use Rattle.std.specs.Prelude.{◌==◌, ◌<◌, ◌^◌, ℕ, List, Option}
 use Rattle.std.specs.List.{find, sum_by}
 use Rattle.pl_base.specs.declared.id.PageId.{PageId}
 use Rattle.pl_base.specs.declared.view.View.{View}

@@ -10,7 +10,7 @@ ghost use Rattle.pl_known.specs.Known.{AreFollowed, FollowersStand, view_of};
 use crate::views::{drop_views, find_view, put_views};
 use pl_base::{Change, Day, NoMemory, PageId, View};
 use pl_calendar::Calendar;
-use pl_follow::{Follow, FoldedTexts, OrderIndex, UrlIndex};
+use pl_follow::{FoldedTexts, Follow, OrderIndex, UrlIndex};
 use pl_totals::Totals;
 use std::alloc::Global;
 

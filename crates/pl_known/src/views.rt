@@ -99,11 +99,7 @@ fn put_new(alloc: Global, views: &mut Vec<View>, change: &Change) -> Result<(), 
 }
 
 /// The new views of these changes come, each in place of that of its page if there is one.
-pub fn put_views(
-    alloc: Global,
-    views: &mut Vec<View>,
-    changes: &[Change],
-) -> Result<(), NoMemory>
+pub fn put_views(alloc: Global, views: &mut Vec<View>, changes: &[Change]) -> Result<(), NoMemory>
     requires order { AreInOrder views.old.items }
     ensures { OnOk result (views.new.items ≡ all_put changes.now views.old.items) }
 {
