@@ -98,8 +98,8 @@ after_told (c ∷ cs) views pages up suit id =
     choose false other = refl
 
 -- the page of a change has its new view, and each other page its view
-pub view_after : (changes : List Change) (views : List View) → AreEachOnce changes → AllSuit changes views → (id : PageId)
-    → view_of id (after changes views) ≡ told (change_of id changes) (view_of id views)
+pub view_after : (changes : List Change) (views : List View) → AreEachOnce changes → AllSuit changes views
+    → (id : PageId) → view_of id (after changes views) ≡ told (change_of id changes) (view_of id views)
 view_after changes views each suit id =
     after_told changes views (recursion_from_All IsOfOnePage changes each.pages)
     (ascends_from_pairs id_of changes each.ascending) suit id

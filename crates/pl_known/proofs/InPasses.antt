@@ -33,7 +33,8 @@ all_stay_there changes views none =
     all_stay (λ (v : View). not (goes changes v.id)) views
     (everyone (λ (v : View). not (goes changes v.id) ≡ true) views (λ v. ap not (stays changes none v.id)))
   where
-    stays : (cs : List Change) → list_any (λ (c : Change). is_none c.new) cs ≡ false → (id : PageId) → goes cs id ≡ false
+    stays : (cs : List Change) → list_any (λ (c : Change). is_none c.new) cs ≡ false → (id : PageId)
+        → goes cs id ≡ false
     stays [] none id = refl
     stays (c ∷ cs) none id =
         let parts : (is_none c.new ≡ false) × (list_any (λ (d : Change). is_none d.new) cs ≡ false) =
@@ -52,7 +53,8 @@ put_in_order None views ordered = ordered
 put_in_order (Some new) views ordered =
     added_in_order new (without_id new.id views) (removed_in_order new.id views ordered) (none_left new.id views)
 
-pub all_put_in_order : (changes : List Change) (views : List View) → AreInOrder views → AreInOrder (all_put changes views)
+pub all_put_in_order : (changes : List Change) (views : List View) → AreInOrder views
+    → AreInOrder (all_put changes views)
 all_put_in_order [] views ordered = ordered
 all_put_in_order (c ∷ cs) views ordered = all_put_in_order cs (put c.new views) (put_in_order c.new views ordered)
 

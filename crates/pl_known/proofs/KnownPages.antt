@@ -75,8 +75,8 @@ Follows known told old new =
     (views : List View) → FollowersStand known views → Suits old new views → FollowersStand told (changed old new views)
 
 -- one change more
-pub way_on : (known told : Known) (changes : List Change) (i : ℕ) (c : Change) (old new : Option View) (last : List View)
-    → i < length changes → c ≡ get_or changes i c → old ≡ c.old → new ≡ c.new
+pub way_on : (known told : Known) (changes : List Change) (i : ℕ) (c : Change) (old new : Option View)
+    (last : List View) → i < length changes → c ≡ get_or changes i c → old ≡ c.old → new ≡ c.new
     → OnTheWay known (drop i changes) last → Follows known told old new → OnTheWay told (drop (i + 1) changes) last
 way_on known told changes i c old new last within is is_old is_new way follows =
     let next : drop i changes ≡ c ∷ drop (i + 1) changes = more changes i c within is in

@@ -17,7 +17,8 @@ use Rattle.pl_follow.specs.Changes.{AreInOrder, with_view, without_id}
 use Rattle.pl_follow.proofs.Parted.{Ascend}
 
 -- numbers of which each is less than all behind it
-pub increasing : {X : Type 0} (n : X → ℕ) (xs : List X) → AllPairs (λ x y. n x < n y) xs → IsStrictlyIncreasing (map n xs)
+pub increasing : {X : Type 0} (n : X → ℕ) (xs : List X) → AllPairs (λ x y. n x < n y) xs
+    → IsStrictlyIncreasing (map n xs)
 increasing n xs pairs k within = AllPairs-map (λ a b. a < b) n xs pairs k (k + 1) 0 (omega arith) within
 
 -- views with greater ids all stay

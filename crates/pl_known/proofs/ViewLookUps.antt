@@ -20,7 +20,8 @@ pub none_above : (id : PageId) (views : List View) → AllByRecursion (λ (w : V
     → view_of id views ≡ None
 none_above id [] above = refl
 none_above id (v ∷ vs) above =
-    ap (λ (b : Bool). if b then Some v else view_of id vs) (ne_eqb v.id.0 id.0 (λ same. absurd (omega (arith, above.0, same))))
+    ap (λ (b : Bool). if b then Some v else view_of id vs)
+    (ne_eqb v.id.0 id.0 (λ same. absurd (omega (arith, above.0, same))))
     ∙ none_above id vs above.1
 
 -- the first is found by its own id

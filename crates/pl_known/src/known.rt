@@ -56,7 +56,8 @@ impl Known {
         old: Option<&View>,
         new: Option<&View>,
     ) -> Result<(), NoMemory>
-        requires change { IsChange (FollowersStand self.old) (option_copied old) (option_copied new) }
+        requires change { IsChange (FollowersStand self.old)
+            (option_copied old) (option_copied new) }
         ensures views { OnOk result (self.new.views ≡ self.old.views) }
         ensures follows { OnOk result ((views : List View) → FollowersStand self.old views
             → Suits (option_copied old.entry) (option_copied new.entry) views

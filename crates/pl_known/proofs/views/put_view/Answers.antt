@@ -30,10 +30,12 @@ returns-in_ok-insert-in-Err c =
     let place = c.in-Err.place in
     let same = c.deref.ensures.value in
     let at = c.in-Err.ensures.position (λ (v : View). v.id.0) (answers_always _ _ _ (λ f a r g called. search rules)) in
-    let parts = subst (λ (vs : List View). IsPartitionPoint (λ (w : View). nat_cmp w.id.0 new.id.0 ≡ Less)
-    (λ (w : View). nat_cmp w.id.0 new.id.0 ≡ Greater) vs place) same
-    (at (subst (λ (vs : List View). IsNonDecreasingBy (λ (w : View). ordering_index (nat_cmp w.id.0 new.id.0)) vs) (sym same)
-    (ids_rise new.id.0 views c.requires.order))) in
+    let rise =
+    subst (λ (vs : List View). IsNonDecreasingBy (λ (w : View). ordering_index (nat_cmp w.id.0 new.id.0)) vs) (sym same)
+    (ids_rise new.id.0 views c.requires.order) in
+    let parts =
+    subst (λ (vs : List View). IsPartitionPoint (λ (w : View). nat_cmp w.id.0 new.id.0 ≡ Less)
+    (λ (w : View). nat_cmp w.id.0 new.id.0 ≡ Greater) vs place) same (at rise) in
     c.in_ok-insert-in-Err.ensures.items ∙ ap (insert views place) c.in_ok-copy.ensures
     ∙ sym (put_between new views place (subst (λ (vs : List View). place ≤ length vs) same c.in-Err.ensures.bound)
     (between_ids views new.id.0 place parts))

@@ -13,7 +13,9 @@ use Rattle.pl_known.proofs.known.Known.follow.Goals.{After-drop_views}
 -- the views that stay
 left : (c : After-drop_views)
     → c.drop_views.new.views.items ≡ staying c.args.changes.now c.args.self.now.views.items
-left c = c.drop_views.ensures ∙ ap (λ (vs : Vec View). staying c.args.changes.now vs.items) c.in_ok-tell_all.ensures.views
+left c =
+    c.drop_views.ensures
+    ∙ ap (λ (vs : Vec View). staying c.args.changes.now vs.items) c.in_ok-tell_all.ensures.views
 
 -- what both passes make of the views
 both : (c : After-drop_views) → all_put c.args.changes.now c.drop_views.new.views.items
@@ -38,7 +40,8 @@ pub returns-clause-followed : goal.returns-clause-followed
 returns-clause-followed c =
     on_ok_weaker c.put_views.result
     (λ made.
-    let stand = subst (FollowersStand c.tell_all.new.self) (sym (made ∙ both c.before.before)) c.in_ok-tell_all.ensures.follows in
+    let stand =
+    subst (FollowersStand c.tell_all.new.self) (sym (made ∙ both c.before.before)) c.in_ok-tell_all.ensures.follows in
     record {
       order = stand.order;
       fit = stand.fit;
