@@ -13,16 +13,24 @@ use pl_plain::Flat;
 use std::alloc::Global;
 use std::sync::ledger::Ledger;
 
-fn linked_engine(alloc: Global, limit: u32) -> Result<Engine<Linked>, NoMemory>
+fn linked_engine<L: Ledger>(
+    alloc: Global,
+    limit: u32,
+    steps: &mut Steps<L>,
+) -> Result<Engine<Linked>, NoMemory>
     requires { limit ≤ slot_limit }
 {
-    Engine::over(alloc, Linked::opening(alloc)?, limit)
+    Engine::over(alloc, Linked::opening(alloc)?, limit, steps)
 }
 
-fn flat_engine(alloc: Global, limit: u32) -> Result<Engine<Flat>, NoMemory>
+fn flat_engine<L: Ledger>(
+    alloc: Global,
+    limit: u32,
+    steps: &mut Steps<L>,
+) -> Result<Engine<Flat>, NoMemory>
     requires { limit ≤ slot_limit }
 {
-    Engine::over(alloc, Flat::opening(alloc)?, limit)
+    Engine::over(alloc, Flat::opening(alloc)?, limit, steps)
 }
 
 /// Does the work on both engines, and prints how it ended; the exit status for that.
@@ -34,8 +42,8 @@ pub fn both<L: Ledger>(
 ) -> Result<u8, Fault>
     requires { order.limit ≤ slot_limit }
 {
-    let left = linked_engine(rt.alloc(), order.limit)?;
-    let right = flat_engine(rt.alloc(), order.limit)?;
+    let left = linked_engine(rt.alloc(), order.limit, steps)?;
+    let right = flat_engine(rt.alloc(), order.limit, steps)?;
     let pair = Pair { left, right };
     let outcome = side_by_side(rt.alloc(), order.work, pair, input, steps)?;
     outcome.say(rt)?;
@@ -51,7 +59,7 @@ pub fn linked<L: Ledger>(
 ) -> Result<u8, Fault>
     requires { order.limit ≤ slot_limit }
 {
-    let engine = linked_engine(rt.alloc(), order.limit)?;
+    let engine = linked_engine(rt.alloc(), order.limit, steps)?;
     alone(rt, rt.alloc(), order.work, engine, input, steps)?;
     Ok(0)
 }
@@ -65,7 +73,7 @@ pub fn flat<L: Ledger>(
 ) -> Result<u8, Fault>
     requires { order.limit ≤ slot_limit }
 {
-    let engine = flat_engine(rt.alloc(), order.limit)?;
+    let engine = flat_engine(rt.alloc(), order.limit, steps)?;
     alone(rt, rt.alloc(), order.work, engine, input, steps)?;
     Ok(0)
 }

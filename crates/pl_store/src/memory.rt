@@ -27,7 +27,8 @@ impl Memory {
         ensures store { IfOk result (λ memory. memory_store memory ≡ opening) }
         ensures limit { IfOk result (λ memory. memory_limit memory ≡ limit) }
     {
-        let engine = Engine::over(alloc, Linked::opening(alloc)?, limit)?;
+        let rows = Linked::opening(alloc)?;
+        let engine = uncounted::over::<Brand>(Blank::new(1), alloc, rows, limit)?;
         Ok(Memory { engine })
     }
 

@@ -15,7 +15,6 @@ use crate::session::Session;
 use crate::uncounted;
 use pl_base::{CheckError, PAGE_SIZE};
 use pl_desk::{Desk, Failed};
-use pl_engine::Engine;
 use pl_gate::{Gate, GateError};
 use pl_reading::named_pages;
 use std::alloc::Global;
@@ -69,7 +68,7 @@ fn session_of(alloc: Global, bytes: Vec<u8>, limit: u32) -> Result<Session, Chec
         → HoldNone (drop page_size bytes.items) }
 {
     let rows = uncounted::check::<Brand>(Blank::new(1), alloc, bytes)?;
-    let engine = Engine::over(alloc, rows, limit)?;
+    let engine = uncounted::over::<Brand>(Blank::new(1), alloc, rows, limit)?;
     Ok(Session { engine })
 }
 

@@ -8,7 +8,6 @@ ghost use Rattle.pl_store.specs.Session.{session_bytes, session_limit, session_s
 use crate::session::Session;
 use crate::uncounted;
 use pl_base::{NoMemory, Touched};
-use pl_engine::Engine;
 use pl_linked::Linked;
 use std::alloc::Global;
 use std::marker::Brand;
@@ -26,7 +25,8 @@ pub(crate) fn start(alloc: Global, limit: u32) -> Result<(Session, Touched), NoM
     ensures before { IfOk result (λ done. done.1.before ≡ 1) }
     ensures after { IfOk result (λ done. 1 < done.1.after) }
 {
-    let mut engine = Engine::over(alloc, Linked::opening(alloc)?, limit)?;
+    let rows = Linked::opening(alloc)?;
+    let mut engine = uncounted::over::<Brand>(Blank::new(1), alloc, rows, limit)?;
     let touched = uncounted::touched::<Brand>(Blank::new(1), &mut engine)?;
     Ok((Session { engine }, touched))
 }

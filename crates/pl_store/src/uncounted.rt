@@ -2,6 +2,7 @@
 // for `Brand`, and its `Invariants.antt` says that the ledger is the blank's.
 ghost use Rattle.std.specs.Prelude.{◌≡◌, ◌≤◌, ℕ, List, false, length, Err, IfOk, IfSome, OnOk};
 ghost use Rattle.std.specs.List.{All};
+ghost use Rattle.pl_base.specs.Live.{slot_limit};
 ghost use Rattle.pl_base.specs.Rows.{IsSound, store_of};
 ghost use Rattle.pl_base.specs.Store.{Store};
 ghost use Rattle.pl_base.specs.Touched.{IsWithin, MayDiffer, bytes_before, changed, page_numbers};
@@ -44,6 +45,23 @@ pub(crate) fn check<L: Ledger>(
         → FileStandsFor bytes.items store → ⊥ }
 {
     Linked::check(alloc, bytes, &mut Steps::<L>::none(blank))
+}
+
+/// An engine over rows.
+pub(crate) fn over<L: Ledger>(
+    blank: Blank,
+    alloc: Global,
+    rows: Linked,
+    limit: u32,
+) -> Result<Engine<Linked>, NoMemory>
+    requires blank { IsBlankOf L.Ledger blank }
+    requires sound { IsSound (kept_of rows) }
+    requires most { limit ≤ slot_limit }
+    ensures rows { IfOk result (λ engine. engine.rows ≡ rows) }
+    ensures stands { StandsFor (bytes_of rows) (store_of (kept_of rows)) }
+    ensures limit { IfOk result (λ engine. engine.limit ≡ limit) }
+{
+    Engine::over(alloc, rows, limit, &mut Steps::<L>::none(blank))
 }
 
 /// One step of the machine.

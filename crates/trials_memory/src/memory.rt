@@ -27,7 +27,7 @@ impl Memory {
     {
         Ok(Memory {
             linked: pl_store::Memory::opening(alloc, limit)?,
-            plain: Engine::over(alloc, Flat::opening(alloc)?, limit)?,
+            plain: plain::<Brand>(Blank::new(1), alloc, limit)?,
         })
     }
 
@@ -46,6 +46,16 @@ impl Memory {
         }
         Ok((Memory { linked, plain }, reply))
     }
+}
+
+fn plain<L: Ledger>(blank: Blank, alloc: Global, limit: u32) -> Result<Engine<Flat>, NoMemory>
+    requires name { blank.name ≡ L.name }
+    requires parts { blank.parts ≡ L.parts }
+    requires some { 0 < blank.parts }
+    requires limit { limit ≤ slot_limit }
+{
+    let mut steps = Steps::<L>::none(blank);
+    Engine::over(alloc, Flat::opening(alloc)?, limit, &mut steps)
 }
 
 fn applied<L: Ledger>(

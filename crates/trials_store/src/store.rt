@@ -22,18 +22,18 @@ use std::test::Fail;
 use trials_sessions::{FIRST_REPLY, SECOND_REPLY, first, perform, second};
 
 // An engine over rows that have given all ids of pages.
-fn without_page_ids(alloc: Global) -> Result<Engine<Flat>, Fail> {
+fn without_page_ids<L: Ledger>(alloc: Global, steps: &mut Steps<L>) -> Result<Engine<Flat>, Fail> {
     let ids = Ids {
         page: Ids::END,
         ..Ids::OPENING
     };
     let rows = Flat::with_ids(alloc, ids)?;
-    Ok(Engine::over(alloc, rows, SLOT_LIMIT)?)
+    Ok(Engine::over(alloc, rows, SLOT_LIMIT, steps)?)
 }
 
 fn expect_no_page_ids<L: Ledger>(
     rt: &impl Abort,
-    engine: Engine<Flat>,
+    alloc: Global,
     command: &Command,
     blank: Blank,
 ) -> Result<(), Fail>
@@ -42,7 +42,9 @@ fn expect_no_page_ids<L: Ledger>(
     requires parts { blank.parts ≡ L.parts }
     requires some { 0 < blank.parts }
 {
-    let (_, reply) = engine.apply(command, &mut Steps::<L>::none(blank))?;
+    let mut steps = Steps::<L>::none(blank);
+    let engine = without_page_ids(alloc, &mut steps)?;
+    let (_, reply) = engine.apply(command, &mut steps)?;
     let is_refused = reply == Reply::Refused(Refusal::NoIds(IdKind::Page));
     drop(reply);
     assert!(rt; is_refused);
@@ -112,9 +114,8 @@ fn a_store_in_memory_answers(rt: HostRuntime) -> Result<(), Fail> {
 #[test]
 fn an_engine_without_ids_refuses(rt: HostRuntime) -> Result<(), Fail> {
     let alloc = rt.alloc();
-    let engine = without_page_ids(alloc)?;
     let command = first(alloc)?;
-    let expected = expect_no_page_ids::<Brand>(&rt, engine, &command, Blank::new(1));
+    let expected = expect_no_page_ids::<Brand>(&rt, alloc, &command, Blank::new(1));
     drop(command);
     expected
 }

@@ -89,7 +89,7 @@ fn with_hosts<'a, L: Ledger>(
 ) -> Result<Hosts<'a>, Fail> {
     let command = import(alloc)?;
     let rows = Flat::opening(alloc)?;
-    let engine = Engine::over(alloc, Watched { rows, log }, SLOT_LIMIT)?;
+    let engine = Engine::over(alloc, Watched { rows, log }, SLOT_LIMIT, steps)?;
     performed(engine, command, steps)
 }
 

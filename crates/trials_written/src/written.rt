@@ -16,7 +16,7 @@ pub fn file_of<L: Ledger>(
     script: &[u8],
     steps: &mut Steps<L>,
 ) -> Result<Vec<u8>, NoMemory> {
-    let mut engine = Engine::over(alloc, Linked::opening(alloc)?, SLOT_LIMIT)?;
+    let mut engine = Engine::over(alloc, Linked::opening(alloc)?, SLOT_LIMIT, steps)?;
     for text in script.split(|byte| *byte == b'\n') {
         engine = after_line(alloc, engine, text, steps)?;
     }

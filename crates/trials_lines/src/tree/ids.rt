@@ -1,6 +1,8 @@
 // Stores whose ids or slots are spent: which cause is told first.
-ghost use Rattle.std.specs.Prelude.{◌≡◌, ◌<◌, ◌≤◌, IfSome};
+ghost use Rattle.std.specs.Prelude.{◌≡◌, ◌<◌, ◌≤◌, IfOk, IfSome};
 ghost use Rattle.pl_base.specs.Live.{slot_limit};
+ghost use Rattle.pl_base.specs.Rows.{IsSound};
+ghost use Rattle.pl_plain.specs.Flat.{kept_of};
 ghost use Rattle.pl_step.specs.Commands.{HasDates};
 
 use pl_base::{Ids, NoMemory, Steps, Txt};
@@ -85,19 +87,23 @@ fn told<L: Ledger>(
     Ok(engine)
 }
 
+// An engine over the rows, which may take so many slots, answers the lines so.
 fn talk_in<L: Ledger>(
     rt: &impl Abort,
     alloc: Global,
-    engine: Engine<Flat>,
+    rows: Flat,
+    limit: u32,
     lines: &[(&[u8], &str)],
     blank: Blank,
 ) -> Result<(), Fail>
+    requires sound { IsSound (kept_of rows) }
+    requires limit { limit ≤ slot_limit }
     requires name { blank.name ≡ L.name }
     requires parts { blank.parts ≡ L.parts }
     requires some { 0 < blank.parts }
 {
     let mut steps = Steps::<L>::none(blank);
-    let mut engine = engine;
+    let mut engine = Engine::over(alloc, rows, limit, &mut steps)?;
     for (text, reply) in lines {
         engine = told(rt, alloc, engine, text, reply, &mut steps)?;
     }
@@ -107,21 +113,24 @@ fn talk_in<L: Ledger>(
 fn talk(
     rt: &impl Abort,
     alloc: Global,
-    engine: Engine<Flat>,
+    rows: Flat,
+    limit: u32,
     lines: &[(&[u8], &str)],
-) -> Result<(), Fail> {
-    talk_in::<Brand>(rt, alloc, engine, lines, Blank::new(1))
+) -> Result<(), Fail>
+    requires sound { IsSound (kept_of rows) }
+    requires limit { limit ≤ slot_limit }
+{
+    talk_in::<Brand>(rt, alloc, rows, limit, lines, Blank::new(1))
 }
 
-// Rows that give these ids next, and may take so many slots.
-fn engine(alloc: Global, page: u32, visit: u32, item: u32, limit: u32) -> Result<Engine<Flat>, Fail>
+// Rows that give these ids next.
+fn rows(alloc: Global, page: u32, visit: u32, item: u32) -> Result<Flat, Fail>
     requires page { 1 ≤ page }
     requires visit { 1 ≤ visit }
     requires item { 7 ≤ item }
-    requires limit { limit ≤ slot_limit }
+    ensures { IfOk result (λ rows. IsSound (kept_of rows)) }
 {
-    let rows = Flat::with_ids(alloc, Ids { page, visit, item })?;
-    Ok(Engine::over(alloc, rows, limit)?)
+    Ok(Flat::with_ids(alloc, Ids { page, visit, item })?)
 }
 
 // The id that is never given, and the one before it.
@@ -146,8 +155,8 @@ const LAST_ITEM: &[(&[u8], &str)] = &[
 
 #[test]
 fn gives_the_last_id_of_an_item(rt: HostRuntime) -> Result<(), Fail> {
-    let engine = engine(rt.alloc(), 1, 1, LAST, SLOT_LIMIT)?;
-    talk(&rt, rt.alloc(), engine, LAST_ITEM)
+    let rows = rows(rt.alloc(), 1, 1, LAST)?;
+    talk(&rt, rt.alloc(), rows, SLOT_LIMIT, LAST_ITEM)
 }
 
 // A new tag wants two ids of items, where one is left: nothing is made, and the last id of a page
@@ -165,8 +174,8 @@ const ONE_OF_TWO: &[(&[u8], &str)] = &[
 
 #[test]
 fn makes_nothing_for_half_a_tag(rt: HostRuntime) -> Result<(), Fail> {
-    let engine = engine(rt.alloc(), LAST, 1, LAST, SLOT_LIMIT)?;
-    talk(&rt, rt.alloc(), engine, ONE_OF_TWO)
+    let rows = rows(rt.alloc(), LAST, 1, LAST)?;
+    talk(&rt, rt.alloc(), rows, SLOT_LIMIT, ONE_OF_TWO)
 }
 
 // Two ids of items are left, for a folder and an entry. That the page has the tag is told first.
@@ -183,8 +192,8 @@ const LAST_TAG: &[(&[u8], &str)] = &[
 
 #[test]
 fn gives_the_last_ids_to_a_tag(rt: HostRuntime) -> Result<(), Fail> {
-    let engine = engine(rt.alloc(), 1, 1, END - 2, SLOT_LIMIT)?;
-    talk(&rt, rt.alloc(), engine, LAST_TAG)
+    let rows = rows(rt.alloc(), 1, 1, END - 2)?;
+    talk(&rt, rt.alloc(), rows, SLOT_LIMIT, LAST_TAG)
 }
 
 // No id is left, and no slot: whatever else may be wrong with a line is told before both, and ids
@@ -257,20 +266,20 @@ const IDS_LEFT: &[(&[u8], &str)] = &[
 
 #[test]
 fn tells_what_is_wrong_before_ids(rt: HostRuntime) -> Result<(), Fail> {
-    let engine = engine(rt.alloc(), END, END, END, 6)?;
-    talk(&rt, rt.alloc(), engine, NOTHING_LEFT)
+    let rows = rows(rt.alloc(), END, END, END)?;
+    talk(&rt, rt.alloc(), rows, 6, NOTHING_LEFT)
 }
 
 #[test]
 fn tells_ids_before_slots(rt: HostRuntime) -> Result<(), Fail> {
-    let engine = engine(rt.alloc(), 1, END, END, 6)?;
-    talk(&rt, rt.alloc(), engine, PAGES_LEFT)
+    let rows = rows(rt.alloc(), 1, END, END)?;
+    talk(&rt, rt.alloc(), rows, 6, PAGES_LEFT)
 }
 
 #[test]
 fn tells_slots_last(rt: HostRuntime) -> Result<(), Fail> {
-    let engine = engine(rt.alloc(), 1, 1, 7, 6)?;
-    talk(&rt, rt.alloc(), engine, IDS_LEFT)
+    let rows = rows(rt.alloc(), 1, 1, 7)?;
+    talk(&rt, rt.alloc(), rows, 6, IDS_LEFT)
 }
 
 // A new page, its origin and its address, a folder and its name, and an entry: 12 slots in all.
@@ -286,6 +295,6 @@ const TAG_FITS: &[(&[u8], &str)] = &[
 
 #[test]
 fn a_tag_fits_to_the_slot(rt: HostRuntime) -> Result<(), Fail> {
-    let engine = engine(rt.alloc(), 1, 1, 7, 12)?;
-    talk(&rt, rt.alloc(), engine, TAG_FITS)
+    let rows = rows(rt.alloc(), 1, 1, 7)?;
+    talk(&rt, rt.alloc(), rows, 12, TAG_FITS)
 }

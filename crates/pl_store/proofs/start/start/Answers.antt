@@ -21,12 +21,12 @@ returns-clause-stands c =
 pub returns-clause-whole : goal.returns-clause-whole
 returns-clause-whole c =
     c.in_ok-touched.ensures.whole []
-    (over_nothing c.in_ok-opening.field-0 c.in_ok-engine.engine.rows c.in_ok-engine.ensures.rows
-    ((c.in_ok-opening.ensures.base []).1 refl))
+    (over_nothing c.in_ok-rows.rows c.in_ok-engine.engine.rows c.in_ok-engine.ensures.rows
+    ((c.in_ok-rows.ensures.base []).1 refl))
 
 pub returns-clause-before : goal.returns-clause-before
 returns-clause-before c =
     let base =
-    over_nothing c.in_ok-opening.field-0 c.in_ok-engine.engine.rows c.in_ok-engine.ensures.rows
-    ((c.in_ok-opening.ensures.base []).1 refl) in
+    over_nothing c.in_ok-rows.rows c.in_ok-engine.engine.rows c.in_ok-engine.ensures.rows
+    ((c.in_ok-rows.ensures.base []).1 refl) in
     omega (arith, c.in_ok-touched.ensures.before [] base, c.in_ok-touched.ensures.some)
