@@ -1,6 +1,6 @@
 -- What kept views tell of URLs holds on while marks change, and while pages come and go.
 use Rattle.std.proofs.Common.{◌≡◌, ◌≢◌, ◌∙◌, ◌==◌, All, Bool, true, false, List, Option, Some, None, ap, arith, get_or}
-use Rattle.std.proofs.Common.{if◌then◌else◌, ◌+◌, ◌<◌, ℕ, ℤ, refl, subst, suc, sym, [], ◌∷◌}
+use Rattle.std.proofs.Common.{if◌then◌else◌, ℕ, ℤ, refl, subst, suc, sym, [], ◌∷◌}
 use Rattle.std.specs.List.{AllByRecursion, Contains}
 use Rattle.std.proofs.lemmas.List.Elements.{All-contains_itself, All-from_recursion, All-map, All-push}
 use Rattle.std.proofs.lemmas.List.Elements.{All-weaker}
@@ -9,14 +9,14 @@ use Rattle.pl_base.specs.declared.id.Slot.{Slot}
 use Rattle.pl_base.specs.declared.row.Mark.{Mark}
 use Rattle.pl_base.specs.declared.view.View.{View}
 use Rattle.pl_base.specs.Address.{origin_of_url}
-use Rattle.pl_base.specs.Rows.{Kept, KeptOrigin, KeptPage, WithPageIn, marked, next_page, store_of, with_mark}
+use Rattle.pl_base.specs.Rows.{Kept, KeptPage, WithPageIn, marked, next_page, store_of, with_mark}
 use Rattle.pl_base.specs.Rows.{with_new_page, with_origin, with_origins}
 use Rattle.pl_base.specs.Store.{Page, Store}
 use Rattle.pl_base.specs.View.{AreViews, AreViewsOf, IsViewOf}
 use Rattle.pl_base.proofs.ListLaws.{All-from_map, weaker}
 use Rattle.pl_marks.specs.Alike.{HaveSameTexts}
 use Rattle.pl_marks.specs.Refreshed.{Refreshes}
-use Rattle.pl_history.specs.Addresses.{HasAddress, HaveAddresses}
+use Rattle.pl_history.specs.Addresses.{HaveAddresses}
 use Rattle.pl_history.specs.Fresh.{fresh, with_fresh}
 use Rattle.pl_history.specs.Settled.{Drops}
 use Rattle.pl_history.proofs.Dropped.{along}

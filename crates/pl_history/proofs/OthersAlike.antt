@@ -1,8 +1,7 @@
 -- Two stores that tell the same of each page that a change does not bear on.
-use Rattle.std.proofs.Common.{◌≡◌, ◌∙◌, ◌+◌, ◌<◌, ◌==◌, ◌⊎◌, inl, inr, ℕ, All, Bool, true, false, IsTrue, List, [], ◌∷◌}
+use Rattle.std.proofs.Common.{◌≡◌, ◌∙◌, ◌<◌, ◌==◌, ◌||◌, inl, inr, ℕ, Bool, true, false, List, [], ◌∷◌}
 use Rattle.std.proofs.Common.{◌++◌, ap, arith, eq-eqb, filter, get_or, length, map, refl, subst, suc, sym, zero}
 use Rattle.std.specs.List.{AllPairs, Contains, list_any}
-use Rattle.std.specs.List.Sorted.{IsStrictlyIncreasing}
 use Rattle.std.proofs.lemmas.Bool.{cases_order, false≢true, or_parts}
 use Rattle.std.proofs.lemmas.List.Elements.{All-contains, All-map, at_from_Contains}
 use Rattle.std.proofs.lemmas.List.Folds.{list_any-append}
@@ -16,6 +15,7 @@ use Rattle.pl_base.specs.Rows.{IsWellKept, Kept, KeptPage, store_of}
 use Rattle.pl_base.specs.Store.{Page, Store}
 use Rattle.pl_base.specs.View.{IsViewOf}
 use Rattle.pl_base.proofs.Among.{In, from_filter, from_map, in_filter, in_map}
+use Rattle.pl_base.proofs.IdsLaws.{same_page}
 use Rattle.pl_base.proofs.ListLaws.{AllPairs-from_map, AllPairs-map}
 use Rattle.pl_base.proofs.LookUps.{none_at}
 use Rattle.pl_marks.specs.Alike.{AreOthersAlike, ComeBehind, HaveSameTexts, is_one_of}
@@ -218,11 +218,92 @@ pub settled_bears : (ids : List PageId) (old new : Kept) → IsWellKept old → 
     → store_of new ≡ without_idle_pages (store_of old) → BearsOnlyOn ids (store_of old) (store_of new)
 settled_bears ids old new h s is =
     bears_on ids (store_of old) (store_of new) (pages_once old h) (ap (λ (t : Store). t.items) is)
-    (λ q there.
-    (
+    (λ q there. (
       q,
       contains_unfiltered (λ (p : Page). is_standing (store_of old) p.id) (store_of old).pages q
           (subst (λ (t : Store). Contains t.pages q) is there),
-      refl, refl, refl,
+      refl,
+      refl,
+      refl,
     ))
     (settled_alike ids old new s is)
+
+-- ---- one change after another
+
+pub bears_more : (ids more : List PageId) (old new : Store)
+    → ((id : PageId) → is_one_of more id ≡ false → is_one_of ids id ≡ false) → BearsOnlyOn ids old new
+    → BearsOnlyOn more old new
+bears_more ids more old new fewer b =
+    record { others = alike_more ids more old new fewer b.others; texts = b.texts; behind = b.behind }
+
+-- a page with the same id is there
+abbrev pub IsStill : Store → Page → Type 0
+IsStill store p = (q : Page) × Contains store.pages q × (q.id ≡ p.id)
+
+-- behind the first change no page comes
+pub bears_then : (ids : List PageId) (old mid new : Store) → BearsOnlyOn ids old mid → BearsOnlyOn ids mid new
+    → ((r : Page) → Contains new.pages r → IsStill mid r) → BearsOnlyOn ids old new
+bears_then ids old mid new a b still =
+    record {
+      others = alike_on ids old mid new a.others b.others;
+      texts =
+          record {
+            items = b.texts.items ∙ a.texts.items;
+            pages =
+                λ p r here there same.
+                let q : IsStill mid r = still r there in
+                let first = a.texts.pages p q.0 here q.1 (q.2 ∙ same) in
+                let second = b.texts.pages q.0 r q.1 there (sym q.2) in
+                (second.0 ∙ first.0, second.1 ∙ first.1);
+          };
+      behind =
+          λ r p there absent here.
+          let q : IsStill mid r = still r there in
+          subst (λ (i : PageId). p.id.0 < i.0) q.2
+          (a.behind q.0 p q.1 (ap (has_page_at old) q.2 ∙ absent) here);
+    }
+
+there_in : (test : Page → Bool) (pages : List Page) → list_any test pages ≡ true
+    → (q : Page) × Contains pages q × (test q ≡ true)
+there_in test [] some = absurd (false≢true some)
+there_in test (p ∷ ps) some = choose (test p) refl some (there_in test ps)
+  where
+    choose : (b : Bool) → test p ≡ b → (b || list_any test ps) ≡ true
+        → (list_any test ps ≡ true → (q : Page) × Contains ps q × (test q ≡ true))
+        → (q : Page) × Contains (p ∷ ps) q × (test q ≡ true)
+    choose true passes here rest = (p, (0, omega arith, refl), passes)
+    choose false fails here rest =
+        let r = rest here in (r.0, contains_in (p ∷ ps) r.0 (inr (in_contained ps r.1.0 r.0 r.1.1 r.1.2)), r.2)
+
+-- by the first change no page goes
+pub bears_first : (ids : List PageId) (old mid new : Store) → BearsOnlyOn ids old mid → BearsOnlyOn ids mid new
+    → ((p : Page) → Contains old.pages p → IsStill mid p) → BearsOnlyOn ids old new
+bears_first ids old mid new a b still =
+    record {
+      others = alike_on ids old mid new a.others b.others;
+      texts =
+          record {
+            items = b.texts.items ∙ a.texts.items;
+            pages =
+                λ p r here there same.
+                let q : IsStill mid p = still p here in
+                let first = a.texts.pages p q.0 here q.1 q.2 in
+                let second = b.texts.pages q.0 r q.1 there (same ∙ sym q.2) in
+                (second.0 ∙ first.0, second.1 ∙ first.1);
+          };
+      behind =
+          λ r p there absent here.
+          let test : Page → Bool = λ (q : Page). q.id.0 == r.id.0 in
+          cond_cases (has_page_at mid r.id) (p.id.0 < r.id.0)
+          (λ some.
+          let q = there_in test mid.pages some in
+          let id : q.0.id ≡ r.id = same_page q.0.id r.id q.2 in
+          subst (λ (i : PageId). p.id.0 < i.0) id (a.behind q.0 p q.1 (ap (has_page_at old) id ∙ absent) here))
+          (λ none.
+          let q : IsStill mid p = still p here in
+          subst (λ (i : PageId). i.0 < r.id.0) q.2 (b.behind r q.0 there none q.1));
+    }
+  where
+    cond_cases : (t : Bool) (P : Type 0) → (t ≡ true → P) → (t ≡ false → P) → P
+    cond_cases true P here other = here refl
+    cond_cases false P here other = other refl

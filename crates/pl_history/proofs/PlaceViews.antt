@@ -1,7 +1,7 @@
 -- The view of a page tells whether its URL is a query.
-use Rattle.std.proofs.Common.{◌≡◌, ◌∙◌, ◌==◌, ◌++◌, ◌||◌, All, Bool, true, false, IsSome, ℕ, List, [], ◌∷◌}
+use Rattle.std.proofs.Common.{◌≡◌, ◌∙◌, ◌==◌, ◌++◌, ◌||◌, Bool, true, false, IsSome, ℕ, List}
 use Rattle.std.proofs.Common.{Option, Some, None, Result, Ok, Err, ap, arith, bytes_eq, codes, find, get_or}
-use Rattle.std.proofs.Common.{if◌then◌else◌, length, refl, reverse, subst, sym}
+use Rattle.std.proofs.Common.{if◌then◌else◌, refl, reverse, subst, sym}
 use Rattle.std.specs.List.{slice_get}
 use Rattle.std.specs.Option.{option_map}
 use Rattle.std.proofs.lemmas.Bool.{false≢true}

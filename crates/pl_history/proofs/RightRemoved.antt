@@ -26,7 +26,6 @@ use Rattle.pl_base.proofs.ListLaws.{sum_by-agree, sum_by-map, weaker}
 use Rattle.pl_base.proofs.VisitLists.{each_visit_found}
 use Rattle.pl_base.proofs.VisitsLaws.{all-latest_first}
 use Rattle.pl_base.proofs.LookUps.{apart_ascending, both, found_one, where_passes}
-use Rattle.pl_base.proofs.Walk.{left}
 use Rattle.pl_marks.proofs.SeenVisits.{hidden_by}
 use Rattle.pl_history.proofs.RightAfter.{led_apart}
 use Rattle.pl_history.proofs.VisitsLeft.{Keeps, among_is, among_one, any_left, count_left, filter_left, find_left}

@@ -1,16 +1,14 @@
 -- The view of a page that a visit does not bear on stays when the visit goes, and when it comes.
-use Rattle.std.proofs.Common.{◌≡◌, ◌∙◌, ◌==◌, false, List, [], ◌∷◌, Option, Some, None, ap, map, refl, subst, sym}
+use Rattle.std.proofs.Common.{◌≡◌, ◌∙◌, List, [], ◌∷◌, Option, Some, None, ap, map, refl, subst, sym}
 use Rattle.std.proofs.Common.{take}
 use Rattle.pl_base.specs.declared.date.Micros.{Micros}
-use Rattle.pl_base.specs.declared.id.PageId.{PageId}
 use Rattle.pl_base.specs.declared.id.VisitId.{VisitId}
 use Rattle.pl_base.specs.declared.row.VisitRow.{VisitRow}
 use Rattle.pl_base.specs.declared.view.View.{View}
 use Rattle.pl_base.specs.Due.{IsFirstDay, some_weighs_anew}
-use Rattle.pl_base.specs.Marks.{last_date_of}
 use Rattle.pl_base.specs.Removal.{visit_left}
 use Rattle.pl_base.specs.Rows.{IsWellKept, Kept, store_of, visit_at, with_visit, without_visit}
-use Rattle.pl_base.specs.Store.{Page, Store, Visit}
+use Rattle.pl_base.specs.Store.{Page, Visit}
 use Rattle.pl_base.specs.View.{IsViewOf}
 use Rattle.pl_base.specs.Visits.{latest_first, sample_of, visits_of}
 use Rattle.pl_base.proofs.ListLaws.{map-map}

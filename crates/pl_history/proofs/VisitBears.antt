@@ -1,29 +1,36 @@
 -- Which pages a visit bears on, and a page that comes for it.
-use Rattle.std.proofs.Common.{◌≡◌, ◌∙◌, ◌+◌, ◌<◌, ◌==◌, ◌||◌, ◌++◌, ◌⊎◌, inl, inr, ℕ, ℤ, Bool, true, false, List, []}
-use Rattle.std.proofs.Common.{◌∷◌, Option, Some, None, ap, arith, eq-eqb, if◌then◌else◌, map, option_to_list, refl}
-use Rattle.std.proofs.Common.{IfOk, OnOk, Result, Ok, Err, subst, sym}
+use Rattle.std.proofs.Common.{◌≡◌, ◌∙◌, ◌<◌, ◌==◌, ◌||◌, inl, inr, ℕ, ℤ, Bool, true, false, List, []}
+use Rattle.std.proofs.Common.{◌∷◌, Option, Some, None, ap, arith, eq-eqb, if◌then◌else◌, option_to_list, refl}
+use Rattle.std.proofs.Common.{IfOk, IfSome, OnOk, Result, Ok, Err, subst, sym}
 use Rattle.std.specs.List.{Contains}
-use Rattle.std.proofs.lemmas.Bool.{false≢true, or_parts}
+use Rattle.std.specs.Option.{option_and_then, option_map}
+use Rattle.std.proofs.lemmas.Bool.{false≢true, or_from, or_parts}
 use Rattle.std.proofs.lemmas.List.Elements.{All-contains, All-map, Contains-append_left, Contains-push_cases}
 use Rattle.pl_base.specs.declared.id.PageId.{PageId}
 use Rattle.pl_base.specs.declared.id.Slot.{Slot}
+use Rattle.pl_base.specs.declared.id.VisitId.{VisitId}
 use Rattle.pl_base.specs.declared.memory.NoMemory.{NoMemory}
 use Rattle.pl_base.specs.declared.row.Mark.{Mark}
 use Rattle.pl_base.specs.declared.row.VisitRow.{VisitRow}
 use Rattle.pl_base.specs.declared.transition.Transition.{Transition}
-use Rattle.pl_base.specs.Rows.{IsWellKept, Kept, KeptPage, WithPageIn, store_of, with_visit}
-use Rattle.pl_base.specs.Store.{Page, Store}
+use Rattle.pl_base.specs.Redirects.{is_redirect}
+use Rattle.pl_base.specs.Rows.{IsWellKept, Kept, KeptPage, WithPageIn, has_visit, next_visit, store_of, visit_at}
+use Rattle.pl_base.specs.Rows.{with_visit}
+use Rattle.pl_base.specs.Store.{Page, Store, Visit}
 use Rattle.pl_base.specs.Visiting.{new_page, visit_page, visited_page, visited_store}
+use Rattle.pl_base.proofs.LookUps.{find_push}
 use Rattle.pl_base.proofs.PageLaws.{ids_below}
-use Rattle.pl_marks.specs.Alike.{AreOthersAlike, ComeBehind, HaveSameTexts, is_one_of}
+use Rattle.pl_marks.specs.Alike.{AreOthersAlike, is_one_of}
 use Rattle.pl_marks.specs.Refreshed.{Refreshes, source_page}
 use Rattle.pl_history.specs.declared.find.Target.{Target}
 use Rattle.pl_history.specs.declared.find.Target.TheVariants.{Known, New}
+use Rattle.pl_history.specs.declared.visiting.AddedVisit.{AddedVisit}
+use Rattle.pl_history.specs.Added.{AddsVisit}
 use Rattle.pl_history.specs.Bears.{BearsOnlyOn}
 use Rattle.pl_history.specs.Target.{WithTarget}
-use Rattle.pl_history.proofs.OthersAlike.{AreOnce, StemsFrom, alike_self, bears_on, contains_from_map, contains_map}
-use Rattle.pl_history.proofs.OthersAlike.{none_comes, pages_once, view_by_rows}
-use Rattle.pl_history.proofs.RightAfter.{IsElsewhere, other_way}
+use Rattle.pl_history.proofs.OthersAlike.{StemsFrom, alike_self, bears_on, contains_from_map, contains_map}
+use Rattle.pl_history.proofs.OthersAlike.{bears_more, bears_then, none_comes, pages_once, view_by_rows}
+use Rattle.pl_history.proofs.RightAfter.{other_way}
 use Rattle.pl_history.proofs.ViewsLeft.{view_same}
 use Rattle.pl_history.proofs.VisitRows.{grown_store, store_with_page}
 
@@ -103,6 +110,49 @@ visit_bears old made now new row told is_place frecency source h well made_is r 
     (subst (BearsOnlyOn (row.page ∷ sources old row) (store_of old)) (sym is)
     (bears_on (row.page ∷ sources old row) (store_of old) (after old row) (pages_once old h) refl (stems old row)
     (visit_alike old row h (subst IsWellKept made_is well))))
+
+-- the page of the source is told before the visit
+source_still : (old : Kept) (row : VisitRow) (redirect : Bool) (source : Option VisitId)
+    → IfSome source (λ id. has_visit old id ≡ true)
+    → (if redirect then option_map (λ (v : Visit). v.page)
+    (option_and_then (visit_at (with_visit row old)) source) else None)
+    ≡ (if redirect then option_map (λ (v : Visit). v.page) (option_and_then (visit_at old) source) else None)
+source_still old row false source there = refl
+source_still old row true None there = refl
+source_still old row true (Some id) there =
+    ap (option_map (λ (v : Visit). v.page))
+    (find_push (λ (v : Visit). v.id.0 == id.0) old.visits (next_visit row old ∷ []) there)
+
+pub visit_source : (old made now : Kept) (row : VisitRow) (told : Mark) (is_place : Bool) (frecency : ℤ)
+    (source : Option PageId) → made ≡ with_visit row old → Refreshes row.page told is_place made now frecency
+    → IfSome row.source (λ id. has_visit old id ≡ true) → source ≡ source_page now row → source ≡ source_page old row
+visit_source old made now row told is_place frecency source made_is r there from =
+    from ∙ ap (λ (k : Kept). source_page k row) r.rows ∙ ap (λ (k : Kept). source_page k row) made_is
+    ∙ source_still old row (is_redirect row.transition) row.source there
+
+-- a page that was found or made, and then the visit to it
+pub then_visited : (old mid new : Store) (row : VisitRow) (added : AddedVisit) → BearsOnlyOn (row.page ∷ []) old mid
+    → AddsVisit row mid new added
+    → BearsOnlyOn (added.page ∷ option_to_list added.source) mid new
+    → BearsOnlyOn (added.page ∷ option_to_list added.source) old new
+then_visited old mid new row added a adds b =
+    let ids : List PageId = added.page ∷ option_to_list added.source in
+    bears_then ids old mid new
+    (bears_more (row.page ∷ []) ids old mid
+    (λ id other.
+    or_from (id.0 == row.page.0) false
+    (ap (λ (i : PageId). id.0 == i.0) (sym adds.page)
+    ∙ (or_parts (id.0 == added.page.0) (is_one_of (option_to_list added.source) id) other).0)
+    refl)
+    a)
+    b
+    (λ r there.
+    let visit : Page → Page = visit_page row.page row.transition in
+    let from = contains_from_map visit mid.pages r (subst (λ (s : Store). Contains s.pages r) adds.store there) in (
+      from.0,
+      from.1,
+      sym (same_texts (from.0.id.0 == row.page.0) row.transition from.0).0 ∙ ap (λ (p : Page). p.id) from.2,
+    ))
 
 -- ---- a page
 

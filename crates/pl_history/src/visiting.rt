@@ -105,6 +105,8 @@ pub fn add_visit<R: Rows, L: Ledger>(
     requires views { HaveAddresses views.now (R.kept rows.old) }
     ensures added { IfOk result (AddsVisit row.now
         (store_of (R.kept rows.old)) (store_of (R.kept rows.new))) }
+    ensures source { IfOk result (λ added.
+        added.source ≡ source_page (R.kept rows.old) row.now) }
     ensures borne { IfOk result (λ added. BearsOnlyOn (added.page ∷ option_to_list added.source)
         (store_of (R.kept rows.old)) (store_of (R.kept rows.new))) }
     ensures sound { OnOk result (IsSound (R.kept rows.new)) }

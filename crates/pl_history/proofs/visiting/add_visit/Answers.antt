@@ -11,7 +11,7 @@ use Rattle.pl_history.specs.Added.{AddsVisit}
 use Rattle.pl_history.proofs.KeptAddresses.{addresses_refreshed, addresses_same}
 use Rattle.pl_history.proofs.RightAfter.{counts_refreshed, counts_visited}
 use Rattle.pl_history.proofs.KeptMark.{count_told, few_counted, mark_made}
-use Rattle.pl_history.proofs.VisitBears.{visit_bears}
+use Rattle.pl_history.proofs.VisitBears.{visit_bears, visit_source}
 use Rattle.pl_history.proofs.VisitMade.{added_after, afresh_made, right_still, sound_after, sums_made}
 use Rattle.pl_history.proofs.visiting.add_visit.Goals as goal
 
@@ -125,3 +125,10 @@ returns-clause-borne g c =
     c.in_ok-frecency.frecency c.requires.ready (g.met.R.Rows.well_kept c.insert_visit.new.self)
     c.in_ok-visit.ensures.kept (sym c.unwrap-mark.ensures ∙ c.page_at.ensures.mark) c.visited_mark-told.ensures
     c.in_ok-frecency.ensures.refreshed).store)
+
+pub returns-clause-source : goal.returns-clause-source
+returns-clause-source g c =
+    visit_source (g.R.Rows.kept c.args.rows.now) (g.R.Rows.kept c.insert_visit.new.self)
+    (g.R.Rows.kept c.refresh.new.rows) c.args.row.now c.visited_mark-told.result c.args.is_place
+    c.in_ok-frecency.frecency c.in_ok-source.source c.in_ok-visit.ensures.kept c.in_ok-frecency.ensures.refreshed
+    c.requires.source c.in_ok-source.ensures.source
