@@ -8,6 +8,7 @@ use pl_calendar::Calendar;
 use pl_follow::{FoldedTexts, Follow, OrderIndex, UrlIndex};
 use pl_totals::{Totals, without_www};
 use std::alloc::Global;
+use trials_views::have_same_order;
 
 // A follower that can be made and compared.
 pub trait Kept: Follow + Drop {
@@ -60,8 +61,7 @@ impl Kept for OrderIndex {
         Ok(
             walk_alike_by_frecency(self, other)
                 && walk_alike_by_visit(self, other)
-                && run_alike_by_frecency(self, other)
-                && run_alike_by_visit(self, other),
+                && have_same_order(self, other),
         )
     }
 }
@@ -94,28 +94,6 @@ fn walk_alike_by_visit(one: &OrderIndex, other: &OrderIndex) -> bool {
         place = next;
     }
     false
-}
-
-fn run_alike_by_frecency(one: &OrderIndex, other: &OrderIndex) -> bool {
-    let mut place: Option<(i64, PageId)> = None;
-    for rank in one.by_frecency() {
-        place = other.after(place);
-        if place != Some(*rank) {
-            return false;
-        }
-    }
-    other.after(place).is_none() && other.by_frecency().count() == one.by_frecency().count()
-}
-
-fn run_alike_by_visit(one: &OrderIndex, other: &OrderIndex) -> bool {
-    let mut place: Option<(Micros, PageId)> = None;
-    for rank in one.by_visit() {
-        place = other.visited_before(place);
-        if place != Some(*rank) {
-            return false;
-        }
-    }
-    other.visited_before(place).is_none() && other.by_visit().count() == one.by_visit().count()
 }
 
 impl Kept for FoldedTexts {

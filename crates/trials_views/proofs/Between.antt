@@ -2,19 +2,18 @@
 use Rattle.std.proofs.Common.{◌≡◌, ◌≢◌, ◌∙◌, ◌<◌, ◌++◌, ◌==◌, Bool, true, false, List, [], ◌∷◌}
 use Rattle.std.proofs.Common.{None, Some, ap, arith, eq-eqb, if◌then◌else◌, length, nat_eq, nat_lt, not, refl, subst}
 use Rattle.std.proofs.Common.{suc, sym}
-use Rattle.std.specs.List.{AllByRecursion, AllPairs, Contains, starts_with}
+use Rattle.std.specs.List.{AllByRecursion, Contains, starts_with}
 use Rattle.std.proofs.Math.Seq.{get_or-append_seam}
 use Rattle.std.proofs.lemmas.Bool.{ne_eqb}
 use Rattle.std.proofs.lemmas.Bool.Decides.{nat_tests}
 use Rattle.std.proofs.lemmas.List.{length-append}
 use Rattle.std.proofs.lemmas.List.Elements.{All-from_recursion, recursion_from_All}
 use Rattle.std.proofs.lemmas.List.Folds.{list_any_none}
-use Rattle.std.proofs.lemmas.List.Kept.{AllPairs-cons}
 use Rattle.pl_base.specs.declared.view.View.{View}
 use Rattle.pl_base.specs.Totals.{share}
 use Rattle.pl_base.proofs.ListLaws.{all_stay, weaker}
 use Rattle.pl_follow.specs.Changes.{AreInOrder, FitStore, Suits, has_view, with_view, without_id}
-use Rattle.pl_follow.proofs.ChangedLists.{others_fit}
+use Rattle.pl_follow.proofs.ChangedLists.{Pairs, all_pairs, all_with, others_fit, pairs}
 use Rattle.pl_follow.proofs.Parted.{Ascend, Parted, added_parted, ascend, parted_length, parted_sum}
 use Rattle.trials_views.specs.Books.{MayCome}
 
@@ -61,7 +60,8 @@ goes_from front back old ordered = from front (ascend (front ++ old ∷ back) or
     ahead v [] all = all.0
     ahead v (w ∷ front) all = ahead v front all.1
 
-    from : (front : List View) → Ascend (front ++ old ∷ back) → without_id old.id (front ++ old ∷ back) ≡ front ++ back
+    from : (front : List View) → Ascend (front ++ old ∷ back)
+        → without_id old.id (front ++ old ∷ back) ≡ front ++ back
     from [] a = last a
     from (v ∷ front) a =
         let below : v.id.0 < old.id.0 = ahead v front a.0 in
@@ -79,7 +79,8 @@ is_between front back view = (
   get_or-append_seam front view back view,
 )
 
-pub has_none : (front back : List View) (new : View) → MayCome new front back → has_view new.id (front ++ back) ≡ false
+pub has_none : (front back : List View) (new : View) → MayCome new front back
+    → has_view new.id (front ++ back) ≡ false
 has_none front back new may =
     list_any_none (λ (w : View). w.id.0 == new.id.0) (front ++ back)
     (All-from_recursion (λ (w : View). (w.id.0 == new.id.0) ≡ false) (front ++ back) (both front may.below))
@@ -96,32 +97,8 @@ has_none front back new may =
 
 -- ---- what holds of the views with one more
 
-all_with : (P : View → Type 0) (view : View) (views : List View) → P view → AllByRecursion P views
-    → AllByRecursion P (with_view view views)
-all_with P view [] one all = (one, tt)
-all_with P view (v ∷ vs) one all = choose (nat_lt view.id.0 v.id.0) (all_with P view vs one all.1)
-  where
-    choose : (b : Bool) → AllByRecursion P (with_view view vs)
-        → AllByRecursion P (if b then view ∷ v ∷ vs else v ∷ with_view view vs)
-    choose true rest = (one, all)
-    choose false rest = (all.0, rest)
-
 abbrev Differ : List View → Type 0
-Differ [] = Unit {0}
-Differ (v ∷ vs) = AllByRecursion (λ (w : View). v.url ≢ w.url) vs × Differ vs
-
-differ : (views : List View) → AllPairs (λ (v w : View). v.url ≢ w.url) views → Differ views
-differ [] each = tt
-differ (v ∷ vs) each = (
-  recursion_from_All (λ (w : View). v.url ≢ w.url) vs (λ k d within. each 0 (suc k) d (omega arith) (omega (arith, within))),
-  differ vs (λ i j d below within. each (suc i) (suc j) d (omega (arith, below)) (omega (arith, within))),
-)
-
-all_differ : (views : List View) → Differ views → AllPairs (λ (v w : View). v.url ≢ w.url) views
-all_differ [] each = λ i j d below within. absurd (omega (arith, within))
-all_differ (v ∷ vs) each =
-    AllPairs-cons (λ (x y : View). x.url ≢ y.url) v vs (All-from_recursion (λ (w : View). v.url ≢ w.url) vs each.0)
-    (all_differ vs each.1)
+Differ views = Pairs (λ (v w : View). v.url ≢ w.url) views
 
 differ_with : (view : View) (views : List View) → AllByRecursion (λ (w : View). w.url ≢ view.url) views → Differ views
     → Differ (with_view view views)
@@ -143,7 +120,9 @@ with_it_fits front back new are may =
     let others : List View = front ++ back in
     let p : Parted (with_view new others) new others = added_parted new others in
     record {
-      urls = all_differ (with_view new others) (differ_with new others may.fresh (differ others are.urls));
+      urls =
+          all_pairs (λ (v w : View). v.url ≢ w.url) (with_view new others)
+          (differ_with new others may.fresh (pairs (λ (v w : View). v.url ≢ w.url) others are.urls));
       prefixes =
           All-from_recursion (λ (v : View). starts_with nat_eq v.url v.prefix ≡ true) (with_view new others)
           (all_with (λ (v : View). starts_with nat_eq v.url v.prefix ≡ true) new others may.prefix

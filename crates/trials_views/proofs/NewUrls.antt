@@ -34,8 +34,3 @@ others_differ front back old url same each =
     subst (λ (u : List ℕ). AllByRecursion (λ (w : View). w.url ≢ u) (front ++ back)) same
     (recursion_from_All (λ (w : View). w.url ≢ old.url) (front ++ back)
     (parted_url (front ++ old ∷ back) (front ++ back) old (parted_between front back old) each))
-
-pub but_one : (P : View → Type 0) (front : List View) (view : View) (back : List View)
-    → AllByRecursion P (front ++ view ∷ back) → AllByRecursion P (front ++ back)
-but_one P [] view back all = all.1
-but_one P (v ∷ front) view back all = (all.0, but_one P front view back all.1)

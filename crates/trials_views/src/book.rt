@@ -4,7 +4,7 @@ ghost use Rattle.std.specs.List.{AllByRecursion};
 ghost use Rattle.std.specs.Vec.{vec_len};
 ghost use Rattle.pl_base.specs.declared.view.View.{View};
 ghost use Rattle.pl_follow.specs.Urls.{IndexesUrls};
-ghost use Rattle.trials_views.specs.Books.{IsBook, MayCome};
+ghost use Rattle.trials_views.specs.Books.{IsBook, MayCome, MayTurn};
 
 use crate::both::Both;
 use crate::places::{has_prefix, is_before, is_behind, is_free, is_new, share};
@@ -63,8 +63,7 @@ impl<F: Follow> Book<F> {
     fn may_turn(&self, place: usize, new: &View) -> bool
         requires book { IsBook F.stands self.now }
         requires place { place < vec_len self.now.views }
-        ensures { result ≡ true
-            → MayCome new.now (take place self.now.views.items) (drop (place + 1) self.now.views.items) }
+        ensures { result ≡ true → MayTurn new.now place self.now.views.items }
     {
         let old = &self.views[place];
         if !is_behind(&self.views, place, new.id) || !is_before(&self.views, place + 1, new.id) {

@@ -1,10 +1,11 @@
 // What is asked of a view before it comes to others.
-ghost use Rattle.std.specs.Prelude.{◌≡◌, ◌≢◌, ◌<◌, ◌≤◌, ◌++◌, ◌∷◌, List, length, take, drop, nat_eq, true};
+ghost use Rattle.std.specs.Prelude.{◌≡◌, ◌<◌, ◌≤◌, ◌++◌, ◌∷◌, List, length, take, drop, nat_eq, true};
 ghost use Rattle.std.specs.List.{AllByRecursion, starts_with};
 ghost use Rattle.pl_base.specs.declared.view.View.{View};
 ghost use Rattle.pl_base.specs.Totals as totals;
 ghost use Rattle.pl_follow.specs.Changes.{AreInOrder};
 ghost use Rattle.pl_follow.specs.Urls.{IndexesUrls};
+ghost use Rattle.trials_views.specs.Books.{NoneHas};
 
 use pl_base::{PageId, Txt, View};
 use pl_follow::UrlIndex;
@@ -36,7 +37,7 @@ pub fn is_before(views: &[View], place: usize, id: PageId) -> bool
 // Whether no view has the URL.
 pub fn is_new(known: &UrlIndex, url: &Txt) -> bool
     ensures { result ≡ true → (views : List View) → IndexesUrls known.now views
-        → AllByRecursion (λ (w : View). w.url ≢ url.now) views }
+        → NoneHas url.now views }
 {
     known.find(url.as_str()).is_none()
 }
@@ -44,7 +45,7 @@ pub fn is_new(known: &UrlIndex, url: &Txt) -> bool
 // Whether no view but the old one has the URL.
 pub fn is_free(known: &UrlIndex, old: &View, url: &Txt) -> bool
     ensures { result ≡ true → (front back : List View) → IndexesUrls known.now (front ++ old.now ∷ back)
-        → AllByRecursion (λ (w : View). w.url ≢ url.now) (front ++ back) }
+        → NoneHas url.now (front ++ back) }
 {
     old.url == *url || is_new(known, url)
 }

@@ -1,0 +1,66 @@
+// Lines of a script that look drawn at random: commands on history.
+use pl_base::NoMemory;
+use std::alloc::Global;
+use trials_views::drawn;
+
+pub const URLS: &[&str] = &[
+    "https://a.example/",
+    "https://a.example/1",
+    "https://a.example/2",
+    "https://www.a.example/",
+    "http://a.example/",
+    "http://b.example:8080/%C3%89",
+    "http://b.example:8080/x",
+    "place:type=3",
+    "file:///a",
+    "https://c.example/",
+    "https://c.example/?q=1",
+    "https://d.example/",
+];
+
+const TITLES: &[&str] = &["", "a title", "Straße"];
+
+// The numbers of transitions, with those of redirects more often.
+const TRANSITIONS: &[&str] = &["1", "2", "3", "4", "5", "5", "6", "6", "7", "8", "9"];
+
+const MICROS_PER_DAY: u64 = 86_400_000_000;
+
+const FIRST_DAY: u32 = 20_000;
+
+fn one_of(texts: &'static [&'static str], turn: u32, part: u32) -> &'static str {
+    let count = u32::try_from(texts.len()).unwrap_or(0);
+    let place = drawn(turn, part, count);
+    texts.get(place as usize).copied().unwrap_or("")
+}
+
+// The day that the store has come to, or one of the days about it.
+fn near_day(turn: u32, part: u32) -> u32 {
+    FIRST_DAY
+        .wrapping_add(turn / 8)
+        .wrapping_sub(drawn(turn, part, 100))
+}
+
+fn visit(alloc: Global, turn: u32) -> Result<String, NoMemory> {
+    let url = one_of(URLS, turn, 1);
+    let transition = one_of(TRANSITIONS, turn, 2);
+    let date = u64::from(near_day(turn, 3)).wrapping_mul(MICROS_PER_DAY);
+    let source = drawn(turn, 4, turn / 2 + 2);
+    match source {
+        0 => format!(in alloc; "visit\t{url}\t{transition}\t{date}"),
+        _ => format!(in alloc; "visit\t{url}\t{transition}\t{date}\t{source}"),
+    }
+}
+
+/// The line of a turn.
+pub fn line_of(alloc: Global, turn: u32) -> Result<String, NoMemory> {
+    let url = one_of(URLS, turn, 1);
+    match drawn(turn, 0, 24) {
+        0 | 1 => format!(in alloc; "title\t{url}\t{}", one_of(TITLES, turn, 5)),
+        2 | 3 => format!(in alloc; "unvisit\t{}", drawn(turn, 6, turn / 2 + 2)),
+        4 => format!(in alloc; "forget\t{url}"),
+        5 => format!(in alloc; "expire\t{}", near_day(turn, 7).wrapping_sub(60)),
+        6 => format!(in alloc; "trim\t{}", 6 + drawn(turn, 8, 6)),
+        7 | 8 => format!(in alloc; "day\t{}", FIRST_DAY.wrapping_add(turn / 8)),
+        _ => visit(alloc, turn),
+    }
+}
