@@ -1,7 +1,7 @@
 -- A view that comes between others, or goes from between them.
 use Rattle.std.proofs.Common.{◌≡◌, ◌≢◌, ◌∙◌, ◌<◌, ◌++◌, ◌==◌, Bool, true, false, List, [], ◌∷◌}
 use Rattle.std.proofs.Common.{None, Some, ap, arith, eq-eqb, if◌then◌else◌, length, nat_eq, nat_lt, not, refl, subst}
-use Rattle.std.proofs.Common.{suc, sym}
+use Rattle.std.proofs.Common.{sym}
 use Rattle.std.specs.List.{AllByRecursion, Contains, starts_with}
 use Rattle.std.proofs.Math.Seq.{get_or-append_seam}
 use Rattle.std.proofs.lemmas.Bool.{ne_eqb}
@@ -108,8 +108,8 @@ differ_with view (v ∷ vs) fresh each =
   where
     choose : (b : Bool) → Differ (with_view view vs) → Differ (if b then view ∷ v ∷ vs else v ∷ with_view view vs)
     choose true rest = (
-      weaker (λ (w : View). w.url ≢ view.url) (λ (w : View). view.url ≢ w.url) (v ∷ vs) (λ w other same. other (sym same))
-          fresh,
+      weaker (λ (w : View). w.url ≢ view.url) (λ (w : View). view.url ≢ w.url) (v ∷ vs)
+          (λ w other same. other (sym same)) fresh,
       each,
     )
     choose false rest = (all_with (λ (w : View). v.url ≢ w.url) view vs fresh.0 each.0, rest)

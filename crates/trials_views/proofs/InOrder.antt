@@ -1,5 +1,6 @@
 -- Views in order, in front of a place and behind it.
-use Rattle.std.proofs.Common.{◌≡◌, ◌∙◌, ◌+◌, ◌-◌, ◌<◌, ◌≤◌, ◌++◌, ℕ, Bool, List, ◌∷◌, ap, arith, drop, false, get_or, length}
+use Rattle.std.proofs.Common.{◌≡◌, ◌∙◌, ◌+◌, ◌-◌, ◌<◌, ◌≤◌, ◌++◌, ℕ, Bool, List, ◌∷◌, ap, arith, drop, false}
+use Rattle.std.proofs.Common.{get_or, length}
 use Rattle.std.proofs.Common.{nat_lt, refl, subst, sym, take, true}
 use Rattle.std.specs.List.{AllByRecursion}
 use Rattle.std.proofs.lemmas.Bool.Decides.{nat_tests}
@@ -26,7 +27,8 @@ pub all_behind : (views : List View) (count id : ℕ) (last : View) → AreInOrd
 all_behind views count id last ordered within some is below =
     recursion_from_All (λ (w : View). w.id.0 < id) (take count views) (λ k d inside.
     let near : k < count = omega (arith, inside, length-take count views) in
-    let here : get_or views (count - 1) d ≡ last = get_or_default views (count - 1) d last (omega (arith, within, some)) ∙ is in
+    let here : get_or views (count - 1) d ≡ last =
+    get_or_default views (count - 1) d last (omega (arith, within, some)) ∙ is in
     let later : (get_or views k d).id.0 ≤ (get_or views (count - 1) d).id.0 =
     up_to views k (count - 1) d ordered (omega (arith, near)) (omega (arith, within, some)) in
     subst (λ (w : View). w.id.0 < id) (sym (get_or-take count views k d near))

@@ -1,5 +1,6 @@
 -- A view that comes to a list at a place, goes from it there, or turns into another.
-use Rattle.std.proofs.Common.{◌≡◌, ◌≢◌, ◌∙◌, ◌+◌, ◌-◌, ◌<◌, ◌++◌, ◌^◌, ℕ, List, ◌∷◌, None, Some, ap, arith, drop, get_or}
+use Rattle.std.proofs.Common.{◌≡◌, ◌≢◌, ◌∙◌, ◌+◌, ◌-◌, ◌<◌, ◌++◌, ◌^◌, ℕ, List, ◌∷◌, None, Some, ap, arith}
+use Rattle.std.proofs.Common.{drop, get_or}
 use Rattle.std.proofs.Common.{length, nat_eq, refl, slice_set, subst, suc, sym, take, true}
 use Rattle.std.specs.List.{AllByRecursion, insert, remove, starts_with}
 use Rattle.std.proofs.lemmas.List.{drop-set, take-append-drop, take-set}
@@ -37,8 +38,8 @@ module _ (views : List View) (place : ℕ) (new : View) (may : MayCome new (take
 
 -- ---- a view goes, or turns into another
 
-module _ (views : List View) (place : ℕ) (old : View) (within : place < length views) (is : old ≡ get_or views place old)
-  where
+module _ (views : List View) (place : ℕ) (old : View) (within : place < length views)
+    (is : old ≡ get_or views place old) where
     all : views ≡ take place views ++ old ∷ drop (place + 1) views
     all = parts views place old within (sym is)
 
@@ -54,7 +55,8 @@ module _ (views : List View) (place : ℕ) (old : View) (within : place < length
     pub go_suits : AreInOrder views → FitStore views → Suits (Some old) None views
     go_suits ordered are =
         subst (λ (vs : List View). Suits (Some old) None vs) (sym all)
-        (suits_go (take place views) (drop (place + 1) views) old (subst AreInOrder all ordered) (subst FitStore all are))
+        (suits_go (take place views) (drop (place + 1) views) old (subst AreInOrder all ordered)
+        (subst FitStore all are))
 
     pub go_list : AreInOrder views → without_id old.id views ≡ remove views place
     go_list ordered =

@@ -1,5 +1,6 @@
 -- What holds of a list of views and what follows it, and which views may come to the list.
-use Rattle.std.specs.Prelude.{◌≡◌, ◌≢◌, ◌+◌, ◌<◌, ◌^◌, ◌++◌, ℕ, List, drop, length, nat_eq, take, true}
+use Rattle.std.specs.Prelude.{◌≡◌, ◌≢◌, ◌+◌, ◌<◌, ◌^◌, ◌++◌, ℕ, List, drop, length, nat_eq}
+use Rattle.std.specs.Prelude.{take, true}
 use Rattle.std.specs.List.{AllByRecursion, starts_with, sum_by}
 use Rattle.pl_base.specs.declared.view.View.{View}
 use Rattle.pl_base.specs.Live.{slot_limit}

@@ -1,5 +1,6 @@
 // What is asked of a view before it comes to others.
-ghost use Rattle.std.specs.Prelude.{◌≡◌, ◌<◌, ◌≤◌, ◌++◌, ◌∷◌, List, length, take, drop, nat_eq, true};
+ghost use Rattle.std.specs.Prelude.{◌≡◌, ◌<◌, ◌≤◌, ◌++◌, ◌∷◌, List, drop, length, nat_eq, take};
+ghost use Rattle.std.specs.Prelude.{true};
 ghost use Rattle.std.specs.List.{AllByRecursion, starts_with};
 ghost use Rattle.pl_base.specs.declared.view.View.{View};
 ghost use Rattle.pl_base.specs.Totals as totals;
@@ -44,8 +45,8 @@ pub fn is_new(known: &UrlIndex, url: &Txt) -> bool
 
 // Whether no view but the old one has the URL.
 pub fn is_free(known: &UrlIndex, old: &View, url: &Txt) -> bool
-    ensures { result ≡ true → (front back : List View) → IndexesUrls known.now (front ++ old.now ∷ back)
-        → NoneHas url.now (front ++ back) }
+    ensures { result ≡ true → (front back : List View)
+        → IndexesUrls known.now (front ++ old.now ∷ back) → NoneHas url.now (front ++ back) }
 {
     old.url == *url || is_new(known, url)
 }

@@ -6,4 +6,5 @@ use Rattle.trials_views.proofs.places.is_before.Goals as goal
 pub returns : goal.returns
 returns c above =
     all_before c.args.views.now c.args.place c.args.id.0 c.index-views-place.result c.requires.order
-    (omega (arith, c.requires.place, c.if-place-views.false)) (sym c.index-views-place.is) (grind (arith, nat_tests, above))
+    (omega (arith, c.requires.place, c.if-place-views.false)) (sym c.index-views-place.is)
+    (grind (arith, nat_tests, above))

@@ -15,8 +15,8 @@ change-requires g c =
             views = c.args.self.now.views.items;
             stood = (book.known, book.stood);
             suits =
-                go_suits c.args.self.now.views.items c.args.place c.remove-old.result (omega (arith, c.if-place-len.false))
-                c.remove-old.ensures.value book.known.order book.fit;
+                go_suits c.args.self.now.views.items c.args.place c.remove-old.result
+                (omega (arith, c.if-place-len.false)) c.remove-old.ensures.value book.known.order book.fit;
           };
     }
 

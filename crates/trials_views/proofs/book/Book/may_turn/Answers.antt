@@ -20,6 +20,6 @@ returns g c small =
     (subst (λ (vs : List View). AllByRecursion (λ (w : View). new.id.0 < w.id.0) (drop (place + 1) vs))
     c.deref-else-not-is_behind.ensures.value (c.is_before.ensures c.if-not-is_before.false))
     (c.is_free.ensures c.if-not-is_free.false (take place views) (drop (place + 1) views)
-    (subst (IndexesUrls c.args.self.now.follows.one) (parts views place old (omega (arith, c.requires.place)) (sym c.index-old.ensures))
-    book.known))
+    (subst (IndexesUrls c.args.self.now.follows.one)
+    (parts views place old (omega (arith, c.requires.place)) (sym c.index-old.ensures)) book.known))
     (sym c.has_prefix.ensures ∙ c.if-not-has_prefix.false) (grind (arith, nat_tests, small, c.share.ensures, book.sum))
