@@ -1,0 +1,11 @@
+pub mod Brought
+pub mod Elements
+pub mod FoundPages
+pub mod KeptTexts
+pub mod Mixed
+pub mod NewViews
+pub mod SameFigures
+pub mod Seen
+pub mod SmallShares
+pub mod Steps
+pub mod StoreViews
