@@ -1,10 +1,11 @@
 -- What is found of one page after another: the changes so far, and that they walk from the old views to new ones.
 use Rattle.std.proofs.Common.{◌≡◌, ◌≢◌, ◌∙◌, ◌+◌, ◌<◌, ◌≤◌, ◌++◌, ◌==◌, ◌⊎◌, inl, inr, ℕ, Bool, true, false}
-use Rattle.std.proofs.Common.{List, [], ◌∷◌, Option, Some, None, ap, arith, map, refl, subst, suc, sym}
+use Rattle.std.proofs.Common.{List, [], ◌∷◌, Option, Some, None, ap, arith, get_or, length, map, refl, subst, suc, sym, take}
 use Rattle.std.specs.List.{AllByRecursion, AllPairs, list_any}
 use Rattle.std.specs.List.Sorted.{IsStrictlyIncreasing}
 use Rattle.std.specs.Option.{option_to_list}
 use Rattle.std.proofs.lemmas.Bool.{cases_eq, ne_eqb, or_from, or_parts}
+use Rattle.std.proofs.lemmas.List.{take_more}
 use Rattle.std.proofs.lemmas.List.Elements.{recursion_from_All}
 use Rattle.std.proofs.lemmas.List.Kept.{AllPairs-from_increasing}
 use Rattle.pl_base.specs.declared.change.Change.{Change}
@@ -37,6 +38,17 @@ one_more store views pages changes page o (kept {pages = ps} {changes = cs} is r
     kept is (one_more store views ps cs page o rest last)
 one_more store views pages changes page o (moved {pages = ps} {changes = cs} is rest) last =
     moved is (one_more store views ps cs page o rest last)
+
+-- the next of the pages
+pub next_more : (store : Store) (views : List View) (pages : List PageId) (i : ℕ) (d : PageId)
+    (changes next : List Change) (o found : Option Change) → i < length pages
+    → Brought store views (take i pages) changes → Brings store (get_or pages i d) (view_of (get_or pages i d) views) o
+    → o ≡ found → next ≡ changes ++ option_to_list found → Brought store views (take (i + 1) pages) next
+next_more store views pages i d changes next o found within so_far brings is pushed =
+    subst (λ (cs : List Change). Brought store views (take (i + 1) pages) cs)
+    (ap (λ (p : Option Change). changes ++ option_to_list p) is ∙ sym pushed)
+    (subst (λ (ps : List PageId). Brought store views ps (changes ++ option_to_list o)) (sym (take_more pages i d within))
+    (one_more store views (take i pages) changes (get_or pages i d) o so_far brings))
 
 -- what the store has of one of the pages
 pub view_there : (store : Store) (views : List View) (pages : List PageId) (changes : List Change)

@@ -2,6 +2,7 @@ pub mod Brought
 pub mod Elements
 pub mod FoundPages
 pub mod KeptTexts
+pub mod Leads
 pub mod Mixed
 pub mod NewViews
 pub mod SameFigures

@@ -8,11 +8,11 @@ use Rattle.pl_changes.proofs.SmallShares.{small}
 use Rattle.pl_changes.proofs.StoreViews.{fits, in_order}
 use Rattle.pl_changes.proofs.opening.known_of.Goals as goal
 
-knows : {E : Type 0} {kept : Kept} {views : List View} (r : Result Known E) → IsWellKept kept
+knows : {E : Type 0} (kept : Kept) (views : List View) (r : Result Known E) → IsWellKept kept
     → AreViewsOf (store_of kept) views → IfOk r (λ known. known.views.items ≡ views) → IfOk r AreFollowed
     → IfOk r (Knows (store_of kept))
-knows (Err e) well are is followed = tt
-knows {kept = kept} {views = views} (Ok known) well are is followed =
+knows kept views (Err e) well are is followed = tt
+knows kept views (Ok known) well are is followed =
     let same : AreViewsOf (store_of kept) known.views.items = subst (AreViewsOf (store_of kept)) (sym is) are in
     record { views = same; small = small kept known.views.items well same; followed = followed }
 
@@ -29,5 +29,5 @@ of-requires-clause-fit g c =
 pub returns : goal.returns
 returns g c =
     let kept : Kept = g.R.Rows.kept c.args.rows.now in
-    knows c.of.result (g.met.R.Rows.well_kept c.args.rows.now) c.in_ok-views.ensures c.of.ensures.views
+    knows kept c.in_ok-views.views.items c.of.result (g.met.R.Rows.well_kept c.args.rows.now) c.in_ok-views.ensures c.of.ensures.views
     c.of.ensures.followed
