@@ -1,5 +1,7 @@
 pub mod Idle
 pub mod NewPage
+pub mod Parts
+pub mod Performed
 pub mod Returns
 pub mod Room
 pub mod Titled

@@ -1,9 +1,11 @@
 mod bookmark;
 mod change;
+mod find;
 mod gained;
 mod history;
 mod import;
 mod insert;
+mod perform;
 mod remove;
 mod slots;
 mod tag;
@@ -13,60 +15,145 @@ mod visit;
 ghost use Rattle.std.specs.Prelude.{◌≡◌, ◌≤◌, ◌↔◌, ℕ, List, Some, false, length, IfOk, IfSome};
 ghost use Rattle.std.specs.Prelude.{IsErr, OnOk};
 ghost use Rattle.std.specs.List.{All};
-ghost use Rattle.std.proofs.Props.{props};
 ghost use Rattle.pl_base.specs.Live.{slot_limit};
 ghost use Rattle.pl_base.specs.Rows.{IsSound, store_of};
 ghost use Rattle.pl_base.specs.Touched.{IsWithin, MayDiffer, bytes_before, changed};
 ghost use Rattle.pl_base.specs.Touched.{page_numbers};
 ghost use Rattle.pl_nbwrite.specs.Plain.{IsPlain};
 ghost use Rattle.pl_outline.specs.Outline.{bookmarks};
+ghost use Rattle.pl_known.specs.Known.{AreFollowed, Knows};
+ghost use Rattle.pl_known.specs.Props.{props};
 ghost use Rattle.pl_step.specs.Commands.{HasDates, MayWantMemory, is_change};
 ghost use Rattle.pl_step.specs.Step as spec;
 ghost use Rattle.pl_engine.specs.Idle.{IsIdle};
+ghost use Rattle.pl_engine.specs.Parts.{known_in};
+ghost use Rattle.pl_engine.specs.Performed.{Renews};
 ghost use Rattle.pl_engine.specs.Returns.{Returns};
 ghost use Rattle.pl_engine.specs.VisitPages.{AddsFewPages};
 
-use crate::engine::bookmark::bookmark;
-use crate::engine::change::{move_item, retitle};
-use crate::engine::history::{day, expire, forget, trim, unvisit};
-use crate::engine::import::import;
-use crate::engine::insert::{folder, separator};
-use crate::engine::remove::remove;
-use crate::engine::tag::{tag, untag};
-use crate::engine::title::title;
-use crate::engine::visit::visit;
+use crate::done::Renewal;
+use crate::engine::perform::perform;
+use crate::parts::Parts;
 use pl_base::{NoMemory, Refusal, Rows, Steps, Touched};
+use pl_changes::known_of;
+use pl_known::Known;
 use pl_nbread::Tree;
 use pl_outline::tree;
-use pl_step::{Command, Reply};
-use pl_told::{bar, fill, list, origin, page, place, query, stats};
+use pl_step::{Command, Reply, StepError};
 use std::alloc::Global;
 use std::sync::ledger::Ledger;
 
 /// What performs commands on rows, however these are kept.
 ///
 /// The rows hold a good store, and what they keep of each page beside its texts is right, and of
-/// each origin its total.
+/// each origin its total. What is known of the pages in memory is what the rows tell of them.
 #[derive(Drop)]
 pub struct Engine<R: Rows> {
     alloc: Global,
     rows: R,
     // How many slots of 128 bytes the store may take.
     limit: u32,
+    known: Known,
     ghost sound: { IsSound (R.kept rows) } by { Prim.hlevel props },
     ghost most: { limit ≤ slot_limit },
+    ghost knows: { Knows (store_of (R.kept rows)) known } by { Prim.hlevel props },
+}
+
+// What is known of the pages of the rows, once a command changed them.
+fn renew<R: Rows, L: Ledger>(
+    alloc: Global,
+    rows: &R,
+    known: &mut Known,
+    renewal: Renewal,
+    steps: &mut Steps<L>,
+) -> Result<(), NoMemory>
+    requires sound { IsSound (R.kept rows.now) }
+    requires followed { AreFollowed known.old }
+    requires renews { Renews (store_of (R.kept rows.now)) known.old renewal }
+    ensures { OnOk result (Knows (store_of (R.kept rows.now)) known.new) }
+{
+    match renewal {
+        Renewal::By(changes) => known.follow(alloc, &changes),
+        Renewal::Afresh => {
+            *known = known_of(alloc, rows, steps)?;
+            Ok(())
+        }
+    }
 }
 
 impl<R: Rows + Drop> Engine<R> {
-    /// Over rows whose store may take so many slots of 128 bytes.
-    pub fn over(alloc: Global, rows: R, limit: u32) -> Result<Engine<R>, NoMemory>
+    /// Over rows whose store may take so many slots of 128 bytes. All pages are read.
+    pub fn over<L: Ledger>(
+        alloc: Global,
+        rows: R,
+        limit: u32,
+        steps: &mut Steps<L>,
+    ) -> Result<Engine<R>, NoMemory>
         requires sound { IsSound (R.kept rows) }
         requires most { limit ≤ slot_limit }
         ensures rows { IfOk result (λ engine. engine.rows ≡ rows) }
         ensures stands { R.form (R.bytes rows) (store_of (R.kept rows)) }
         ensures limit { IfOk result (λ engine. engine.limit ≡ limit) }
+        ensures known { IfOk result (λ engine. Knows (store_of (R.kept rows)) engine.known) }
     {
-        Ok(Engine { alloc, rows, limit })
+        let known = known_of(alloc, &rows, steps)?;
+        Ok(Engine {
+            alloc,
+            rows,
+            limit,
+            known,
+        })
+    }
+
+    /// The engine taken apart. No record is read, and no memory taken.
+    pub fn parts(self) -> Parts<R>
+        ensures rows { result.rows ≡ self.rows }
+        ensures limit { result.limit ≡ self.limit }
+        ensures sound { IsSound (R.kept result.rows) }
+        ensures most { result.limit ≤ slot_limit }
+        ensures known { Knows (store_of (R.kept result.rows)) (known_in result) }
+    {
+        let Engine {
+            alloc: _,
+            rows,
+            limit,
+            known,
+        } = self;
+        Parts {
+            rows,
+            limit,
+            views: known.views,
+            urls: known.urls,
+            order: known.order,
+            texts: known.texts,
+            calendar: known.calendar,
+            totals: known.totals,
+        }
+    }
+
+    /// The engine of these parts. No record is read, and no memory taken.
+    pub fn of(alloc: Global, parts: Parts<R>) -> Engine<R>
+        requires sound { IsSound (R.kept parts.rows) }
+        requires most { parts.limit ≤ slot_limit }
+        requires known { Knows (store_of (R.kept parts.rows)) (known_in parts) }
+        ensures rows { result.rows ≡ parts.rows }
+        ensures limit { result.limit ≡ parts.limit }
+        ensures known { result.known ≡ known_in parts }
+    {
+        let known = Known {
+            views: parts.views,
+            urls: parts.urls,
+            order: parts.order,
+            texts: parts.texts,
+            calendar: parts.calendar,
+            totals: parts.totals,
+        };
+        Engine {
+            alloc,
+            rows: parts.rows,
+            limit: parts.limit,
+            known,
+        }
     }
 
     /// One step of the machine. A refusal is a reply, and changes nothing. After
@@ -95,84 +182,35 @@ impl<R: Rows + Drop> Engine<R> {
         ensures stands { IfOk result (λ done.
             R.form (R.bytes done.0.rows) (store_of (R.kept done.0.rows))) }
         ensures limit { IfOk result (λ done. done.0.limit ≡ self.limit) }
+        // The views are those of the store, and each follower stands for them.
+        ensures known { IfOk result (λ done.
+            Knows (store_of (R.kept done.0.rows)) done.0.known) }
 
-        // A move and a visit that is not recorded want no memory.
-        ensures no_memory { IsErr result → MayWantMemory command.now }
+        // A visit that is not recorded wants no memory, nor a move that is refused.
+        ensures no_memory { IsErr result → MayWantMemory self.limit
+            (store_of (R.kept self.rows)) command.now }
     {
         let Engine {
             alloc,
             mut rows,
             limit,
+            mut known,
         } = self;
-        let reply = match command {
-            Command::Day { day: to } => day(alloc, &mut rows, *to, steps)?,
-            Command::Visit {
-                url,
-                transition,
-                date,
-                source,
-            } => visit(
-                alloc,
-                &mut rows,
-                limit,
-                url,
-                *transition,
-                *date,
-                *source,
-                steps,
-            )?,
-            Command::Title { url, text } => title(&mut rows, limit, url, text, steps)?,
-            Command::Page { url } => page(alloc, &rows, url, steps)?,
-            Command::Origin { url } => origin(alloc, &rows, url, steps)?,
-            Command::Stats => stats(alloc, &rows, steps)?,
-            Command::Unvisit { visit } => unvisit(alloc, &mut rows, *visit, steps)?,
-            Command::Forget { url } => forget(alloc, &mut rows, url, steps)?,
-            Command::Expire { day } => expire(alloc, &mut rows, *day, steps)?,
-            Command::Trim { n } => trim(alloc, &mut rows, *n, steps)?,
-            Command::Folder {
-                parent,
-                place,
-                title,
-                date,
-            } => folder(
-                alloc, &mut rows, limit, *parent, *place, title, *date, steps,
-            )?,
-            Command::Bookmark {
-                parent,
-                place,
-                url,
-                title,
-                date,
-            } => bookmark(
-                alloc, &mut rows, limit, *parent, *place, url, title, *date, steps,
-            )?,
-            Command::Separator {
-                parent,
-                place,
-                date,
-            } => separator(alloc, &mut rows, limit, *parent, *place, *date, steps)?,
-            Command::Move {
-                item,
-                parent,
-                place,
-                date,
-            } => move_item(&mut rows, *item, *parent, *place, *date, steps),
-            Command::Retitle { item, title, date } => {
-                retitle(&mut rows, limit, *item, title, *date, steps)?
+        let reply = match perform(alloc, &mut rows, &known, limit, command, steps) {
+            Ok(done) => {
+                renew(alloc, &rows, &mut known, done.renewal, steps)?;
+                done.reply
             }
-            Command::Remove { item } => remove(alloc, &mut rows, *item, steps)?,
-            Command::Tag { url, name, date } => {
-                tag(alloc, &mut rows, limit, url, name, *date, steps)?
-            }
-            Command::Untag { url, name } => untag(alloc, &mut rows, url, name, steps)?,
-            Command::List { item } => list(alloc, &rows, *item, steps)?,
-            Command::Query { query: asked } => query(alloc, &rows, asked, steps)?,
-            Command::Place { query } => place(alloc, query)?,
-            Command::Bar { max, text } => bar(alloc, &rows, *max, text, steps)?,
-            Command::Fill { text } => fill(alloc, &rows, text, steps)?,
-            Command::Import(tree) => import(alloc, &mut rows, limit, tree, steps)?,
+            Err(StepError::Refused(refusal)) => Reply::Refused(refusal),
+            Err(StepError::NoMemory) => return Err(NoMemory),
         };
-        Ok((Engine { alloc, rows, limit }, reply))
+        let engine = Engine {
+            alloc,
+            rows,
+            limit,
+            known,
+        };
+        Ok((engine, reply))
     }
 
     /// The bookmarks of the store.

@@ -1,5 +1,5 @@
 -- What is known of the pages of a store.
-use Rattle.std.specs.Prelude.{◌≡◌, ◌==◌, ◌<◌, ◌^◌, ℕ, List, Option}
+use Rattle.std.specs.Prelude.{◌==◌, ◌<◌, ◌^◌, ℕ, List, Option}
 use Rattle.std.specs.List.{find, sum_by}
 use Rattle.pl_base.specs.declared.id.PageId.{PageId}
 use Rattle.pl_base.specs.declared.view.View.{View}
@@ -23,14 +23,18 @@ abbrev pub shares : List View → ℕ
 shares views = sum_by (λ (v : View). share v.frecency) views
 
 -- the views stand in the order of their ids and fit a store, and each follower stands for them
-pub record AreFollowed (known : Known) : Type 0 where
-  pub order : AreInOrder known.views.items
-  pub fit : FitStore known.views.items
-  pub urls : IndexesUrls known.urls known.views.items
-  pub ranks : Orders known.order known.views.items
-  pub texts : KeepsTexts known.texts known.views.items
-  pub days : KeepsDays known.calendar known.views.items
-  pub totals : Stands known.totals known.views.items
+pub record FollowersStand (known : Known) (views : List View) : Type 0 where
+  pub order : AreInOrder views
+  pub fit : FitStore views
+  pub urls : IndexesUrls known.urls views
+  pub ranks : Orders known.order views
+  pub texts : KeepsTexts known.texts views
+  pub days : KeepsDays known.calendar views
+  pub totals : Stands known.totals views
+
+-- the followers stand for the views beside them
+abbrev pub AreFollowed : Known → Type 0
+AreFollowed known = FollowersStand known known.views.items
 
 -- what is known is what the pages of the store tell, and their positive frecencies are at most half
 -- of what views may have together

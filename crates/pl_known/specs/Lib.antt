@@ -1,2 +1,4 @@
 pub mod Changes
 pub mod Known
+pub mod Passes
+pub mod Props

@@ -1,15 +1,16 @@
 // The views of a store and their followers.
-ghost use Rattle.std.specs.Prelude.{◌≡◌, IfOk, OnOk, bytes_eq};
+ghost use Rattle.std.specs.Prelude.{◌≡◌, IfOk, List, OnOk, bytes_eq};
 ghost use Rattle.std.specs.List.{find};
 ghost use Rattle.std.specs.Option.{option_copied};
 ghost use Rattle.pl_base.specs.declared.view.View.{View};
-ghost use Rattle.pl_follow.specs.Changes.{AreInOrder, FitStore};
+ghost use Rattle.pl_follow.specs.Changes.{AreInOrder, FitStore, IsChange, Suits, changed};
 ghost use Rattle.pl_known.specs.Changes.{AllSuit, AreEachOnce, after};
-ghost use Rattle.pl_known.specs.Known.{AreFollowed, view_of};
+ghost use Rattle.pl_known.specs.Known.{AreFollowed, FollowersStand, view_of};
 
+use crate::views::{drop_views, find_view, put_views};
 use pl_base::{Change, Day, NoMemory, PageId, View};
 use pl_calendar::Calendar;
-use pl_follow::{Follow, FoldedTexts, OrderIndex, UrlIndex};
+use pl_follow::{FoldedTexts, Follow, OrderIndex, UrlIndex};
 use pl_totals::Totals;
 use std::alloc::Global;
 
@@ -54,12 +55,34 @@ impl Known {
         alloc: Global,
         old: Option<&View>,
         new: Option<&View>,
-    ) -> Result<(), NoMemory> {
+    ) -> Result<(), NoMemory>
+        requires change { IsChange (FollowersStand self.old)
+            (option_copied old) (option_copied new) }
+        ensures views { OnOk result (self.new.views ≡ self.old.views) }
+        ensures follows { OnOk result ((views : List View) → FollowersStand self.old views
+            → Suits (option_copied old.entry) (option_copied new.entry) views
+            → FollowersStand self.new
+            (changed (option_copied old.entry) (option_copied new.entry) views)) }
+    {
         self.urls.change(alloc, old, new)?;
         self.order.change(alloc, old, new)?;
         self.texts.change(alloc, old, new)?;
         self.calendar.change(alloc, old, new)?;
         self.totals.change(alloc, old, new)
+    }
+
+    // Each follower is told of all changes, one after another.
+    fn tell_all(&mut self, alloc: Global, changes: &[Change]) -> Result<(), NoMemory>
+        requires followed { AreFollowed self.old }
+        requires suit { AllSuit changes.now self.old.views.items }
+        ensures views { OnOk result (self.new.views ≡ self.old.views) }
+        ensures follows { OnOk result
+            (FollowersStand self.new (after changes.now self.old.views.items)) }
+    {
+        for change in changes {
+            self.tell(alloc, change.old.as_ref(), change.new.as_ref())?;
+        }
+        Ok(())
     }
 
     /// The view of the page with the URL; none where no page has it.
@@ -82,10 +105,9 @@ impl Known {
             ≡ after changes.now self.old.views.items) }
         ensures followed { OnOk result (AreFollowed self.new) }
     {
-        for change in changes {
-            self.tell(alloc, change.old.as_ref(), change.new.as_ref())?;
-        }
-        Ok(())
+        self.tell_all(alloc, changes)?;
+        drop_views(&mut self.views, changes);
+        put_views(alloc, &mut self.views, changes)
     }
 
     /// The view of the page with this id.
@@ -93,8 +115,6 @@ impl Known {
         requires { AreFollowed self.now }
         ensures { option_copied result ≡ view_of id self.now.views.items }
     {
-        let place = self.views.partition_point(|view| view.id.0 < id.0);
-        let view = self.views.get(place)?;
-        if view.id == id { Some(view) } else { None }
+        find_view(&self.views, id)
     }
 }

@@ -2,5 +2,6 @@
 #![tactic(auto)]
 
 mod known;
+mod views;
 
 pub use known::Known;

@@ -1,8 +1,9 @@
 -- What is known of a command before it is carried out: that its dates are in range, and what it may
 -- ask for.
-use Rattle.std.specs.Prelude.{◌≡◌, Bool, true, false}
+use Rattle.std.specs.Prelude.{◌≡◌, ℕ, Bool, true, false}
 use Rattle.pl_base.specs.Address.{is_unrecorded_url}
 use Rattle.pl_base.specs.Date.{IsDate, IsDay}
+use Rattle.pl_base.specs.Store.{Store}
 use Rattle.pl_nbread.specs.WellFormed.{AreWellFormed}
 use Rattle.pl_step.specs.declared.command.Command.{Command}
 use Rattle.pl_step.specs.declared.command.Command.TheVariants.{Day as DayCommand}
@@ -29,6 +30,8 @@ use Rattle.pl_step.specs.declared.command.Command.TheVariants.{Place as PlaceCom
 use Rattle.pl_step.specs.declared.command.Command.TheVariants.{Bar as BarCommand}
 use Rattle.pl_step.specs.declared.command.Command.TheVariants.{Fill as FillCommand}
 use Rattle.pl_step.specs.declared.command.Command.TheVariants.{Import as ImportCommand}
+use Rattle.pl_step.specs.Refused.{is_refused}
+use Rattle.pl_step.specs.Step.{perform}
 
 -- the dates and days of a command are in range, and the lists of a tree are well formed
 abbrev pub HasDates : Command → Type 0
@@ -57,32 +60,33 @@ HasDates (BarCommand most text) = Unit {0}
 HasDates (FillCommand text) = Unit {0}
 HasDates (ImportCommand tree) = AreWellFormed tree
 
--- any command may want memory but a move, and a visit that is not recorded
-abbrev pub MayWantMemory : Command → Type 0
-MayWantMemory (DayCommand day) = Unit {0}
-MayWantMemory (VisitCommand url transition date source) = is_unrecorded_url url ≡ false
-MayWantMemory (TitleCommand url text) = Unit {0}
-MayWantMemory (PageCommand url) = Unit {0}
-MayWantMemory (OriginCommand url) = Unit {0}
-MayWantMemory StatsCommand = Unit {0}
-MayWantMemory (UnvisitCommand visit) = Unit {0}
-MayWantMemory (ForgetCommand url) = Unit {0}
-MayWantMemory (ExpireCommand day) = Unit {0}
-MayWantMemory (TrimCommand most) = Unit {0}
-MayWantMemory (FolderCommand parent place title date) = Unit {0}
-MayWantMemory (BookmarkCommand parent place url title date) = Unit {0}
-MayWantMemory (SeparatorCommand parent place date) = Unit {0}
-MayWantMemory (MoveCommand item parent place date) = ⊥
-MayWantMemory (RetitleCommand item title date) = Unit {0}
-MayWantMemory (RemoveCommand item) = Unit {0}
-MayWantMemory (ListCommand item) = Unit {0}
-MayWantMemory (TagCommand url name date) = Unit {0}
-MayWantMemory (UntagCommand url name) = Unit {0}
-MayWantMemory (QueryCommand query) = Unit {0}
-MayWantMemory (PlaceCommand query) = Unit {0}
-MayWantMemory (BarCommand most text) = Unit {0}
-MayWantMemory (FillCommand text) = Unit {0}
-MayWantMemory (ImportCommand tree) = Unit {0}
+-- any command may want memory but a move that is refused, and a visit that is not recorded
+abbrev pub MayWantMemory : ℕ → Store → Command → Type 0
+MayWantMemory limit store (DayCommand day) = Unit {0}
+MayWantMemory limit store (VisitCommand url transition date source) = is_unrecorded_url url ≡ false
+MayWantMemory limit store (TitleCommand url text) = Unit {0}
+MayWantMemory limit store (PageCommand url) = Unit {0}
+MayWantMemory limit store (OriginCommand url) = Unit {0}
+MayWantMemory limit store StatsCommand = Unit {0}
+MayWantMemory limit store (UnvisitCommand visit) = Unit {0}
+MayWantMemory limit store (ForgetCommand url) = Unit {0}
+MayWantMemory limit store (ExpireCommand day) = Unit {0}
+MayWantMemory limit store (TrimCommand most) = Unit {0}
+MayWantMemory limit store (FolderCommand parent place title date) = Unit {0}
+MayWantMemory limit store (BookmarkCommand parent place url title date) = Unit {0}
+MayWantMemory limit store (SeparatorCommand parent place date) = Unit {0}
+MayWantMemory limit store (MoveCommand item parent place date) =
+    is_refused (perform limit store (MoveCommand item parent place date)).0 ≡ false
+MayWantMemory limit store (RetitleCommand item title date) = Unit {0}
+MayWantMemory limit store (RemoveCommand item) = Unit {0}
+MayWantMemory limit store (ListCommand item) = Unit {0}
+MayWantMemory limit store (TagCommand url name date) = Unit {0}
+MayWantMemory limit store (UntagCommand url name) = Unit {0}
+MayWantMemory limit store (QueryCommand query) = Unit {0}
+MayWantMemory limit store (PlaceCommand query) = Unit {0}
+MayWantMemory limit store (BarCommand most text) = Unit {0}
+MayWantMemory limit store (FillCommand text) = Unit {0}
+MayWantMemory limit store (ImportCommand tree) = Unit {0}
 
 -- a command of a kind that may change the store
 abbrev pub is_change : Command → Bool

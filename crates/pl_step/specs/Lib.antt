@@ -3,3 +3,4 @@ pub mod Parsed
 pub mod Refused
 pub mod Run
 pub mod Step
+pub mod StepErrors

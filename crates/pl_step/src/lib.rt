@@ -4,6 +4,8 @@
 
 mod command;
 mod reply;
+mod step_error;
 
 pub use command::Command;
 pub use reply::{BarRow, ListRow, Reply};
+pub use step_error::StepError;

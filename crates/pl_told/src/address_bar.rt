@@ -2,12 +2,13 @@
 ghost use Rattle.std.specs.Prelude.{◌≡◌, Some, true, IfOk};
 ghost use Rattle.pl_bar.specs.Filled.{filled};
 ghost use Rattle.pl_base.specs.Rows.{IsSound, KeptPage, has_page, page_at, store_of};
+ghost use Rattle.pl_base.specs.Store.{Store};
 ghost use Rattle.pl_base.specs.Totals.{scored_pages};
+ghost use Rattle.pl_known.specs.Known.{AreFollowed, Knows};
 ghost use Rattle.pl_step.specs.Step as spec;
 
-use crate::totals::totals_of;
 use pl_base::{NoMemory, PageId, Rows, Seq, Steps, Txt};
-use pl_marks::views;
+use pl_known::Known;
 use pl_step::{BarRow, Reply};
 use std::alloc::Global;
 use std::sync::ledger::Ledger;
@@ -52,19 +53,12 @@ pub fn bar<R: Rows, L: Ledger>(
 }
 
 /// The group of hosts that is filled in behind a text.
-pub fn fill<R: Rows, L: Ledger>(
-    alloc: Global,
-    rows: &R,
-    text: &Txt,
-    steps: &mut Steps<L>,
-) -> Result<Reply, NoMemory>
-    requires sound { IsSound (R.kept rows.now) }
-    ensures { IfOk result (λ reply. reply
-        ≡ spec.group_reply (filled (scored_pages (store_of (R.kept rows.now))) text.now)) }
+pub fn fill(alloc: Global, known: &Known, text: &Txt) -> Result<Reply, NoMemory>
+    requires followed { AreFollowed known.now }
+    ensures { IfOk result (λ reply. (store : Store) → Knows store known.now
+        → reply ≡ spec.group_reply (filled (scored_pages store) text.now)) }
 {
-    let views = views(alloc, rows, steps)?;
-    let totals = totals_of(alloc, &views)?;
-    Ok(match pl_bar::fill(alloc, &totals, text.as_str())? {
+    Ok(match pl_bar::fill(alloc, &known.totals, text.as_str())? {
         Some((group, total)) => Reply::Fill { group, total },
         None => Reply::NoFill,
     })

@@ -6,9 +6,10 @@ ghost use Rattle.pl_base.specs.Rows.{IsSound, has_page, store_of};
 ghost use Rattle.pl_base.specs.Store.{page_url};
 ghost use Rattle.pl_base.specs.Tree.{has_item, item_at};
 ghost use Rattle.pl_step.specs.Step as spec;
+ghost use Rattle.pl_step.specs.StepErrors.{Says};
 
 use pl_base::{ItemId, NoMemory, PageId, Rows, Seq, Steps, Txt};
-use pl_step::{Command, ListRow, Reply};
+use pl_step::{Command, ListRow, Reply, StepError};
 use pl_tree::folder_refusal;
 use std::alloc::Global;
 use std::sync::ledger::Ledger;
@@ -52,20 +53,13 @@ fn list_row<R: Rows, L: Ledger>(
     })
 }
 
-/// The children of a folder, in order.
-pub fn list<R: Rows, L: Ledger>(
+// What is listed of the children of a folder.
+fn children<R: Rows, L: Ledger>(
     alloc: Global,
     rows: &R,
     item: ItemId,
     steps: &mut Steps<L>,
-) -> Result<Reply, NoMemory>
-    requires sound { IsSound (R.kept rows.now) }
-    ensures { IfOk result (λ reply. (limit : ℕ) → (reply, store_of (R.kept rows.now))
-        ≡ spec.perform limit (store_of (R.kept rows.now)) (Command.List item)) }
-{
-    if let Some(refusal) = folder_refusal(rows, item, steps) {
-        return Ok(Reply::Refused(refusal));
-    }
+) -> Result<Reply, NoMemory> {
     let mut list = Vec::new(alloc);
     let mut next = rows.first_child(item, steps);
     while let Some(child) = next {
@@ -73,4 +67,21 @@ pub fn list<R: Rows, L: Ledger>(
         next = rows.next_sibling(child, steps);
     }
     Ok(Reply::List(Seq::from(list)))
+}
+
+/// The children of a folder, in order.
+pub fn list<R: Rows, L: Ledger>(
+    alloc: Global,
+    rows: &R,
+    item: ItemId,
+    steps: &mut Steps<L>,
+) -> Result<Reply, StepError>
+    requires sound { IsSound (R.kept rows.now) }
+    ensures { (limit : ℕ) → Says
+        (spec.perform limit (store_of (R.kept rows.now)) (Command.List item)).0 result }
+{
+    if let Some(refusal) = folder_refusal(rows, item, steps) {
+        return Err(StepError::Refused(refusal));
+    }
+    Ok(children(alloc, rows, item, steps)?)
 }

@@ -7,7 +7,6 @@ mod children;
 mod origins;
 mod pages;
 mod queries;
-mod totals;
 
 pub use address_bar::{bar, fill};
 pub use children::list;

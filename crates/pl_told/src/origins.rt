@@ -1,18 +1,20 @@
 // What is known of the origin of an address, and of the whole store.
-ghost use Rattle.std.specs.Prelude.{◌≡◌, ℕ, List, IfOk};
+ghost use Rattle.std.specs.Prelude.{◌≡◌, ℕ, List};
 ghost use Rattle.pl_base.specs.declared.view.View.{View};
 ghost use Rattle.pl_base.specs.Address.{record_of};
-ghost use Rattle.pl_base.specs.Rows.{IsSound, store_of};
+ghost use Rattle.pl_base.specs.Rows.{store_of};
+ghost use Rattle.pl_base.specs.Store.{Store};
 ghost use Rattle.pl_base.specs.Totals.{scored_pages};
 ghost use Rattle.pl_base.specs.View.{scored_views};
+ghost use Rattle.pl_known.specs.Known.{AreFollowed, Knows};
 ghost use Rattle.pl_totals.specs.Standing.{Stands};
 ghost use Rattle.pl_step.specs.Step as spec;
+ghost use Rattle.pl_step.specs.StepErrors.{Says};
 
-use crate::totals::totals_of;
-use pl_base::{NoMemory, Refusal, Rows, Steps};
-use pl_link::{Canon, Parts, split};
-use pl_marks::views;
-use pl_step::Reply;
+use pl_base::{Refusal, Rows, Steps};
+use pl_known::Known;
+use pl_link::{Canon, split};
+use pl_step::{Reply, StepError};
 use pl_totals::{Totals, without_www};
 use std::alloc::Global;
 use std::sync::ledger::Ledger;
@@ -26,25 +28,19 @@ fn passes(totals: &Totals, host: &str) -> bool
 }
 
 /// What is known of the origin of the URL.
-pub fn origin<R: Rows, L: Ledger>(
-    alloc: Global,
-    rows: &R,
-    url: &Canon,
-    steps: &mut Steps<L>,
-) -> Result<Reply, NoMemory>
-    requires sound { IsSound (R.kept rows.now) }
-    ensures { IfOk result (λ reply. reply
-        ≡ spec.told_origin (scored_pages (store_of (R.kept rows.now))) (record_of url.now)) }
+pub fn origin(alloc: Global, known: &Known, url: &Canon) -> Result<Reply, StepError>
+    requires followed { AreFollowed known.now }
+    ensures { (store : Store) → Knows store known.now → Says
+        (spec.told_origin (scored_pages store) (record_of url.now)) result }
 {
     let parts = split(alloc, url)?;
-    let views = views(alloc, rows, steps)?;
-    let totals = totals_of(alloc, &views)?;
+    let totals = &known.totals;
     let pages = totals.pages(parts.prefix.as_str(), parts.host.as_str());
     if pages == 0 {
-        return Ok(Reply::Refused(Refusal::NoPage));
+        return Err(StepError::Refused(Refusal::NoPage));
     }
     let total = totals.total(parts.prefix.as_str(), parts.host.as_str());
-    let passes = passes(&totals, parts.host.as_str());
+    let passes = passes(totals, parts.host.as_str());
     Ok(Reply::Origin {
         prefix: parts.prefix,
         host: parts.host,
@@ -55,24 +51,18 @@ pub fn origin<R: Rows, L: Ledger>(
     })
 }
 
-/// How much the store holds.
-pub fn stats<R: Rows, L: Ledger>(
-    alloc: Global,
-    rows: &R,
-    steps: &mut Steps<L>,
-) -> Result<Reply, NoMemory>
-    requires sound { IsSound (R.kept rows.now) }
-    ensures { IfOk result (λ reply. reply ≡ spec.stats_reply (store_of (R.kept rows.now))) }
+/// How much the store holds. No memory is taken.
+pub fn stats<R: Rows, L: Ledger>(rows: &R, known: &Known, steps: &mut Steps<L>) -> Reply
+    requires knows { Knows (store_of (R.kept rows.now)) known.now }
+    ensures { result ≡ spec.stats_reply (store_of (R.kept rows.now)) }
 {
-    let views = views(alloc, rows, steps)?;
-    let totals = totals_of(alloc, &views)?;
-    let (origins, sum) = totals.sums();
-    Ok(Reply::Stats {
-        pages: views.len() as u32,
+    let (origins, sum) = known.totals.sums();
+    Reply::Stats {
+        pages: known.views.len() as u32,
         visits: rows.visits(steps),
         items: rows.items(steps),
         origins,
         sum,
         slots: rows.live(steps),
-    })
+    }
 }

@@ -1,43 +1,40 @@
 // What is known of a page.
-ghost use Rattle.std.specs.Prelude.{◌≡◌, IfOk};
-ghost use Rattle.pl_base.specs.Rows.{IsSound, store_of};
+ghost use Rattle.pl_base.specs.Store.{Store};
 ghost use Rattle.pl_base.specs.Visiting as visiting;
+ghost use Rattle.pl_known.specs.Known.{AreFollowed, Knows};
 ghost use Rattle.pl_step.specs.Step as spec;
+ghost use Rattle.pl_step.specs.StepErrors.{Says};
 
-use pl_base::{NoMemory, Refusal, Rows, Steps};
-use pl_history::find_page;
+use pl_base::{NoMemory, Refusal, Txt, View};
+use pl_known::Known;
 use pl_link::Canon;
-use pl_marks::{is_bookmarked, last_date, tag_text};
-use pl_step::Reply;
+use pl_step::{Reply, StepError};
 use std::alloc::Global;
-use std::sync::ledger::Ledger;
+
+// What is told of a page with this view.
+fn told(alloc: Global, view: &View) -> Result<Reply, NoMemory> {
+    Ok(Reply::Page {
+        id: view.id,
+        frecency: view.frecency,
+        count: view.count,
+        last: view.last,
+        typed: view.typed,
+        hidden: view.hidden,
+        bookmarked: view.bookmarked,
+        url: Txt::copied(alloc, view.url.as_str())?,
+        title: Txt::copied(alloc, view.title.as_str())?,
+        tags: Txt::copied(alloc, view.tags.as_str())?,
+    })
+}
 
 /// What is known of the page of the URL.
-pub fn page<R: Rows, L: Ledger>(
-    alloc: Global,
-    rows: &R,
-    url: &Canon,
-    steps: &mut Steps<L>,
-) -> Result<Reply, NoMemory>
-    requires sound { IsSound (R.kept rows.now) }
-    ensures { IfOk result (λ reply. reply ≡ spec.told_page (store_of (R.kept rows.now))
-        (visiting.find_page url.now (store_of (R.kept rows.now)).pages)) }
+pub fn page(alloc: Global, known: &Known, url: &Canon) -> Result<Reply, StepError>
+    requires followed { AreFollowed known.now }
+    ensures { (store : Store) → Knows store known.now → Says
+        (spec.told_page store (visiting.find_page url.now store.pages)) result }
 {
-    let Some(id) = find_page(rows, url.text(), steps)? else {
-        return Ok(Reply::Refused(Refusal::NoPage));
+    let Some(view) = known.find(url.text()) else {
+        return Err(StepError::Refused(Refusal::NoPage));
     };
-    let mark = rows.page_at(id, steps).unwrap();
-    let last = last_date(rows, id, steps);
-    Ok(Reply::Page {
-        id,
-        frecency: mark.frecency,
-        count: mark.count,
-        last,
-        typed: mark.typed,
-        hidden: mark.hidden,
-        bookmarked: is_bookmarked(rows, id, steps),
-        url: rows.url(id, steps)?,
-        title: rows.title(id, steps)?,
-        tags: tag_text(alloc, rows, id, steps)?,
-    })
+    Ok(told(alloc, view)?)
 }

@@ -4,13 +4,18 @@ ghost use Rattle.pl_base.specs.Date.{IsDate};
 ghost use Rattle.pl_base.specs.Live.{slot_limit};
 ghost use Rattle.pl_base.specs.Rows.{store_of};
 ghost use Rattle.pl_base.specs.Rows.{IsSound};
+ghost use Rattle.pl_known.specs.Known.{Knows};
 ghost use Rattle.pl_step.specs.Step as spec;
+ghost use Rattle.pl_engine.specs.Performed.{Performs};
 
+use crate::done::Done;
+use crate::engine::find::find_target;
 use crate::engine::insert::room_refusal;
 use pl_base::{ItemId, Micros, NoMemory, Refusal, Rows, Steps, Txt, chunks, cut_title};
-use pl_history::{add_bookmark, find_target, page_for, slots_after};
-use pl_link::{Canon, split};
-use pl_step::{Command, Reply};
+use pl_history::{add_bookmark, page_for, slots_after};
+use pl_known::Known;
+use pl_link::Canon;
+use pl_step::{Command, Reply, StepError};
 use pl_tree::{Place, TreeChange};
 use std::alloc::Global;
 use std::sync::ledger::Ledger;
@@ -19,6 +24,7 @@ use std::sync::ledger::Ledger;
 pub fn bookmark<R: Rows, L: Ledger>(
     alloc: Global,
     rows: &mut R,
+    known: &Known,
     limit: u32,
     parent: ItemId,
     place: Place,
@@ -26,28 +32,25 @@ pub fn bookmark<R: Rows, L: Ledger>(
     title: &Txt,
     date: Micros,
     steps: &mut Steps<L>,
-) -> Result<Reply, NoMemory>
+) -> Result<Done, StepError>
     requires date { IsDate date }
     requires sound { IsSound (R.kept rows.old) }
     requires most { limit ≤ slot_limit }
-    ensures step { IfOk result (λ reply. (reply, store_of (R.kept rows.new)) ≡ spec.perform limit
-        (store_of (R.kept rows.old)) (Command.Bookmark parent place url.now title.now date)) }
-    ensures refused { IfOk result (λ reply. (refusal : Refusal)
-        → reply ≡ Reply.Refused refusal → rows.new ≡ rows.old) }
-    ensures base { OnOk result ((bytes : List ℕ) → R.base rows.old bytes → R.base rows.new bytes) }
-    ensures sound { OnOk result (IsSound (R.kept rows.new)) }
+    requires knows { Knows (store_of (R.kept rows.old)) known.now }
+    ensures performs { Performs R.kept R.base
+        (spec.perform limit (store_of (R.kept rows.old)) (Command.Bookmark parent place url.now title.now date))
+        rows.old rows.new known.now result }
 {
     let change = TreeChange::Insert { parent, place };
     if let Some(refusal) = pl_tree::refused(rows, &change, steps) {
-        return Ok(Reply::Refused(refusal));
+        return Err(StepError::Refused(refusal));
     }
-    let parts = split(alloc, url)?;
-    let target = find_target(alloc, rows, url, &parts, steps)?;
+    let target = find_target(alloc, rows, known, url, steps)?;
     let text = cut_title(title.as_str());
     // A bookmark takes as many slots as a visit, and those of its title.
     let slots = slots_after(rows, url, target, steps) + chunks(text);
     if let Some(refusal) = room_refusal(rows, limit, target.is_new(), slots, steps) {
-        return Ok(Reply::Refused(refusal));
+        return Err(StepError::Refused(refusal));
     }
     let page = page_for(rows, url, target, steps)?;
     let id = add_bookmark(
@@ -58,8 +61,8 @@ pub fn bookmark<R: Rows, L: Ledger>(
         page,
         text,
         date,
-        parts.is_place,
+        url.is_place(),
         steps,
     )?;
-    Ok(Reply::Item(id))
+    Ok(Done::afresh(Reply::Item(id)))
 }

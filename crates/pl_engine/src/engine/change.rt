@@ -6,16 +6,20 @@ ghost use Rattle.pl_base.specs.Live.{slot_limit};
 ghost use Rattle.pl_base.specs.Rows.{live_with_item_title, store_of};
 ghost use Rattle.pl_base.specs.Tree.{has_item};
 ghost use Rattle.pl_base.specs.Rows.{IsSound};
+ghost use Rattle.pl_known.specs.Known.{Knows};
 ghost use Rattle.pl_step.specs.Step as spec;
+ghost use Rattle.pl_engine.specs.Performed.{Performs};
 ghost use Rattle.pl_tree.specs.Refused as tree;
 
+use crate::done::Done;
 use crate::engine::slots::is_full;
 use pl_base::{ItemId, Micros, NoMemory, Refusal, Rows, Steps, Txt, chunks, cut_title};
-use pl_step::{Command, Reply};
-use pl_tree::{Place, TreeChange, TreeError};
+use pl_known::Known;
+use pl_step::{Command, Reply, StepError};
+use pl_tree::{Place, TreeChange};
 use std::sync::ledger::Ledger;
 
-/// The item goes to a place among the children of a folder. No memory is taken.
+/// The item goes to a place among the children of a folder. The rows take no memory for it.
 pub fn move_item<R: Rows, L: Ledger>(
     rows: &mut R,
     item: ItemId,
@@ -23,20 +27,16 @@ pub fn move_item<R: Rows, L: Ledger>(
     place: Place,
     date: Micros,
     steps: &mut Steps<L>,
-) -> Reply
+) -> Result<Done, StepError>
     requires date { IsDate date }
     requires sound { IsSound (R.kept rows.old) }
-    ensures step { (limit : ℕ) → (result, store_of (R.kept rows.new)) ≡ spec.perform limit
-        (store_of (R.kept rows.old)) (Command.Move item parent place date) }
-    ensures refused { (refusal : Refusal) → result ≡ Reply.Refused refusal → rows.new ≡ rows.old }
-    ensures base { (bytes : List ℕ) → R.base rows.old bytes → R.base rows.new bytes }
-    ensures sound { IsSound (R.kept rows.new) }
+    ensures performs { (limit : ℕ) → (known : Known) → Performs R.kept R.base
+        (spec.perform limit (store_of (R.kept rows.old)) (Command.Move item parent place date))
+        rows.old rows.new known result }
+    ensures no_memory { IsNot (IsErrOf result StepError.NoMemory) }
 {
-    match pl_tree::move_to(rows, item, parent, place, date, steps) {
-        Ok(()) => Reply::Done,
-        Err(TreeError::Refused(refusal)) => Reply::Refused(refusal),
-        Err(TreeError::NoMemory) => unreachable!(),
-    }
+    pl_tree::move_to(rows, item, parent, place, date, steps)?;
+    Ok(Done::afresh(Reply::Done))
 }
 
 // How many slots the store takes once the item has the title.
@@ -63,33 +63,27 @@ pub fn retitle<R: Rows, L: Ledger>(
     title: &Txt,
     date: Micros,
     steps: &mut Steps<L>,
-) -> Result<Reply, NoMemory>
+) -> Result<Done, StepError>
     requires date { IsDate date }
     requires sound { IsSound (R.kept rows.old) }
     requires most { limit ≤ slot_limit }
-    ensures step { IfOk result (λ reply. (reply, store_of (R.kept rows.new)) ≡ spec.perform limit
-        (store_of (R.kept rows.old)) (Command.Retitle item title.now date)) }
-    ensures refused { IfOk result (λ reply. (refusal : Refusal)
-        → reply ≡ Reply.Refused refusal → rows.new ≡ rows.old) }
-    ensures base { OnOk result ((bytes : List ℕ) → R.base rows.old bytes → R.base rows.new bytes) }
-    ensures sound { OnOk result (IsSound (R.kept rows.new)) }
+    ensures performs { (known : Known) → Performs R.kept R.base
+        (spec.perform limit (store_of (R.kept rows.old)) (Command.Retitle item title.now date))
+        rows.old rows.new known result }
 
     // A title that is refused for its item wants no memory.
-    ensures no_memory { IsErr result
+    ensures no_memory { IsErrOf result StepError.NoMemory
         → tree.refusal (R.kept rows.old).items (TreeChange.Retitle item) ≡ None }
 {
     let change = TreeChange::Retitle { item };
     if let Some(refusal) = pl_tree::refused(rows, &change, steps) {
-        return Ok(Reply::Refused(refusal));
+        return Err(StepError::Refused(refusal));
     }
     let text = cut_title(title.as_str());
     let slots = slots_after(rows, item, text, steps)?;
     if is_full(limit, rows.live(steps), slots) {
-        return Ok(Reply::Refused(Refusal::Full(slots)));
+        return Err(StepError::Refused(Refusal::Full(slots)));
     }
-    match pl_tree::retitle(rows, item, text, date, steps) {
-        Ok(()) => Ok(Reply::Done),
-        Err(TreeError::NoMemory) => Err(NoMemory),
-        Err(TreeError::Refused(_)) => unreachable!(),
-    }
+    pl_tree::retitle(rows, item, text, date, steps)?;
+    Ok(Done::afresh(Reply::Done))
 }

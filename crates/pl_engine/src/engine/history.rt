@@ -1,128 +1,149 @@
 // The day that the store is at, and history that goes.
-ghost use Rattle.std.specs.Prelude.{◌≡◌, ℕ, List, IfOk, OnOk};
+ghost use Rattle.std.specs.Prelude.{◌≡◌, ℕ, IfOk};
 ghost use Rattle.pl_base.specs.Date.{IsDay};
-ghost use Rattle.pl_base.specs.Rows.{store_of};
-ghost use Rattle.pl_base.specs.Rows.{IsSound};
+ghost use Rattle.pl_base.specs.Rows.{IsSound, store_of};
+ghost use Rattle.pl_base.specs.Store.{Store};
+ghost use Rattle.pl_history.specs.Bears.{BearsOnlyOn};
+ghost use Rattle.pl_known.specs.Changes.{LeadTo};
+ghost use Rattle.pl_known.specs.Known.{Knows};
 ghost use Rattle.pl_step.specs.Step as spec;
+ghost use Rattle.pl_engine.specs.Performed.{Performs};
 
-use pl_base::{Day, NoMemory, Refusal, Rows, Steps, VisitId};
-use pl_history::{Removed, find_page, remove_visits, set_day};
+use crate::done::Done;
+use pl_base::{Change, Day, NoMemory, Refusal, Rows, Steps, VisitId};
+use pl_changes::changes;
+use pl_history::{Removal, remove_visits, set_day};
+use pl_known::Known;
 use pl_link::Canon;
-use pl_step::{Command, Reply};
+use pl_step::{Command, Reply, StepError};
 use std::alloc::Global;
 use std::sync::ledger::Ledger;
 
-fn told(removed: Removed) -> Reply
-    ensures { result ≡ Reply.Removed removed.visits removed.pages }
-{
-    Reply::Removed {
-        visits: removed.visits,
-        pages: removed.pages,
-    }
+// What becomes of the views once visits went.
+fn removed<R: Rows, L: Ledger>(
+    alloc: Global,
+    rows: &R,
+    known: &Known,
+    removal: &Removal,
+    steps: &mut Steps<L>,
+) -> Result<Done, NoMemory> {
+    let changes = changes(alloc, rows, known, &removal.pages, steps)?;
+    let reply = Reply::Removed {
+        visits: removal.went.visits,
+        pages: removal.went.pages,
+    };
+    Ok(Done::with(reply, changes))
+}
+
+// The changes of the views of all pages, each of which is asked for its figures.
+fn all_changes<R: Rows, L: Ledger>(
+    alloc: Global,
+    rows: &R,
+    known: &Known,
+    steps: &mut Steps<L>,
+) -> Result<Vec<Change>, NoMemory> {
+    let pages: Vec<_> = known.views.iter().map(|view| view.id).collect(alloc)?;
+    changes(alloc, rows, known, &pages, steps)
 }
 
 /// The store is at this day from then on.
 pub fn day<R: Rows, L: Ledger>(
     alloc: Global,
     rows: &mut R,
+    known: &Known,
     day: Day,
     steps: &mut Steps<L>,
-) -> Result<Reply, NoMemory>
+) -> Result<Done, StepError>
     requires day { IsDay day }
     requires sound { IsSound (R.kept rows.old) }
-    ensures step { IfOk result (λ reply. (limit : ℕ) → (reply, store_of (R.kept rows.new))
-        ≡ spec.perform limit (store_of (R.kept rows.old)) (Command.Day day)) }
-    ensures refused { IfOk result (λ reply. (refusal : Refusal)
-        → reply ≡ Reply.Refused refusal → rows.new ≡ rows.old) }
-    ensures base { OnOk result ((bytes : List ℕ) → R.base rows.old bytes → R.base rows.new bytes) }
-    ensures sound { OnOk result (IsSound (R.kept rows.new)) }
+    requires knows { Knows (store_of (R.kept rows.old)) known.now }
+    ensures performs { (limit : ℕ) → Performs R.kept R.base
+        (spec.perform limit (store_of (R.kept rows.old)) (Command.Day day))
+        rows.old rows.new known.now result }
 {
     let kept = rows.day(steps);
     if day < kept {
-        return Ok(Reply::Refused(Refusal::DayBack(kept)));
+        return Err(StepError::Refused(Refusal::DayBack(kept)));
     }
-    let changed = set_day(alloc, rows, day, steps)?;
-    Ok(Reply::Day { day, changed })
+    let changed = set_day(alloc, rows, &known.views, day, steps)?;
+    let changes = all_changes(alloc, rows, known, steps)?;
+    Ok(Done::with(Reply::Day { day, changed }, changes))
 }
 
 /// A visit goes.
 pub fn unvisit<R: Rows, L: Ledger>(
     alloc: Global,
     rows: &mut R,
+    known: &Known,
     visit: VisitId,
     steps: &mut Steps<L>,
-) -> Result<Reply, NoMemory>
+) -> Result<Done, StepError>
     requires sound { IsSound (R.kept rows.old) }
-    ensures step { IfOk result (λ reply. (limit : ℕ) → (reply, store_of (R.kept rows.new))
-        ≡ spec.perform limit (store_of (R.kept rows.old)) (Command.Unvisit visit)) }
-    ensures refused { IfOk result (λ reply. (refusal : Refusal)
-        → reply ≡ Reply.Refused refusal → rows.new ≡ rows.old) }
-    ensures base { OnOk result ((bytes : List ℕ) → R.base rows.old bytes → R.base rows.new bytes) }
-    ensures sound { OnOk result (IsSound (R.kept rows.new)) }
+    requires knows { Knows (store_of (R.kept rows.old)) known.now }
+    ensures performs { (limit : ℕ) → Performs R.kept R.base
+        (spec.perform limit (store_of (R.kept rows.old)) (Command.Unvisit visit))
+        rows.old rows.new known.now result }
 {
     if rows.visit_at(visit, steps).is_none() {
-        return Ok(Reply::Refused(Refusal::NoVisit(visit)));
+        return Err(StepError::Refused(Refusal::NoVisit(visit)));
     }
-    let removed = remove_visits(alloc, rows, &[visit], steps)?;
-    Ok(told(removed))
+    let removal = remove_visits(alloc, rows, &known.views, &[visit], steps)?;
+    Ok(removed(alloc, rows, known, &removal, steps)?)
 }
 
 /// All visits to the page of the URL go.
 pub fn forget<R: Rows, L: Ledger>(
     alloc: Global,
     rows: &mut R,
+    known: &Known,
     url: &Canon,
     steps: &mut Steps<L>,
-) -> Result<Reply, NoMemory>
+) -> Result<Done, StepError>
     requires sound { IsSound (R.kept rows.old) }
-    ensures step { IfOk result (λ reply. (limit : ℕ) → (reply, store_of (R.kept rows.new))
-        ≡ spec.perform limit (store_of (R.kept rows.old)) (Command.Forget url.now)) }
-    ensures refused { IfOk result (λ reply. (refusal : Refusal)
-        → reply ≡ Reply.Refused refusal → rows.new ≡ rows.old) }
-    ensures base { OnOk result ((bytes : List ℕ) → R.base rows.old bytes → R.base rows.new bytes) }
-    ensures sound { OnOk result (IsSound (R.kept rows.new)) }
+    requires knows { Knows (store_of (R.kept rows.old)) known.now }
+    ensures performs { (limit : ℕ) → Performs R.kept R.base
+        (spec.perform limit (store_of (R.kept rows.old)) (Command.Forget url.now))
+        rows.old rows.new known.now result }
 {
-    let Some(page) = find_page(rows, url.text(), steps)? else {
-        return Ok(Reply::Refused(Refusal::NoPage));
+    let Some(view) = known.find(url.text()) else {
+        return Err(StepError::Refused(Refusal::NoPage));
     };
-    let removed = pl_history::forget(alloc, rows, page, steps)?;
-    Ok(told(removed))
+    let removal = pl_history::forget(alloc, rows, &known.views, view.id, steps)?;
+    Ok(removed(alloc, rows, known, &removal, steps)?)
 }
 
 /// The visits of the days before this one go.
 pub fn expire<R: Rows, L: Ledger>(
     alloc: Global,
     rows: &mut R,
+    known: &Known,
     day: Day,
     steps: &mut Steps<L>,
-) -> Result<Reply, NoMemory>
+) -> Result<Done, StepError>
     requires sound { IsSound (R.kept rows.old) }
-    ensures step { IfOk result (λ reply. (limit : ℕ) → (reply, store_of (R.kept rows.new))
-        ≡ spec.perform limit (store_of (R.kept rows.old)) (Command.Expire day)) }
-    ensures refused { IfOk result (λ reply. (refusal : Refusal)
-        → reply ≡ Reply.Refused refusal → rows.new ≡ rows.old) }
-    ensures base { OnOk result ((bytes : List ℕ) → R.base rows.old bytes → R.base rows.new bytes) }
-    ensures sound { OnOk result (IsSound (R.kept rows.new)) }
+    requires knows { Knows (store_of (R.kept rows.old)) known.now }
+    ensures performs { (limit : ℕ) → Performs R.kept R.base
+        (spec.perform limit (store_of (R.kept rows.old)) (Command.Expire day))
+        rows.old rows.new known.now result }
 {
-    let removed = pl_history::expire(alloc, rows, day, steps)?;
-    Ok(told(removed))
+    let removal = pl_history::expire(alloc, rows, &known.views, day, steps)?;
+    Ok(removed(alloc, rows, known, &removal, steps)?)
 }
 
 /// The pages that no item has go, the stalest first, until there are so many pages.
 pub fn trim<R: Rows, L: Ledger>(
     alloc: Global,
     rows: &mut R,
+    known: &Known,
     most: u32,
     steps: &mut Steps<L>,
-) -> Result<Reply, NoMemory>
+) -> Result<Done, StepError>
     requires sound { IsSound (R.kept rows.old) }
-    ensures step { IfOk result (λ reply. (limit : ℕ) → (reply, store_of (R.kept rows.new))
-        ≡ spec.perform limit (store_of (R.kept rows.old)) (Command.Trim most)) }
-    ensures refused { IfOk result (λ reply. (refusal : Refusal)
-        → reply ≡ Reply.Refused refusal → rows.new ≡ rows.old) }
-    ensures base { OnOk result ((bytes : List ℕ) → R.base rows.old bytes → R.base rows.new bytes) }
-    ensures sound { OnOk result (IsSound (R.kept rows.new)) }
+    requires knows { Knows (store_of (R.kept rows.old)) known.now }
+    ensures performs { (limit : ℕ) → Performs R.kept R.base
+        (spec.perform limit (store_of (R.kept rows.old)) (Command.Trim most))
+        rows.old rows.new known.now result }
 {
-    let removed = pl_history::trim(alloc, rows, most, steps)?;
-    Ok(told(removed))
+    let removal = pl_history::trim(alloc, rows, &known.views, most, steps)?;
+    Ok(removed(alloc, rows, known, &removal, steps)?)
 }

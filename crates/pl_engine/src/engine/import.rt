@@ -5,14 +5,18 @@ ghost use Rattle.pl_base.specs.Rows.{store_of};
 ghost use Rattle.pl_graft.specs.Import.{imported};
 ghost use Rattle.pl_base.specs.Rows.{IsSound};
 ghost use Rattle.pl_nbread.specs.WellFormed.{AreWellFormed};
+ghost use Rattle.pl_known.specs.Known.{Knows};
 ghost use Rattle.pl_step.specs.Step as spec;
+ghost use Rattle.pl_engine.specs.Performed.{Performs};
 
+use crate::done::Done;
 use crate::engine::gained::settle_gained;
 use crate::engine::slots::is_full;
 use pl_base::{IdKind, Ids, NoMemory, Refusal, Rows, Steps};
 use pl_graft::{MOST_ROWS, graft, needed, row_count};
 use pl_nbread::Tree;
-use pl_step::{Command, Reply};
+use pl_known::Known;
+use pl_step::{Command, Reply, StepError};
 use std::alloc::Global;
 use std::sync::ledger::Ledger;
 
@@ -52,29 +56,28 @@ fn refusal<R: Rows, L: Ledger>(
 pub fn import<R: Rows, L: Ledger>(
     alloc: Global,
     rows: &mut R,
+    known: &Known,
     limit: u32,
     tree: &Tree,
     steps: &mut Steps<L>,
-) -> Result<Reply, NoMemory>
+) -> Result<Done, StepError>
     requires formed { AreWellFormed tree.now }
     requires sound { IsSound (R.kept rows.old) }
     requires most { limit ≤ slot_limit }
-    ensures step { IfOk result (λ reply. (reply, store_of (R.kept rows.new)) ≡ spec.perform limit
-        (store_of (R.kept rows.old)) (Command.Import tree.now)) }
-    ensures refused { IfOk result (λ reply. (refusal : Refusal)
-        → reply ≡ Reply.Refused refusal → rows.new ≡ rows.old) }
-    ensures base { OnOk result ((bytes : List ℕ) → R.base rows.old bytes → R.base rows.new bytes) }
-    ensures sound { OnOk result (IsSound (R.kept rows.new)) }
+    requires knows { Knows (store_of (R.kept rows.old)) known.now }
+    ensures performs { Performs R.kept R.base
+        (spec.perform limit (store_of (R.kept rows.old)) (Command.Import tree.now))
+        rows.old rows.new known.now result }
 {
     if let Some(refusal) = refusal(alloc, rows, limit, tree, steps)? {
-        return Ok(Reply::Refused(refusal));
+        return Err(StepError::Refused(refusal));
     }
     let first = rows.ids(steps).page;
     let grafted = graft(alloc, rows, tree, steps)?;
-    settle_gained(alloc, rows, grafted.pages.as_slice(), first, steps)?;
-    Ok(Reply::Imported {
+    settle_gained(alloc, rows, &known.views, grafted.pages.as_slice(), first, steps)?;
+    Ok(Done::afresh(Reply::Imported {
         items: grafted.items,
         tags: grafted.tags,
         skipped: tree.skipped,
-    })
+    }))
 }

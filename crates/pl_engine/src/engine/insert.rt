@@ -5,14 +5,18 @@ ghost use Rattle.pl_base.specs.Good.{longest_title};
 ghost use Rattle.pl_base.specs.Live.{slot_limit};
 ghost use Rattle.pl_base.specs.Rows.{store_of};
 ghost use Rattle.pl_base.specs.Rows.{IsSound};
+ghost use Rattle.pl_known.specs.Known.{Knows};
 ghost use Rattle.pl_step.specs.Step as spec;
+ghost use Rattle.pl_engine.specs.Performed.{Performs};
 ghost use Rattle.pl_engine.specs.Room.{item_room, plain_item};
 
+use crate::done::Done;
 use crate::engine::slots::is_full;
 use pl_base::{
     IdKind, Ids, ItemId, ItemKind, Micros, NoMemory, Refusal, Rows, Steps, Txt, chunks, cut_title,
 };
-use pl_step::{Command, Reply};
+use pl_known::Known;
+use pl_step::{Command, Reply, StepError};
 use pl_tree::{NewItem, Place, TreeChange, insert_allowed};
 use std::alloc::Global;
 use std::sync::ledger::Ledger;
@@ -44,6 +48,7 @@ pub fn room_refusal<R: Rows, L: Ledger>(
 fn insert_plain<R: Rows, L: Ledger>(
     alloc: Global,
     rows: &mut R,
+    known: &Known,
     limit: u32,
     parent: ItemId,
     place: Place,
@@ -51,28 +56,25 @@ fn insert_plain<R: Rows, L: Ledger>(
     title: &str,
     date: Micros,
     steps: &mut Steps<L>,
-) -> Result<Reply, NoMemory>
+) -> Result<Done, StepError>
     requires kind { kind ≢ ItemKind.Bookmark }
     requires title { length title.now ≤ longest_title }
     requires date { IsDate date }
     requires sound { IsSound (R.kept rows.old) }
     requires most { limit ≤ slot_limit }
-    ensures step { IfOk result (λ reply. (reply, store_of (R.kept rows.new))
-        ≡ spec.insert_step limit (store_of (R.kept rows.old)) parent place false
+    requires knows { Knows (store_of (R.kept rows.old)) known.now }
+    ensures performs { Performs R.kept R.base
+        (spec.insert_step limit (store_of (R.kept rows.old)) parent place false
         (spec.after_insert parent place (plain_item kind title.now date)
-        (store_of (R.kept rows.old)))) }
-    ensures refused { IfOk result (λ reply. (refusal : Refusal)
-        → reply ≡ Reply.Refused refusal → rows.new ≡ rows.old) }
-    ensures base { OnOk result ((bytes : List ℕ) → R.base rows.old bytes → R.base rows.new bytes) }
-    ensures sound { OnOk result (IsSound (R.kept rows.new)) }
+        (store_of (R.kept rows.old)))) rows.old rows.new known.now result }
 {
     let change = TreeChange::Insert { parent, place };
     if let Some(refusal) = pl_tree::refused(rows, &change, steps) {
-        return Ok(Reply::Refused(refusal));
+        return Err(StepError::Refused(refusal));
     }
     let slots = rows.live(steps) + 1 + chunks(title);
     if let Some(refusal) = room_refusal(rows, limit, false, slots, steps) {
-        return Ok(Reply::Refused(refusal));
+        return Err(StepError::Refused(refusal));
     }
     let item = NewItem {
         kind,
@@ -81,34 +83,34 @@ fn insert_plain<R: Rows, L: Ledger>(
         date,
     };
     let id = insert_allowed(rows, parent, place, &item, steps)?;
-    Ok(Reply::Item(id))
+    Ok(Done::afresh(Reply::Item(id)))
 }
 
 /// A new folder on rows that may take so many slots.
 pub fn folder<R: Rows, L: Ledger>(
     alloc: Global,
     rows: &mut R,
+    known: &Known,
     limit: u32,
     parent: ItemId,
     place: Place,
     title: &Txt,
     date: Micros,
     steps: &mut Steps<L>,
-) -> Result<Reply, NoMemory>
+) -> Result<Done, StepError>
     requires date { IsDate date }
     requires sound { IsSound (R.kept rows.old) }
     requires most { limit ≤ slot_limit }
-    ensures step { IfOk result (λ reply. (reply, store_of (R.kept rows.new)) ≡ spec.perform limit
-        (store_of (R.kept rows.old)) (Command.Folder parent place title.now date)) }
-    ensures refused { IfOk result (λ reply. (refusal : Refusal)
-        → reply ≡ Reply.Refused refusal → rows.new ≡ rows.old) }
-    ensures base { OnOk result ((bytes : List ℕ) → R.base rows.old bytes → R.base rows.new bytes) }
-    ensures sound { OnOk result (IsSound (R.kept rows.new)) }
+    requires knows { Knows (store_of (R.kept rows.old)) known.now }
+    ensures performs { Performs R.kept R.base
+        (spec.perform limit (store_of (R.kept rows.old)) (Command.Folder parent place title.now date))
+        rows.old rows.new known.now result }
 {
     let text = cut_title(title.as_str());
     insert_plain(
         alloc,
         rows,
+        known,
         limit,
         parent,
         place,
@@ -123,25 +125,25 @@ pub fn folder<R: Rows, L: Ledger>(
 pub fn separator<R: Rows, L: Ledger>(
     alloc: Global,
     rows: &mut R,
+    known: &Known,
     limit: u32,
     parent: ItemId,
     place: Place,
     date: Micros,
     steps: &mut Steps<L>,
-) -> Result<Reply, NoMemory>
+) -> Result<Done, StepError>
     requires date { IsDate date }
     requires sound { IsSound (R.kept rows.old) }
     requires most { limit ≤ slot_limit }
-    ensures step { IfOk result (λ reply. (reply, store_of (R.kept rows.new)) ≡ spec.perform limit
-        (store_of (R.kept rows.old)) (Command.Separator parent place date)) }
-    ensures refused { IfOk result (λ reply. (refusal : Refusal)
-        → reply ≡ Reply.Refused refusal → rows.new ≡ rows.old) }
-    ensures base { OnOk result ((bytes : List ℕ) → R.base rows.old bytes → R.base rows.new bytes) }
-    ensures sound { OnOk result (IsSound (R.kept rows.new)) }
+    requires knows { Knows (store_of (R.kept rows.old)) known.now }
+    ensures performs { Performs R.kept R.base
+        (spec.perform limit (store_of (R.kept rows.old)) (Command.Separator parent place date))
+        rows.old rows.new known.now result }
 {
     insert_plain(
         alloc,
         rows,
+        known,
         limit,
         parent,
         place,

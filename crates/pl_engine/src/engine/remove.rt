@@ -1,13 +1,16 @@
 // An item that goes with all below it, and the pages that lose their last item by that.
-ghost use Rattle.std.specs.Prelude.{◌≡◌, ℕ, List, IfOk, OnOk};
+ghost use Rattle.std.specs.Prelude.{ℕ};
 ghost use Rattle.pl_base.specs.Rows.{store_of};
 ghost use Rattle.pl_base.specs.Rows.{IsSound};
+ghost use Rattle.pl_known.specs.Known.{Knows};
 ghost use Rattle.pl_step.specs.Step as spec;
+ghost use Rattle.pl_engine.specs.Performed.{Performs};
 
-use pl_base::{ItemId, NoMemory, Refusal, Rows, Steps};
+use crate::done::Done;
+use pl_base::{ItemId, Rows, Steps};
 use pl_history::settle_all;
-use pl_step::{Command, Reply};
-use pl_tree::TreeError;
+use pl_known::Known;
+use pl_step::{Command, Reply, StepError};
 use std::alloc::Global;
 use std::sync::ledger::Ledger;
 
@@ -15,22 +18,17 @@ use std::sync::ledger::Ledger;
 pub fn remove<R: Rows, L: Ledger>(
     alloc: Global,
     rows: &mut R,
+    known: &Known,
     item: ItemId,
     steps: &mut Steps<L>,
-) -> Result<Reply, NoMemory>
+) -> Result<Done, StepError>
     requires sound { IsSound (R.kept rows.old) }
-    ensures step { IfOk result (λ reply. (limit : ℕ) → (reply, store_of (R.kept rows.new))
-        ≡ spec.perform limit (store_of (R.kept rows.old)) (Command.Remove item)) }
-    ensures refused { IfOk result (λ reply. (refusal : Refusal)
-        → reply ≡ Reply.Refused refusal → rows.new ≡ rows.old) }
-    ensures base { OnOk result ((bytes : List ℕ) → R.base rows.old bytes → R.base rows.new bytes) }
-    ensures sound { OnOk result (IsSound (R.kept rows.new)) }
+    requires knows { Knows (store_of (R.kept rows.old)) known.now }
+    ensures performs { (limit : ℕ) → Performs R.kept R.base
+        (spec.perform limit (store_of (R.kept rows.old)) (Command.Remove item))
+        rows.old rows.new known.now result }
 {
-    let lost = match pl_tree::remove(alloc, rows, item, steps) {
-        Ok(lost) => lost,
-        Err(TreeError::Refused(refusal)) => return Ok(Reply::Refused(refusal)),
-        Err(TreeError::NoMemory) => return Err(NoMemory),
-    };
-    settle_all(alloc, rows, &lost, steps)?;
-    Ok(Reply::Done)
+    let lost = pl_tree::remove(alloc, rows, item, steps)?;
+    settle_all(alloc, rows, &known.views, &lost, steps)?;
+    Ok(Done::afresh(Reply::Done))
 }

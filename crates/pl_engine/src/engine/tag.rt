@@ -7,18 +7,21 @@ ghost use Rattle.pl_base.specs.Live as live;
 ghost use Rattle.pl_base.specs.Live.{live_slots, slot_limit};
 ghost use Rattle.pl_base.specs.Rows.{store_of};
 ghost use Rattle.pl_base.specs.Rows.{IsSound};
+ghost use Rattle.pl_known.specs.Known.{Knows};
 ghost use Rattle.pl_step.specs.Step as spec;
+ghost use Rattle.pl_engine.specs.Performed.{Performs};
 ghost use Rattle.pl_engine.specs.Room.{tag_room};
 ghost use Rattle.pl_history.specs.Target.{IsTargetOf};
 
+use crate::done::Done;
+use crate::engine::find::find_target;
 use crate::engine::slots::is_full;
 use pl_base::{IdKind, Ids, Micros, NoMemory, Refusal, Rows, Steps, chunks};
-use pl_history::{
-    Target, add_tag, find_page, find_target, is_tagged, page_for, settle_all, slots_after,
-};
-use pl_link::{Canon, split};
-use pl_step::{Command, Reply};
-use pl_tree::{TreeError, tag_folder};
+use pl_history::{Target, add_tag, is_tagged, page_for, settle_all, slots_after};
+use pl_known::Known;
+use pl_link::Canon;
+use pl_step::{Command, Reply, StepError};
+use pl_tree::tag_folder;
 use pl_words::TagName;
 use std::alloc::Global;
 use std::sync::ledger::Ledger;
@@ -85,56 +88,49 @@ fn tag_refusal<R: Rows, L: Ledger>(
 pub fn tag<R: Rows, L: Ledger>(
     alloc: Global,
     rows: &mut R,
+    known: &Known,
     limit: u32,
     url: &Canon,
     name: &TagName,
     date: Micros,
     steps: &mut Steps<L>,
-) -> Result<Reply, NoMemory>
+) -> Result<Done, StepError>
     requires date { IsDate date }
     requires sound { IsSound (R.kept rows.old) }
     requires most { limit ≤ slot_limit }
-    ensures step { IfOk result (λ reply. (reply, store_of (R.kept rows.new)) ≡ spec.perform limit
-        (store_of (R.kept rows.old)) (Command.Tag url.now name.now date)) }
-    ensures refused { IfOk result (λ reply. (refusal : Refusal)
-        → reply ≡ Reply.Refused refusal → rows.new ≡ rows.old) }
-    ensures base { OnOk result ((bytes : List ℕ) → R.base rows.old bytes → R.base rows.new bytes) }
-    ensures sound { OnOk result (IsSound (R.kept rows.new)) }
+    requires knows { Knows (store_of (R.kept rows.old)) known.now }
+    ensures performs { Performs R.kept R.base
+        (spec.perform limit (store_of (R.kept rows.old)) (Command.Tag url.now name.now date))
+        rows.old rows.new known.now result }
 {
-    let parts = split(alloc, url)?;
-    let target = find_target(alloc, rows, url, &parts, steps)?;
+    let target = find_target(alloc, rows, known, url, steps)?;
     if let Some(refusal) = tag_refusal(alloc, rows, limit, url, target, name, steps)? {
-        return Ok(Reply::Refused(refusal));
+        return Err(StepError::Refused(refusal));
     }
     let page = page_for(rows, url, target, steps)?;
-    add_tag(alloc, rows, page, name, date, parts.is_place, steps)?;
-    Ok(Reply::Done)
+    add_tag(alloc, rows, page, name, date, url.is_place(), steps)?;
+    Ok(Done::afresh(Reply::Done))
 }
 
 /// The page of the URL loses the tag. A page that has neither a visit nor an item then goes too.
 pub fn untag<R: Rows, L: Ledger>(
     alloc: Global,
     rows: &mut R,
+    known: &Known,
     url: &Canon,
     name: &TagName,
     steps: &mut Steps<L>,
-) -> Result<Reply, NoMemory>
+) -> Result<Done, StepError>
     requires sound { IsSound (R.kept rows.old) }
-    ensures step { IfOk result (λ reply. (limit : ℕ) → (reply, store_of (R.kept rows.new))
-        ≡ spec.perform limit (store_of (R.kept rows.old)) (Command.Untag url.now name.now)) }
-    ensures refused { IfOk result (λ reply. (refusal : Refusal)
-        → reply ≡ Reply.Refused refusal → rows.new ≡ rows.old) }
-    ensures base { OnOk result ((bytes : List ℕ) → R.base rows.old bytes → R.base rows.new bytes) }
-    ensures sound { OnOk result (IsSound (R.kept rows.new)) }
+    requires knows { Knows (store_of (R.kept rows.old)) known.now }
+    ensures performs { (limit : ℕ) → Performs R.kept R.base
+        (spec.perform limit (store_of (R.kept rows.old)) (Command.Untag url.now name.now))
+        rows.old rows.new known.now result }
 {
-    let Some(page) = find_page(rows, url.text(), steps)? else {
-        return Ok(Reply::Refused(Refusal::NoPage));
+    let Some(view) = known.find(url.text()) else {
+        return Err(StepError::Refused(Refusal::NoPage));
     };
-    match pl_tree::untag(alloc, rows, page, name, steps) {
-        Ok(()) => {}
-        Err(TreeError::Refused(refusal)) => return Ok(Reply::Refused(refusal)),
-        Err(TreeError::NoMemory) => return Err(NoMemory),
-    }
-    settle_all(alloc, rows, &[page], steps)?;
-    Ok(Reply::Done)
+    pl_tree::untag(alloc, rows, view.id, name, steps)?;
+    settle_all(alloc, rows, &known.views, &[view.id], steps)?;
+    Ok(Done::afresh(Reply::Done))
 }

@@ -1,76 +1,100 @@
 // A title, given to a page of the rows.
-ghost use Rattle.std.specs.Prelude.{◌≡◌, ◌≤◌, ℕ, List, length, true, IfOk, OnOk};
+ghost use Rattle.std.specs.Prelude.{◌≡◌, ◌≤◌, Some, length, true, IfOk, OnOk};
+ghost use Rattle.std.specs.List.{Contains};
 ghost use Rattle.pl_base.specs.Good.{longest_title};
 ghost use Rattle.pl_base.specs.Live.{slot_limit};
-ghost use Rattle.pl_base.specs.Rows.{has_page, store_of, with_title};
-ghost use Rattle.pl_base.specs.Rows.{IsSound};
+ghost use Rattle.pl_base.specs.Rows.{IsSound, has_page, store_of, title_of, with_title};
+ghost use Rattle.pl_known.specs.Known.{Knows};
 ghost use Rattle.pl_step.specs.Step as spec;
+ghost use Rattle.pl_engine.specs.Performed.{Performs};
 ghost use Rattle.pl_engine.specs.Titled.{within_slots};
 
+use crate::done::Done;
 use crate::engine::slots::is_full;
-use pl_base::{NoMemory, PageId, Refusal, Rows, Steps, Txt, chunks, cut_title};
-use pl_history::find_page;
+use pl_base::{Change, NoMemory, Refusal, Rows, Steps, Txt, View, chunks, cut_title};
+use pl_known::Known;
 use pl_link::Canon;
-use pl_step::{Command, Reply};
+use pl_step::{Command, Reply, StepError};
+use std::alloc::Global;
 use std::sync::ledger::Ledger;
 
-// The page has the title from then on, where there are slots for it.
+// The view with another title.
+fn titled(alloc: Global, old: &View, title: &str) -> Result<View, NoMemory>
+    ensures { IfOk result (λ view. view ≡ record old.now { title = title.now }) }
+{
+    Ok(View {
+        title: Txt::copied(alloc, title)?,
+        ..old.copied(alloc)?
+    })
+}
+
+// The change of a view that gets the title.
+fn title_change(alloc: Global, old: &View, title: &str) -> Result<Vec<Change>, NoMemory> {
+    let mut changes = Vec::new(alloc);
+    changes.push(Change {
+        old: Some(old.copied(alloc)?),
+        new: Some(titled(alloc, old, title)?),
+    })?;
+    Ok(changes)
+}
+
+// The page of the view has the title from then on, where there are slots for it.
 fn set_title<R: Rows, L: Ledger>(
+    alloc: Global,
     rows: &mut R,
     limit: u32,
-    page: PageId,
+    view: &View,
     title: &str,
     steps: &mut Steps<L>,
-) -> Result<Reply, NoMemory>
-    requires page { has_page (R.kept rows.old) page ≡ true }
+) -> Result<Done, StepError>
+    requires page { has_page (R.kept rows.old) view.now.id ≡ true }
+    requires old { title_of (R.kept rows.old) view.now.id ≡ Some view.now.title }
     requires title { length title.now ≤ longest_title }
     requires sound { IsSound (R.kept rows.old) }
     requires most { limit ≤ slot_limit }
-    ensures step { IfOk result (λ reply. (reply, store_of (R.kept rows.new))
-        ≡ within_slots limit (store_of (R.kept rows.old))
-        (store_of (with_title page title.now (R.kept rows.old)))) }
-    ensures refused { IfOk result (λ reply. (refusal : Refusal)
-        → reply ≡ Reply.Refused refusal → rows.new ≡ rows.old) }
-    ensures same { OnOk result (store_of (with_title page title.now (R.kept rows.old))
+    ensures performs { (known : Known) → Knows (store_of (R.kept rows.old)) known
+        → Contains known.views.items view.now → Performs R.kept R.base
+        (within_slots limit (store_of (R.kept rows.old))
+        (store_of (with_title view.now.id title.now (R.kept rows.old))))
+        rows.old rows.new known result }
+    ensures same { OnOk result (store_of (with_title view.now.id title.now (R.kept rows.old))
         ≡ store_of (R.kept rows.old) → rows.new ≡ rows.old) }
-    ensures base { OnOk result ((bytes : List ℕ) → R.base rows.old bytes → R.base rows.new bytes) }
-    ensures sound { OnOk result (IsSound (R.kept rows.new)) }
 {
-    let old = rows.title(page, steps)?;
-    if old.as_str() == title {
-        return Ok(Reply::Done);
+    if view.title.as_str() == title {
+        return Ok(Done::with(Reply::Done, Vec::new(alloc)));
     }
     let before = rows.live(steps);
-    let after = before - chunks(old.as_str()) + chunks(title);
+    let after = before - chunks(view.title.as_str()) + chunks(title);
     if is_full(limit, before, after) {
-        return Ok(Reply::Refused(Refusal::Full(after)));
+        return Err(StepError::Refused(Refusal::Full(after)));
     }
-    rows.set_title(page, title, steps)?;
-    Ok(Reply::Done)
+    rows.set_title(view.id, title, steps)?;
+    let changes = title_change(alloc, view, title)?;
+    Ok(Done::with(Reply::Done, changes))
 }
 
 /// A title for the page of the URL, on rows that may take so many slots.
 pub fn title<R: Rows, L: Ledger>(
+    alloc: Global,
     rows: &mut R,
+    known: &Known,
     limit: u32,
     url: &Canon,
     text: &Txt,
     steps: &mut Steps<L>,
-) -> Result<Reply, NoMemory>
+) -> Result<Done, StepError>
     requires sound { IsSound (R.kept rows.old) }
     requires most { limit ≤ slot_limit }
-    ensures step { IfOk result (λ reply. (reply, store_of (R.kept rows.new)) ≡ spec.perform limit
-        (store_of (R.kept rows.old)) (Command.Title url.now text.now)) }
-    ensures refused { IfOk result (λ reply. (refusal : Refusal)
-        → reply ≡ Reply.Refused refusal → rows.new ≡ rows.old) }
+    requires knows { Knows (store_of (R.kept rows.old)) known.now }
+    ensures performs { Performs R.kept R.base
+        (spec.perform limit (store_of (R.kept rows.old)) (Command.Title url.now text.now))
+        rows.old rows.new known.now result }
     // A title that stands leaves the very same rows.
     ensures same { OnOk result (spec.after_title (store_of (R.kept rows.old)) url.now text.now
         ≡ store_of (R.kept rows.old) → rows.new ≡ rows.old) }
-    ensures base { OnOk result ((bytes : List ℕ) → R.base rows.old bytes → R.base rows.new bytes) }
-    ensures sound { OnOk result (IsSound (R.kept rows.new)) }
 {
-    let Some(page) = find_page(rows, url.text(), steps)? else {
-        return Ok(Reply::Refused(Refusal::NoPage));
+    let Some(view) = known.find(url.text()) else {
+        return Err(StepError::Refused(Refusal::NoPage));
     };
-    set_title(rows, limit, page, cut_title(text.as_str()), steps)
+    set_title(alloc, rows, limit, view, cut_title(text.as_str()), steps)
 }

@@ -1,5 +1,5 @@
 // A visit, performed on rows.
-ghost use Rattle.std.specs.Prelude.{◌≡◌, ◌≤◌, ◌+◌, ℕ, List, Option, false, IfOk, IsErr, OnOk};
+ghost use Rattle.std.specs.Prelude.{◌≡◌, ◌≤◌, ◌+◌, ℕ, List, Option, false, IfOk, IsErrOf, OnOk};
 ghost use Rattle.pl_base.specs.declared.id.VisitId.{VisitId};
 ghost use Rattle.pl_base.specs.Address.{is_unrecorded_url};
 ghost use Rattle.pl_base.specs.Date.{IsDate};
@@ -7,14 +7,22 @@ ghost use Rattle.pl_base.specs.Live.{live_slots, slot_limit};
 ghost use Rattle.pl_base.specs.Rows.{IsSound, store_of};
 ghost use Rattle.pl_base.specs.Touched.{IsAtMostMore};
 ghost use Rattle.pl_base.specs.Visiting as visiting;
+ghost use Rattle.pl_known.specs.Known.{Knows};
 ghost use Rattle.pl_step.specs.Step as spec;
+ghost use Rattle.pl_engine.specs.Performed.{Performs};
 ghost use Rattle.pl_history.specs.Target.{IsTargetOf};
 ghost use Rattle.pl_engine.specs.VisitPages.{most_visit_pages, text_pages};
 
-use pl_base::{IdKind, Ids, Micros, NoMemory, Refusal, Rows, Steps, Transition, VisitId, VisitRow};
-use pl_history::{Target, add_visit, find_target, page_for, slots_after};
-use pl_link::{Canon, split};
-use pl_step::{Command, Reply};
+use crate::done::Done;
+use crate::engine::find::find_target;
+use pl_base::{
+    Change, IdKind, Ids, Micros, NoMemory, Refusal, Rows, Steps, Transition, VisitId, VisitRow,
+};
+use pl_changes::changes;
+use pl_history::{AddedVisit, Target, add_visit, page_for, put_in_order, slots_after};
+use pl_known::Known;
+use pl_link::Canon;
+use pl_step::{Command, Reply, StepError};
 use std::alloc::Global;
 use std::sync::ledger::Ledger;
 
@@ -77,38 +85,53 @@ fn refusal<R: Rows, L: Ledger>(
     source_refusal(rows, source, steps).or_else(|| room_refusal(rows, limit, url, target, steps))
 }
 
+// The changes of the views of the pages that the visit bore on.
+fn visit_changes<R: Rows, L: Ledger>(
+    alloc: Global,
+    rows: &R,
+    known: &Known,
+    added: AddedVisit,
+    steps: &mut Steps<L>,
+) -> Result<Vec<Change>, NoMemory> {
+    let mut pages = Vec::new(alloc);
+    pages.push(added.page)?;
+    if let Some(source) = added.source {
+        pages.push(source)?;
+    }
+    put_in_order(&mut pages);
+    changes(alloc, rows, known, &pages, steps)
+}
+
 /// A visit to the URL on rows that may take so many slots.
 pub fn visit<R: Rows, L: Ledger>(
     alloc: Global,
     rows: &mut R,
+    known: &Known,
     limit: u32,
     url: &Canon,
     transition: Transition,
     date: Micros,
     source: Option<VisitId>,
     steps: &mut Steps<L>,
-) -> Result<Reply, NoMemory>
+) -> Result<Done, StepError>
     requires date { IsDate date }
     requires sound { IsSound (R.kept rows.old) }
     requires most { limit ≤ slot_limit }
-    ensures step { IfOk result (λ reply. (reply, store_of (R.kept rows.new)) ≡ spec.perform limit
-        (store_of (R.kept rows.old)) (Command.Visit url.now transition date source)) }
-    ensures refused { IfOk result (λ reply. (refusal : Refusal)
-        → reply ≡ Reply.Refused refusal → rows.new ≡ rows.old) }
-    ensures base { OnOk result ((bytes : List ℕ) → R.base rows.old bytes → R.base rows.new bytes) }
-    ensures sound { OnOk result (IsSound (R.kept rows.new)) }
+    requires knows { Knows (store_of (R.kept rows.old)) known.now }
+    ensures performs { Performs R.kept R.base
+        (spec.perform limit (store_of (R.kept rows.old)) (Command.Visit url.now transition date source))
+        rows.old rows.new known.now result }
     ensures pages { OnOk result (IsAtMostMore
         (most_visit_pages + text_pages url.now (store_of (R.kept rows.old)))
         (R.pending rows.old) (R.pending rows.new)) }
-    ensures no_memory { IsErr result → is_unrecorded_url url.now ≡ false }
+    ensures no_memory { IsErrOf result StepError.NoMemory → is_unrecorded_url url.now ≡ false }
 {
     if !url.recorded() {
-        return Ok(Reply::Refused(Refusal::NotRecorded));
+        return Err(StepError::Refused(Refusal::NotRecorded));
     }
-    let parts = split(alloc, url)?;
-    let target = find_target(alloc, rows, url, &parts, steps)?;
+    let target = find_target(alloc, rows, known, url, steps)?;
     if let Some(refusal) = refusal(rows, limit, url, source, target, steps) {
-        return Ok(Reply::Refused(refusal));
+        return Err(StepError::Refused(refusal));
     }
     let page = page_for(rows, url, target, steps)?;
     let row = VisitRow {
@@ -117,10 +140,12 @@ pub fn visit<R: Rows, L: Ledger>(
         transition,
         source,
     };
-    let added = add_visit(alloc, rows, &row, parts.is_place, steps)?;
-    Ok(Reply::Visit {
+    let added = add_visit(alloc, rows, &known.views, &row, url.is_place(), steps)?;
+    let changes = visit_changes(alloc, rows, known, added, steps)?;
+    let reply = Reply::Visit {
         visit: added.visit,
         page: added.page,
         frecency: added.frecency,
-    })
+    };
+    Ok(Done::with(reply, changes))
 }

@@ -1,0 +1,31 @@
+use Rattle.std.proofs.Common.{◌≡◌, ◌==◌, ◌∙◌, ap, rules, sym}
+use Rattle.std.specs.List.{position}
+use Rattle.std.specs.Option.{option_copied}
+use Rattle.std.proofs.lemmas.List.Sorted.{answers_always}
+use Rattle.pl_base.specs.declared.view.View.{View}
+use Rattle.pl_base.proofs.Searches.{found_at, got_at, none_at, place_searched}
+use Rattle.pl_known.proofs.PutViews.{increasing}
+use Rattle.pl_known.proofs.views.find_view.Goals as goal
+use Rattle.pl_known.proofs.views.find_view.Goals.{After-ok}
+
+-- the place of the id
+searched : (c : After-ok) → c.ok.result ≡ position (λ (v : View). v.id.0 == c.args.id.0) c.args.views.now
+searched c =
+    let facts = c.binary_search_by_key.ensures in
+    c.ok.ensures.value
+    ∙ place_searched (λ (v : View). v.id.0) c.args.views.now
+    (increasing (λ (v : View). v.id.0) c.args.views.now c.requires.order) c.args.id.0 c.binary_search_by_key.result
+    facts.bound
+    (facts.position (λ (v : View). v.id.0) (answers_always _ _ _ (λ f a r g called. search rules)))
+
+pub returns-in_err-place : goal.returns-in_err-place
+returns-in_err-place c =
+    ap option_copied c.from_residual.ensures
+    ∙ none_at (λ (v : View). v.id.0 == c.args.id.0) c.args.views.now
+    (sym (searched c.before.before.before) ∙ c.in_err-place.was)
+
+pub returns : goal.returns
+returns c =
+    got_at c.args.views.now c.in_ok-place.place c.get.result c.get.ensures.lookup.3
+    ∙ found_at (λ (v : View). v.id.0 == c.args.id.0) c.args.views.now c.in_ok-place.place
+    (sym (searched c.before.before.before) ∙ c.in_ok-place.was)
