@@ -1,11 +1,12 @@
 -- What is found of one page after another: the changes so far, and that they walk from the old views to new ones.
-use Rattle.std.proofs.Common.{◌≡◌, ◌≢◌, ◌∙◌, ◌+◌, ◌<◌, ◌≤◌, ◌++◌, ◌==◌, ◌⊎◌, inl, inr, ℕ, Bool, true, false}
-use Rattle.std.proofs.Common.{List, [], ◌∷◌, Option, Some, None, ap, arith, get_or, length, map, refl, subst, suc, sym, take}
+use Rattle.std.proofs.Common.{◌≡◌, ◌≢◌, ◌∙◌, ◌+◌, ◌<◌, ◌≤◌, ◌++◌, ◌==◌, ◌⊎◌, inl, inr, ℕ, Bool, false}
+use Rattle.std.proofs.Common.{List, [], ◌∷◌, Option, Some, None, ap, arith, get_or, length, map, refl, subst, suc}
+use Rattle.std.proofs.Common.{sym, take}
 use Rattle.std.specs.List.{AllByRecursion, AllPairs, list_any}
 use Rattle.std.specs.List.Sorted.{IsStrictlyIncreasing}
 use Rattle.std.specs.Option.{option_to_list}
-use Rattle.std.proofs.lemmas.Bool.{cases_eq, ne_eqb, or_from, or_parts}
-use Rattle.std.proofs.lemmas.List.{take_more}
+use Rattle.std.proofs.lemmas.Bool.{cases_eq, ne_eqb, or_from}
+use Rattle.std.proofs.lemmas.List.{append-nil, take_more}
 use Rattle.std.proofs.lemmas.List.Elements.{recursion_from_All}
 use Rattle.std.proofs.lemmas.List.Kept.{AllPairs-from_increasing}
 use Rattle.pl_base.specs.declared.change.Change.{Change}
@@ -17,7 +18,7 @@ use Rattle.pl_base.proofs.ListLaws.{AllPairs-from_map, everyone, weaker}
 use Rattle.pl_known.specs.Known.{view_of}
 use Rattle.pl_changes.specs.Brings.{Brings, IsChangeTo, IsViewAt}
 use Rattle.pl_changes.proofs.Seen.{seen}
-use Rattle.pl_changes.proofs.Steps.{Agree, IsStep, Walk}
+use Rattle.pl_changes.proofs.Steps.{Walk}
 
 -- the changes of these pages, where each was as the views tell and is as the store has it
 pub data Brought (store : Store) (views : List View) : List PageId → List Change → Type 0 where
@@ -47,8 +48,12 @@ pub next_more : (store : Store) (views : List View) (pages : List PageId) (i : �
 next_more store views pages i d changes next o found within so_far brings is pushed =
     subst (λ (cs : List Change). Brought store views (take (i + 1) pages) cs)
     (ap (λ (p : Option Change). changes ++ option_to_list p) is ∙ sym pushed)
-    (subst (λ (ps : List PageId). Brought store views ps (changes ++ option_to_list o)) (sym (take_more pages i d within))
+    (subst (λ (ps : List PageId). Brought store views ps (changes ++ option_to_list o))
+    (sym (take_more pages i d within))
     (one_more store views (take i pages) changes (get_or pages i d) o so_far brings))
+
+pub none_pushed : (changes next : List Change) → next ≡ changes → next ≡ changes ++ []
+none_pushed changes next same = same ∙ sym (append-nil changes)
 
 -- what the store has of one of the pages
 pub view_there : (store : Store) (views : List View) (pages : List PageId) (changes : List Change)

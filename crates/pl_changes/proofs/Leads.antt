@@ -1,9 +1,8 @@
 -- That the changes of all pages lead from what was known to what the store tells.
-use Rattle.std.proofs.Common.{◌≡◌, ◌≢◌, ◌∙◌, ◌+◌, ◌<◌, ◌≤◌, ◌^◌, ◌==◌, ◌⊎◌, inl, inr, ℕ, Bool, true, false}
-use Rattle.std.proofs.Common.{List, [], ◌∷◌, Option, Some, None, ap, arith, eq-eqb, find, map, refl, subst, sym}
+use Rattle.std.proofs.Common.{◌≡◌, ◌≢◌, ◌∙◌, ◌<◌, ◌^◌, ◌==◌, ◌⊎◌, inl, inr, ℕ, Bool, true, false}
+use Rattle.std.proofs.Common.{List, [], ◌∷◌, Option, Some, None, ap, arith, map, refl, subst, sym}
 use Rattle.std.specs.List.{Contains, list_any}
 use Rattle.std.specs.List.Sorted.{IsStrictlyIncreasing}
-use Rattle.std.specs.Option.{IsSome}
 use Rattle.std.proofs.lemmas.Bool.{eqb-true, false≢true, or_cases}
 use Rattle.std.proofs.lemmas.List.Kept.{AllPairs-from_increasing}
 use Rattle.std.proofs.lemmas.Option.{none-some}
@@ -15,22 +14,22 @@ use Rattle.pl_base.specs.Rows.{IsWellKept, Kept, store_of}
 use Rattle.pl_base.specs.Store.{Page, Store}
 use Rattle.pl_base.specs.View.{AreViewsOf, IsViewOf}
 use Rattle.pl_base.proofs.Among.{In, at_in}
-use Rattle.pl_base.proofs.ListLaws.{found_in, some_in}
 use Rattle.pl_base.proofs.LookUps.{Apart, apart_ascending, found_some}
 use Rattle.pl_base.proofs.Truths.{no_test}
 use Rattle.pl_follow.specs.Changes.{AreInOrder, FitStore, has_view}
-use Rattle.pl_follow.proofs.Parted.{Ascend, ascend}
+use Rattle.pl_follow.proofs.Parted.{ascend}
 use Rattle.pl_marks.specs.Alike.{is_one_of}
 use Rattle.pl_known.specs.declared.known.Known.{Known}
 use Rattle.pl_known.specs.Changes.{AllSuit, LeadTo, after}
 use Rattle.pl_known.specs.Known.{shares}
-use Rattle.pl_changes.specs.Brings.{HasView, IsViewAt}
+use Rattle.pl_known.proofs.ViewLookUps.{same_views}
+use Rattle.pl_changes.specs.Brings.{IsViewAt}
 use Rattle.pl_changes.specs.CameFrom.{CameFrom}
 use Rattle.pl_changes.proofs.Brought.{Brought, climbs, is_among, view_there, walk}
 use Rattle.pl_changes.proofs.Elements.{contained, is_in}
 use Rattle.pl_changes.proofs.Mixed.{Follow, mixed, mixed_above, mixed_fits, mixed_in_order}
 use Rattle.pl_changes.proofs.NewViews.{built, no_page, page_of, told, view_of_page}
-use Rattle.pl_changes.proofs.Seen.{in_seen, same_list, seen, seen_in}
+use Rattle.pl_changes.proofs.Seen.{in_seen, seen, seen_in}
 use Rattle.pl_changes.proofs.SmallShares.{small}
 use Rattle.pl_changes.proofs.Steps.{Walk, each_once, go}
 use Rattle.pl_changes.proofs.StoreViews.{fits, in_order}
@@ -171,13 +170,13 @@ module _ (kept : Kept) (well : IsWellKept kept) (good : IsGood (store_of kept)) 
     follow =
         record {
           urls = λ v w g h same.
-            let q = page_of (store_of kept) (store_of kept).pages new are v g in
-            let p = page_of came.old came.old.pages known.views.items came.knows.views w h in
-            same_url v w q.0 p.0 q.1 p.1 q.2 p.2 same;
+              let q = page_of (store_of kept) (store_of kept).pages new are v g in
+              let p = page_of came.old came.old.pages known.views.items came.knows.views w h in
+              same_url v w q.0 p.0 q.1 p.1 q.2 p.2 same;
           behind = λ v w g none h.
-            let q = page_of (store_of kept) (store_of kept).pages new are v g in
-            let r = page_of came.old came.old.pages known.views.items came.knows.views w h in
-            is_behind v w q.0 r.0 q.1 r.1 q.2 r.2 none;
+              let q = page_of (store_of kept) (store_of kept).pages new are v g in
+              let r = page_of came.old came.old.pages known.views.items came.knows.views w h in
+              is_behind v w q.0 r.0 q.1 r.1 q.2 r.2 none;
         }
       where
         same_url : (v w : View) (q p : Page) → In q (store_of kept).pages → In p came.old.pages
@@ -227,11 +226,9 @@ module _ (kept : Kept) (well : IsWellKept kept) (good : IsGood (store_of kept)) 
     -- below the first id nothing has changed
     start : mixed known.views.items new 0 ≡ known.views.items
     start =
-        same_list (mixed known.views.items new 0) known.views.items
-        (ascend (mixed known.views.items new 0)
-        (mixed_in_order known.views.items new 0 came.knows.followed.order ordered))
-        (ascend known.views.items came.knows.followed.order)
-        (λ n. mixed_above known.views.items new 0 n (omega arith))
+        same_views (mixed known.views.items new 0) known.views.items
+        (mixed_in_order known.views.items new 0 came.knows.followed.order ordered) came.knows.followed.order
+        (λ id. mixed_above known.views.items new 0 id.0 (omega arith))
 
     leads : LeadTo (store_of kept) known.views.items changes
     leads =

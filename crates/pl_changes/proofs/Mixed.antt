@@ -1,10 +1,11 @@
 -- The views on the way from old ones to new ones: the new ones up to some id, and beyond it the old ones.
 use Rattle.std.proofs.Common.{◌≡◌, ◌≢◌, ◌∙◌, ◌+◌, ◌<◌, ◌≤◌, ◌^◌, ◌++◌, ◌==◌, ◌||◌, ◌⊎◌, inl, inr, ℕ, Bool, true, false}
-use Rattle.std.proofs.Common.{List, [], ◌∷◌, All, Option, Some, None, ap, arith, eq-eqb, filter, length, nat_eq, nat_lt}
+use Rattle.std.proofs.Common.{List, [], ◌∷◌, Option, Some, None, ap, arith, filter, length, nat_eq, nat_lt}
 use Rattle.std.proofs.Common.{not, refl, subst, sym}
-use Rattle.std.specs.List.{AllByRecursion, AllPairs, list_any, starts_with, sum_by}
+use Rattle.std.specs.List.{AllByRecursion, AllPairs, starts_with}
 use Rattle.std.specs.Option.{IsSome, option_or}
-use Rattle.std.proofs.lemmas.Bool.{cases_order, false≢true, le-ltb, lt-ltb, ltb-false, ltb-true, ne_eqb, not-true, true_from_ne_false}
+use Rattle.std.proofs.lemmas.Bool.{cases_order, false≢true, le-ltb, lt-ltb, ltb-false, ltb-true, ne_eqb, not-true}
+use Rattle.std.proofs.lemmas.Bool.{true_from_ne_false}
 use Rattle.std.proofs.lemmas.List.{length-append}
 use Rattle.std.proofs.lemmas.List.Elements.{All-append, All-filter}
 use Rattle.std.proofs.lemmas.List.Filters.{length-filter_both, sum_by-filter_both}
@@ -14,15 +15,14 @@ use Rattle.std.proofs.lemmas.List.Sums.{sum_by-append}
 use Rattle.pl_base.specs.declared.view.View.{View}
 use Rattle.pl_base.specs.Live.{slot_limit}
 use Rattle.pl_base.specs.Totals.{share}
-use Rattle.pl_base.proofs.Among.{In, all_from_in, at_in, from_filter, in_filter}
+use Rattle.pl_base.proofs.Among.{In, all_from_in, at_in, from_filter}
 use Rattle.pl_base.proofs.ListLaws.{all_append, found_in, some_in, weaker}
-use Rattle.pl_base.proofs.LookUps.{any_none, both, found_some}
-use Rattle.pl_base.proofs.Truths.{no_test}
+use Rattle.pl_base.proofs.LookUps.{any_none, both}
 use Rattle.pl_follow.specs.Changes.{AreInOrder, FitStore, has_view}
 use Rattle.pl_follow.proofs.ChangedLists.{Pairs, all_pairs, pairs}
 use Rattle.pl_follow.proofs.Parted.{Ascend, ascend}
 use Rattle.pl_known.specs.Known.{shares}
-use Rattle.pl_changes.proofs.Seen.{in_seen, none_above, seen, seen_dropped, seen_in, seen_kept}
+use Rattle.pl_changes.proofs.Seen.{seen, seen_dropped, seen_in, seen_kept}
 
 -- ---- lists in general
 

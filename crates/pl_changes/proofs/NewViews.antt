@@ -1,8 +1,7 @@
 -- The views of a store: the one of each page, of which there is only one, and those of all.
-use Rattle.std.proofs.Common.{◌≡◌, ◌≢◌, ◌∙◌, ◌<◌, ◌≤◌, ◌==◌, ◌⊎◌, inl, inr, ℕ, Bool, true, false, List, [], ◌∷◌}
-use Rattle.std.proofs.Common.{Option, Some, None, ap, arith, map, refl, subst, sym}
-use Rattle.std.specs.List.{AllByRecursion, Contains}
-use Rattle.std.proofs.lemmas.Bool.{cases_order, eq-eqb, eqb-true, false≢true, ne_eqb}
+use Rattle.std.proofs.Common.{◌≡◌, ◌≢◌, ◌∙◌, ◌<◌, ◌==◌, ◌⊎◌, inl, inr, ℕ, Bool, false, List, [], ◌∷◌}
+use Rattle.std.proofs.Common.{Option, Some, None, ap, map, refl, subst, sym}
+use Rattle.std.proofs.lemmas.Bool.{cases_order, eq-eqb, false≢true}
 use Rattle.std.proofs.lemmas.Option.{some_pair_parts}
 use Rattle.pl_base.specs.declared.date.Day.{Day}
 use Rattle.pl_base.specs.declared.id.PageId.{PageId}
@@ -16,7 +15,7 @@ use Rattle.pl_base.proofs.Among.{In, all_from_in, at_in}
 use Rattle.pl_base.proofs.LookUps.{none_pass}
 use Rattle.pl_follow.specs.Changes.{AreInOrder}
 use Rattle.pl_follow.proofs.Parted.{ascend}
-use Rattle.pl_changes.specs.Brings.{HasView, IsViewAt}
+use Rattle.pl_changes.specs.Brings.{IsViewAt}
 use Rattle.pl_changes.proofs.Elements.{is_in}
 use Rattle.pl_changes.proofs.Seen.{in_seen, none_seen, seen}
 

@@ -1,5 +1,6 @@
 -- The figures in a view, and what the test whether figures are the same says.
-use Rattle.std.proofs.Common.{◌≡◌, ◌==◌, ◌&&◌, ◌≢◌, ◌∙◌, Bool, true, false, Option, Some, None, ap, int_eq, refl, subst, sym}
+use Rattle.std.proofs.Common.{◌≡◌, ◌==◌, ◌&&◌, ◌≢◌, ◌∙◌, Bool, true, false, Option, Some, None, ap, int_eq, refl}
+use Rattle.std.proofs.Common.{subst, sym}
 use Rattle.std.specs.Option.{option_eq}
 use Rattle.std.proofs.Math.Bool.{beq}
 use Rattle.std.specs.Cmp.{booleans_Decides}

@@ -1,22 +1,22 @@
 -- Changes by ascending ids, each of which brings a list of views nearer to another list.
-use Rattle.std.proofs.Common.{◌≡◌, ◌≢◌, ◌∙◌, ◌+◌, ◌<◌, ◌≤◌, ◌^◌, ◌||◌, ◌⊎◌, inl, inr, ℕ, Bool, true, false}
-use Rattle.std.proofs.Common.{List, [], ◌∷◌, All, Option, Some, None, ap, arith, is_some, refl, subst, sym}
+use Rattle.std.proofs.Common.{◌≡◌, ◌≢◌, ◌∙◌, ◌+◌, ◌<◌, ◌≤◌, ◌||◌, ◌⊎◌, inl, inr, ℕ, true, false}
+use Rattle.std.proofs.Common.{List, [], ◌∷◌, Option, Some, None, ap, arith, is_some, refl, subst, sym}
 use Rattle.std.specs.Option.{IfSome}
 use Rattle.std.specs.List.{AllByRecursion, AllPairs, Contains}
 use Rattle.std.proofs.lemmas.Bool.{cases_eq, cases_lt}
 use Rattle.std.proofs.lemmas.List.Elements.{All-from_recursion}
 use Rattle.std.proofs.lemmas.List.Kept.{AllPairs-cons}
 use Rattle.pl_base.specs.declared.change.Change.{Change}
-use Rattle.pl_base.specs.declared.id.PageId.{PageId}
 use Rattle.pl_base.specs.declared.view.View.{View}
 use Rattle.pl_base.proofs.ListLaws.{weaker}
 use Rattle.pl_follow.specs.Changes.{AreInOrder, FitStore, Suits, changed, has_view, removed, with_view, without_id}
 use Rattle.pl_follow.proofs.ChangedLists.{added_in_order}
-use Rattle.pl_follow.proofs.Parted.{Ascend, ascend, removed_in_order}
+use Rattle.pl_follow.proofs.Parted.{removed_in_order}
+use Rattle.pl_known.proofs.ViewLookUps.{same_views}
 use Rattle.pl_known.specs.Changes.{AllSuit, AreEachOnce, IsOfOnePage, after, id_of}
 use Rattle.pl_changes.proofs.Elements.{contained}
 use Rattle.pl_changes.proofs.Mixed.{mixed, mixed_above, mixed_below, mixed_in_order}
-use Rattle.pl_changes.proofs.Seen.{no_view, same_list, seen, seen_in, with_other, with_seen, without_other, without_seen}
+use Rattle.pl_changes.proofs.Seen.{no_view, seen, seen_in, with_other, with_seen, without_other, without_seen}
 
 -- ---- one change
 
@@ -72,12 +72,14 @@ module _ (n : ℕ) (a b : Option View) (views : List View) (ordered : AreInOrder
           ap (λ (m : ℕ). seen m (with_view v (removed a views))) (sym is) ∙ with_seen v (removed a views) none
 
   pub changed_other : (m : ℕ) → m ≢ n → seen m (changed a b views) ≡ seen m views
-  changed_other m other = choose b named
+  changed_other m other = choose b named comes
     where
-      choose : (b' : Option View) → IfSome b' (λ (v : View). v.id.0 ≡ n) → seen m (changed a b' views) ≡ seen m views
-      choose None is = others a refl m other
-      choose (Some v) is =
-          with_other v m (removed a views) (λ same. other (sym same ∙ is)) ∙ others a refl m other
+      choose : (b' : Option View) → IfSome b' (λ (v : View). v.id.0 ≡ n)
+          → IfSome b' (λ (v : View). has_view v.id (removed a views) ≡ false)
+          → seen m (changed a b' views) ≡ seen m views
+      choose None is none = others a refl m other
+      choose (Some v) is none =
+          with_other v m (removed a views) none (λ same. other (sym same ∙ is)) ∙ others a refl m other
 
 named : (n : ℕ) (views : List View) (o : Option View) → o ≡ seen n views → IfSome o (λ (v : View). v.id.0 ≡ n)
 named n views None is = tt
@@ -109,13 +111,13 @@ Walk old new k (c ∷ cs) =
 
 module _ (old new : List View) (ordered : AreInOrder old) (anew : AreInOrder new)
     (fits : (k : ℕ) → FitStore (mixed old new k)) where
-  ascends : (k : ℕ) → Ascend (mixed old new k)
-  ascends k = ascend (mixed old new k) (mixed_in_order old new k ordered anew)
+  in_order : (k : ℕ) → AreInOrder (mixed old new k)
+  in_order k = mixed_in_order old new k ordered anew
 
   between : (k n : ℕ) → k ≤ n → Agree old new k n → mixed old new k ≡ mixed old new n
   between k n from agree =
-      same_list (mixed old new k) (mixed old new n) (ascends k) (ascends n)
-      (λ m. choose m (cases_lt m k) (cases_lt m n))
+      same_views (mixed old new k) (mixed old new n) (in_order k) (in_order n)
+      (λ id. choose id.0 (cases_lt id.0 k) (cases_lt id.0 n))
     where
       choose : (m : ℕ) → (m < k) ⊎ (k ≤ m) → (m < n) ⊎ (n ≤ m)
           → seen m (mixed old new k) ≡ seen m (mixed old new n)
@@ -127,37 +129,30 @@ module _ (old new : List View) (ordered : AreInOrder old) (anew : AreInOrder new
 
   ended : (k : ℕ) → ((n : ℕ) → k ≤ n → seen n old ≡ seen n new) → mixed old new k ≡ new
   ended k agree =
-      same_list (mixed old new k) new (ascends k) (ascend new anew) (λ m. choose m (cases_lt m k))
+      same_views (mixed old new k) new (in_order k) anew (λ id. choose id.0 (cases_lt id.0 k))
     where
       choose : (m : ℕ) → (m < k) ⊎ (k ≤ m) → seen m (mixed old new k) ≡ seen m new
       choose m (inl under) = mixed_below old new k m under
       choose m (inr over) = mixed_above old new k m over ∙ agree m over
 
   module _ (n : ℕ) (c : Change) (step : IsStep old new n c) where
-    views : List View
-    views = mixed old new n
-
     was_here : c.old ≡ seen n (mixed old new n)
     was_here = step.was ∙ sym (mixed_above old new n n (omega arith))
 
-    ordered_here : AreInOrder (mixed old new n)
-    ordered_here = mixed_in_order old new n ordered anew
-
     stepped : changed c.old c.new (mixed old new n) ≡ mixed old new (n + 1)
     stepped =
-        same_list (changed c.old c.new (mixed old new n)) (mixed old new (n + 1))
-        (ascend (changed c.old c.new (mixed old new n))
-        (changed_in_order n c.old c.new (mixed old new n) ordered_here was_here (named n new c.new step.is)))
-        (ascends (n + 1)) (λ m. choose m (cases_eq m n) (cases_lt m n))
+        same_views (changed c.old c.new (mixed old new n)) (mixed old new (n + 1))
+        (changed_in_order n c.old c.new (mixed old new n) (in_order n) was_here (named n new c.new step.is))
+        (in_order (n + 1)) (λ id. choose id.0 (cases_eq id.0 n) (cases_lt id.0 n))
       where
         there : seen n (changed c.old c.new (mixed old new n)) ≡ seen n (mixed old new (n + 1))
         there =
-            changed_seen n c.old c.new (mixed old new n) ordered_here was_here (named n new c.new step.is)
+            changed_seen n c.old c.new (mixed old new n) (in_order n) was_here (named n new c.new step.is)
             ∙ step.is ∙ sym (mixed_below old new (n + 1) n (omega arith))
 
         elsewhere : (m : ℕ) → m ≢ n → seen m (changed c.old c.new (mixed old new n)) ≡ seen m (mixed old new n)
         elsewhere m other =
-            changed_other n c.old c.new (mixed old new n) ordered_here was_here (named n new c.new step.is) m other
+            changed_other n c.old c.new (mixed old new n) (in_order n) was_here (named n new c.new step.is) m other
 
         choose : (m : ℕ) → (m ≡ n) ⊎ (m ≢ n) → (m < n) ⊎ (n ≤ m)
             → seen m (changed c.old c.new (mixed old new n)) ≡ seen m (mixed old new (n + 1))
@@ -176,7 +171,7 @@ module _ (old new : List View) (ordered : AreInOrder old) (anew : AreInOrder new
         record {
           some = some_of c.old c.new step.differ;
           goes = goes_of n (mixed old new n) c.old was_here;
-          comes = comes n c.old c.new (mixed old new n) ordered_here was_here (named n new c.new step.is);
+          comes = comes n c.old c.new (mixed old new n) (in_order n) was_here (named n new c.new step.is);
           becomes = subst FitStore (sym stepped) (fits (n + 1));
         }
 

@@ -1,7 +1,7 @@
 -- The views of a store stand in the order of their ids, and fit a store.
-use Rattle.std.proofs.Common.{◌≡◌, ◌≢◌, ◌<◌, ◌^◌, ◌∙◌, ℕ, All, List, [], ◌∷◌, Ok, Err, Some, ap, arith, length, map, nat_eq}
+use Rattle.std.proofs.Common.{◌≡◌, ◌≢◌, ◌<◌, ◌∙◌, ℕ, List, [], ◌∷◌, Ok, Err, Some, ap, arith, length, map, nat_eq}
 use Rattle.std.proofs.Common.{nat_le, refl, subst, suc, sym, true, ◌≤◌, unwrap_or, Option, None}
-use Rattle.std.specs.List.{AllByRecursion, AllPairs, starts_with, sum_by}
+use Rattle.std.specs.List.{AllByRecursion, AllPairs, starts_with}
 use Rattle.std.proofs.lemmas.Bool.{and_parts}
 use Rattle.std.proofs.lemmas.List.Elements.{All-from_recursion, recursion_from_All}
 use Rattle.std.proofs.lemmas.List.Kept.{AllPairs-from_increasing}
@@ -75,7 +75,7 @@ prefix_first text start host good origin =
         subst (λ (s : List ℕ). starts_with nat_eq text s ≡ true) first
         (subst (λ (t : List ℕ). starts_with nat_eq t (prefix f) ≡ true) whole (starts_with-prefix f))
     choose (Err e) same is =
-        let none : None ≡ Some (start, host) = is in
+        let none : ◌≡◌ {A = Option (List ℕ × List ℕ)} None (Some (start, host)) = is in
         absurd (cc)
 
 prefixes : (store : Store) (ps : List Page) (vs : List View) → AllByRecursion (IsGoodPage store) ps

@@ -44,12 +44,12 @@ fn renewed<R: Rows, L: Ledger>(
 // The view with other figures.
 fn with_figures(alloc: Global, old: &View, figures: Figures) -> Result<View, NoMemory>
     ensures { IfOk result (λ view. view ≡ record old.now {
-        frecency = figures.frecency;
-        count = figures.count;
-        last = figures.last;
-        due = figures.due;
-        typed = figures.typed;
-        hidden = figures.hidden;
+      frecency = figures.frecency;
+      count = figures.count;
+      last = figures.last;
+      due = figures.due;
+      typed = figures.typed;
+      hidden = figures.hidden;
     }) }
 {
     Ok(View {

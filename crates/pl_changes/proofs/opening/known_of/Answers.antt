@@ -29,5 +29,5 @@ of-requires-clause-fit g c =
 pub returns : goal.returns
 returns g c =
     let kept : Kept = g.R.Rows.kept c.args.rows.now in
-    knows kept c.in_ok-views.views.items c.of.result (g.met.R.Rows.well_kept c.args.rows.now) c.in_ok-views.ensures c.of.ensures.views
-    c.of.ensures.followed
+    knows kept c.in_ok-views.views.items c.of.result (g.met.R.Rows.well_kept c.args.rows.now) c.in_ok-views.ensures
+    c.of.ensures.views c.of.ensures.followed

@@ -1,9 +1,8 @@
 use Rattle.std.proofs.Common.{◌≡◌, ◌∙◌, ◌++◌, ◌∷◌, [], Global, List, None, Some, Vec, ap, subst, sym, take_all}
-use Rattle.std.proofs.lemmas.List.{append-nil}
 use Rattle.pl_base.specs.declared.change.Change.{Change}
 use Rattle.pl_base.specs.declared.id.PageId.{PageId}
 use Rattle.pl_base.specs.Rows.{Kept, store_of}
-use Rattle.pl_changes.proofs.Brought.{Brought, next_more, nothing}
+use Rattle.pl_changes.proofs.Brought.{Brought, next_more, none_pushed, nothing}
 use Rattle.pl_changes.proofs.KeptTexts.{keep_texts}
 use Rattle.pl_changes.proofs.Leads.{lead}
 use Rattle.pl_changes.proofs.renewal.changes.Goals as goal
@@ -31,9 +30,9 @@ loop-page-preserved g c =
           step (Some w.in-Some.change) c.loop-page-test.true c.loop-page.invariant c.in_ok-change.ensures w.in-Some.is
           pushed
       | in_default w ↦
-          let same : c.match-branch-2.changes.items ≡ c.loop-page.changes.items ++ [] =
-          ap (λ (v : Vec Change Global). v.items) w.changes-is ∙ sym (append-nil c.loop-page.changes.items) in
-          step None c.loop-page-test.true c.loop-page.invariant c.in_ok-change.ensures w.in_default.is same
+          step None c.loop-page-test.true c.loop-page.invariant c.in_ok-change.ensures w.in_default.is
+          (none_pushed c.loop-page.changes.items c.match-branch-2.changes.items
+          (ap (λ (v : Vec Change Global). v.items) w.changes-is))
     ]
 
 pub returns : goal.returns

@@ -1,11 +1,7 @@
-use Rattle.std.proofs.Common.{◌≡◌, ◌∙◌, Some, ap, subst, sym, true}
-use Rattle.std.proofs.lemmas.Bool.{false≢true}
-use Rattle.std.proofs.lemmas.Option.{same_Some}
-use Rattle.pl_base.specs.declared.id.PageId.{PageId}
+use Rattle.std.proofs.Common.{◌≡◌, ◌∙◌, Some, ap, subst, sym}
 use Rattle.pl_base.specs.declared.view.View.{View}
 use Rattle.pl_base.specs.Marks.{is_referenced}
-use Rattle.pl_base.specs.Rows.{Kept, has_page, store_of}
-use Rattle.pl_base.specs.Store.{Store}
+use Rattle.pl_base.specs.Rows.{Kept, store_of}
 use Rattle.pl_base.specs.View.{IsViewOf}
 use Rattle.pl_marks.specs.declared.figures.Figures.{Figures}
 use Rattle.pl_changes.specs.Brings.{HasView}
