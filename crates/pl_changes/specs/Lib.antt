@@ -1,1 +1,2 @@
+pub mod Brings
 pub mod CameFrom

@@ -1,10 +1,12 @@
 // The changes of views that a command on history makes.
-ghost use Rattle.std.specs.Prelude.{IfOk, map};
+ghost use Rattle.std.specs.Prelude.{◌≡◌, IfOk, Some, map};
 ghost use Rattle.std.specs.List.Sorted.{IsStrictlyIncreasing};
 ghost use Rattle.pl_base.specs.declared.id.PageId.{PageId};
 ghost use Rattle.pl_base.specs.Rows.{IsSound, store_of};
+ghost use Rattle.pl_changes.specs.Brings.{Brings, KeepTexts, KeepsTexts};
 ghost use Rattle.pl_changes.specs.CameFrom.{CameFrom};
 ghost use Rattle.pl_known.specs.Changes.{LeadTo};
+ghost use Rattle.pl_known.specs.Known.{AreFollowed, view_of};
 
 use pl_base::{Change, NoMemory, PageId, Rows, Steps, View};
 use pl_known::Known;
@@ -18,7 +20,11 @@ fn renewed<R: Rows, L: Ledger>(
     rows: &R,
     old: &View,
     steps: &mut Steps<L>,
-) -> Result<Option<Change>, NoMemory> {
+) -> Result<Option<Change>, NoMemory>
+    requires sound { IsSound (R.kept rows.now) }
+    requires texts { KeepsTexts (store_of (R.kept rows.now)) old.now }
+    ensures { IfOk result (Brings (store_of (R.kept rows.now)) old.now.id (Some old.now)) }
+{
     if rows.page_at(old.id, steps).is_none() {
         return Ok(Some(Change {
             old: Some(old.copied(alloc)?),
@@ -36,7 +42,16 @@ fn renewed<R: Rows, L: Ledger>(
 }
 
 // The view with other figures.
-fn with_figures(alloc: Global, old: &View, figures: Figures) -> Result<View, NoMemory> {
+fn with_figures(alloc: Global, old: &View, figures: Figures) -> Result<View, NoMemory>
+    ensures { IfOk result (λ view. view ≡ record old.now {
+      frecency = figures.frecency;
+      count = figures.count;
+      last = figures.last;
+      due = figures.due;
+      typed = figures.typed;
+      hidden = figures.hidden;
+    }) }
+{
     Ok(View {
         frecency: figures.frecency,
         count: figures.count,
@@ -55,7 +70,13 @@ fn change<R: Rows, L: Ledger>(
     known: &Known,
     page: PageId,
     steps: &mut Steps<L>,
-) -> Result<Option<Change>, NoMemory> {
+) -> Result<Option<Change>, NoMemory>
+    requires sound { IsSound (R.kept rows.now) }
+    requires followed { AreFollowed known.now }
+    requires texts { KeepTexts (store_of (R.kept rows.now)) known.now.views.items }
+    ensures { IfOk result (Brings (store_of (R.kept rows.now)) page
+        (view_of page known.now.views.items)) }
+{
     if let Some(old) = known.view(page) {
         return renewed(alloc, rows, old, steps);
     }
