@@ -75,12 +75,16 @@ run_sqlite() {
     run_once "$1" "$work/$1.sql" sqlite3 -batch -bail -init /dev/null :memory:
 }
 
-run_each() {
+run_both() {
     run_once places "$work/script" "$program" try
-    run_sqlite parsed
     run_sqlite prepared
-    same parsed
     same prepared
+}
+
+run_each() {
+    run_both
+    run_sqlite parsed
+    same parsed
 }
 
 # The replies of both stand line by line the same: the visit, its page, and the page's frecency.
@@ -98,6 +102,13 @@ row() {
     }'
 }
 
+row_behind() {
+    sort -n "$work/$1.times" | head -n 1 | cat - "$work/$1.before" | awk -v name="$2" -v lines="$lines" -v pages="$pages" '
+        NR == 1 { wall = $1; user = $2; peak = $3 }
+        NR == 2 { printf "%-26s %6d %6d %8.3f %8.3f %9.1f %13.0f\n", name, lines, pages, wall - $1, user - $2, peak / 1024,
+            (wall - $1) / lines * 1000000 }'
+}
+
 measure() {
     lines=$1 pages=$2
     visits "$lines" "$pages" >"$work/script" || fail 'the script was not written'
@@ -109,6 +120,30 @@ measure() {
     row places 'places try'
     row parsed 'sqlite3, text of each line'
     row prepared 'sqlite3, prepared once'
+}
+
+# The same lines behind a visit to each of so many pages. The lines before them are run alone too, and what these take
+# is taken off.
+measure_on() {
+    lines=$1 pages=$2
+    visits "$3" "$3" >"$work/before" || fail 'the script was not written'
+    cp -- "$work/before" "$work/script"
+    make_sql
+    rm -f -- "$work"/*.times
+    for _ in $(seq "$runs"); do
+        run_both
+    done
+    for name in places prepared; do
+        sort -n "$work/$name.times" | head -n 1 >"$work/$name.before"
+    done
+    visits "$lines" "$pages" | cat "$work/before" - >"$work/script" || fail 'the script was not written'
+    make_sql
+    rm -f -- "$work"/*.times
+    for _ in $(seq "$runs"); do
+        run_both
+    done
+    row_behind places "places try, on $3 pages"
+    row_behind prepared "prepared once, on $3"
 }
 
 # A small script with fifty visits to each page, of which a sample leaves most out.
@@ -140,4 +175,5 @@ printf '%-26s %6s %6s %8s %8s %9s %13s\n' '' lines pages 'wall, s' 'user, s' 'pe
 measure 5000 500
 measure 10000 1000
 measure 20000 2000
+measure_on 20000 2000 100000
 echo 'replies agree at each size'
