@@ -89,7 +89,7 @@ module _ (kept : Kept) (well : IsWellKept kept) (good : IsGood (store_of kept)) 
     (ascending : IsStrictlyIncreasing (map (λ (page : PageId). page.0) pages)) (known : Known)
     (came : CameFrom pages known (store_of kept)) (changes : List Change)
     (brought : Brought (store_of kept) known.views.items pages changes) where
-  -- a view that is no older than the store's pages
+  -- each page of the store has a view
   view_at : (p : Page) → In p (store_of kept).pages → (v : View) × IsViewOf (store_of kept) p v
   view_at p h = choose (is_one_of pages p.id) refl
     where
@@ -223,7 +223,7 @@ module _ (kept : Kept) (well : IsWellKept kept) (good : IsGood (store_of kept)) 
         mixed_fits known.views.items new k came.knows.followed.order ordered follow came.knows.followed.fit
         (fits kept new well good are) (omega (arith, came.knows.small, small kept new well are))
 
-    -- below the first id nothing has changed
+    -- before the first change they are the old ones
     start : mixed known.views.items new 0 ≡ known.views.items
     start =
         same_views (mixed known.views.items new 0) known.views.items

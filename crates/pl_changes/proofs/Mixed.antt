@@ -38,7 +38,7 @@ or_none : (o : Option View) → option_or o None ≡ o
 or_none None = refl
 or_none (Some v) = refl
 
--- of two views with ids that ascend, whatever holds of each pair
+-- two of the views with different ids have different URLs
 apart : (vs : List View) → Ascend vs → Pairs (λ (v w : View). v.url ≢ w.url) vs → (x y : View) → In x vs → In y vs
     → x.id.0 < y.id.0 → x.url ≢ y.url
 apart [] a each x y g h before = absurd g
