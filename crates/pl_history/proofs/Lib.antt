@@ -23,7 +23,6 @@ pub mod RightRemoved
 pub mod SameVisits
 pub mod SearchedPages
 pub mod Settled
-pub mod SmallTotals
 pub mod SourcePage
 pub mod StaleOrder
 pub mod StalePages
