@@ -1,5 +1,4 @@
+mod FoundPage
 mod Listed
 mod Offered
-mod PageTold
-pub mod StoreViews
 mod Views

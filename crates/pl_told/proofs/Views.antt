@@ -1,8 +1,7 @@
 -- What the views of a store tell of its origins.
-use Rattle.std.proofs.Common.{◌≡◌, ◌≢◌, ◌∙◌, ◌<◌, ◌≤◌, ◌==◌, ℕ, List, [], ◌∷◌, Some, ap, arith, eq-eqb, filter}
+use Rattle.std.proofs.Common.{◌≡◌, ◌≢◌, ◌∙◌, ◌≤◌, ◌==◌, ℕ, List, [], ◌∷◌, ap, arith, eq-eqb, filter}
+use Rattle.std.proofs.Common.{if◌then◌else◌, length, refl, suc, sym, Ok, Err, Bool}
 use Rattle.std.specs.List.{filter_map}
-use Rattle.std.proofs.Common.{if◌then◌else◌, length, refl, subst, suc, sym, Ok, Err, Bool, ◌^◌}
-use Rattle.std.specs.List.{sum_by}
 use Rattle.std.specs.Option.{option_map}
 use Rattle.std.specs.Result.{IsOkAnd}
 use Rattle.std.proofs.lemmas.Bool.{ne_eqb}
@@ -14,15 +13,10 @@ use Rattle.pl_base.specs.declared.refusal.Refusal.TheVariants.{NoPage}
 use Rattle.pl_base.specs.declared.view.View.{View}
 use Rattle.pl_base.specs.Address.{origin_of_url}
 use Rattle.pl_base.specs.Frecency.{frecency_of}
-use Rattle.pl_base.specs.Good.{IsGood}
-use Rattle.pl_base.specs.Live.{slot_limit}
-use Rattle.pl_base.specs.Rows.{IsWellKept, Kept, store_of}
-use Rattle.pl_base.specs.Store.{Item, Page, Store, item_id, root_folder, top_folders}
-use Rattle.pl_base.specs.Tree.{item_at}
-use Rattle.pl_base.specs.Totals.{Origin, Scored, is_origin, scored_pages, share, total_of}
+use Rattle.pl_base.specs.Store.{Page, Store}
+use Rattle.pl_base.specs.Totals.{Origin, Scored, is_origin, scored_pages, total_of}
 use Rattle.pl_base.specs.View.{AreViews, AreViewsOf, scored_views}
 use Rattle.pl_base.proofs.ListLaws.{sum_by-map}
-use Rattle.pl_history.proofs.SmallTotals.{few_points}
 use Rattle.pl_link.specs.declared.parts.Parts.{Parts}
 use Rattle.pl_link.specs.Parts.{ArePartsOf}
 use Rattle.pl_step.specs.declared.reply.Reply.{Reply}
@@ -55,22 +49,6 @@ alike store (p ∷ ps) (v ∷ vs) are = ap suc (alike store ps vs are.1)
 -- there are as many views as pages
 pub as_many : (store : Store) (views : List View) → AreViewsOf store views → length views ≡ length store.pages
 as_many store views are = alike store store.pages views are
-
-some_item : (store : Store) → IsGood store → 1 ≤ length store.items
-some_item store good = choose store.items refl
-  where
-    choose : (items : List Item) → store.items ≡ items → 1 ≤ length store.items
-    choose [] none =
-        let there : item_at [] (item_id 1) ≡ Some (root_folder 1 top_folders) =
-        ap (λ (items : List Item). item_at items (item_id 1)) (sym none) ∙ good.roots.root in
-        absurd (cc)
-    choose (i ∷ items) is = rw is (omega arith)
-
--- they are fewer than a store has slots
-pub few_views : (kept : Kept) (views : List View) → IsWellKept kept → IsGood (store_of kept)
-    → AreViewsOf (store_of kept) views → length views < slot_limit
-few_views kept views h good are =
-    omega (arith, as_many (store_of kept) views are, some_item (store_of kept) good, h.live)
 
 -- ---- an origin
 
@@ -108,27 +86,6 @@ some_told pages url parts count total passes are is some totals passing =
     (pages_of pages (parts.prefix, parts.host)) (origin_passes pages (parts.prefix, parts.host)))
     (ne_eqb (pages_of pages (parts.prefix, parts.host)) 0 (λ none. some (is ∙ none)))))
     ∙ told_by_parts pages url parts are
-
--- ---- totals over views
-
--- what was told of the views holds of the pages
-pub of_pages : (P : List Scored → Type 0) (store : Store) (views given : List View) → AreViewsOf store views
-    → given ≡ views → P (scored_views given) → P (scored_pages store)
-of_pages P store views given are is holds =
-    subst P (ap scored_views is ∙ scored_same store views are) holds
-
--- and the other way round
-pub of_views : (P : List Scored → Type 0) (store : Store) (views given : List View) → AreViewsOf store views
-    → given ≡ views → P (scored_pages store) → P (scored_views given)
-of_views P store views given are is holds =
-    subst P (sym (ap scored_views is ∙ scored_same store views are)) holds
-
--- the sum of the totals fits
-pub small_sum : (kept : Kept) (views given : List View) → IsWellKept kept → AreViewsOf (store_of kept) views
-    → given ≡ views → sum_by (λ (s : Scored). share s.1) (scored_views given) < 2 ^ 36
-small_sum kept views given h are is =
-    of_views (λ (ss : List Scored). sum_by (λ (s : Scored). share s.1) ss < 2 ^ 36) (store_of kept) views given are is
-    (few_points kept h)
 
 -- the pages of an origin that totals tell are as many as the definition counts
 pub counted : (views : List View) (origin : Origin)

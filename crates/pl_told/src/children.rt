@@ -59,7 +59,10 @@ fn children<R: Rows, L: Ledger>(
     rows: &R,
     item: ItemId,
     steps: &mut Steps<L>,
-) -> Result<Reply, NoMemory> {
+) -> Result<Reply, NoMemory>
+    requires good { IsGood (store_of (R.kept rows.now)) }
+    ensures { IfOk result (λ reply. reply ≡ spec.list_reply (store_of (R.kept rows.now)) item) }
+{
     let mut list = Vec::new(alloc);
     let mut next = rows.first_child(item, steps);
     while let Some(child) = next {

@@ -1,5 +1,7 @@
 // What is known of a page.
-ghost use Rattle.pl_base.specs.Store.{Store};
+ghost use Rattle.std.specs.Prelude.{◌≡◌, IfOk};
+ghost use Rattle.pl_base.specs.Store.{Page, Store};
+ghost use Rattle.pl_base.specs.View.{IsViewOf};
 ghost use Rattle.pl_base.specs.Visiting as visiting;
 ghost use Rattle.pl_known.specs.Known.{AreFollowed, Knows};
 ghost use Rattle.pl_step.specs.Step as spec;
@@ -12,7 +14,10 @@ use pl_step::{Reply, StepError};
 use std::alloc::Global;
 
 // What is told of a page with this view.
-fn told(alloc: Global, view: &View) -> Result<Reply, NoMemory> {
+fn told(alloc: Global, view: &View) -> Result<Reply, NoMemory>
+    ensures { IfOk result (λ reply. (store : Store) → (p : Page) → IsViewOf store p view.now
+        → reply ≡ spec.page_reply store p) }
+{
     Ok(Reply::Page {
         id: view.id,
         frecency: view.frecency,

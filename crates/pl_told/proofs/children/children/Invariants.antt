@@ -4,7 +4,7 @@ use Rattle.pl_base.specs.Tree.{children_of, sibling_behind}
 use Rattle.pl_base.proofs.ChildrenRun.{child_names}
 use Rattle.pl_base.proofs.Walk.{Walk, left}
 use Rattle.pl_told.proofs.Listed.{AreListed}
-use Rattle.pl_told.proofs.children.list.Given as goal
+use Rattle.pl_told.proofs.children.children.Given as goal
 
 abbrev pub invariant-loop-next : goal.invariant-loop-next
 invariant-loop-next g l =
