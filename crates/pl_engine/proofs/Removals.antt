@@ -1,5 +1,6 @@
 -- What is asked before history goes, and what is told after it.
-use Rattle.std.proofs.Common.{◌≡◌, ◌∙◌, ◌==◌, ℕ, All, Bool, true, false, List, [], ◌∷◌, Option, Some, None, ap, refl, sym}
+use Rattle.std.proofs.Common.{◌≡◌, ◌∙◌, ◌==◌, ℕ, All, Bool, true, false, List, [], ◌∷◌, Option, Some, None}
+use Rattle.std.proofs.Common.{ap, refl, sym}
 use Rattle.std.specs.Prelude.{not}
 use Rattle.std.specs.Option.{is_some, option_map}
 use Rattle.std.proofs.lemmas.List.Elements.{All-from_recursion}
@@ -7,16 +8,22 @@ use Rattle.pl_base.specs.declared.id.PageId.{PageId}
 use Rattle.pl_base.specs.declared.id.VisitId.{VisitId}
 use Rattle.pl_base.specs.declared.row.VisitRow.{VisitRow}
 use Rattle.pl_base.specs.Removal.{forgotten}
-use Rattle.pl_base.specs.Rows.{Kept, has_visit, row_of, store_of, visit_at}
-use Rattle.pl_base.specs.Store.{Page, Store, Visit}
+use Rattle.pl_base.specs.Rows.{IsSound, Kept, has_visit, row_of, store_of, visit_at}
+use Rattle.pl_base.specs.Store.{Store, Visit}
 use Rattle.pl_base.specs.Visiting.{find_page}
 use Rattle.pl_base.proofs.LookUps.{found_some}
+use Rattle.pl_history.specs.declared.find.Target.TheVariants as Target
 use Rattle.pl_history.specs.declared.removal.Removed.{Removed}
+use Rattle.pl_history.specs.Target.{IsTargetOf}
 use Rattle.pl_history.specs.Went.{went}
+use Rattle.pl_history.proofs.KnownPage.{IsKnown, known}
+use Rattle.pl_known.specs.declared.known.Known.{Known}
 use Rattle.pl_step.specs.declared.reply.Reply.{Reply}
 use Rattle.pl_step.specs.declared.reply.Reply.TheVariants.{Removed as RemovedReply}
-use Rattle.pl_step.specs.Step.{forget_step}
-use Rattle.pl_history.proofs.KnownPage.{IsKnown, known}
+use Rattle.pl_step.specs.Refused.{is_refused}
+use Rattle.pl_step.specs.Step.{forget_step, removal_step}
+use Rattle.pl_engine.specs.declared.done.Done.{Done}
+use Rattle.pl_engine.specs.Performed.{IsPerformed, Renews}
 
 -- a visit that was found stands among the rows
 stands : (kept : Kept) (id : VisitId) (row : Option VisitRow) → row ≡ option_map row_of (visit_at kept id)
@@ -37,17 +44,31 @@ stands_alone kept id row none is asked some =
     (stands kept id row is (asked ∙ ap not some), tt)
 
 -- the page is the one that is asked for
-pub forgets : (kept new : Kept) (text url : List ℕ) (found : Option PageId) (id : PageId) (removed : Removed)
-    (reply : Reply) → text ≡ url → found ≡ option_map (λ (p : Page). p.id) (find_page text (store_of kept).pages)
-    → found ≡ Some id → reply ≡ RemovedReply removed.visits removed.pages
-    → removed ≡ went (store_of kept) (store_of new) → store_of new ≡ forgotten id (store_of kept)
-    → ◌≡◌ {A = Reply × Store} (reply, store_of new)
-    (forget_step (store_of kept) (find_page url (store_of kept).pages))
-forgets kept new text url found id removed reply same is some told so store =
+pub forgets : (kept new : Kept) (url : List ℕ) (id : PageId) → IsTargetOf kept url (Target.Known id)
+    → store_of new ≡ forgotten id (store_of kept)
+    → removal_step (store_of kept) (store_of new) ≡ forget_step (store_of kept) (find_page url (store_of kept).pages)
+forgets kept new url id target store =
     let old : Store = store_of kept in
-    let k : IsKnown kept text id = known kept text id (sym is ∙ some) in
-    let both : Removed → Store → Reply × Store = λ (r : Removed) (s : Store). (RemovedReply r.visits r.pages, s) in
-    ap (λ (r : Reply). (r, store_of new)) told ∙ ap (λ (r : Removed). both r (store_of new)) so
-    ∙ ap (λ (s : Store). both (went old s) s) store
-    ∙ ap (λ (i : PageId). both (went old (forgotten i old)) (forgotten i old)) (sym k.is)
-    ∙ ap (forget_step old) (sym k.found) ∙ ap (λ (u : List ℕ). forget_step old (find_page u old.pages)) same
+    let k : IsKnown kept url id = known kept url id target in
+    ap (removal_step old) store
+    ∙ ap (λ (i : PageId). removal_step old (forgotten i old)) (sym k.is)
+    ∙ ap (forget_step old) (sym k.found)
+
+-- what went is told, and is what the step says
+pub is_gone : {R : Type 0} (kept : R → Kept) (stands_on : R → List ℕ → Type 0) (outcome : Reply × Store) (old new : R)
+    (views : Known) (gone : Removed) (done : Done) → done.reply ≡ RemovedReply gone.visits gone.pages
+    → gone ≡ went (store_of (kept old)) (store_of (kept new))
+    → removal_step (store_of (kept old)) (store_of (kept new)) ≡ outcome → IsSound (kept new)
+    → ((bytes : List ℕ) → stands_on old bytes → stands_on new bytes)
+    → Renews (store_of (kept new)) views done.renewal → IsPerformed kept stands_on outcome old new views done
+is_gone kept stands_on outcome old new views gone done told so step sound base renews =
+    record {
+      step =
+          ap (λ (r : Reply). (r, store_of (kept new)))
+          (told ∙ ap (λ (g : Removed). RemovedReply g.visits g.pages) so)
+          ∙ step;
+      accepted = ap is_refused told;
+      sound = sound;
+      base = base;
+      renews = renews;
+    }

@@ -8,8 +8,10 @@ use Rattle.pl_base.specs.Live.{live_slots}
 use Rattle.pl_base.specs.Rows.{IsWellKept, Kept, store_of, with_title}
 use Rattle.pl_base.specs.Store.{Page, Store}
 use Rattle.pl_base.specs.Title.{cut_title}
+use Rattle.pl_base.specs.Visiting.{find_page}
 use Rattle.pl_step.specs.declared.command.Command.TheVariants.{Title as TitleCommand}
 use Rattle.pl_history.specs.declared.find.Target.TheVariants.{Known}
+use Rattle.pl_step.specs.declared.reply.Reply.{Reply}
 use Rattle.pl_step.specs.declared.reply.Reply.TheVariants.{Done, Refused}
 use Rattle.pl_step.specs.Step.{after_title, is_full, perform, unless_refused}
 use Rattle.pl_history.specs.Target.{IsTargetOf}
@@ -38,6 +40,16 @@ step_of limit kept url text title id h of cut =
     ∙ ap (λ (found : Option Page). unless_refused
     (if is_none found then Some NoPage else if full then Some (Full (live_slots after)) else None) store (Done, after))
     (sym (known kept url id of).found)
+
+-- no page has the URL
+pub no_page : (limit : ℕ) (store : Store) (url text : List ℕ) → find_page url store.pages ≡ None
+    → ◌≡◌ {A = Reply × Store} (Refused NoPage, store) (perform limit store (TitleCommand url text))
+no_page limit store url text none =
+    let after : Store = after_title store url text in
+    let full : Bool = is_full limit (live_slots store) (live_slots after) in
+    ap (λ (found : Option Page). unless_refused
+    (if is_none found then Some NoPage else if full then Some (Full (live_slots after)) else None) store (Done, after))
+    (sym none)
 
 -- a title that stands leaves the store
 pub same_of : (kept : Kept) (url text title : List ℕ) (id : PageId) → IsWellKept kept → IsTargetOf kept url (Known id)

@@ -1,13 +1,17 @@
 -- The step that a visit makes.
 use Rattle.std.proofs.Common.{◌≡◌, ◌∙◌, ℕ, ℤ, All, Bool, true, false, bytes_eq}
-use Rattle.std.proofs.Common.{List, [], Option, Some, None, ap, if◌then◌else◌, is_none}
+use Rattle.std.proofs.Common.{List, [], Option, Some, None, Ok, Err, ap, if◌then◌else◌, is_none}
 use Rattle.std.proofs.Common.{refl, subst, sym, unwrap_or}
 use Rattle.std.specs.List.{AllByRecursion}
+use Rattle.std.specs.Result.{IsOkAnd}
 use Rattle.std.proofs.lemmas.List.Elements.{recursion_from_All}
 use Rattle.pl_base.specs.declared.id.PageId.{PageId}
 use Rattle.pl_base.specs.declared.id.VisitId.{VisitId}
 use Rattle.pl_base.specs.declared.refusal.Refusal.{Refusal}
 use Rattle.pl_base.specs.declared.row.VisitRow.{VisitRow}
+use Rattle.url.specs.Parser.{Parsed}
+use Rattle.url.specs.Parts.{Parts}
+use Rattle.pl_base.specs.Address.{is_place, is_place_url, record_of}
 use Rattle.pl_base.specs.Frecency.{frecency_of}
 use Rattle.pl_base.specs.Rows.{Kept, store_of}
 use Rattle.pl_base.specs.Store.{Page, Store}
@@ -22,6 +26,7 @@ use Rattle.pl_step.specs.declared.command.Command.TheVariants.{Visit as VisitCom
 use Rattle.pl_step.specs.declared.reply.Reply.{Reply}
 use Rattle.pl_step.specs.declared.reply.Reply.TheVariants.{Visit as VisitReply}
 use Rattle.pl_step.specs.Step.{perform, unless_refused, visit_refusal, visit_reply}
+use Rattle.pl_history.proofs.OriginParts.{passes}
 use Rattle.pl_history.proofs.VisitMade.{target_page, target_store}
 use Rattle.pl_history.proofs.VisitRows.{grown_store}
 
@@ -88,3 +93,12 @@ step_after limit kept mid new url target row added of with allowed a =
       after_visit store url row.transition row.date row.source,
     ))
     (sym allowed)
+
+-- whether a URL is a query, by what it parsed to
+pub place_told : (url : List ℕ) (told : Bool) → IsOkAnd (record_of url) (λ found. told ≡ is_place found)
+    → told ≡ is_place_url url
+place_told url told is = choose (record_of url) is
+  where
+    choose : (r : Parsed Parts) → IsOkAnd r (λ found. told ≡ is_place found) → told ≡ passes is_place r
+    choose (Ok found) so = so
+    choose (Err e) so = absurd so

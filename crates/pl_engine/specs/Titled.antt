@@ -1,6 +1,8 @@
 -- A title, set where the slots allow it.
-use Rattle.std.specs.Prelude.{ℕ, if◌then◌else◌}
+use Rattle.std.specs.Prelude.{ℕ, List, Some, if◌then◌else◌}
+use Rattle.pl_base.specs.declared.change.Change.{Change}
 use Rattle.pl_base.specs.declared.refusal.Refusal.TheVariants.{Full}
+use Rattle.pl_base.specs.declared.view.View.{View}
 use Rattle.pl_base.specs.Live.{live_slots}
 use Rattle.pl_base.specs.Store.{Store}
 use Rattle.pl_step.specs.declared.reply.Reply.{Reply}
@@ -13,3 +15,7 @@ within_slots limit before after =
     if is_full limit (live_slots before) (live_slots after)
     then (Refused (Full (live_slots after)), before)
     else (Done, after)
+
+-- the change of a view that gets another title
+abbrev pub titling : List ℕ → View → Change
+titling title view = record { old = Some view; new = Some (record view { title = title }) }

@@ -196,21 +196,28 @@ impl<R: Rows + Drop> Engine<R> {
             limit,
             mut known,
         } = self;
-        let reply = match perform(alloc, &mut rows, &known, limit, command, steps) {
+        match perform(alloc, &mut rows, &known, limit, command, steps) {
             Ok(done) => {
                 renew(alloc, &rows, &mut known, done.renewal, steps)?;
-                done.reply
+                let engine = Engine {
+                    alloc,
+                    rows,
+                    limit,
+                    known,
+                };
+                Ok((engine, done.reply))
             }
-            Err(StepError::Refused(refusal)) => Reply::Refused(refusal),
-            Err(StepError::NoMemory) => return Err(NoMemory),
-        };
-        let engine = Engine {
-            alloc,
-            rows,
-            limit,
-            known,
-        };
-        Ok((engine, reply))
+            Err(StepError::Refused(refusal)) => {
+                let engine = Engine {
+                    alloc,
+                    rows,
+                    limit,
+                    known,
+                };
+                Ok((engine, Reply::Refused(refusal)))
+            }
+            Err(StepError::NoMemory) => Err(NoMemory),
+        }
     }
 
     /// The bookmarks of the store.

@@ -1,9 +1,8 @@
 // A new bookmark, with a page for it.
-ghost use Rattle.std.specs.Prelude.{◌≡◌, ◌≤◌, ℕ, List, IfOk, OnOk};
+ghost use Rattle.std.specs.Prelude.{◌≤◌};
 ghost use Rattle.pl_base.specs.Date.{IsDate};
 ghost use Rattle.pl_base.specs.Live.{slot_limit};
-ghost use Rattle.pl_base.specs.Rows.{store_of};
-ghost use Rattle.pl_base.specs.Rows.{IsSound};
+ghost use Rattle.pl_base.specs.Rows.{IsSound, store_of};
 ghost use Rattle.pl_known.specs.Known.{Knows};
 ghost use Rattle.pl_step.specs.Step as spec;
 ghost use Rattle.pl_engine.specs.Performed.{Performs};
@@ -11,7 +10,7 @@ ghost use Rattle.pl_engine.specs.Performed.{Performs};
 use crate::done::Done;
 use crate::engine::find::find_target;
 use crate::engine::insert::room_refusal;
-use pl_base::{ItemId, Micros, NoMemory, Refusal, Rows, Steps, Txt, chunks, cut_title};
+use pl_base::{ItemId, Micros, Rows, Steps, Txt, chunks, cut_title};
 use pl_history::{add_bookmark, page_for, slots_after};
 use pl_known::Known;
 use pl_link::Canon;
@@ -38,7 +37,8 @@ pub fn bookmark<R: Rows, L: Ledger>(
     requires most { limit ≤ slot_limit }
     requires knows { Knows (store_of (R.kept rows.old)) known.now }
     ensures performs { Performs R.kept R.base
-        (spec.perform limit (store_of (R.kept rows.old)) (Command.Bookmark parent place url.now title.now date))
+        (spec.perform limit (store_of (R.kept rows.old))
+        (Command.Bookmark parent place url.now title.now date))
         rows.old rows.new known.now result }
 {
     let change = TreeChange::Insert { parent, place };

@@ -1,12 +1,10 @@
 // An item that goes to another place, or has another title.
-ghost use Rattle.std.specs.Prelude.{◌≡◌, ◌≤◌, ℕ, List, length, None, true, IfOk, IsErr, OnOk};
+ghost use Rattle.std.specs.Prelude.{◌≡◌, ◌≤◌, ℕ, length, None, true, IfOk, IsErrOf};
 ghost use Rattle.pl_base.specs.Date.{IsDate};
 ghost use Rattle.pl_base.specs.Good.{longest_title};
 ghost use Rattle.pl_base.specs.Live.{slot_limit};
-ghost use Rattle.pl_base.specs.Rows.{live_with_item_title, store_of};
+ghost use Rattle.pl_base.specs.Rows.{IsSound, live_with_item_title, store_of};
 ghost use Rattle.pl_base.specs.Tree.{has_item};
-ghost use Rattle.pl_base.specs.Rows.{IsSound};
-ghost use Rattle.pl_known.specs.Known.{Knows};
 ghost use Rattle.pl_step.specs.Step as spec;
 ghost use Rattle.pl_engine.specs.Performed.{Performs};
 ghost use Rattle.pl_tree.specs.Refused as tree;
@@ -33,7 +31,7 @@ pub fn move_item<R: Rows, L: Ledger>(
     ensures performs { (limit : ℕ) → (known : Known) → Performs R.kept R.base
         (spec.perform limit (store_of (R.kept rows.old)) (Command.Move item parent place date))
         rows.old rows.new known result }
-    ensures no_memory { IsNot (IsErrOf result StepError.NoMemory) }
+    ensures no_memory { IsErrOf result StepError.NoMemory → ⊥ }
 {
     pl_tree::move_to(rows, item, parent, place, date, steps)?;
     Ok(Done::afresh(Reply::Done))

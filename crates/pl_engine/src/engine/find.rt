@@ -1,6 +1,8 @@
 // The page of a URL, and where a visit to it goes, found by what is known of the pages.
-ghost use Rattle.std.specs.Prelude.{IfOk};
-ghost use Rattle.pl_base.specs.Rows.{store_of};
+ghost use Rattle.std.specs.Prelude.{◌≡◌, true, IfOk, IfSome};
+ghost use Rattle.std.specs.Option.{option_and_then};
+ghost use Rattle.pl_base.specs.Rows as spec;
+ghost use Rattle.pl_base.specs.Rows.{has_page, store_of};
 ghost use Rattle.pl_history.specs.Target.{IsTargetOf};
 ghost use Rattle.pl_known.specs.Known.{Knows};
 
@@ -16,7 +18,10 @@ fn origin_of<R: Rows, L: Ledger>(
     rows: &R,
     page: Option<PageId>,
     steps: &mut Steps<L>,
-) -> Option<Slot> {
+) -> Option<Slot>
+    requires { IfSome page (λ id. has_page (R.kept rows.now) id ≡ true) }
+    ensures { result ≡ option_and_then (spec.origin_of (R.kept rows.now)) page }
+{
     Some(rows.origin_of(page?, steps))
 }
 
@@ -37,6 +42,8 @@ pub fn find_target<R: Rows, L: Ledger>(
         return Ok(Target::Known(view.id));
     }
     let parts = split(alloc, url)?;
-    let page = known.totals.first_page(parts.prefix.as_str(), parts.host.as_str());
+    let page = known
+        .totals
+        .first_page(parts.prefix.as_str(), parts.host.as_str());
     Ok(Target::New(origin_of(rows, page, steps)))
 }

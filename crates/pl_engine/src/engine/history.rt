@@ -1,16 +1,18 @@
 // The day that the store is at, and history that goes.
-ghost use Rattle.std.specs.Prelude.{◌≡◌, ℕ, IfOk};
+ghost use Rattle.std.specs.Prelude.{◌≡◌, ℕ, IfOk, map};
+ghost use Rattle.std.specs.List.Sorted.{IsStrictlyIncreasing};
+ghost use Rattle.pl_base.specs.declared.id.PageId.{PageId};
+ghost use Rattle.pl_base.specs.declared.view.View.{View};
 ghost use Rattle.pl_base.specs.Date.{IsDay};
 ghost use Rattle.pl_base.specs.Rows.{IsSound, store_of};
-ghost use Rattle.pl_base.specs.Store.{Store};
-ghost use Rattle.pl_history.specs.Bears.{BearsOnlyOn};
+ghost use Rattle.pl_changes.specs.CameFrom.{CameFrom};
 ghost use Rattle.pl_known.specs.Changes.{LeadTo};
 ghost use Rattle.pl_known.specs.Known.{Knows};
 ghost use Rattle.pl_step.specs.Step as spec;
-ghost use Rattle.pl_engine.specs.Performed.{Performs};
+ghost use Rattle.pl_engine.specs.Performed.{Performs, Renews};
 
 use crate::done::Done;
-use pl_base::{Change, Day, NoMemory, Refusal, Rows, Steps, VisitId};
+use pl_base::{Change, Day, NoMemory, PageId, Refusal, Rows, Steps, View, VisitId};
 use pl_changes::changes;
 use pl_history::{Removal, remove_visits, set_day};
 use pl_known::Known;
@@ -26,7 +28,16 @@ fn removed<R: Rows, L: Ledger>(
     known: &Known,
     removal: &Removal,
     steps: &mut Steps<L>,
-) -> Result<Done, NoMemory> {
+) -> Result<Done, NoMemory>
+    requires sound { IsSound (R.kept rows.now) }
+    requires ascending { IsStrictlyIncreasing
+        (map (λ (page : PageId). page.0) removal.now.pages.items) }
+    requires came { CameFrom removal.now.pages.items known.now (store_of (R.kept rows.now)) }
+    ensures reply { IfOk result (λ done. done.reply
+        ≡ Reply.Removed removal.now.went.visits removal.now.went.pages) }
+    ensures renews { IfOk result (λ done.
+        Renews (store_of (R.kept rows.now)) known.now done.renewal) }
+{
     let changes = changes(alloc, rows, known, &removal.pages, steps)?;
     let reply = Reply::Removed {
         visits: removal.went.visits,
@@ -35,14 +46,27 @@ fn removed<R: Rows, L: Ledger>(
     Ok(Done::with(reply, changes))
 }
 
+// The ids of the pages of these views.
+fn page_ids(alloc: Global, views: &[View]) -> Result<Vec<PageId>, NoMemory>
+    ensures { IfOk result (λ pages. pages.items ≡ map (λ (view : View). view.id) views.now) }
+{
+    Ok(views.iter().map(|view| view.id).collect(alloc)?)
+}
+
 // The changes of the views of all pages, each of which is asked for its figures.
 fn all_changes<R: Rows, L: Ledger>(
     alloc: Global,
     rows: &R,
     known: &Known,
     steps: &mut Steps<L>,
-) -> Result<Vec<Change>, NoMemory> {
-    let pages: Vec<_> = known.views.iter().map(|view| view.id).collect(alloc)?;
+) -> Result<Vec<Change>, NoMemory>
+    requires sound { IsSound (R.kept rows.now) }
+    requires came { CameFrom (map (λ (view : View). view.id) known.now.views.items) known.now
+        (store_of (R.kept rows.now)) }
+    ensures { IfOk result (λ changes. LeadTo (store_of (R.kept rows.now))
+        known.now.views.items changes.items) }
+{
+    let pages = page_ids(alloc, &known.views)?;
     changes(alloc, rows, known, &pages, steps)
 }
 

@@ -1,9 +1,8 @@
 // The import of a tree of bookmarks.
-ghost use Rattle.std.specs.Prelude.{◌≡◌, ◌≤◌, ℕ, List, IfOk, OnOk};
+ghost use Rattle.std.specs.Prelude.{◌≡◌, ◌≤◌, IfOk};
 ghost use Rattle.pl_base.specs.Live.{slot_limit};
-ghost use Rattle.pl_base.specs.Rows.{store_of};
+ghost use Rattle.pl_base.specs.Rows.{IsSound, store_of};
 ghost use Rattle.pl_graft.specs.Import.{imported};
-ghost use Rattle.pl_base.specs.Rows.{IsSound};
 ghost use Rattle.pl_nbread.specs.WellFormed.{AreWellFormed};
 ghost use Rattle.pl_known.specs.Known.{Knows};
 ghost use Rattle.pl_step.specs.Step as spec;
@@ -14,8 +13,8 @@ use crate::engine::gained::settle_gained;
 use crate::engine::slots::is_full;
 use pl_base::{IdKind, Ids, NoMemory, Refusal, Rows, Steps};
 use pl_graft::{MOST_ROWS, graft, needed, row_count};
-use pl_nbread::Tree;
 use pl_known::Known;
+use pl_nbread::Tree;
 use pl_step::{Command, Reply, StepError};
 use std::alloc::Global;
 use std::sync::ledger::Ledger;
@@ -74,7 +73,14 @@ pub fn import<R: Rows, L: Ledger>(
     }
     let first = rows.ids(steps).page;
     let grafted = graft(alloc, rows, tree, steps)?;
-    settle_gained(alloc, rows, &known.views, grafted.pages.as_slice(), first, steps)?;
+    settle_gained(
+        alloc,
+        rows,
+        &known.views,
+        grafted.pages.as_slice(),
+        first,
+        steps,
+    )?;
     Ok(Done::afresh(Reply::Imported {
         items: grafted.items,
         tags: grafted.tags,

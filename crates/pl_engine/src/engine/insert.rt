@@ -1,10 +1,9 @@
 // A new folder or separator, and what any new item waits for.
-ghost use Rattle.std.specs.Prelude.{◌≡◌, ◌≢◌, ◌≤◌, ℕ, List, false, length, IfOk, OnOk};
+ghost use Rattle.std.specs.Prelude.{◌≡◌, ◌≢◌, ◌≤◌, false, length};
 ghost use Rattle.pl_base.specs.Date.{IsDate};
 ghost use Rattle.pl_base.specs.Good.{longest_title};
 ghost use Rattle.pl_base.specs.Live.{slot_limit};
-ghost use Rattle.pl_base.specs.Rows.{store_of};
-ghost use Rattle.pl_base.specs.Rows.{IsSound};
+ghost use Rattle.pl_base.specs.Rows.{IsSound, store_of};
 ghost use Rattle.pl_known.specs.Known.{Knows};
 ghost use Rattle.pl_step.specs.Step as spec;
 ghost use Rattle.pl_engine.specs.Performed.{Performs};
@@ -13,7 +12,7 @@ ghost use Rattle.pl_engine.specs.Room.{item_room, plain_item};
 use crate::done::Done;
 use crate::engine::slots::is_full;
 use pl_base::{
-    IdKind, Ids, ItemId, ItemKind, Micros, NoMemory, Refusal, Rows, Steps, Txt, chunks, cut_title,
+    IdKind, Ids, ItemId, ItemKind, Micros, Refusal, Rows, Steps, Txt, chunks, cut_title,
 };
 use pl_known::Known;
 use pl_step::{Command, Reply, StepError};
@@ -103,7 +102,8 @@ pub fn folder<R: Rows, L: Ledger>(
     requires most { limit ≤ slot_limit }
     requires knows { Knows (store_of (R.kept rows.old)) known.now }
     ensures performs { Performs R.kept R.base
-        (spec.perform limit (store_of (R.kept rows.old)) (Command.Folder parent place title.now date))
+        (spec.perform limit (store_of (R.kept rows.old))
+        (Command.Folder parent place title.now date))
         rows.old rows.new known.now result }
 {
     let text = cut_title(title.as_str());

@@ -2,11 +2,13 @@
 ghost use Rattle.std.specs.Prelude.{◌≡◌, ◌≤◌, IsErrOf, OnOk, false};
 ghost use Rattle.pl_base.specs.Live.{slot_limit};
 ghost use Rattle.pl_base.specs.Rows.{IsSound, store_of};
+ghost use Rattle.pl_base.specs.Store.{Store};
+ghost use Rattle.pl_known.specs.declared.known.Known.{Known};
 ghost use Rattle.pl_known.specs.Known.{Knows};
 ghost use Rattle.pl_step.specs.Commands.{HasDates, MayWantMemory, is_change};
 ghost use Rattle.pl_step.specs.Step as spec;
 ghost use Rattle.pl_engine.specs.Idle.{IsIdle};
-ghost use Rattle.pl_engine.specs.Performed.{Performs};
+ghost use Rattle.pl_engine.specs.Performed.{Performs, Renews};
 ghost use Rattle.pl_engine.specs.VisitPages.{AddsFewPages};
 
 use crate::done::Done;
@@ -27,7 +29,11 @@ use std::alloc::Global;
 use std::sync::ledger::Ledger;
 
 // A reply of a command that leaves the rows as they are.
-fn told(alloc: Global, reply: Reply) -> Done {
+fn told(alloc: Global, reply: Reply) -> Done
+    ensures reply { result.reply ≡ reply }
+    ensures renews { (store : Store) → (known : Known) → Knows store known
+        → Renews store known result.renewal }
+{
     Done::with(reply, Vec::new(alloc))
 }
 

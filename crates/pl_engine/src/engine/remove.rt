@@ -1,7 +1,6 @@
 // An item that goes with all below it, and the pages that lose their last item by that.
 ghost use Rattle.std.specs.Prelude.{ℕ};
-ghost use Rattle.pl_base.specs.Rows.{store_of};
-ghost use Rattle.pl_base.specs.Rows.{IsSound};
+ghost use Rattle.pl_base.specs.Rows.{IsSound, store_of};
 ghost use Rattle.pl_known.specs.Known.{Knows};
 ghost use Rattle.pl_step.specs.Step as spec;
 ghost use Rattle.pl_engine.specs.Performed.{Performs};

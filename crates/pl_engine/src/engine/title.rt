@@ -1,13 +1,14 @@
 // A title, given to a page of the rows.
-ghost use Rattle.std.specs.Prelude.{◌≡◌, ◌≤◌, Some, length, true, IfOk, OnOk};
+ghost use Rattle.std.specs.Prelude.{◌≡◌, ◌≤◌, ◌∷◌, [], Some, length, true, IfOk, OnOk};
 ghost use Rattle.std.specs.List.{Contains};
 ghost use Rattle.pl_base.specs.Good.{longest_title};
 ghost use Rattle.pl_base.specs.Live.{slot_limit};
 ghost use Rattle.pl_base.specs.Rows.{IsSound, has_page, store_of, title_of, with_title};
+ghost use Rattle.pl_known.specs.declared.known.Known.{Known};
 ghost use Rattle.pl_known.specs.Known.{Knows};
 ghost use Rattle.pl_step.specs.Step as spec;
 ghost use Rattle.pl_engine.specs.Performed.{Performs};
-ghost use Rattle.pl_engine.specs.Titled.{within_slots};
+ghost use Rattle.pl_engine.specs.Titled.{titling, within_slots};
 
 use crate::done::Done;
 use crate::engine::slots::is_full;
@@ -29,7 +30,9 @@ fn titled(alloc: Global, old: &View, title: &str) -> Result<View, NoMemory>
 }
 
 // The change of a view that gets the title.
-fn title_change(alloc: Global, old: &View, title: &str) -> Result<Vec<Change>, NoMemory> {
+fn title_change(alloc: Global, old: &View, title: &str) -> Result<Vec<Change>, NoMemory>
+    ensures { IfOk result (λ changes. changes.items ≡ titling title.now old.now ∷ []) }
+{
     let mut changes = Vec::new(alloc);
     changes.push(Change {
         old: Some(old.copied(alloc)?),

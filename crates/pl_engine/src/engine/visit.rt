@@ -1,5 +1,6 @@
 // A visit, performed on rows.
-ghost use Rattle.std.specs.Prelude.{◌≡◌, ◌≤◌, ◌+◌, ℕ, List, Option, false, IfOk, IsErrOf, OnOk};
+ghost use Rattle.std.specs.Prelude.{◌≡◌, ◌≤◌, ◌+◌, ◌∷◌, Option, false, IfOk, IsErrOf, OnOk};
+ghost use Rattle.std.specs.Option.{option_to_list};
 ghost use Rattle.pl_base.specs.declared.id.VisitId.{VisitId};
 ghost use Rattle.pl_base.specs.Address.{is_unrecorded_url};
 ghost use Rattle.pl_base.specs.Date.{IsDate};
@@ -7,6 +8,8 @@ ghost use Rattle.pl_base.specs.Live.{live_slots, slot_limit};
 ghost use Rattle.pl_base.specs.Rows.{IsSound, store_of};
 ghost use Rattle.pl_base.specs.Touched.{IsAtMostMore};
 ghost use Rattle.pl_base.specs.Visiting as visiting;
+ghost use Rattle.pl_changes.specs.CameFrom.{CameFrom};
+ghost use Rattle.pl_known.specs.Changes.{LeadTo};
 ghost use Rattle.pl_known.specs.Known.{Knows};
 ghost use Rattle.pl_step.specs.Step as spec;
 ghost use Rattle.pl_engine.specs.Performed.{Performs};
@@ -16,7 +19,8 @@ ghost use Rattle.pl_engine.specs.VisitPages.{most_visit_pages, text_pages};
 use crate::done::Done;
 use crate::engine::find::find_target;
 use pl_base::{
-    Change, IdKind, Ids, Micros, NoMemory, Refusal, Rows, Steps, Transition, VisitId, VisitRow,
+    Change, IdKind, Ids, Micros, NoMemory, PageId, Refusal, Rows, Steps, Transition, VisitId,
+    VisitRow,
 };
 use pl_changes::changes;
 use pl_history::{AddedVisit, Target, add_visit, page_for, put_in_order, slots_after};
@@ -85,19 +89,33 @@ fn refusal<R: Rows, L: Ledger>(
     source_refusal(rows, source, steps).or_else(|| room_refusal(rows, limit, url, target, steps))
 }
 
-// The changes of the views of the pages that the visit bore on.
+// The pages that the visit bore on: its own, and the page that a redirect came from.
+fn borne_pages(alloc: Global, added: AddedVisit) -> Result<Vec<PageId>, NoMemory>
+    ensures { IfOk result (λ pages. pages.items ≡ added.page ∷ option_to_list added.source) }
+{
+    let mut pages = Vec::new(alloc);
+    pages.push(added.page)?;
+    if let Some(source) = added.source {
+        pages.push(source)?;
+    }
+    Ok(pages)
+}
+
+// The changes of the views of these pages.
 fn visit_changes<R: Rows, L: Ledger>(
     alloc: Global,
     rows: &R,
     known: &Known,
     added: AddedVisit,
     steps: &mut Steps<L>,
-) -> Result<Vec<Change>, NoMemory> {
-    let mut pages = Vec::new(alloc);
-    pages.push(added.page)?;
-    if let Some(source) = added.source {
-        pages.push(source)?;
-    }
+) -> Result<Vec<Change>, NoMemory>
+    requires sound { IsSound (R.kept rows.now) }
+    requires came { CameFrom (added.page ∷ option_to_list added.source) known.now
+        (store_of (R.kept rows.now)) }
+    ensures { IfOk result (λ changes. LeadTo (store_of (R.kept rows.now))
+        known.now.views.items changes.items) }
+{
+    let mut pages = borne_pages(alloc, added)?;
     put_in_order(&mut pages);
     changes(alloc, rows, known, &pages, steps)
 }
@@ -119,7 +137,8 @@ pub fn visit<R: Rows, L: Ledger>(
     requires most { limit ≤ slot_limit }
     requires knows { Knows (store_of (R.kept rows.old)) known.now }
     ensures performs { Performs R.kept R.base
-        (spec.perform limit (store_of (R.kept rows.old)) (Command.Visit url.now transition date source))
+        (spec.perform limit (store_of (R.kept rows.old))
+        (Command.Visit url.now transition date source))
         rows.old rows.new known.now result }
     ensures pages { OnOk result (IsAtMostMore
         (most_visit_pages + text_pages url.now (store_of (R.kept rows.old)))

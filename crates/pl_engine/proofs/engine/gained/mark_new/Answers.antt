@@ -3,16 +3,23 @@ use Rattle.std.proofs.lemmas.List.{drop_all, drop_more}
 use Rattle.pl_base.specs.declared.id.PageId.{PageId}
 use Rattle.pl_base.specs.declared.row.Mark.{Mark}
 use Rattle.pl_base.specs.Rows.{Kept, store_of, with_mark, with_origins}
+use Rattle.pl_base.specs.Store.{Store}
 use Rattle.pl_base.specs.Totals.{most_share, share}
 use Rattle.pl_history.specs.Settled.{AreSettledBut}
+use Rattle.pl_history.proofs.KeptAddresses.{addresses_same}
 use Rattle.pl_engine.specs.NewPage.{IsNew, new_mark}
 use Rattle.pl_engine.proofs.NewPages.{new_settled, new_store, small_new, still_new, still_there}
 use Rattle.pl_engine.proofs.engine.gained.mark_new.Goals as goal
 
-pub is_place-requires : goal.is_place-requires
-is_place-requires g c =
+pub is_place-requires-clause-page : goal.is_place-requires-clause-page
+is_place-requires-clause-page g c =
     still_there (g.R.Rows.kept c.args.rows.now) (g.R.Rows.kept c.loop-page.rows) c.args.pages.now
     c.loop-page.page-index (record { 0 = 0 }) c.loop-page.invariant.store c.requires.made (omega arith)
+
+pub is_place-requires-clause-views : goal.is_place-requires-clause-views
+is_place-requires-clause-views g c =
+    addresses_same c.args.views.now (g.R.Rows.kept c.args.rows.now) (g.R.Rows.kept c.loop-page.rows)
+    (ap (λ (s : Store). s.pages) c.loop-page.invariant.store) c.requires.views
 
 pub keep_mark-requires-clause-page : goal.keep_mark-requires-clause-page
 keep_mark-requires-clause-page g c =

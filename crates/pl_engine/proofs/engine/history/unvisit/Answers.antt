@@ -1,3 +1,4 @@
+use Rattle.pl_engine.proofs.HistoryViews.{views_told}
 use Rattle.pl_engine.proofs.Removals.{stands_alone}
 use Rattle.pl_engine.proofs.engine.history.unvisit.Goals as goal
 
@@ -5,3 +6,8 @@ pub remove_visits-requires-clause-there : goal.remove_visits-requires-clause-the
 remove_visits-requires-clause-there g c =
     stands_alone (g.R.Rows.kept c.args.rows.now) c.args.visit c.visit_at.result c.is_none.result
     c.visit_at.ensures.row c.is_none.ensures c.if-is_none.false
+
+pub remove_visits-requires-clause-views : goal.remove_visits-requires-clause-views
+remove_visits-requires-clause-views g c =
+    views_told (g.R.Rows.kept c.args.rows.now) c.args.known.now c.deref.result.now c.deref.ensures.value
+    c.requires.knows (g.met.R.Rows.well_kept c.args.rows.now)
