@@ -7,11 +7,7 @@ use std::alloc::Global;
 use trials_views::have_same_order;
 
 /// Whether both have the same views, and each follower answers alike.
-pub fn are_alike<R: Rows>(
-    alloc: Global,
-    parts: &Parts<R>,
-    made: &Known,
-) -> Result<bool, NoMemory> {
+pub fn are_alike<R: Rows>(alloc: Global, parts: &Parts<R>, made: &Known) -> Result<bool, NoMemory> {
     if parts.views != made.views {
         return Ok(false);
     }

@@ -6,7 +6,7 @@ ghost use Rattle.pl_step.specs.Commands.{HasDates};
 
 use crate::alike::are_alike;
 use crate::script::line_of;
-use pl_base::{NoMemory, Rows, SLOT_LIMIT, Steps};
+use pl_base::{NoMemory, Rows, SLOT_LIMIT, Steps, VisitId};
 use pl_changes::known_of;
 use pl_engine::Engine;
 use pl_linked::Linked;
@@ -35,32 +35,55 @@ fn expect_followed<R: Rows + Drop, L: Ledger>(
     Ok(Engine::of(alloc, parts))
 }
 
-// The engine after a command, and whether it was performed.
+// An engine after a line.
+#[derive(Drop)]
+struct After<R: Rows> {
+    engine: Engine<R>,
+    is_performed: bool,
+    // The visit that was made, if one was.
+    visit: Option<VisitId>,
+}
+
+fn visit_of(reply: &Reply) -> Option<VisitId> {
+    match reply {
+        Reply::Visit { visit, .. } => Some(*visit),
+        _ => None,
+    }
+}
+
 fn performed<R: Rows + Drop, L: Ledger>(
     engine: Engine<R>,
     command: Command,
     steps: &mut Steps<L>,
-) -> Result<(Engine<R>, bool), NoMemory>
+) -> Result<After<R>, NoMemory>
     requires { HasDates command }
 {
     let done = engine.apply(&command, steps);
     drop(command);
     let (engine, reply) = done?;
-    let is_refused = matches!(reply, Reply::Refused(_));
+    let visit = visit_of(&reply);
+    let is_performed = !matches!(reply, Reply::Refused(_));
     drop(reply);
-    Ok((engine, !is_refused))
+    Ok(After {
+        engine,
+        is_performed,
+        visit,
+    })
 }
 
-// The engine after a line, and whether what it says was performed.
 fn after_line<R: Rows + Drop, L: Ledger>(
     alloc: Global,
     engine: Engine<R>,
     text: &str,
     steps: &mut Steps<L>,
-) -> Result<(Engine<R>, bool), NoMemory> {
+) -> Result<After<R>, NoMemory> {
     match line(alloc, text.as_bytes()) {
         Ok(Some(command)) => performed(engine, command, steps),
-        Ok(None) | Err(LineError::Refused(_)) => Ok((engine, false)),
+        Ok(None) | Err(LineError::Refused(_)) => Ok(After {
+            engine,
+            is_performed: false,
+            visit: None,
+        }),
         Err(LineError::NoMemory) => Err(NoMemory),
     }
 }
@@ -79,11 +102,13 @@ fn expect_all_followed<R: Rows + Drop, L: Ledger>(
     let mut steps = Steps::<L>::none(blank);
     let mut engine = Engine::over(alloc, rows, SLOT_LIMIT, &mut steps)?;
     let mut count = 0u32;
+    let mut last = VisitId(0);
     for turn in 0..TURNS {
-        let text = line_of(alloc, turn)?;
-        let (next, is_performed) = after_line(alloc, engine, text.as_str(), &mut steps)?;
-        engine = expect_followed(rt, alloc, next, &mut steps)?;
-        count = count.wrapping_add(u32::from(is_performed));
+        let text = line_of(alloc, turn, last.0)?;
+        let after = after_line(alloc, engine, text.as_str(), &mut steps)?;
+        last = after.visit.unwrap_or(last);
+        count = count.wrapping_add(u32::from(after.is_performed));
+        engine = expect_followed(rt, alloc, after.engine, &mut steps)?;
     }
     assert!(rt; count > TURNS / 2, "{count}");
     Ok(())

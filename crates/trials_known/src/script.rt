@@ -1,6 +1,5 @@
 // Lines of a script that look drawn at random: commands on history.
-use pl_base::NoMemory;
-use std::alloc::Global;
+use std::alloc::{AllocError, Global};
 use trials_views::drawn;
 
 pub const URLS: &[&str] = &[
@@ -40,27 +39,34 @@ fn near_day(turn: u32, part: u32) -> u32 {
         .wrapping_sub(drawn(turn, part, 100))
 }
 
-fn visit(alloc: Global, turn: u32) -> Result<String, NoMemory> {
+// One of the last visits: none has the id 0.
+fn recent(last: u32, turn: u32, part: u32) -> u32 {
+    last.saturating_sub(drawn(turn, part, 12))
+}
+
+fn visit(alloc: Global, turn: u32, last: u32) -> Result<String, AllocError> {
     let url = one_of(URLS, turn, 1);
     let transition = one_of(TRANSITIONS, turn, 2);
     let date = u64::from(near_day(turn, 3)).wrapping_mul(MICROS_PER_DAY);
-    let source = drawn(turn, 4, turn / 2 + 2);
-    match source {
+    match drawn(turn, 4, 3) {
         0 => format!(in alloc; "visit\t{url}\t{transition}\t{date}"),
-        _ => format!(in alloc; "visit\t{url}\t{transition}\t{date}\t{source}"),
+        _ => format!(in alloc;
+            "visit\t{url}\t{transition}\t{date}\t{}",
+            recent(last, turn, 5)
+        ),
     }
 }
 
-/// The line of a turn.
-pub fn line_of(alloc: Global, turn: u32) -> Result<String, NoMemory> {
+/// The line of a turn, where the last visit has this id.
+pub fn line_of(alloc: Global, turn: u32, last: u32) -> Result<String, AllocError> {
     let url = one_of(URLS, turn, 1);
-    match drawn(turn, 0, 24) {
-        0 | 1 => format!(in alloc; "title\t{url}\t{}", one_of(TITLES, turn, 5)),
-        2 | 3 => format!(in alloc; "unvisit\t{}", drawn(turn, 6, turn / 2 + 2)),
-        4 => format!(in alloc; "forget\t{url}"),
-        5 => format!(in alloc; "expire\t{}", near_day(turn, 7).wrapping_sub(60)),
-        6 => format!(in alloc; "trim\t{}", 6 + drawn(turn, 8, 6)),
-        7 | 8 => format!(in alloc; "day\t{}", FIRST_DAY.wrapping_add(turn / 8)),
-        _ => visit(alloc, turn),
+    match drawn(turn, 0, 40) {
+        0 | 1 => format!(in alloc; "title\t{url}\t{}", one_of(TITLES, turn, 6)),
+        2..=5 => format!(in alloc; "unvisit\t{}", recent(last, turn, 7)),
+        6 => format!(in alloc; "forget\t{url}"),
+        7 => format!(in alloc; "expire\t{}", near_day(turn, 8).wrapping_sub(80)),
+        8 => format!(in alloc; "trim\t{}", drawn(turn, 9, 6).wrapping_add(6)),
+        9 | 10 => format!(in alloc; "day\t{}", FIRST_DAY.wrapping_add(turn / 8)),
+        _ => visit(alloc, turn, last),
     }
 }
