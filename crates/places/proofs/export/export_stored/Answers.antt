@@ -1,10 +1,11 @@
-use Rattle.std.proofs.Common.{◌≡◌, ◌∙◌, ap, inr, subst, sym}
+use Rattle.std.proofs.Common.{◌≡◌, ◌∙◌, ap, inr, refl, subst, sym}
 use Rattle.std.proofs.lemmas.Option.{MatchOption-at_some}
 use Rattle.pl_desk.proofs.SettlingLaws.{settles_on}
 use Rattle.pl_base.specs.Store.{Store}
 use Rattle.pl_store.specs.Session.{session_store}
 use Rattle.places.specs.Exporting.{ComesBack, ShowsExport, export_text}
 use Rattle.places.specs.Stops.{ShowsUnopened}
+use Rattle.places.proofs.AnswerCounts.{rose_from, stood}
 use Rattle.places.proofs.ExportLemmas.{export_unopened, not_done, opened_shows, rests_still, said_part, said_shows}
 use Rattle.places.proofs.ExportLemmas.{said_whole, settled_rests}
 use Rattle.places.proofs.OpeningLemmas.{fault_told, no_fault}
@@ -109,6 +110,17 @@ returns-clause-stops g c = λ file start before held stands begun.
     (c.as_bytes.ensures.value ∙ c.as_str.ensures ∙ c.in-Ok-export_text.ensures.text
     ∙ ap (λ (s : Store). export_text s) is)
     (c.say_all.ensures.shows before (c.reopen.ensures.calls.line.said ∙ begun))))
+
+pub returns-clause-counted : goal.returns-clause-counted
+returns-clause-counted g c = let desk = g.D.Desk in record {
+  says =
+      rose_from (desk.line_faults c.args.desk.now) (desk.line_faults c.reopen.new.desk)
+      (desk.line_faults c.say_all.new.desk) refl c.reopen.ensures.calls.line.faults c.in-Err-say_all.ensures.counted.0
+      c.in-Err-say_all.ensures.counted.1;
+  device =
+      stood (desk.device_faults c.args.desk.now) (desk.device_faults c.say_all.new.desk) (λ same. absurd (cc))
+      (c.say_all.ensures.file.faults ∙ c.in-Ok.ensures.calls.counted.stands (no_fault c.in-Ok.session));
+}
 
 pub returns-clause-finished : goal.returns-clause-finished
 returns-clause-finished g c = λ file held finished.
