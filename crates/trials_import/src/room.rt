@@ -2,6 +2,8 @@
 // file wants three pages and eight items, and leaves an opening store 29 slots.
 ghost use Rattle.std.specs.Prelude.{◌≡◌, ◌<◌, ◌≤◌, IfOk};
 ghost use Rattle.pl_base.specs.Live.{slot_limit};
+ghost use Rattle.pl_base.specs.Rows.{IsSound};
+ghost use Rattle.pl_plain.specs.Flat.{kept_of};
 ghost use Rattle.pl_step.specs.Commands.{HasDates};
 
 use pl_base::{Ids, Steps, Txt};
@@ -52,14 +54,18 @@ fn imported<L: Ledger>(
 
 fn replies_in<L: Ledger>(
     alloc: Global,
-    engine: Engine<Flat>,
+    rows: Flat,
+    limit: u32,
     blank: Blank,
 ) -> Result<(Txt, Txt), Fail>
+    requires sound { IsSound (kept_of rows) }
+    requires limit { limit ≤ slot_limit }
     requires name { blank.name ≡ L.name }
     requires parts { blank.parts ≡ L.parts }
     requires some { 0 < blank.parts }
 {
     let mut steps = Steps::<L>::none(blank);
+    let engine = Engine::over(alloc, rows, limit, &mut steps)?;
     let (engine, said) = imported(alloc, engine, &mut steps)?;
     let command = Command::Stats;
     let stats = performed(alloc, engine, &command, &mut steps);
@@ -67,33 +73,40 @@ fn replies_in<L: Ledger>(
     Ok((said, stats?.1))
 }
 
-// The replies to the import of the worked file, and then to `stats`.
-fn replies(alloc: Global, engine: Engine<Flat>) -> Result<(Txt, Txt), Fail> {
-    replies_in::<Brand>(alloc, engine, Blank::new(1))
+// The replies to the import of the worked file, and then to `stats`, on rows that may take so many
+// slots.
+fn replies(alloc: Global, rows: Flat, limit: u32) -> Result<(Txt, Txt), Fail>
+    requires sound { IsSound (kept_of rows) }
+    requires limit { limit ≤ slot_limit }
+{
+    replies_in::<Brand>(alloc, rows, limit, Blank::new(1))
 }
 
 fn expect(
     rt: &impl Abort,
     alloc: Global,
-    engine: Engine<Flat>,
+    rows: Flat,
+    limit: u32,
     said: &str,
     told: &str,
-) -> Result<(), Fail> {
-    let replies = replies(alloc, engine)?;
+) -> Result<(), Fail>
+    requires sound { IsSound (kept_of rows) }
+    requires limit { limit ≤ slot_limit }
+{
+    let replies = replies(alloc, rows, limit)?;
     assert_eq!(rt; replies.0.as_str(), said);
     assert_eq!(rt; replies.1.as_str(), told);
     Ok(())
 }
 
-// Rows that give these ids next, and may take so many slots.
-fn engine(alloc: Global, page: u32, item: u32, limit: u32) -> Result<Engine<Flat>, Fail>
+// Rows that give these ids next.
+fn rows(alloc: Global, page: u32, item: u32) -> Result<Flat, Fail>
     requires page { 1 ≤ page }
     requires item { 7 ≤ item }
-    requires limit { limit ≤ slot_limit }
+    ensures { IfOk result (λ rows. IsSound (kept_of rows)) }
 {
     let visit = 1;
-    let rows = Flat::with_ids(alloc, Ids { page, visit, item })?;
-    Ok(Engine::over(alloc, rows, limit)?)
+    Ok(Flat::with_ids(alloc, Ids { page, visit, item })?)
 }
 
 const IMPORTED: &str = "imported\titems\t4\ttags\t2\tskipped\t1\n";
@@ -107,24 +120,24 @@ const END: u32 = 4_294_967_295;
 
 #[test]
 fn imports_with_the_last_ids_and_slots(rt: HostRuntime) -> Result<(), Fail> {
-    let engine = engine(rt.alloc(), END - 3, END - 8, 29)?;
-    expect(&rt, rt.alloc(), engine, IMPORTED, AFTER)
+    let rows = rows(rt.alloc(), END - 3, END - 8)?;
+    expect(&rt, rt.alloc(), rows, 29, IMPORTED, AFTER)
 }
 
 #[test]
 fn refuses_where_pages_run_out(rt: HostRuntime) -> Result<(), Fail> {
-    let engine = engine(rt.alloc(), END - 2, END - 7, 28)?;
-    expect(&rt, rt.alloc(), engine, "refused\t13\t1\n", BEFORE)
+    let rows = rows(rt.alloc(), END - 2, END - 7)?;
+    expect(&rt, rt.alloc(), rows, 28, "refused\t13\t1\n", BEFORE)
 }
 
 #[test]
 fn refuses_where_items_run_out(rt: HostRuntime) -> Result<(), Fail> {
-    let engine = engine(rt.alloc(), END - 3, END - 7, 28)?;
-    expect(&rt, rt.alloc(), engine, "refused\t13\t3\n", BEFORE)
+    let rows = rows(rt.alloc(), END - 3, END - 7)?;
+    expect(&rt, rt.alloc(), rows, 28, "refused\t13\t3\n", BEFORE)
 }
 
 #[test]
 fn refuses_where_slots_run_out(rt: HostRuntime) -> Result<(), Fail> {
-    let engine = engine(rt.alloc(), END - 3, END - 8, 28)?;
-    expect(&rt, rt.alloc(), engine, "refused\t12\t29\n", BEFORE)
+    let rows = rows(rt.alloc(), END - 3, END - 8)?;
+    expect(&rt, rt.alloc(), rows, 28, "refused\t12\t29\n", BEFORE)
 }
