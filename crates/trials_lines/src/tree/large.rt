@@ -4,7 +4,7 @@ ghost use Rattle.pl_step.specs.Commands.{HasDates};
 
 use crate::told::talked;
 use pl_base::{ItemId, Micros, Txt};
-use pl_link::Canon;
+use pl_nbread::{FILE_LIMIT, read};
 use pl_step::{Command, Reply};
 use pl_store::SLOT_LIMIT;
 use pl_tree::Place;
@@ -64,33 +64,46 @@ fn deep(rt: &impl Abort, alloc: Global) -> Result<Memory, Fail> {
     Ok(memory)
 }
 
-// Folder 7 holds bookmarks of one page.
-fn wide(rt: &impl Abort, alloc: Global) -> Result<Memory, Fail> {
-    let memory = Memory::opening(alloc, SLOT_LIMIT)?;
-    let mut memory = with_folder(rt, alloc, memory, 2, 7)?;
-    for id in 8..=LAST {
-        memory = with_bookmark(rt, alloc, memory, id)?;
+// A bookmark file with a folder that holds the other items, all of which have one page.
+fn file(alloc: Global) -> Result<String, Fail> {
+    let head = "<!DOCTYPE NETSCAPE-Bookmark-file-1>\n<DL><p>\n<DT><H3>F</H3>\n<DL><p>\n";
+    let mut text = String::from_str(alloc, head)?;
+    for _ in 8..=LAST {
+        text.push_str("<DT><A HREF=\"https://a.example/\">A</A>\n")?;
     }
-    Ok(memory)
+    text.push_str("</DL><p>\n</DL><p>\n")?;
+    Ok(text)
 }
 
-fn with_bookmark(rt: &impl Abort, alloc: Global, memory: Memory, id: u32) -> Result<Memory, Fail> {
-    let command = bookmark(alloc)?;
-    with_item(rt, memory, command, id)
-}
-
-fn bookmark(alloc: Global) -> Result<Command, Fail>
+fn import(alloc: Global) -> Result<Command, Fail>
     ensures { IfOk result HasDates }
 {
-    let url = Canon::read(alloc, "https://a.example/")?;
-    let title = Txt::copied(alloc, "A")?;
-    Ok(Command::Bookmark {
-        parent: ItemId(7),
-        place: Place::Number(0),
-        url,
-        title,
-        date: Micros(0),
-    })
+    let text = file(alloc)?;
+    if text.len() >= FILE_LIMIT {
+        return Err("too long".into());
+    }
+    let tree = read(alloc, text.as_bytes()).map_err(|_| "no tree")?;
+    Ok(Command::Import(tree))
+}
+
+fn is_imported(reply: Reply) -> bool {
+    let is_imported = reply
+        == Reply::Imported {
+            items: 5_000,
+            tags: 0,
+            skipped: 0,
+        };
+    drop(reply);
+    is_imported
+}
+
+// Folder 7 holds bookmarks of one page. They come by one import, since each command on an item makes
+// anew what is known of its page, for which vectors are gone over for each item that has it.
+fn wide(rt: &impl Abort, alloc: Global) -> Result<Memory, Fail> {
+    let memory = Memory::opening(alloc, SLOT_LIMIT)?;
+    let (memory, reply) = stepped(memory, import(alloc)?)?;
+    assert!(rt; is_imported(reply));
+    Ok(memory)
 }
 
 // Inside is told from the bottom, and all goes at once.
