@@ -24,8 +24,20 @@ ComeBehind old new =
     (p q : Page) → Contains new.pages p → has_page_at old p.id ≡ false → Contains old.pages q
     → q.id.0 < p.id.0
 
--- the items are the same, and a page that stays has the URL and the title that it had
+-- a page that stays has the URL and the title that it had
+abbrev pub HaveSamePages : Store → Store → Type 0
+HaveSamePages old new =
+    (p q : Page) → Contains old.pages p → Contains new.pages q → q.id ≡ p.id
+    → (q.url ≡ p.url) × (q.title ≡ p.title)
+
+-- the items are the same, and so are the texts of pages that stay
 pub record HaveSameTexts (old new : Store) : Type 0 where
   pub items : new.items ≡ old.items
-  pub pages : (p q : Page) → Contains old.pages p → Contains new.pages q → q.id ≡ p.id
-      → (q.url ≡ p.url) × (q.title ≡ p.title)
+  pub pages : HaveSamePages old new
+
+-- the stores differ by the views of these pages alone, pages that stay keep their texts, and new
+-- ones come behind all
+pub record DifferOnlyOn (ids : List PageId) (old new : Store) : Type 0 where
+  pub others : AreOthersAlike ids old new
+  pub pages : HaveSamePages old new
+  pub behind : ComeBehind old new
