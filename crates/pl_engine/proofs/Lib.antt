@@ -1,33 +1,3 @@
-mod BookmarkAllowed
 mod BroughtBack
-mod ByChanges
-pub mod ChildItems
-mod FewPages
-mod FoundPages
-mod FreshPage
-mod HistoryViews
-mod ImportSettled
-mod ImportedPages
-mod ImportedRows
-mod ItemStep
-mod ItemTitled
-mod ItemsGone
-mod KnownAddresses
-mod ListParts
-mod LiveTitled
-mod LostItems
-mod NewPages
-mod PageSlots
-mod PlaceUrls
 mod Reading
-mod Removals
-mod TagAllowed
-mod TagMade
-mod TitleStep
-mod Titled
-mod TitledViews
-mod UntagStep
-mod Untagged
-pub mod VisitAllowed
-mod VisitStep
 mod WantsMemory

@@ -12,8 +12,8 @@ use Rattle.pl_step.specs.declared.step_error.StepError.TheVariants as step
 use Rattle.pl_step.specs.Refused.{is_refused}
 use Rattle.pl_step.specs.Step.{group_reply, unless_refused}
 use Rattle.pl_step.specs.StepErrors.{Says}
-use Rattle.pl_engine.specs.declared.done.Done.{Done}
-use Rattle.pl_engine.specs.Performed.{IsPerformed, Performs, Renews}
+use Rattle.pl_done.specs.declared.done.Done.{Done}
+use Rattle.pl_done.specs.Performed.{IsPerformed, Performs, Renews}
 
 -- a reply that is what the definition says
 pub is_said : {R : Type 0} (kept : R → Kept) (stands_on : R → List ℕ → Type 0) (rows : R) (known : Known)

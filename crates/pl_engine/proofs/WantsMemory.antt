@@ -40,8 +40,8 @@ use Rattle.pl_step.specs.declared.step_error.StepError.{StepError}
 use Rattle.pl_step.specs.Commands.{MayWantMemory}
 use Rattle.pl_step.specs.Refused.{is_refused}
 use Rattle.pl_step.specs.Step.{perform, room_refusal, source_refusal, unless_refused, visit_reply}
-use Rattle.pl_engine.specs.declared.done.Done.{Done}
-use Rattle.pl_engine.specs.Performed.{IsPerformed, Performs}
+use Rattle.pl_done.specs.declared.done.Done.{Done}
+use Rattle.pl_done.specs.Performed.{IsPerformed, Performs}
 
 pub may_want : (limit : ℕ) (store : Store) (command : Command)
     → is_refused (perform limit store command).0 ≡ false → MayWantMemory limit store command

@@ -1,17 +1,3 @@
-mod bookmark;
-mod change;
-mod find;
-mod gained;
-mod history;
-mod import;
-mod insert;
-mod perform;
-mod remove;
-mod slots;
-mod tag;
-mod title;
-mod visit;
-
 ghost use Rattle.std.specs.Prelude.{◌≡◌, ◌≤◌, ◌↔◌, ℕ, List, Some, false, length, IfOk, IfSome};
 ghost use Rattle.std.specs.Prelude.{IsErr, OnOk};
 ghost use Rattle.std.specs.List.{All};
@@ -27,15 +13,15 @@ ghost use Rattle.pl_step.specs.Commands.{HasDates, MayWantMemory, is_change};
 ghost use Rattle.pl_step.specs.Step as spec;
 ghost use Rattle.pl_engine.specs.Idle.{IsIdle};
 ghost use Rattle.pl_engine.specs.Parts.{known_in};
-ghost use Rattle.pl_engine.specs.Performed.{Renews};
+ghost use Rattle.pl_done.specs.Performed.{Renews};
 ghost use Rattle.pl_engine.specs.Returns.{Returns};
-ghost use Rattle.pl_engine.specs.VisitPages.{AddsFewPages};
+ghost use Rattle.pl_visiting.specs.VisitPages.{AddsFewPages};
 
-use crate::done::Renewal;
-use crate::engine::perform::perform;
 use crate::parts::Parts;
+use crate::perform::perform;
 use pl_base::{NoMemory, Refusal, Rows, Steps, Touched};
 use pl_changes::known_of;
+use pl_done::Renewal;
 use pl_known::Known;
 use pl_nbread::Tree;
 use pl_outline::tree;

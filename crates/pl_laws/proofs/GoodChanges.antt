@@ -41,7 +41,7 @@ use Rattle.pl_nbread.specs.declared.tree.Tree.{Tree}
 use Rattle.pl_nbread.specs.WellFormed.{AreWellFormed}
 use Rattle.pl_step.specs.Step.{after_insert, after_tag, is_tagged, title_page}
 use Rattle.pl_laws.specs.Texts.{HasTreeTexts, IsUrl}
-use Rattle.pl_engine.proofs.ChildItems.{children_too}
+use Rattle.pl_done.proofs.ChildItems.{children_too}
 use Rattle.pl_laws.proofs.GoodIds.{each_below, one_below}
 use Rattle.pl_laws.proofs.GoodImport.{IsGrown, below_item, grown_import, loose_tagged}
 use Rattle.pl_laws.proofs.GoodItems.{Numbers, Refer, each_page, loose_items, numbers_item, refer_more, refer_put}
@@ -49,7 +49,7 @@ use Rattle.pl_laws.proofs.GoodItems.{stand_items, stand_page, stands_same}
 use Rattle.pl_laws.proofs.GoodPages.{loose_day, loose_left, loose_page, loose_title, loose_visit}
 use Rattle.pl_laws.proofs.GoodParts.{AreStanding, IsLoose, IsWithinIds, good_from, good_left, has_visit, loose}
 use Rattle.pl_laws.proofs.GoodParts.{standing, within_ids}
-use Rattle.pl_engine.proofs.VisitAllowed.{below_last}
+use Rattle.pl_done.proofs.VisitSlots.{below_last}
 
 -- ---- a page for a URL
 

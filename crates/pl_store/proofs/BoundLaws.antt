@@ -5,7 +5,7 @@ use Rattle.std.specs.Prelude.{if◌then◌else◌}
 use Rattle.std.proofs.lemmas.Bool.{or_cases}
 use Rattle.pl_base.specs.declared.refusal.Refusal.{Refusal}
 use Rattle.pl_base.specs.Store.{Store}
-use Rattle.pl_engine.specs.VisitPages.{AddsFewPages}
+use Rattle.pl_visiting.specs.VisitPages.{AddsFewPages}
 use Rattle.pl_gate.specs.Gate.{commit_bytes}
 use Rattle.pl_step.specs.declared.command.Command.{Command}
 use Rattle.pl_step.specs.declared.command.Command.TheVariants.{Bar, Bookmark, Day, Expire, Fill, Folder, Forget, Import}

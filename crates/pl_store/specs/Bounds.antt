@@ -3,7 +3,7 @@
 use Rattle.std.specs.Prelude.{ℕ, ◌+◌, ◌||◌, not, List, Option, Some, None, if◌then◌else◌}
 use Rattle.std.specs.Option.{option_map}
 use Rattle.pl_base.specs.Store.{Store}
-use Rattle.pl_engine.specs.VisitPages.{most_visit_pages, text_pages}
+use Rattle.pl_visiting.specs.VisitPages.{most_visit_pages, text_pages}
 use Rattle.pl_gate.specs.Gate.{commit_bytes}
 use Rattle.pl_gate.specs.Recovery.{recovery_bytes}
 use Rattle.pl_step.specs.declared.command.Command.{Command}

@@ -8,7 +8,7 @@ ghost use Rattle.pl_base.specs.Store.{Store};
 ghost use Rattle.pl_base.specs.Touched.{IsWithin, MayDiffer, bytes_before, changed, page_numbers};
 ghost use Rattle.pl_engine.specs.Idle.{IsIdle};
 ghost use Rattle.pl_engine.specs.Returns.{Returns};
-ghost use Rattle.pl_engine.specs.VisitPages.{AddsFewPages};
+ghost use Rattle.pl_visiting.specs.VisitPages.{AddsFewPages};
 ghost use Rattle.pl_linked.specs.Linked.{IsBase, bytes_of, kept_of, pending_of};
 ghost use Rattle.pl_nbwrite.specs.Plain.{IsPlain};
 ghost use Rattle.pl_outline.specs.Outline.{bookmarks};

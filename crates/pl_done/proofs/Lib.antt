@@ -1,0 +1,7 @@
+pub mod ByChanges
+pub mod CameFrom
+pub mod ChildItems
+pub mod FoundPages
+pub mod KnownAddresses
+pub mod PlaceUrls
+pub mod VisitSlots

@@ -1,0 +1,16 @@
+mod BookmarkAllowed
+mod FreshPage
+mod ImportSettled
+mod ImportedPages
+mod ImportedRows
+mod ItemStep
+mod ItemTitled
+mod ItemsGone
+mod ListParts
+mod LostItems
+mod NewPages
+mod PageSlots
+mod TagAllowed
+mod TagMade
+mod UntagStep
+mod Untagged

@@ -1,0 +1,2 @@
+pub mod NewPage
+pub mod Room

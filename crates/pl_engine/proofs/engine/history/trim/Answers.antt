@@ -1,7 +1,0 @@
-use Rattle.pl_engine.proofs.HistoryViews.{views_told}
-use Rattle.pl_engine.proofs.engine.history.trim.Goals as goal
-
-pub trim-requires-clause-views : goal.trim-requires-clause-views
-trim-requires-clause-views g c =
-    views_told (g.R.Rows.kept c.args.rows.now) c.args.known.now c.deref.result.now c.deref.ensures.value
-    c.requires.knows (g.met.R.Rows.well_kept c.args.rows.now)

@@ -1,0 +1,9 @@
+mod FewPages
+mod HistoryViews
+mod LiveTitled
+mod Removals
+mod TitleStep
+mod Titled
+mod TitledViews
+mod VisitAllowed
+mod VisitStep

@@ -1,0 +1,2 @@
+pub mod Titled
+pub mod VisitPages

@@ -1,0 +1,11 @@
+//! The commands on history and on the titles of pages: each is refused, or changes the rows, and
+//! tells the changes of views.
+#![tactic(auto)]
+
+mod history;
+mod titles;
+mod visits;
+
+pub use history::{day, expire, forget, trim, unvisit};
+pub use titles::title;
+pub use visits::visit;
