@@ -10,13 +10,6 @@ use Rattle.pl_step.specs.declared.step_error.StepError.{StepError}
 use Rattle.pl_step.specs.declared.step_error.StepError.TheVariants as step
 use Rattle.pl_step.specs.Refused.{is_refused}
 use Rattle.pl_done.specs.declared.done.Done.{Done}
-use Rattle.pl_done.specs.declared.done.Renewal.{Renewal}
-use Rattle.pl_done.specs.declared.done.Renewal.TheVariants.{Afresh, By}
-
--- the renewal makes of what is known what the pages of the store tell
-abbrev pub Renews : Store → Known → Renewal → Type 0
-Renews store known (By changes) = LeadTo store known.views.items changes.items
-Renews store known Afresh = Unit {0}
 
 -- a command with this outcome was performed
 pub record IsPerformed {R : Type 0} (kept : R → Kept) (stands_on : R → List ℕ → Type 0)
@@ -25,7 +18,7 @@ pub record IsPerformed {R : Type 0} (kept : R → Kept) (stands_on : R → List 
   pub accepted : is_refused done.reply ≡ false
   pub sound : IsSound (kept new)
   pub base : (bytes : List ℕ) → stands_on old bytes → stands_on new bytes
-  pub renews : Renews (store_of (kept new)) known done.renewal
+  pub leads : LeadTo (store_of (kept new)) known.views.items done.changes.items
 
 -- it was performed, or it was refused and the rows are as they were, or memory was wanting
 abbrev pub Performs : {R : Type 0} → (R → Kept) → (R → List ℕ → Type 0) → Reply × Store → R → R

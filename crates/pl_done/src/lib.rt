@@ -6,6 +6,6 @@ mod done;
 mod find;
 mod slots;
 
-pub use done::{Done, Renewal};
+pub use done::Done;
 pub use find::find_target;
 pub use slots::is_full;

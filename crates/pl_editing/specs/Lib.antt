@@ -1,2 +1,3 @@
 pub mod NewPage
+pub mod OwnPage
 pub mod Room

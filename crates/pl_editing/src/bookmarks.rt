@@ -9,6 +9,7 @@ ghost use Rattle.pl_done.specs.Performed.{Performs};
 
 use crate::insert::room_refusal;
 use pl_base::{ItemId, Micros, Rows, Steps, Txt, chunks, cut_title};
+use pl_changes::item_changes;
 use pl_done::{Done, find_target};
 use pl_history::{add_bookmark, page_for, slots_after};
 use pl_known::Known;
@@ -63,5 +64,9 @@ pub fn bookmark<R: Rows, L: Ledger>(
         url.is_place(),
         steps,
     )?;
-    Ok(Done::afresh(Reply::Item(id)))
+    let changes = item_changes(alloc, rows, known, &[page], steps)?;
+    Ok(Done {
+        reply: Reply::Item(id),
+        changes,
+    })
 }

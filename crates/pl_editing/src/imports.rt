@@ -10,6 +10,7 @@ ghost use Rattle.pl_done.specs.Performed.{Performs};
 
 use crate::gained::settle_gained;
 use pl_base::{IdKind, Ids, NoMemory, Refusal, Rows, Steps};
+use pl_changes::item_changes;
 use pl_done::{Done, is_full};
 use pl_graft::{MOST_ROWS, graft, needed, row_count};
 use pl_known::Known;
@@ -72,17 +73,15 @@ pub fn import<R: Rows, L: Ledger>(
     }
     let first = rows.ids(steps).page;
     let grafted = graft(alloc, rows, tree, steps)?;
-    settle_gained(
-        alloc,
-        rows,
-        &known.views,
-        grafted.pages.as_slice(),
-        first,
-        steps,
-    )?;
-    Ok(Done::afresh(Reply::Imported {
-        items: grafted.items,
-        tags: grafted.tags,
-        skipped: tree.skipped,
-    }))
+    let pages = grafted.pages.as_slice();
+    settle_gained(alloc, rows, &known.views, pages, first, steps)?;
+    let changes = item_changes(alloc, rows, known, pages, steps)?;
+    Ok(Done {
+        reply: Reply::Imported {
+            items: grafted.items,
+            tags: grafted.tags,
+            skipped: tree.skipped,
+        },
+        changes,
+    })
 }

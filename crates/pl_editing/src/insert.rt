@@ -12,6 +12,7 @@ ghost use Rattle.pl_editing.specs.Room.{item_room, plain_item};
 use pl_base::{
     IdKind, Ids, ItemId, ItemKind, Micros, Refusal, Rows, Steps, Txt, chunks, cut_title,
 };
+use pl_changes::item_changes;
 use pl_done::{Done, is_full};
 use pl_known::Known;
 use pl_step::{Command, Reply, StepError};
@@ -81,7 +82,11 @@ fn insert_plain<R: Rows, L: Ledger>(
         date,
     };
     let id = insert_allowed(rows, parent, place, &item, steps)?;
-    Ok(Done::afresh(Reply::Item(id)))
+    let changes = item_changes(alloc, rows, known, &[], steps)?;
+    Ok(Done {
+        reply: Reply::Item(id),
+        changes,
+    })
 }
 
 /// A new folder on rows that may take so many slots.

@@ -6,6 +6,7 @@ ghost use Rattle.pl_step.specs.Step as spec;
 ghost use Rattle.pl_done.specs.Performed.{Performs};
 
 use pl_base::{ItemId, Rows, Steps};
+use pl_changes::item_changes;
 use pl_done::Done;
 use pl_history::settle_all;
 use pl_known::Known;
@@ -29,5 +30,9 @@ pub fn remove<R: Rows, L: Ledger>(
 {
     let lost = pl_tree::remove(alloc, rows, item, steps)?;
     settle_all(alloc, rows, &known.views, &lost, steps)?;
-    Ok(Done::afresh(Reply::Done))
+    let changes = item_changes(alloc, rows, known, &lost, steps)?;
+    Ok(Done {
+        reply: Reply::Done,
+        changes,
+    })
 }

@@ -12,6 +12,7 @@ ghost use Rattle.pl_editing.specs.Room.{tag_room};
 ghost use Rattle.pl_history.specs.Target.{IsTargetOf};
 
 use pl_base::{IdKind, Ids, Micros, NoMemory, Refusal, Rows, Steps, chunks};
+use pl_changes::item_changes;
 use pl_done::{Done, find_target, is_full};
 use pl_history::{Target, add_tag, is_tagged, page_for, settle_all, slots_after};
 use pl_known::Known;
@@ -105,7 +106,11 @@ pub fn tag<R: Rows, L: Ledger>(
     }
     let page = page_for(rows, url, target, steps)?;
     add_tag(alloc, rows, page, name, date, url.is_place(), steps)?;
-    Ok(Done::afresh(Reply::Done))
+    let changes = item_changes(alloc, rows, known, &[page], steps)?;
+    Ok(Done {
+        reply: Reply::Done,
+        changes,
+    })
 }
 
 /// The page of the URL loses the tag. A page that has neither a visit nor an item then goes too.
@@ -128,5 +133,9 @@ pub fn untag<R: Rows, L: Ledger>(
     };
     pl_tree::untag(alloc, rows, view.id, name, steps)?;
     settle_all(alloc, rows, &known.views, &[view.id], steps)?;
-    Ok(Done::afresh(Reply::Done))
+    let changes = item_changes(alloc, rows, known, &[view.id], steps)?;
+    Ok(Done {
+        reply: Reply::Done,
+        changes,
+    })
 }

@@ -5,6 +5,7 @@ use Rattle.pl_base.specs.declared.refusal.Refusal.{Refusal}
 use Rattle.pl_base.specs.Rows.{IsSound, Kept, store_of}
 use Rattle.pl_base.specs.Store.{Store}
 use Rattle.pl_known.specs.declared.known.Known.{Known}
+use Rattle.pl_known.specs.Changes.{LeadTo}
 use Rattle.pl_known.specs.Known.{Knows}
 use Rattle.pl_step.specs.declared.reply.Reply.{Reply}
 use Rattle.pl_step.specs.declared.step_error.StepError.{StepError}
@@ -13,22 +14,22 @@ use Rattle.pl_step.specs.Refused.{is_refused}
 use Rattle.pl_step.specs.Step.{group_reply, unless_refused}
 use Rattle.pl_step.specs.StepErrors.{Says}
 use Rattle.pl_done.specs.declared.done.Done.{Done}
-use Rattle.pl_done.specs.Performed.{IsPerformed, Performs, Renews}
+use Rattle.pl_done.specs.Performed.{IsPerformed, Performs}
 
 -- a reply that is what the definition says
 pub is_said : {R : Type 0} (kept : R → Kept) (stands_on : R → List ℕ → Type 0) (rows : R) (known : Known)
     (reply : Reply) (outcome : Reply × Store) (said : Reply) (done : Done) → IsSound (kept rows)
     → Knows (store_of (kept rows)) known → done.reply ≡ said
-    → ((store : Store) (views : Known) → Knows store views → Renews store views done.renewal)
+    → ((store : Store) (views : Known) → Knows store views → LeadTo store views.views.items done.changes.items)
     → (said ≡ reply) × (is_refused said ≡ false) → (reply, store_of (kept rows)) ≡ outcome
     → IsPerformed kept stands_on outcome rows rows known done
-is_said kept stands_on rows known reply outcome said done sound knows told renews says is =
+is_said kept stands_on rows known reply outcome said done sound knows told leads says is =
     record {
       step = ap (λ (r : Reply). (r, store_of (kept rows))) (told ∙ says.0) ∙ is;
       accepted = ap is_refused told ∙ says.1;
       sound = sound;
       base = λ bytes stands. stands;
-      renews = renews (store_of (kept rows)) known knows;
+      leads = leads (store_of (kept rows)) known knows;
     }
 
 -- a refusal that is what the definition says

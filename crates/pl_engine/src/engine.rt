@@ -7,13 +7,12 @@ ghost use Rattle.pl_base.specs.Touched.{IsWithin, MayDiffer, bytes_before, chang
 ghost use Rattle.pl_base.specs.Touched.{page_numbers};
 ghost use Rattle.pl_nbwrite.specs.Plain.{IsPlain};
 ghost use Rattle.pl_outline.specs.Outline.{bookmarks};
-ghost use Rattle.pl_known.specs.Known.{AreFollowed, Knows};
+ghost use Rattle.pl_known.specs.Known.{Knows};
 ghost use Rattle.pl_known.specs.Props.{props};
 ghost use Rattle.pl_step.specs.Commands.{HasDates, MayWantMemory, is_change};
 ghost use Rattle.pl_step.specs.Step as spec;
 ghost use Rattle.pl_engine.specs.Idle.{IsIdle};
 ghost use Rattle.pl_engine.specs.Parts.{known_in};
-ghost use Rattle.pl_done.specs.Performed.{Renews};
 ghost use Rattle.pl_engine.specs.Returns.{Returns};
 ghost use Rattle.pl_visiting.specs.VisitPages.{AddsFewPages};
 
@@ -21,7 +20,6 @@ use crate::parts::Parts;
 use crate::perform::perform;
 use pl_base::{NoMemory, Refusal, Rows, Steps, Touched};
 use pl_changes::known_of;
-use pl_done::Renewal;
 use pl_known::Known;
 use pl_nbread::Tree;
 use pl_outline::tree;
@@ -43,28 +41,6 @@ pub struct Engine<R: Rows> {
     ghost sound: { IsSound (R.kept rows) } by { Prim.hlevel props },
     ghost most: { limit ≤ slot_limit },
     ghost knows: { Knows (store_of (R.kept rows)) known } by { Prim.hlevel props },
-}
-
-// What is known of the pages of the rows, once a command changed them.
-fn renew<R: Rows, L: Ledger>(
-    alloc: Global,
-    rows: &R,
-    known: &mut Known,
-    renewal: Renewal,
-    steps: &mut Steps<L>,
-) -> Result<(), NoMemory>
-    requires sound { IsSound (R.kept rows.now) }
-    requires followed { AreFollowed known.old }
-    requires renews { Renews (store_of (R.kept rows.now)) known.old renewal }
-    ensures { OnOk result (Knows (store_of (R.kept rows.now)) known.new) }
-{
-    match renewal {
-        Renewal::By(changes) => known.follow(alloc, &changes),
-        Renewal::Afresh => {
-            *known = known_of(alloc, rows, steps)?;
-            Ok(())
-        }
-    }
 }
 
 impl<R: Rows + Drop> Engine<R> {
@@ -184,7 +160,7 @@ impl<R: Rows + Drop> Engine<R> {
         } = self;
         match perform(alloc, &mut rows, &known, limit, command, steps) {
             Ok(done) => {
-                renew(alloc, &rows, &mut known, done.renewal, steps)?;
+                known.follow(alloc, &done.changes)?;
                 let engine = Engine {
                     alloc,
                     rows,

@@ -4,11 +4,12 @@ ghost use Rattle.pl_base.specs.Live.{slot_limit};
 ghost use Rattle.pl_base.specs.Rows.{IsSound, store_of};
 ghost use Rattle.pl_base.specs.Store.{Store};
 ghost use Rattle.pl_known.specs.declared.known.Known.{Known};
+ghost use Rattle.pl_known.specs.Changes.{LeadTo};
 ghost use Rattle.pl_known.specs.Known.{Knows};
 ghost use Rattle.pl_step.specs.Commands.{HasDates, MayWantMemory, is_change};
 ghost use Rattle.pl_step.specs.Step as spec;
 ghost use Rattle.pl_engine.specs.Idle.{IsIdle};
-ghost use Rattle.pl_done.specs.Performed.{Performs, Renews};
+ghost use Rattle.pl_done.specs.Performed.{Performs};
 ghost use Rattle.pl_visiting.specs.VisitPages.{AddsFewPages};
 
 use pl_base::{Rows, Steps};
@@ -24,10 +25,13 @@ use std::sync::ledger::Ledger;
 // A reply of a command that leaves the rows as they are.
 fn told(alloc: Global, reply: Reply) -> Done
     ensures reply { result.reply ≡ reply }
-    ensures renews { (store : Store) → (known : Known) → Knows store known
-        → Renews store known result.renewal }
+    ensures leads { (store : Store) → (known : Known) → Knows store known
+        → LeadTo store known.views.items result.changes.items }
 {
-    Done::with(reply, Vec::new(alloc))
+    Done {
+        reply,
+        changes: Vec::new(alloc),
+    }
 }
 
 /// Performs a command on rows that may take so many slots, with what is known of their pages.
@@ -107,9 +111,9 @@ pub fn perform<R: Rows, L: Ledger>(
             parent,
             place,
             date,
-        } => move_item(rows, *item, *parent, *place, *date, steps),
+        } => move_item(alloc, rows, known, *item, *parent, *place, *date, steps),
         Command::Retitle { item, title, date } => {
-            retitle(rows, limit, *item, title, *date, steps)
+            retitle(alloc, rows, known, limit, *item, title, *date, steps)
         }
         Command::Remove { item } => remove(alloc, rows, known, *item, steps),
         Command::Tag { url, name, date } => {

@@ -22,8 +22,9 @@ use Rattle.pl_step.specs.declared.reply.Reply.{Reply}
 use Rattle.pl_step.specs.declared.reply.Reply.TheVariants.{Removed as RemovedReply}
 use Rattle.pl_step.specs.Refused.{is_refused}
 use Rattle.pl_step.specs.Step.{forget_step, removal_step}
+use Rattle.pl_known.specs.Changes.{LeadTo}
 use Rattle.pl_done.specs.declared.done.Done.{Done}
-use Rattle.pl_done.specs.Performed.{IsPerformed, Renews}
+use Rattle.pl_done.specs.Performed.{IsPerformed}
 
 -- a visit that was found stands among the rows
 stands : (kept : Kept) (id : VisitId) (row : Option VisitRow) → row ≡ option_map row_of (visit_at kept id)
@@ -60,8 +61,8 @@ pub is_gone : {R : Type 0} (kept : R → Kept) (stands_on : R → List ℕ → T
     → gone ≡ went (store_of (kept old)) (store_of (kept new))
     → removal_step (store_of (kept old)) (store_of (kept new)) ≡ outcome → IsSound (kept new)
     → ((bytes : List ℕ) → stands_on old bytes → stands_on new bytes)
-    → Renews (store_of (kept new)) views done.renewal → IsPerformed kept stands_on outcome old new views done
-is_gone kept stands_on outcome old new views gone done told so step sound base renews =
+    → LeadTo (store_of (kept new)) views.views.items done.changes.items → IsPerformed kept stands_on outcome old new views done
+is_gone kept stands_on outcome old new views gone done told so step sound base leads =
     record {
       step =
           ap (λ (r : Reply). (r, store_of (kept new)))
@@ -70,5 +71,5 @@ is_gone kept stands_on outcome old new views gone done told so step sound base r
       accepted = ap is_refused told;
       sound = sound;
       base = base;
-      renews = renews;
+      leads = leads;
     }

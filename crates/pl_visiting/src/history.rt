@@ -9,7 +9,7 @@ ghost use Rattle.pl_changes.specs.CameFrom.{CameFrom};
 ghost use Rattle.pl_known.specs.Changes.{LeadTo};
 ghost use Rattle.pl_known.specs.Known.{Knows};
 ghost use Rattle.pl_step.specs.Step as spec;
-ghost use Rattle.pl_done.specs.Performed.{Performs, Renews};
+ghost use Rattle.pl_done.specs.Performed.{Performs};
 
 use pl_base::{Change, Day, NoMemory, PageId, Refusal, Rows, Steps, View, VisitId};
 use pl_changes::changes;
@@ -35,15 +35,15 @@ fn removed<R: Rows, L: Ledger>(
     requires came { CameFrom removal.now.pages.items known.now (store_of (R.kept rows.now)) }
     ensures reply { IfOk result (λ done. done.reply
         ≡ Reply.Removed removal.now.went.visits removal.now.went.pages) }
-    ensures renews { IfOk result (λ done.
-        Renews (store_of (R.kept rows.now)) known.now done.renewal) }
+    ensures leads { IfOk result (λ done. LeadTo (store_of (R.kept rows.now))
+        known.now.views.items done.changes.items) }
 {
     let changes = changes(alloc, rows, known, &removal.pages, steps)?;
     let reply = Reply::Removed {
         visits: removal.went.visits,
         pages: removal.went.pages,
     };
-    Ok(Done::with(reply, changes))
+    Ok(Done { reply, changes })
 }
 
 // The ids of the pages of these views.
@@ -91,7 +91,10 @@ pub fn day<R: Rows, L: Ledger>(
     }
     let changed = set_day(alloc, rows, &known.views, day, steps)?;
     let changes = all_changes(alloc, rows, known, steps)?;
-    Ok(Done::with(Reply::Day { day, changed }, changes))
+    Ok(Done {
+        reply: Reply::Day { day, changed },
+        changes,
+    })
 }
 
 /// A visit goes.

@@ -63,7 +63,10 @@ fn set_title<R: Rows, L: Ledger>(
         ≡ store_of (R.kept rows.old) → rows.new ≡ rows.old) }
 {
     if view.title.as_str() == title {
-        return Ok(Done::with(Reply::Done, Vec::new(alloc)));
+        return Ok(Done {
+            reply: Reply::Done,
+            changes: Vec::new(alloc),
+        });
     }
     let before = rows.live(steps);
     let after = before - chunks(view.title.as_str()) + chunks(title);
@@ -72,7 +75,10 @@ fn set_title<R: Rows, L: Ledger>(
     }
     rows.set_title(view.id, title, steps)?;
     let changes = title_change(alloc, view, title)?;
-    Ok(Done::with(Reply::Done, changes))
+    Ok(Done {
+        reply: Reply::Done,
+        changes,
+    })
 }
 
 /// A title for the page of the URL, on rows that may take so many slots.

@@ -165,5 +165,5 @@ pub fn visit<R: Rows, L: Ledger>(
         page: added.page,
         frecency: added.frecency,
     };
-    Ok(Done::with(reply, changes))
+    Ok(Done { reply, changes })
 }

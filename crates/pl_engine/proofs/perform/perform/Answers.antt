@@ -98,7 +98,7 @@ returns-in_ok-page-in-Page-clause-performs g c =
     c.args.rows.now))).pages))
     (perform c.args.limit (store_of (g.R.Rows.kept c.args.rows.now)) (PageCommand c.in-Page.url))
     c.in_ok-page-in-Page.field-0
-    c.told.result c.requires.sound c.requires.knows c.told.ensures.reply c.told.ensures.renews
+    c.told.result c.requires.sound c.requires.knows c.told.ensures.reply c.told.ensures.leads
     (c.in_ok-page-in-Page.ensures (store_of (g.R.Rows.kept c.args.rows.now)) c.requires.knows)
     refl)
 
@@ -110,7 +110,7 @@ returns-in_ok-origin-in-Origin-clause-performs g c =
     (perform c.args.limit (store_of (g.R.Rows.kept c.args.rows.now)) (OriginCommand c.in-Origin.url))
     c.in_ok-origin-in-Origin.field-0
     c.told-in-Origin.result c.requires.sound c.requires.knows c.told-in-Origin.ensures.reply
-    c.told-in-Origin.ensures.renews
+    c.told-in-Origin.ensures.leads
     (c.in_ok-origin-in-Origin.ensures (store_of (g.R.Rows.kept c.args.rows.now)) c.requires.knows)
     refl)
 
@@ -121,7 +121,7 @@ returns-in_ok-list-in-List-clause-performs g c =
     (perform c.args.limit (store_of (g.R.Rows.kept c.args.rows.now)) (ListCommand c.in-List.item)).0
     (perform c.args.limit (store_of (g.R.Rows.kept c.args.rows.now)) (ListCommand c.in-List.item))
     c.in_ok-list-in-List.field-0
-    c.told-in-List.result c.requires.sound c.requires.knows c.told-in-List.ensures.reply c.told-in-List.ensures.renews
+    c.told-in-List.result c.requires.sound c.requires.knows c.told-in-List.ensures.reply c.told-in-List.ensures.leads
     (c.in_ok-list-in-List.ensures c.args.limit)
     (store_stays (folder_refusal (g.R.Rows.kept c.args.rows.now).items c.in-List.item)
     (store_of (g.R.Rows.kept c.args.rows.now)) (list_reply (store_of (g.R.Rows.kept c.args.rows.now)) c.in-List.item)))
@@ -133,7 +133,7 @@ returns-in_ok-fill-in-Fill-clause-performs g c =
     (group_reply (filled (scored_pages (store_of (g.R.Rows.kept c.args.rows.now))) c.in-Fill.text))
     (perform c.args.limit (store_of (g.R.Rows.kept c.args.rows.now)) (FillCommand c.in-Fill.text))
     c.in_ok-fill-in-Fill.field-0
-    c.told-in-Fill.result c.requires.sound c.requires.knows c.told-in-Fill.ensures.reply c.told-in-Fill.ensures.renews (
+    c.told-in-Fill.result c.requires.sound c.requires.knows c.told-in-Fill.ensures.reply c.told-in-Fill.ensures.leads (
       (c.in_ok-fill-in-Fill.ensures (store_of (g.R.Rows.kept c.args.rows.now)) c.requires.knows),
       ap is_refused (c.in_ok-fill-in-Fill.ensures (store_of (g.R.Rows.kept c.args.rows.now)) c.requires.knows)
           ∙ group_said (filled (scored_pages (store_of (g.R.Rows.kept c.args.rows.now))) c.in-Fill.text),

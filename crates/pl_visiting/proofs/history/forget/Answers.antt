@@ -40,5 +40,5 @@ returns g c =
           c.text.result.now (option_copied c.find.result) c.requires.knows.views c.text.ensures.value c.find.ensures
           ∙ ap (λ o. option_map (λ (v : View). v.id) (option_copied o)) c.in-Some.is)
           c.in_ok-removal.ensures.store)
-          c.in_ok-removal.ensures.sound c.in_ok-removal.ensures.base c.in_ok-removed.ensures.renews;
+          c.in_ok-removal.ensures.sound c.in_ok-removal.ensures.base c.in_ok-removed.ensures.leads;
     }

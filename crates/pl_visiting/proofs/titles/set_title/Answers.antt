@@ -17,8 +17,7 @@ returns-then-eq-clause-performs g c known knows there =
     by_changes g.R.Rows.kept g.R.Rows.base
     (within_slots c.args.limit (store_of (g.R.Rows.kept c.args.rows.now))
     (store_of (with_title c.args.view.now.id c.args.title.now (g.R.Rows.kept c.args.rows.now))))
-    c.args.rows.now c.args.rows.now known c.with.result Done c.new.result c.with.ensures.reply c.with.ensures.renewal
-    refl
+    c.args.rows.now c.args.rows.now known Done c.new.result refl
     (ends_same c.args.limit (g.R.Rows.kept c.args.rows.now) c.args.view.now.id c.args.title.now
     (g.met.R.Rows.well_kept c.args.rows.now)
     (ap (λ (t : List ℕ). Some t)
@@ -71,8 +70,7 @@ returns-clause-performs g c known knows there =
     by_changes g.R.Rows.kept g.R.Rows.base
     (within_slots c.args.limit (store_of (g.R.Rows.kept c.args.rows.now))
     (store_of (with_title c.args.view.now.id c.args.title.now (g.R.Rows.kept c.args.rows.now))))
-    c.args.rows.now c.set_title.new.self known c.with-2.result Done c.in_ok-changes.changes c.with-2.ensures.reply
-    c.with-2.ensures.renewal refl
+    c.args.rows.now c.set_title.new.self known Done c.in_ok-changes.changes refl
     (ends_done c.args.limit (g.R.Rows.kept c.args.rows.now) (g.R.Rows.kept c.set_title.new.self) c.args.view.now.id
     c.args.title.now c.live-before.result (c.live-before.result - c.chunks.result + c.chunks-2.result)
     (are_slots (g.R.Rows.kept c.args.rows.now) c.args.view.now.id c.args.title.now c.as_str-2.result.now

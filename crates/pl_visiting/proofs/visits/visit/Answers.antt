@@ -1,8 +1,10 @@
-use Rattle.std.proofs.Common.{◌≡◌, ◌∙◌, ◌∷◌, ℤ, List, None, ap, option_to_list, refl, rules, subst, sym, w64}
+use Rattle.std.proofs.Common.{◌≡◌, ◌∙◌, ◌∷◌, ℤ, List, None, option_to_list, refl, rules, subst, sym, w64}
 use Rattle.std.proofs.lemmas.Int.{to_z-of_z}
 use Rattle.pl_base.specs.declared.row.VisitRow.{VisitRow}
 use Rattle.pl_base.specs.declared.view.View.{View}
 use Rattle.pl_base.specs.Rows.{store_of}
+use Rattle.pl_base.specs.Store.{Store}
+use Rattle.pl_step.specs.declared.reply.Reply.{Reply}
 use Rattle.pl_step.specs.declared.reply.Reply.TheVariants.{Visit as VisitReply}
 use Rattle.pl_step.specs.declared.command.Command.TheVariants.{Visit as VisitCommand}
 use Rattle.pl_step.specs.Step.{perform, visit_refusal}
@@ -10,6 +12,7 @@ use Rattle.pl_history.specs.Addresses.{HaveAddresses}
 use Rattle.pl_history.proofs.KeptAddresses.{addresses_known}
 use Rattle.pl_history.proofs.ReadyPage.{ready}
 use Rattle.pl_history.proofs.VisitBears.{then_visited}
+use Rattle.pl_done.specs.Performed.{IsPerformed}
 use Rattle.pl_done.proofs.ByChanges.{by_changes}
 use Rattle.pl_visiting.proofs.FewPages.{few_pages}
 use Rattle.pl_visiting.proofs.VisitAllowed.{has_id, has_room, has_slot, has_source}
@@ -86,22 +89,25 @@ returns-clause-performs g c =
       transition = c.args.transition;
       source = c.args.source;
     } in
-    by_changes g.R.Rows.kept g.R.Rows.base
-    (perform c.args.limit (store_of (g.R.Rows.kept c.args.rows.now))
-    (VisitCommand c.args.url.now c.args.transition c.args.date c.args.source))
-    c.args.rows.now c.add_visit.new.rows c.args.known.now c.with.result
+    let outcome : Reply × Store =
+    perform c.args.limit (store_of (g.R.Rows.kept c.args.rows.now))
+    (VisitCommand c.args.url.now c.args.transition c.args.date c.args.source) in
+    subst (λ (z : ℤ). IsPerformed g.R.Rows.kept g.R.Rows.base outcome c.args.rows.now c.add_visit.new.rows
+    c.args.known.now
+    (record {
+      reply = VisitReply c.in_ok-added.added.visit c.in_ok-added.added.page z;
+      changes = c.in_ok-changes.changes;
+    }))
+    (sym (to_z-of_z w64 c.in_ok-added.added.frecency (search rules)))
+    (by_changes g.R.Rows.kept g.R.Rows.base outcome c.args.rows.now c.add_visit.new.rows c.args.known.now
     (VisitReply c.in_ok-added.added.visit c.in_ok-added.added.page c.in_ok-added.added.frecency)
-    c.in_ok-changes.changes
-    (c.with.ensures.reply
-    ∙ ap (λ (z : ℤ). VisitReply c.in_ok-added.added.visit c.in_ok-added.added.page z)
-    (to_z-of_z w64 c.in_ok-added.added.frecency (search rules)))
-    c.with.ensures.renewal refl
+    c.in_ok-changes.changes refl
     (step_after c.args.limit (g.R.Rows.kept c.args.rows.now) (g.R.Rows.kept c.page_for.new.rows)
     (g.R.Rows.kept c.add_visit.new.rows) c.args.url.now c.in_ok-target.target row c.in_ok-added.added
     c.in_ok-target.ensures c.in_ok-page.ensures.page allowed c.in_ok-added.ensures.added)
     c.in_ok-added.ensures.sound
     (λ bytes stands. c.in_ok-added.ensures.base bytes (c.in_ok-page.ensures.base bytes stands))
-    c.in_ok-changes.ensures
+    c.in_ok-changes.ensures)
 
 pub returns-clause-pages : goal.returns-clause-pages
 returns-clause-pages g c =

@@ -3,8 +3,8 @@ use Rattle.pl_step.specs.Step.{perform}
 use Rattle.pl_engine.proofs.WantsMemory.{accepted_by, may_want}
 use Rattle.pl_engine.proofs.engine.Engine.apply.Goals as goal
 
-pub returns-in_err-renew-in-Ok-clause-no_memory : goal.returns-in_err-renew-in-Ok-clause-no_memory
-returns-in_err-renew-in-Ok-clause-no_memory g c wants =
+pub returns-in_err-follow-in-Ok-clause-no_memory : goal.returns-in_err-follow-in-Ok-clause-no_memory
+returns-in_err-follow-in-Ok-clause-no_memory g c wants =
     may_want c.args.self.limit (store_of (g.R.Rows.kept c.args.self.rows)) c.args.command.now
     (accepted_by g.R.Rows.kept g.R.Rows.base
     (perform c.args.self.limit (store_of (g.R.Rows.kept c.args.self.rows)) c.args.command.now) c.args.self.rows
