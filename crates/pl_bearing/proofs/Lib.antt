@@ -1,0 +1,4 @@
+pub mod DifferByItems
+mod ItemParts
+mod ItemViews
+mod TagParts
