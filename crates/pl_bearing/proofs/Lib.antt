@@ -1,0 +1,4 @@
+pub mod InsertedReferences
+pub mod MappedReferences
+pub mod MovedReferences
+pub mod RemovedReferences
