@@ -1,1 +1,3 @@
 pub mod NewReferences
+pub mod TaggedReferences
+pub mod UntaggedReferences
