@@ -4,5 +4,8 @@ mod ItemParts
 mod ItemViews
 pub mod MappedReferences
 pub mod MovedReferences
+pub mod NewReferences
 pub mod RemovedReferences
 mod TagParts
+pub mod TaggedReferences
+pub mod UntaggedReferences
