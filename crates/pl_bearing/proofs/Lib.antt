@@ -1,4 +1,5 @@
 pub mod DifferByItems
+pub mod DifferByPage
 pub mod InsertedReferences
 mod ItemParts
 mod ItemViews

@@ -3,12 +3,14 @@ mod FreshPage
 mod ImportSettled
 mod ImportedPages
 mod ImportedRows
+mod ItemChanges
 mod ItemStep
 mod ItemTitled
 mod ItemsGone
 mod ListParts
 mod LostItems
 mod NewPages
+mod OwnPages
 mod PageSlots
 mod TagAllowed
 mod TagMade

@@ -66,7 +66,7 @@ each_among (id ∷ ids) = (
       (each_among ids),
 )
 
-eqb_turned : (m n : ℕ) → (m == n) ≡ (n == m)
+pub eqb_turned : (m n : ℕ) → (m == n) ≡ (n == m)
 eqb_turned m n = choose (n == m) refl
   where
     choose : (b : Bool) → (n == m) ≡ b → (m == n) ≡ b

@@ -3,12 +3,12 @@ use Rattle.pl_base.specs.Live.{chunks}
 use Rattle.pl_base.specs.Rows.{Kept, store_of}
 use Rattle.pl_base.specs.Title.{cut_title}
 use Rattle.pl_base.proofs.TitleCuts.{cut_title-le}
-use Rattle.pl_step.specs.declared.reply.Reply.{Reply}
 use Rattle.pl_history.specs.Target.{is_new}
 use Rattle.pl_history.proofs.ReadyPage.{ready}
 use Rattle.pl_editing.specs.Room.{item_room}
 use Rattle.pl_editing.proofs.BookmarkAllowed.{bookmark_done, bookmark_refused, item_room_of, none_refused}
 use Rattle.pl_editing.proofs.BookmarkAllowed.{room_item, room_page}
+use Rattle.pl_editing.proofs.ItemChanges.{bookmark_came}
 use Rattle.pl_editing.proofs.PageSlots.{are_slots}
 use Rattle.pl_done.proofs.PlaceUrls.{place_told}
 use Rattle.pl_editing.proofs.bookmarks.bookmark.Goals as goal
@@ -80,6 +80,14 @@ add_bookmark-requires-clause-live g c =
     c.room_refusal.result c.room_refusal.ensures c.in_default-room_refusal.is)
     c.requires.most
 
+pub item_changes-requires-clause-came : goal.item_changes-requires-clause-came
+item_changes-requires-clause-came g c =
+    bookmark_came c.args.url.now c.in_ok-target.target (g.R.Rows.kept c.args.rows.now)
+    (g.R.Rows.kept c.page_for.new.rows) (g.R.Rows.kept c.add_bookmark.new.rows) c.in_ok-page.page c.args.known.now
+    c.args.parent c.args.place c.cut_title-text.result.now c.args.date c.in_ok-page.ensures.page
+    (g.met.R.Rows.well_kept c.page_for.new.rows) c.requires.sound c.in_ok-id.ensures.sound c.requires.knows
+    c.in_ok-id.ensures.store
+
 pub returns : goal.returns
 returns g c =
     let kept : Kept = g.R.Rows.kept c.args.rows.now in
@@ -87,8 +95,7 @@ returns g c =
       performs =
           record {
             step =
-                ap (λ (r : Reply). (r, store_of (g.R.Rows.kept c.add_bookmark.new.rows))) c.afresh.ensures.reply
-                ∙ bookmark_done c.args.limit kept (g.R.Rows.kept c.page_for.new.rows)
+                bookmark_done c.args.limit kept (g.R.Rows.kept c.page_for.new.rows)
                 (store_of (g.R.Rows.kept c.add_bookmark.new.rows)) c.args.parent c.args.place c.args.url.now
                 c.cut_title-text.result.now c.args.title.now c.args.date c.in_ok-target.target c.in_ok-page.page
                 (c.slots_after.result + c.chunks.result) c.room_refusal.result c.in_ok-id.id c.in_ok-target.ensures
@@ -105,6 +112,6 @@ returns g c =
             accepted = search rules;
             sound = c.in_ok-id.ensures.sound;
             base = search rules;
-            renews = search rules;
+            leads = c.in_ok-changes.ensures;
           };
     }

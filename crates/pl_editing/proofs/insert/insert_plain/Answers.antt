@@ -1,13 +1,14 @@
 use Rattle.std.proofs.Common.{◌+◌, ◌∙◌, ap, arith, false, List, refl, rules, sym, ℕ}
-use Rattle.pl_base.specs.Rows.{store_of}
+use Rattle.pl_base.specs.Rows.{IsSound, store_of}
 use Rattle.pl_base.specs.Store.{Store}
 use Rattle.pl_tree.specs.declared.new_item.NewItem.{NewItem}
-use Rattle.pl_step.specs.declared.reply.Reply.{Reply}
 use Rattle.pl_step.specs.Step.{after_insert}
 use Rattle.pl_editing.specs.Room.{plain_item}
+use Rattle.pl_editing.proofs.ItemChanges.{plain_came}
 use Rattle.pl_editing.proofs.ItemStep.{insert_done, insert_refused, live_inserted}
 use Rattle.pl_history.proofs.ItemPages.{sound_inserted}
 use Rattle.pl_editing.proofs.insert.insert_plain.Goals as goal
+use Rattle.pl_editing.proofs.insert.insert_plain.Goals.{In_ok-id, Over}
 
 pub returns-in-Some-room_refusal : goal.returns-in-Some-room_refusal
 returns-in-Some-room_refusal g c =
@@ -29,6 +30,23 @@ returns-in-Some-room_refusal g c =
       );
     }
 
+-- the rows are sound with the item
+sound : (g : Over) (c : In_ok-id g) → IsSound (g.R.Rows.kept c.insert_allowed.new.rows)
+sound g c =
+    sound_inserted (g.R.Rows.kept c.args.rows.now) (g.R.Rows.kept c.insert_allowed.new.rows) c.args.parent c.args.place
+    (plain_item c.args.kind c.in_ok-copied.field-0 c.args.date) refl c.in_ok-id.ensures.kept
+    (g.met.R.Rows.well_kept c.args.rows.now) (g.met.R.Rows.well_kept c.insert_allowed.new.rows)
+    c.in_ok-id.ensures.good c.requires.sound
+
+pub item_changes-requires-clause-sound : goal.item_changes-requires-clause-sound
+item_changes-requires-clause-sound g c = sound g c.before
+
+pub item_changes-requires-clause-came : goal.item_changes-requires-clause-came
+item_changes-requires-clause-came g c =
+    plain_came (g.R.Rows.kept c.args.rows.now) (g.R.Rows.kept c.insert_allowed.new.rows) c.args.known.now c.args.parent
+    c.args.place c.args.kind c.in_ok-copied.field-0 c.args.date (g.met.R.Rows.well_kept c.args.rows.now)
+    c.requires.sound (sound g c.before) c.requires.knows c.in_ok-id.ensures.kept
+
 pub returns : goal.returns
 returns g c =
     let store : Store = store_of (g.R.Rows.kept c.args.rows.now) in
@@ -37,8 +55,7 @@ returns g c =
       performs =
           record {
             step =
-                ap (λ (r : Reply). (r, store_of (g.R.Rows.kept c.insert_allowed.new.rows))) c.afresh.ensures.reply
-                ∙ insert_done c.args.limit store c.args.parent c.args.place false
+                insert_done c.args.limit store c.args.parent c.args.place false
                 (after_insert c.args.parent c.args.place new store)
                 (store_of (g.R.Rows.kept c.insert_allowed.new.rows)) (c.live.result + 1 + c.chunks.result)
                 c.room_refusal.result c.in_ok-id.id (sym c.refused.ensures ∙ c.in_default.is)
@@ -53,13 +70,9 @@ returns g c =
                 ∙ ap (λ (title : List ℕ). after_insert c.args.parent c.args.place
                 (plain_item c.args.kind title c.args.date) store)
                 c.in_ok-copied.ensures);
-            accepted = search rules;
-            sound =
-                sound_inserted (g.R.Rows.kept c.args.rows.now) (g.R.Rows.kept c.insert_allowed.new.rows) c.args.parent
-                c.args.place (plain_item c.args.kind c.in_ok-copied.field-0 c.args.date) refl c.in_ok-id.ensures.kept
-                (g.met.R.Rows.well_kept c.args.rows.now) (g.met.R.Rows.well_kept c.insert_allowed.new.rows)
-                c.in_ok-id.ensures.good c.requires.sound;
+            accepted = refl;
+            sound = sound g c.before.before;
             base = search rules;
-            renews = search rules;
+            leads = c.in_ok-changes.ensures;
           };
     }

@@ -4,17 +4,18 @@ use Rattle.std.proofs.lemmas.Result.{err_from_is_err_and}
 use Rattle.pl_base.specs.declared.view.View.{View}
 use Rattle.pl_base.specs.Rows.{Kept, store_of}
 use Rattle.pl_step.specs.declared.command.Command.TheVariants.{Untag as UntagCommand}
-use Rattle.pl_step.specs.declared.reply.Reply.{Reply}
 use Rattle.pl_step.specs.declared.step_error.StepError.{StepError}
 use Rattle.pl_step.specs.Step.{perform}
 use Rattle.pl_tree.specs.declared.error.TreeError.{TreeError}
 use Rattle.pl_tree.specs.Tagged.{untagged_items}
 use Rattle.pl_history.specs.Addresses.{HaveAddresses}
+use Rattle.pl_history.proofs.GoodRows.{items_of}
 use Rattle.pl_history.proofs.KnownPage.{has_known, known}
 use Rattle.pl_done.specs.declared.done.Done.{Done}
 use Rattle.pl_done.specs.Performed.{Performs}
 use Rattle.pl_done.proofs.FoundPages.{known_target, none_found}
 use Rattle.pl_done.proofs.KnownAddresses.{addresses_with_items}
+use Rattle.pl_editing.proofs.ItemChanges.{untagged_came}
 use Rattle.pl_editing.proofs.Untagged.{untagged_settled}
 use Rattle.pl_editing.proofs.UntagStep.{untag_absent, untag_done, untag_stops}
 use Rattle.pl_editing.proofs.tags.untag.Goals as goal
@@ -69,14 +70,21 @@ settle_all-requires-clause-views g c =
     (untagged_items c.in-Some.view.now.id c.args.name.now (g.R.Rows.kept c.args.rows.now).items) c.args.known.now
     c.requires.knows (g.met.R.Rows.well_kept c.args.rows.now) c.in_ok-untag.ensures.kept)
 
+pub item_changes-requires-clause-came : goal.item_changes-requires-clause-came
+item_changes-requires-clause-came g c =
+    let old : Kept = g.R.Rows.kept c.args.rows.now in
+    untagged_came old (g.R.Rows.kept c.untag.new.rows) (g.R.Rows.kept c.settle_all.new.rows) c.args.known.now
+    c.in-Some.view.now.id c.args.name.now (g.met.R.Rows.well_kept c.args.rows.now) c.requires.sound
+    c.in_ok-settle_all.ensures.sound (items_of (store_of old) c.requires.sound.good) c.requires.knows
+    c.in_ok-untag.ensures.kept c.in_ok-settle_all.ensures.store
+
 pub returns : goal.returns
 returns g c =
     let kept : Kept = g.R.Rows.kept c.args.rows.now in
     record {
       performs = λ limit. record {
         step =
-            ap (λ (r : Reply). (r, store_of (g.R.Rows.kept c.settle_all.new.rows))) c.afresh.ensures.reply
-            ∙ untag_done limit kept (g.R.Rows.kept c.untag.new.rows) (g.R.Rows.kept c.settle_all.new.rows)
+            untag_done limit kept (g.R.Rows.kept c.untag.new.rows) (g.R.Rows.kept c.settle_all.new.rows)
             c.args.url.now c.args.name.now c.in-Some.view.now.id
             (known_target kept c.args.known.now.views.items c.args.url.now c.text.result.now
             (option_copied c.find.result) c.in-Some.view.now c.requires.knows.views c.text.ensures.value
@@ -85,6 +93,6 @@ returns g c =
         accepted = search rules;
         sound = c.in_ok-settle_all.ensures.sound;
         base = search rules;
-        renews = search rules;
+        leads = c.in_ok-changes.ensures;
       };
     }
