@@ -1,0 +1,2 @@
+pub mod AddedItems
+pub mod ImportedReferences
