@@ -1,8 +1,8 @@
--- Items that come behind those that are there, each among the children of any item: what was there keeps its parent, and
--- all that it tells of its page.
+-- Items that come behind those that are there, each as a child of any item: what was there keeps its parent, and all
+-- that it tells of its page.
 use Rattle.std.proofs.Common.{◌≡◌, ◌∙◌, ◌<◌, ◌≤◌, ◌==◌, ◌&&◌, ◌||◌, ◌++◌, ℕ, All, Bool, true, false, List, [], ◌∷◌}
-use Rattle.std.proofs.Common.{Option, Some, None, ap, append_assoc, arith, drop, filter, find, if◌then◌else◌, length, map, nat_le}
-use Rattle.std.proofs.Common.{refl, subst, sym, take}
+use Rattle.std.proofs.Common.{Option, Some, None, ap, append_assoc, arith, drop, filter, find, if◌then◌else◌}
+use Rattle.std.proofs.Common.{length, map, nat_le, refl, subst, sym, take}
 use Rattle.std.specs.List.{AllByRecursion, list_any}
 use Rattle.std.specs.Option.{option_and_then, option_map}
 use Rattle.std.proofs.lemmas.Bool.{le-leb, ne_eqb, or_parts}
@@ -102,8 +102,8 @@ module _ (parent : ItemId) (place : Place) (new : Item) (leaf : new.children ≡
 
 -- ---- items behind those that are there
 
--- the old items but for their children, and behind them items from this id on; what is below that id has the parent that
--- it had
+-- the old items but for their children, and behind them items from this id on; what is below that id has the parent
+-- that it had
 pub record AddsItems (first : ℕ) (old new : List Item) : Type 0 where
   pub front : List Item
   pub added : List Item

@@ -39,13 +39,13 @@ use Rattle.pl_bearing.proofs.AddedItems.{AddsItems, bare_one_more, no_items, one
 
 -- where an item comes with this id or one behind it, as a leaf: what was added still is, and a page that has a new item
 -- still has one
-record Grows (first : ℕ) (items more : List Item) : Type 0 where
+record AddsMore (first : ℕ) (items more : List Item) : Type 0 where
   pub adds : (old : List Item) → AddsItems first old items → AddsItems first old more
   pub holds : (page : PageId) → has_new_item first items page ≡ true → has_new_item first more page ≡ true
 
-grows_one : (first : ℕ) (items : List Item) (parent : ItemId) (place : Place) (new : Item) → first ≤ new.id.0
-    → new.children ≡ [] → Grows first items (with_child parent place new.id items ++ new ∷ [])
-grows_one first items parent place new above leaf =
+more_one : (first : ℕ) (items : List Item) (parent : ItemId) (place : Place) (new : Item) → first ≤ new.id.0
+    → new.children ≡ [] → AddsMore first items (with_child parent place new.id items ++ new ∷ [])
+more_one first items parent place new above leaf =
     let grow : Item → Item = with_one_more parent place new.id in
     record {
       adds = λ old a. one_item first old items parent place new above leaf a;
@@ -59,23 +59,23 @@ grows_one first items parent place new above leaf =
           ∙ some);
     }
 
-grows_tag : (first next : ℕ) (name : List ℕ) (date : Micros) (items : List Item) → first ≤ next
-    → Grows first items (tagged.with_tag next name date items)
-grows_tag first next name date items above = choose (is_none (tag_named name items))
+more_tag : (first next : ℕ) (name : List ℕ) (date : Micros) (items : List Item) → first ≤ next
+    → AddsMore first items (tagged.with_tag next name date items)
+more_tag first next name date items above = choose (is_none (tag_named name items))
   where
     choose : (b : Bool)
-        → Grows first items (if b then with_new (item_id next) tags_root End (new_tag name date) items else items)
-    choose true = grows_one first items tags_root End (item_of (item_id next) (new_tag name date)) above refl
+        → AddsMore first items (if b then with_new (item_id next) tags_root End (new_tag name date) items else items)
+    choose true = more_one first items tags_root End (item_of (item_id next) (new_tag name date)) above refl
     choose false = record { adds = λ old a. a; holds = λ page some. some }
 
-grows_tagged : (first next : ℕ) (page : PageId) (name : List ℕ) (date : Micros) (items : List Item) → first ≤ next
-    → Grows first items (tagged_items next page name date items)
-grows_tagged first next page name date items above =
+more_tagged : (first next : ℕ) (page : PageId) (name : List ℕ) (date : Micros) (items : List Item) → first ≤ next
+    → AddsMore first items (tagged_items next page name date items)
+more_tagged first next page name date items above =
     let id : ItemId = item_id (next + (new_items name items - 1)) in
     let mid : List Item = tagged.with_tag next name date items in
-    let tag : Grows first items mid = grows_tag first next name date items above in
-    let entry : Grows first mid (tagged_items next page name date items) =
-    grows_one first mid (tag_id next name items) End (item_of id (new_entry page date)) (omega arith) refl in
+    let tag : AddsMore first items mid = more_tag first next name date items above in
+    let entry : AddsMore first mid (tagged_items next page name date items) =
+    more_one first mid (tag_id next name items) End (item_of id (new_entry page date)) (omega arith) refl in
     record {
       adds = λ old a. entry.adds old (tag.adds old a);
       holds = λ other some. entry.holds other (tag.holds other some);
@@ -126,14 +126,14 @@ abbrev with_page : Page → Store → Store
 with_page page store =
     record store { pages = store.pages ++ page ∷ []; ids = record store.ids { page = store.ids.page + 1 } }
 
-held_still : (old store : Store) (items : List Item) → Grows old.ids.item store.items items → (a : Adds old store)
+held_still : (old store : Store) (items : List Item) → AddsMore old.ids.item store.items items → (a : Adds old store)
     → All (λ (p : Page). has_new_item old.ids.item items p.id ≡ true) a.pages.added
 held_still old store items g a =
     All-weaker (λ (p : Page). has_new_item old.ids.item store.items p.id ≡ true)
     (λ (p : Page). has_new_item old.ids.item items p.id ≡ true) (λ p some. g.holds p.id some) a.pages.added a.pages.held
 
 adds_items : (old store : Store) (next : ℕ) (items : List Item) → store.ids.item ≤ next
-    → Grows old.ids.item store.items items → Adds old store → Adds old (with_items next items store)
+    → AddsMore old.ids.item store.items items → Adds old store → Adds old (with_items next items store)
 adds_items old store next items above g a =
     record {
       items = g.adds old.items a.items;
@@ -153,7 +153,7 @@ adds_items old store next items above g a =
 
 -- with a page that a new item has
 adds_page : (old store : Store) (url : List ℕ) (next : ℕ) (items : List Item) → store.ids.item ≤ next
-    → Grows old.ids.item store.items items → has_new_item old.ids.item items (new_page store url).id ≡ true
+    → AddsMore old.ids.item store.items items → has_new_item old.ids.item items (new_page store url).id ≡ true
     → Adds old store → Adds old (with_items next items (with_page (new_page store url) store))
 adds_page old store url next items above g some a =
     let page : Page = new_page store url in
@@ -193,8 +193,8 @@ adds_row old store parent row title url is a = by_url url is
     item : Item
     item = new_item id row title
 
-    grown : Grows old.ids.item store.items (front ++ item ∷ [])
-    grown = grows_one old.ids.item store.items parent End item a.next_item refl
+    grown : AddsMore old.ids.item store.items (front ++ item ∷ [])
+    grown = more_one old.ids.item store.items parent End item a.next_item refl
 
     same : Adds old (with_row parent row title store)
     same = adds_items old store (store.ids.item + 1) (front ++ item ∷ []) (omega arith) grown a
@@ -230,7 +230,7 @@ adds_tags old store page date (name ∷ names) a =
     choose false =
         adds_items old store (store.ids.item + new_items name store.items)
         (tagged_items store.ids.item page name date store.items) (omega arith)
-        (grows_tagged old.ids.item store.ids.item page name date store.items a.next_item) a
+        (more_tagged old.ids.item store.ids.item page name date store.items a.next_item) a
 
 adds_tags_of : (old store : Store) (page : Option PageId) (node : Node) → Adds old store
     → Adds old (with_tags_of page node store)
