@@ -1,2 +1,3 @@
 pub mod AddedItems
 pub mod ImportedReferences
+pub mod NewReferences
