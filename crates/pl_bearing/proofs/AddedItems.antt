@@ -4,26 +4,26 @@ use Rattle.std.proofs.Common.{◌≡◌, ◌∙◌, ◌<◌, ◌≤◌, ◌==◌
 use Rattle.std.proofs.Common.{Option, Some, None, ap, append_assoc, arith, drop, filter, find, if◌then◌else◌}
 use Rattle.std.proofs.Common.{length, map, nat_le, refl, subst, sym, take}
 use Rattle.std.specs.List.{AllByRecursion, list_any}
-use Rattle.std.specs.Option.{option_and_then, option_map}
+use Rattle.std.specs.Option.{option_map}
 use Rattle.std.proofs.lemmas.Bool.{le-leb, ne_eqb, or_parts}
 use Rattle.std.proofs.lemmas.List.{append-nil, map-append, take-append-drop}
 use Rattle.std.proofs.lemmas.List.Elements.{All-map, All-nil, All-push, All-weaker, filter-append}
 use Rattle.std.proofs.lemmas.List.Elements.{recursion_from_All}
 use Rattle.std.proofs.lemmas.List.Folds.{list_any-append}
-use Rattle.std.proofs.lemmas.Option.{same_Some}
 use Rattle.pl_base.specs.declared.id.ItemId.{ItemId}
 use Rattle.pl_base.specs.declared.id.PageId.{PageId}
 use Rattle.pl_base.specs.Store.{Item}
-use Rattle.pl_base.specs.Tags.{is_tags_root}
 use Rattle.pl_base.specs.Tree.{has_child, is_page, item_title, parent_of}
+use Rattle.pl_base.proofs.Among.{at_in}
 use Rattle.pl_base.proofs.ItemLaws.{bare}
 use Rattle.pl_base.proofs.ListLaws.{all-filter, filter-map, find-map, map-alike, map-map, weaker}
-use Rattle.pl_base.proofs.LookUps.{both, found_holds, none_kept, none_pass}
-use Rattle.pl_marks.specs.TagFolders.{tag_title, where_tag}
+use Rattle.pl_base.proofs.LookUps.{both, none_kept, none_pass}
+use Rattle.pl_marks.specs.TagFolders.{tag_title}
 use Rattle.pl_tree.specs.declared.place.Place.{Place}
 use Rattle.pl_tree.specs.Changes.{position, put, with_child}
 use Rattle.pl_graft.specs.Gained.{has_new_item}
 use Rattle.pl_bearing.specs.References.{Reference, reference, references_of}
+use Rattle.pl_bearing.proofs.NewReferences.{grown, grown_same, parent_there, tag_stays}
 
 -- ---- lists
 
@@ -44,18 +44,9 @@ map-where f g (x ∷ xs) alike = rw (alike.0, map-where f g xs alike.1) refl
 
 -- ---- one item more
 
--- an item with one more child, if it is this one
-abbrev pub with_one_more : ItemId → Place → ItemId → Item → Item
-with_one_more parent place id i =
-    if i.id.0 == parent.0 then record i { children = put place id i.children } else i
-
-pub bare_one_more : (parent : ItemId) (place : Place) (id : ItemId) (i : Item)
-    → bare (with_one_more parent place id i) ≡ bare i
-bare_one_more parent place id i = choose (i.id.0 == parent.0)
-  where
-    choose : (b : Bool) → bare (if b then record i { children = put place id i.children } else i) ≡ bare i
-    choose true = refl
-    choose false = refl
+-- a child more changes nothing else
+pub bare_grown : (parent : ItemId) (place : Place) (id : ItemId) (i : Item) → bare (grown parent place id i) ≡ bare i
+bare_grown parent place id i = grown_same parent place id bare (λ j. refl) i
 
 module _ (parent : ItemId) (place : Place) (new : Item) (leaf : new.children ≡ []) (id : ItemId)
     (apart : (new.id.0 == id.0) ≡ false) where
@@ -71,13 +62,8 @@ module _ (parent : ItemId) (place : Place) (new : Item) (leaf : new.children ≡
       ∙ sym (list_any-append is_it (take n ids) (drop n ids))
       ∙ ap (list_any is_it) (take-append-drop n ids)
 
-  child_apart : (i : Item) → has_child id (with_one_more parent place new.id i) ≡ has_child id i
-  child_apart i = choose (i.id.0 == parent.0)
-    where
-      choose : (b : Bool)
-          → has_child id (if b then record i { children = put place new.id i.children } else i) ≡ has_child id i
-      choose true = put_apart i.children
-      choose false = refl
+  child_apart : (i : Item) → has_child id (grown parent place new.id i) ≡ has_child id i
+  child_apart i = grown_same parent place new.id (has_child id) (λ j. put_apart j.children) i
 
   -- the others have the parents that they had
   parent_apart : (items : List Item)
@@ -85,19 +71,19 @@ module _ (parent : ItemId) (place : Place) (new : Item) (leaf : new.children ≡
   parent_apart [] =
       ap (λ (cs : List ItemId). option_map (λ (i : Item). i.id) (if list_any is_it cs then Some new else None)) leaf
   parent_apart (i ∷ items) =
-      let grown : Item = with_one_more parent place new.id i in
+      let more_children : Item = grown parent place new.id i in
       let more : List Item = with_child parent place new.id items ++ new ∷ [] in
-      ap (λ (b : Bool). option_map (λ (j : Item). j.id) (if b then Some grown else find (has_child id) more))
+      ap (λ (b : Bool). option_map (λ (j : Item). j.id) (if b then Some more_children else find (has_child id) more))
       (child_apart i)
       ∙ choose (has_child id i) (parent_apart items)
     where
       choose : (b : Bool)
           → parent_of (with_child parent place new.id items ++ new ∷ []) id ≡ parent_of items id
           → option_map (λ (j : Item). j.id)
-          (if b then Some (with_one_more parent place new.id i)
+          (if b then Some (grown parent place new.id i)
           else find (has_child id) (with_child parent place new.id items ++ new ∷ []))
           ≡ option_map (λ (j : Item). j.id) (if b then Some i else find (has_child id) items)
-      choose true rest = ap (λ (j : Item). Some j.id) (bare_one_more parent place new.id i)
+      choose true rest = ap (λ (j : Item). Some j.id) (bare_grown parent place new.id i)
       choose false rest = rest
 
 -- ---- items behind those that are there
@@ -128,7 +114,7 @@ pub one_item : (first : ℕ) (old items : List Item) (parent : ItemId) (place : 
     → new.children ≡ [] → AddsItems first old items
     → AddsItems first old (with_child parent place new.id items ++ new ∷ [])
 one_item first old items parent place new above leaf a =
-    let grow : Item → Item = with_one_more parent place new.id in
+    let grow : Item → Item = grown parent place new.id in
     record {
       front = map grow a.front;
       added = map grow a.added ++ new ∷ [];
@@ -138,14 +124,14 @@ one_item first old items parent place new above leaf a =
           ∙ append_assoc (map grow a.front) (map grow a.added) (new ∷ []);
       same =
           map-map bare grow a.front
-          ∙ map-alike (λ (i : Item). bare (grow i)) bare a.front (bare_one_more parent place new.id)
+          ∙ map-alike (λ (i : Item). bare (grow i)) bare a.front (bare_grown parent place new.id)
           ∙ a.same;
       ids =
           All-push (λ (i : Item). first ≤ i.id.0) (map grow a.added) new
           (All-map (λ (i : Item). first ≤ i.id.0) grow a.added
           (All-weaker (λ (i : Item). first ≤ i.id.0) (λ (i : Item). first ≤ (grow i).id.0)
           (λ i high.
-          subst (λ (b : Item). first ≤ b.id.0) (sym (bare_one_more parent place new.id i)) high)
+          subst (λ (b : Item). first ≤ b.id.0) (sym (bare_grown parent place new.id i)) high)
           a.added a.ids))
           above;
       parents =
@@ -190,36 +176,17 @@ module _ (first : ℕ) (old new : List Item) (below : All (λ (i : Item). i.id.0
       ∙ title_bare old id
 
   parent_below : (id parent : ItemId) → parent_of old id ≡ Some parent → parent.0 < first
-  parent_below id parent is = choose (find (has_child id) old) refl is
-    where
-      choose : (o : Option Item) → find (has_child id) old ≡ o → option_map (λ (i : Item). i.id) o ≡ Some parent
-          → parent.0 < first
-      choose None found told = absurd (cc)
-      choose (Some i) found told =
-          subst (λ (p : ItemId). p.0 < first) (same_Some i.id parent told)
-          (found_holds (λ (j : Item). j.id.0 < first) (has_child id) old i
-          (recursion_from_All (λ (j : Item). j.id.0 < first) old below) found)
+  parent_below id parent is =
+      let r = parent_there old id parent is in
+      subst (λ (p : ItemId). p.0 < first) r.2
+      (at_in (λ (i : Item). i.id.0 < first) old r.0 (recursion_from_All (λ (i : Item). i.id.0 < first) old below) r.1)
 
   -- the tag of an old item
   tag_kept : (id : ItemId) → id.0 < first → tag_title new id ≡ tag_title old id
   tag_kept id within =
-      ap (λ (o : Option ItemId). option_and_then (item_title new) (where_tag new o)) (a.parents id within)
-      ∙ choose (parent_of old id) refl
-    where
-      tag : (folder : ItemId) → folder.0 < first → (b : Bool)
-          → option_and_then (item_title new) (if b then Some folder else None)
-          ≡ option_and_then (item_title old) (if b then Some folder else None)
-      tag folder under true = title_kept folder under
-      tag folder under false = refl
-
-      choose : (o : Option ItemId) → parent_of old id ≡ o
-          → option_and_then (item_title new) (where_tag new o) ≡ option_and_then (item_title old) (where_tag old o)
-      choose None is = refl
-      choose (Some folder) is =
-          let under : folder.0 < first = parent_below id folder is in
-          ap (λ (o : Option ItemId).
-          option_and_then (item_title new) (if is_tags_root o then Some folder else None)) (a.parents folder under)
-          ∙ tag folder under (is_tags_root (parent_of old folder))
+      tag_stays old new id (a.parents id within) (λ p is.
+      let under : p.0 < first = parent_below id p is in
+      (a.parents p under, title_kept p under))
 
   reference_kept : (i : Item) → i.id.0 < first → reference new i ≡ reference old i
   reference_kept i within =

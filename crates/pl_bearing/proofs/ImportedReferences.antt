@@ -33,7 +33,8 @@ use Rattle.pl_graft.specs.Import.{folder_of, folders_behind, imported, node_row,
 use Rattle.pl_graft.specs.Import.{with_list, with_node, with_nodes, with_page_of, with_row, with_tag, with_tags}
 use Rattle.pl_graft.specs.Import.{with_tags_of}
 use Rattle.pl_bearing.specs.References.{AreReferencesAlike, references_of}
-use Rattle.pl_bearing.proofs.AddedItems.{AddsItems, bare_one_more, no_items, one_item, references_kept, with_one_more}
+use Rattle.pl_bearing.proofs.AddedItems.{AddsItems, bare_grown, no_items, one_item, references_kept}
+use Rattle.pl_bearing.proofs.NewReferences.{grown}
 
 -- ---- items that come
 
@@ -46,7 +47,7 @@ record AddsMore (first : ℕ) (items more : List Item) : Type 0 where
 more_one : (first : ℕ) (items : List Item) (parent : ItemId) (place : Place) (new : Item) → first ≤ new.id.0
     → new.children ≡ [] → AddsMore first items (with_child parent place new.id items ++ new ∷ [])
 more_one first items parent place new above leaf =
-    let grow : Item → Item = with_one_more parent place new.id in
+    let grow : Item → Item = grown parent place new.id in
     record {
       adds = λ old a. one_item first old items parent place new above leaf a;
       holds =
@@ -55,7 +56,7 @@ more_one first items parent place new above leaf =
           list_any_push test (with_child parent place new.id items) new
           (list_any-map test grow items
           ∙ list_any-alike (λ (i : Item). test (grow i)) test items
-          (λ i. ap test (bare_one_more parent place new.id i))
+          (λ i. ap test (bare_grown parent place new.id i))
           ∙ some);
     }
 
@@ -193,11 +194,11 @@ adds_row old store parent row title url is a = by_url url is
     item : Item
     item = new_item id row title
 
-    grown : AddsMore old.ids.item store.items (front ++ item ∷ [])
-    grown = more_one old.ids.item store.items parent End item a.next_item refl
+    more : AddsMore old.ids.item store.items (front ++ item ∷ [])
+    more = more_one old.ids.item store.items parent End item a.next_item refl
 
     same : Adds old (with_row parent row title store)
-    same = adds_items old store (store.ids.item + 1) (front ++ item ∷ []) (omega arith) grown a
+    same = adds_items old store (store.ids.item + 1) (front ++ item ∷ []) (omega arith) more a
 
     -- the page is there or new
     by_page : (address : List ℕ) (found : Option Page)
@@ -206,7 +207,7 @@ adds_row old store parent row title url is a = by_url url is
         (with_row parent row title (if is_none found then with_page (new_page store address) store else store))
     by_page address None own =
         let page : PageId = (new_page store address).id in
-        adds_page old store address (store.ids.item + 1) (front ++ item ∷ []) (omega arith) grown
+        adds_page old store address (store.ids.item + 1) (front ++ item ∷ []) (omega arith) more
         (list_any_last (λ (i : Item). nat_le old.ids.item i.id.0 && is_page page i.page) front item
         (and_from (nat_le old.ids.item item.id.0) (is_page page item.page)
         (le-leb old.ids.item item.id.0 a.next_item) (ap (is_page page) own ∙ eq-eqb page.0 page.0 refl)))
