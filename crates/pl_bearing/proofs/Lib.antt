@@ -1,5 +1,7 @@
+pub mod AddedItems
 pub mod DifferByItems
 pub mod DifferByPage
+pub mod ImportedReferences
 pub mod InsertedReferences
 mod ItemParts
 mod ItemViews

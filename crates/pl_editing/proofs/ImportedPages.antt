@@ -97,3 +97,10 @@ imported_rise old new h i j d before within =
           let same : i ≡ j = omega arith in
           omega (arith, ap (λ (k : ℕ). (get_or (gained old (store_of new)) k d).0) same)
     ]
+
+-- and each once
+pub imported_once : (old : Store) (new : Kept) → IsWellKept new
+    → IsStrictlyIncreasing (map (λ (page : PageId). page.0) (gained old (store_of new)))
+imported_once old new h k within =
+    AllPairs-map (λ (m n : ℕ). m < n) (λ (page : PageId). page.0) (gained old (store_of new))
+    (gained_ascend old new h) k (k + 1) 0 (omega arith) within
