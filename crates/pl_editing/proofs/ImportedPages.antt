@@ -1,15 +1,15 @@
 -- Which of the pages with a new item an import made, and what holds of them.
-use Rattle.std.proofs.Common.{◌≡◌, ◌∙◌, ◌<◌, ◌≤◌, ◌==◌, ◌||◌, ℕ, All, Bool, true, false}
-use Rattle.std.proofs.Common.{List, [], ◌∷◌, ap, arith, filter, get_or, inl, inr, refl, subst, sym}
+use Rattle.std.proofs.Common.{◌≡◌, ◌∙◌, ◌+◌, ◌<◌, ◌≤◌, ◌==◌, ◌||◌, ℕ, All, Bool, true, false}
+use Rattle.std.proofs.Common.{List, [], ◌∷◌, ap, arith, filter, get_or, inl, inr, map, refl, subst, sym}
 use Rattle.std.specs.List.{AllByRecursion, list_any}
-use Rattle.std.specs.List.Sorted.{IsNonDecreasingBy}
+use Rattle.std.specs.List.Sorted.{IsNonDecreasingBy, IsStrictlyIncreasing}
 use Rattle.std.proofs.lemmas.Bool.{cases_lt, eqb-true, ne_eqb}
 use Rattle.std.proofs.lemmas.List.Elements.{All-append, All-map, filter_passes, recursion_from_All}
 use Rattle.std.proofs.lemmas.List.Folds.{list_any_none}
 use Rattle.pl_base.specs.declared.id.PageId.{PageId}
 use Rattle.pl_base.specs.Rows.{IsWellKept, Kept, KeptPage, store_of}
 use Rattle.pl_base.specs.Store.{Page, Store, Visit}
-use Rattle.pl_base.proofs.ListLaws.{list_any-map}
+use Rattle.pl_base.proofs.ListLaws.{AllPairs-map, list_any-map}
 use Rattle.pl_base.proofs.PageLaws.{ids_below}
 use Rattle.pl_nbread.specs.declared.tree.Tree.{Tree}
 use Rattle.pl_graft.specs.Gained.{Grows, gained, has_new_item}

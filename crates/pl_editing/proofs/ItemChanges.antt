@@ -136,35 +136,3 @@ untagged_came old mid new known page name well sound still good knows mid_is is 
     (differ_once_settled (page ∷ []) (store_of old) (store_of mid) (store_of new) (untagged_items page name old.items)
     sound.good still.good (ap store_of mid_is) is
     (untagged_alike old page name (page ∷ []) well good (is_itself page)))
-
--- ---- an import
-
--- what the import makes, by what it makes of pages and items
-imported_is : (tree : Tree) (store : Store) (a : AddsPages store (imported tree store)) → imported tree store
-    ≡ record store {
-      ids = (imported tree store).ids;
-      items = (imported tree store).items;
-      pages = store.pages ++ a.added;
-    }
-imported_is tree store a =
-    let made : Store = imported tree store in
-    ap (λ (day : Day). record made { day = day }) a.day
-    ∙ ap (λ (pages : List Page). record made { day = store.day; pages = pages }) a.is
-    ∙ ap
-    (λ (visits : List Visit). record made { day = store.day; pages = store.pages ++ a.added; visits = visits })
-    a.visits
-
-pub imported_came : (tree : Tree) (old : Kept) (new : Store) (known : Known) → IsWellKept old → IsSound old → IsGood new
-    → HasGoodItems (imported tree (store_of old)) → Knows (store_of old) known → new ≡ imported tree (store_of old)
-    → CameByItems (gained (store_of old) (imported tree (store_of old))) known new
-imported_came tree old new known well sound still good knows is =
-    let store : Store = store_of old in
-    let made : Store = imported tree store in
-    let a : AddsPages store made = imported_pages tree store in
-    let below : All (λ (i : Item). i.id.0 < store.ids.item) store.items =
-    λ k d within. below_next old well (get_or store.items k d) (in_at store.items k d within) in
-    came_by_items (gained store made) store new known knows
-    (differ_by_items_kept (gained store made) store new made.ids made.items a.added sound.good still
-    (is ∙ imported_is tree store a)
-    (λ k d within. held_gained store made (get_or a.added k d).id good (a.held k d within))
-    (gained_alike tree store below good))

@@ -1,5 +1,6 @@
 mod BookmarkAllowed
 mod FreshPage
+mod ImportChanges
 mod ImportSettled
 mod ImportedPages
 mod ImportedRows

@@ -1,24 +1,29 @@
-use Rattle.std.proofs.Common.{◌≡◌, ◌∙◌, ◌≤◌, ℕ, All, List, Option, None, ap, rules, subst, sym}
-use Rattle.std.specs.List.Sorted.{IsNonDecreasingBy}
+use Rattle.std.proofs.Common.{◌≡◌, ◌∙◌, ◌≤◌, ℕ, All, List, Option, None, ap, map, refl, rules, subst, sym}
+use Rattle.std.specs.List.Sorted.{IsNonDecreasingBy, IsStrictlyIncreasing}
 use Rattle.pl_base.specs.declared.id.Ids.{Ids}
 use Rattle.pl_base.specs.declared.id.PageId.{PageId}
 use Rattle.pl_base.specs.declared.refusal.Refusal.{Refusal}
 use Rattle.pl_base.specs.declared.view.View.{View}
+use Rattle.pl_base.specs.Good.{HasGoodItems}
 use Rattle.pl_base.specs.Rows.{Kept, store_of}
 use Rattle.pl_base.specs.Store.{Store}
 use Rattle.pl_history.specs.Addresses.{HaveAddresses}
 use Rattle.pl_history.specs.Settled.{AreSettledBut}
 use Rattle.pl_nbread.specs.declared.tree.Tree.{Tree}
+use Rattle.pl_graft.specs.Gained.{gained}
 use Rattle.pl_graft.specs.Import.{imported, row_count, tags_made}
+use Rattle.pl_changes.specs.CameFrom.{CameByItems}
 use Rattle.pl_step.specs.declared.command.Command.TheVariants.{Import}
 use Rattle.pl_step.specs.declared.reply.Reply.{Reply}
 use Rattle.pl_step.specs.declared.reply.Reply.TheVariants.{Imported}
 use Rattle.pl_step.specs.Step.{import_refusal, import_reply, perform, unless_refused}
 use Rattle.pl_editing.specs.NewPage.{IsNew}
-use Rattle.pl_editing.proofs.ImportedPages.{imported_new, imported_rise}
+use Rattle.pl_editing.proofs.ImportChanges.{imported_came}
+use Rattle.pl_editing.proofs.ImportedPages.{imported_new, imported_once, imported_rise}
 use Rattle.pl_editing.proofs.ImportSettled.{imported_settled, imported_stands}
 use Rattle.pl_done.proofs.KnownAddresses.{addresses_grown}
 use Rattle.pl_editing.proofs.imports.import.Goals as goal
+use Rattle.pl_editing.proofs.imports.import.Goals.{In_ok-settle_gained, Over}
 
 pub settle_gained-requires-clause-ascending : goal.settle_gained-requires-clause-ascending
 settle_gained-requires-clause-ascending g c =
@@ -65,25 +70,47 @@ done limit old new tree refused items tags refused_is none items_is tags_is new_
     ∙ ap (λ (o : Option Refusal). unless_refused o old (import_reply old tree, imported tree old))
     (sym none ∙ refused_is)
 
+-- once the pages are settled the store is the imported one
+stands : (g : Over) (c : In_ok-settle_gained g)
+    → store_of (g.R.Rows.kept c.settle_gained.new.rows) ≡ imported c.args.tree.now (store_of (g.R.Rows.kept c.args.rows.now))
+stands g c =
+    c.in_ok-settle_gained.ensures.store
+    ∙ imported_stands c.args.tree.now (g.R.Rows.kept c.args.rows.now) (g.R.Rows.kept c.graft.new.rows) c.requires.sound
+    c.in_ok-grafted.ensures.store c.in_ok-grafted.ensures.grows
+    ∙ c.in_ok-grafted.ensures.store
+
+pub item_changes-requires-clause-ascending : goal.item_changes-requires-clause-ascending
+item_changes-requires-clause-ascending g c =
+    subst (λ (pages : List PageId). IsStrictlyIncreasing (map (λ (page : PageId). page.0) pages))
+    (sym (c.as_slice.ensures ∙ c.in_ok-grafted.ensures.pages))
+    (imported_once (store_of (g.R.Rows.kept c.args.rows.now)) (g.R.Rows.kept c.graft.new.rows)
+    (g.met.R.Rows.well_kept c.graft.new.rows))
+
+pub item_changes-requires-clause-came : goal.item_changes-requires-clause-came
+item_changes-requires-clause-came g c =
+    let old : Kept = g.R.Rows.kept c.args.rows.now in
+    let new : Store = store_of (g.R.Rows.kept c.settle_gained.new.rows) in
+    subst (λ (pages : List PageId). CameByItems pages c.args.known.now new)
+    (sym
+    (c.as_slice.ensures ∙ c.in_ok-grafted.ensures.pages
+    ∙ ap (gained (store_of old)) c.in_ok-grafted.ensures.store))
+    (imported_came c.args.tree.now old new c.args.known.now (g.met.R.Rows.well_kept c.args.rows.now) c.requires.sound
+    c.in_ok-settle_gained.ensures.sound.good (subst HasGoodItems c.in_ok-grafted.ensures.store c.in_ok-grafted.ensures.good)
+    c.requires.knows (stands g c.before))
+
 pub returns : goal.returns
 returns g c =
-    let old : Kept = g.R.Rows.kept c.args.rows.now in
-    let new : Kept = g.R.Rows.kept c.graft.new.rows in
     record {
       performs =
           record {
             step =
-                ap (λ (r : Reply). (r, store_of (g.R.Rows.kept c.settle_gained.new.rows))) c.afresh.ensures.reply
-                ∙ done c.args.limit (store_of old) (store_of (g.R.Rows.kept c.settle_gained.new.rows)) c.args.tree.now
-                c.in_ok-refusal.field-0 c.in_ok-grafted.grafted.items c.in_ok-grafted.grafted.tags
-                c.in_ok-refusal.ensures c.in_default.is c.in_ok-grafted.ensures.items c.in_ok-grafted.ensures.tags
-                (c.in_ok-settle_gained.ensures.store
-                ∙ imported_stands c.args.tree.now old new c.requires.sound c.in_ok-grafted.ensures.store
-                c.in_ok-grafted.ensures.grows
-                ∙ c.in_ok-grafted.ensures.store);
-            accepted = search rules;
+                done c.args.limit (store_of (g.R.Rows.kept c.args.rows.now))
+                (store_of (g.R.Rows.kept c.settle_gained.new.rows)) c.args.tree.now c.in_ok-refusal.field-0
+                c.in_ok-grafted.grafted.items c.in_ok-grafted.grafted.tags c.in_ok-refusal.ensures c.in_default.is
+                c.in_ok-grafted.ensures.items c.in_ok-grafted.ensures.tags (stands g c.before.before);
+            accepted = refl;
             sound = c.in_ok-settle_gained.ensures.sound;
             base = search rules;
-            renews = search rules;
+            leads = c.in_ok-changes.ensures;
           };
     }
