@@ -1,4 +1,4 @@
-use Rattle.std.proofs.Common.{◌≡◌, ◌∙◌, ap, rules, sym, w64}
+use Rattle.std.proofs.Common.{◌≡◌, ◌∙◌, List, Option, Some, ap, rules, sym, w64, ℕ}
 use Rattle.std.proofs.lemmas.Int.{to_z-of_z}
 use Rattle.pl_base.specs.Address.{origin_of_url}
 use Rattle.pl_base.specs.Marks.{is_referenced}
@@ -10,6 +10,9 @@ use Rattle.pl_marks.specs.Figures.{AreFiguresOf}
 use Rattle.pl_changes.specs.Brings.{HasAddress}
 use Rattle.pl_changes.proofs.FoundPages.{stays_at}
 use Rattle.pl_changes.proofs.items.view_now.Goals as goal
+
+same_pair : (a b x y : List ℕ) → a ≡ b → x ≡ y → ◌≡◌ {A = Option (List ℕ × List ℕ)} (Some (a, x)) (Some (b, y))
+same_pair a b x y one two i = Some (one i, two i)
 
 pub returns : goal.returns
 returns g c p at =
@@ -23,7 +26,10 @@ returns g c p at =
       title = c.in_ok-copied-2.ensures ∙ c.as_str-2.ensures ∙ address.title;
       mark_title = c.in_ok-mark_title.ensures ∙ ap (mark_title store) address.id;
       tags = c.in_ok-tag_text.ensures ∙ ap (tag_text store) address.id;
-      origin = address.origin;
+      origin =
+          address.origin
+          ∙ same_pair c.args.old.now.prefix c.in_ok-copied-3.field-0 c.args.old.now.host c.in_ok-copied-4.field-0
+          (sym (c.in_ok-copied-3.ensures ∙ c.as_str-3.ensures)) (sym (c.in_ok-copied-4.ensures ∙ c.as_str-4.ensures));
       frecency = to_z-of_z w64 c.in_ok-figures.figures.frecency (search rules) ∙ are.frecency;
       count = are.count;
       last = are.last;
