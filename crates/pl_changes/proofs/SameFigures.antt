@@ -1,5 +1,5 @@
 -- The figures in a view, and what the test whether figures are the same says.
-use Rattle.std.proofs.Common.{◌≡◌, ◌==◌, ◌&&◌, ◌≢◌, ◌∙◌, Bool, true, false, Option, Some, None, ap, int_eq, refl}
+use Rattle.std.proofs.Common.{◌≡◌, ◌==◌, ◌&&◌, ◌≢◌, ◌∙◌, Bool, false, Option, Some, None, ap, int_eq, refl}
 use Rattle.std.proofs.Common.{sym}
 use Rattle.std.specs.Bool.{Decides}
 use Rattle.std.specs.Option.{option_eq}
@@ -11,6 +11,8 @@ use Rattle.pl_base.specs.declared.date.Day.{Day}
 use Rattle.pl_base.specs.declared.date.Micros.{Micros}
 use Rattle.pl_base.specs.declared.view.View.{View}
 use Rattle.pl_marks.specs.declared.figures.Figures.{Figures}
+
+-- ---- the test whether figures are the same
 
 options_decide : {X : Type 0} (test : X → X → Bool) → ((x y : X) → Decides (test x y) (x ≡ y)) → (a b : Option X)
     → Decides (option_eq test a b) (a ≡ b)
@@ -45,6 +47,7 @@ same_figures a b =
     && ((a.count == b.count)
     && (same_date a.last b.last && (same_day a.due b.due && (beq a.typed b.typed && beq a.hidden b.hidden))))
 
+-- those of two are the same
 abbrev AreSameParts : Figures → Figures → Type 0
 AreSameParts a b =
     (a.frecency ≡ b.frecency) × ((a.count ≡ b.count) × ((a.last ≡ b.last) × ((a.due ≡ b.due)
@@ -64,13 +67,22 @@ whole a b (frecency, (count, (last, (due, (typed, hidden))))) =
 pub figures_decide : (a b : Figures) → Decides (same_figures a b) (a ≡ b)
 figures_decide a b =
     Decides-like (same_figures a b)
-    (whole a b) (λ same.
-    (ap (λ (f : Figures). f.frecency) same,
-    (ap (λ (f : Figures). f.count) same,
-    (ap (λ (f : Figures). f.last) same,
-    (ap (λ (f : Figures). f.due) same,
-    (ap (λ (f : Figures). f.typed) same,
-    ap (λ (f : Figures). f.hidden) same))))))
+    (whole a b) (λ same. (
+      ap (λ (f : Figures). f.frecency) same,
+      (
+        ap (λ (f : Figures). f.count) same,
+        (
+          ap (λ (f : Figures). f.last) same,
+          (
+            ap (λ (f : Figures). f.due) same,
+            (
+              ap (λ (f : Figures). f.typed) same,
+              ap (λ (f : Figures). f.hidden) same,
+            ),
+          ),
+        ),
+      ),
+    ))
     (Decides-and (int_eq a.frecency b.frecency) _ (Decides-int_eq a.frecency b.frecency)
     (Decides-and (a.count == b.count) _ (Decides-eqb a.count b.count)
     (Decides-and (same_date a.last b.last) _ (dates_decide a.last b.last)

@@ -5,7 +5,6 @@ use Rattle.std.proofs.Math.Bool.{beq}
 use Rattle.std.specs.Cmp.{booleans_Decides}
 use Rattle.std.proofs.lemmas.Bool.Decides.{Decides-and, Decides-eqb, Decides-int_eq, Decides-like}
 use Rattle.std.proofs.lemmas.Slice.Eq.{bytes_eq-Decides}
-use Rattle.pl_base.specs.declared.id.PageId.{PageId}
 use Rattle.pl_base.specs.declared.view.View.{View}
 use Rattle.pl_changes.proofs.SameFigures.{dates_decide, days_decide, same_date, same_day}
 
@@ -29,6 +28,7 @@ same_view a b =
     && (bytes_eq a.host b.host
     && (int_eq a.frecency b.frecency && ((a.count == b.count) && same_end a b))))))))
 
+-- the parts of two views are the same
 abbrev AreSameParts : View → View → Type 0
 AreSameParts a b =
     (a.id.0 ≡ b.id.0) × ((a.url ≡ b.url) × ((a.title ≡ b.title) × ((a.mark_title ≡ b.mark_title)
@@ -59,22 +59,49 @@ whole a b (id, (url, (title, (mark_title, (tags, (prefix, (host, (frecency, (cou
 pub views_decide : (a b : View) → Decides (same_view a b) (a ≡ b)
 views_decide a b =
     Decides-like (same_view a b)
-    (whole a b) (λ same.
-    (ap (λ (v : View). v.id.0) same,
-    (ap (λ (v : View). v.url) same,
-    (ap (λ (v : View). v.title) same,
-    (ap (λ (v : View). v.mark_title) same,
-    (ap (λ (v : View). v.tags) same,
-    (ap (λ (v : View). v.prefix) same,
-    (ap (λ (v : View). v.host) same,
-    (ap (λ (v : View). v.frecency) same,
-    (ap (λ (v : View). v.count) same,
-    (ap (λ (v : View). v.last) same,
-    (ap (λ (v : View). v.due) same,
-    (ap (λ (v : View). v.typed) same,
-    (ap (λ (v : View). v.hidden) same,
-    (ap (λ (v : View). v.bookmarked) same,
-    ap (λ (v : View). v.referenced) same)))))))))))))))
+    (whole a b) (λ same. (
+      ap (λ (v : View). v.id.0) same,
+      (
+        ap (λ (v : View). v.url) same,
+        (
+          ap (λ (v : View). v.title) same,
+          (
+            ap (λ (v : View). v.mark_title) same,
+            (
+              ap (λ (v : View). v.tags) same,
+              (
+                ap (λ (v : View). v.prefix) same,
+                (
+                  ap (λ (v : View). v.host) same,
+                  (
+                    ap (λ (v : View). v.frecency) same,
+                    (
+                      ap (λ (v : View). v.count) same,
+                      (
+                        ap (λ (v : View). v.last) same,
+                        (
+                          ap (λ (v : View). v.due) same,
+                          (
+                            ap (λ (v : View). v.typed) same,
+                            (
+                              ap (λ (v : View). v.hidden) same,
+                              (
+                                ap (λ (v : View). v.bookmarked) same,
+                                ap (λ (v : View). v.referenced) same,
+                              ),
+                            ),
+                          ),
+                        ),
+                      ),
+                    ),
+                  ),
+                ),
+              ),
+            ),
+          ),
+        ),
+      ),
+    ))
     (Decides-and (a.id.0 == b.id.0) _ (Decides-eqb a.id.0 b.id.0)
     (Decides-and (bytes_eq a.url b.url) _ (bytes_eq-Decides a.url b.url)
     (Decides-and (bytes_eq a.title b.title) _ (bytes_eq-Decides a.title b.title)

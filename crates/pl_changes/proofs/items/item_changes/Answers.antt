@@ -18,8 +18,8 @@ item_change-requires-clause-addresses g c =
 pub loop-page-preserved : goal.loop-page-preserved
 loop-page-preserved g c =
     next_more (store_of (g.R.Rows.kept c.args.rows.now)) c.args.known.now.views.items c.args.pages.now
-    c.loop-page.page-index (record { 0 = 0 }) c.loop-page.changes.items c.in_ok-add.changes.items
-    c.in_ok-item_change.change c.loop-page-test.true c.loop-page.invariant c.in_ok-item_change.ensures
+    c.loop-page.page-index (record { 0 = 0 }) c.loop-page.changes.items _
+    c.in_ok-change.change c.loop-page-test.true c.loop-page.invariant c.in_ok-change.ensures
     c.in_ok-add.ensures
 
 pub returns : goal.returns

@@ -1,4 +1,4 @@
-use Rattle.std.proofs.Common.{IfOk, None, Option, subst}
+use Rattle.std.proofs.Common.{IfOk, Option, subst}
 use Rattle.pl_base.specs.declared.view.View.{View}
 use Rattle.pl_base.specs.Rows.{store_of}
 use Rattle.pl_changes.specs.Brings.{Brings, KeepsTexts}
