@@ -118,7 +118,8 @@ module _ (kept : Kept) (well : IsWellKept kept) (good : IsGood (store_of kept)) 
           let there = view_there (store_of kept) known.views.items pages changes brought one.0 one.1 in
           from_there one.0 one.2 there.0 there.1
       choose false is =
-          let before : Contains came.old.pages p = came.differ.others.stood p (contained (store_of kept).pages p h) is in
+          let before : Contains came.old.pages p =
+          came.differ.others.stood p (contained (store_of kept).pages p h) is in
           let w =
           view_of_page came.old came.old.pages known.views.items came.knows.views p (is_in came.old.pages p before) in
           (w.0, came.differ.others.views p before is w.0 w.2)

@@ -1,16 +1,34 @@
 -- The figures in a view, and what the test whether figures are the same says.
-use Rattle.std.proofs.Common.{◌≡◌, ◌==◌, ◌&&◌, ◌≢◌, ◌∙◌, Bool, false, Option, Some, None, ap, int_eq, refl}
+use Rattle.std.proofs.Common.{◌≡◌, ◌==◌, ◌&&◌, ◌≢◌, ◌∙◌, Bool, true, false, Option, Some, None, ap, int_eq, refl}
 use Rattle.std.proofs.Common.{sym}
 use Rattle.std.specs.Bool.{Decides}
 use Rattle.std.specs.Option.{option_eq}
 use Rattle.std.proofs.Math.Bool.{beq}
 use Rattle.std.specs.Cmp.{booleans_Decides}
-use Rattle.std.proofs.lemmas.Bool.Decides.{Decides-and, Decides-eqb, Decides-int_eq, Decides-like, not_from_Decides}
+use Rattle.std.proofs.lemmas.Bool.{and_from, and_parts}
+use Rattle.std.proofs.lemmas.Bool.Decides.{Decides-eqb, Decides-int_eq, Decides-like, not_from_Decides}
 use Rattle.std.proofs.lemmas.Option.{none-some, same_Some}
 use Rattle.pl_base.specs.declared.date.Day.{Day}
 use Rattle.pl_base.specs.declared.date.Micros.{Micros}
 use Rattle.pl_base.specs.declared.view.View.{View}
 use Rattle.pl_marks.specs.declared.figures.Figures.{Figures}
+
+-- ---- tests part by part
+
+-- where the test passes the fact holds, and it passes where the two are the same
+abbrev pub Tells : {V : Type 0} → V → V → Bool → Type 0 → Type 0
+Tells a b test P = (test ≡ true → P) × (a ≡ b → test ≡ true)
+
+-- the test of a part, alone and in front of others
+module _ {V X : Type 0} (part : V → X) (a b : V) (test : Bool) (decides : Decides test (part a ≡ part b)) where
+  pub last_part : Tells a b test (part a ≡ part b)
+  last_part = (decides.0, λ same. decides.1 (ap part same))
+
+  pub and_part : {P : Type 0} (others : Bool) → Tells a b others P → Tells a b (test && others) ((part a ≡ part b) × P)
+  and_part others rest = (
+    λ is. let both = and_parts test others is in (decides.0 both.0, rest.0 both.1),
+    λ same. and_from test others (decides.1 (ap part same)) (rest.1 same),
+  )
 
 -- ---- the test whether figures are the same
 
@@ -47,7 +65,7 @@ same_figures a b =
     && ((a.count == b.count)
     && (same_date a.last b.last && (same_day a.due b.due && (beq a.typed b.typed && beq a.hidden b.hidden))))
 
--- those of two are the same
+-- the parts of two are the same
 abbrev AreSameParts : Figures → Figures → Type 0
 AreSameParts a b =
     (a.frecency ≡ b.frecency) × ((a.count ≡ b.count) × ((a.last ≡ b.last) × ((a.due ≡ b.due)
@@ -66,29 +84,14 @@ whole a b (frecency, (count, (last, (due, (typed, hidden))))) =
 
 pub figures_decide : (a b : Figures) → Decides (same_figures a b) (a ≡ b)
 figures_decide a b =
-    Decides-like (same_figures a b)
-    (whole a b) (λ same. (
-      ap (λ (f : Figures). f.frecency) same,
-      (
-        ap (λ (f : Figures). f.count) same,
-        (
-          ap (λ (f : Figures). f.last) same,
-          (
-            ap (λ (f : Figures). f.due) same,
-            (
-              ap (λ (f : Figures). f.typed) same,
-              ap (λ (f : Figures). f.hidden) same,
-            ),
-          ),
-        ),
-      ),
-    ))
-    (Decides-and (int_eq a.frecency b.frecency) _ (Decides-int_eq a.frecency b.frecency)
-    (Decides-and (a.count == b.count) _ (Decides-eqb a.count b.count)
-    (Decides-and (same_date a.last b.last) _ (dates_decide a.last b.last)
-    (Decides-and (same_day a.due b.due) _ (days_decide a.due b.due)
-    (Decides-and (beq a.typed b.typed) (beq a.hidden b.hidden) (booleans_Decides a.typed b.typed)
-    (booleans_Decides a.hidden b.hidden))))))
+    let parts : Tells a b (same_figures a b) (AreSameParts a b) =
+    and_part (λ (f : Figures). f.frecency) a b (int_eq a.frecency b.frecency) (Decides-int_eq a.frecency b.frecency) _
+    (and_part (λ (f : Figures). f.count) a b (a.count == b.count) (Decides-eqb a.count b.count) _
+    (and_part (λ (f : Figures). f.last) a b (same_date a.last b.last) (dates_decide a.last b.last) _
+    (and_part (λ (f : Figures). f.due) a b (same_day a.due b.due) (days_decide a.due b.due) _
+    (and_part (λ (f : Figures). f.typed) a b (beq a.typed b.typed) (booleans_Decides a.typed b.typed) _
+    (last_part (λ (f : Figures). f.hidden) a b (beq a.hidden b.hidden) (booleans_Decides a.hidden b.hidden)))))) in
+    (λ is. whole a b (parts.0 is), parts.1)
 
 -- ---- figures in a view
 

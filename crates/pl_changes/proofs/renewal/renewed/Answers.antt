@@ -40,8 +40,8 @@ returns-then-eq g c =
     has_view kept c.args.old.now.id c.args.old.now
     (there kept c.args.old.now.id c.page_at.result c.page_at.ensures.mark c.if-is_none.ensures) (λ p at.
     subst (λ (f : Figures). IsViewOf (store_of kept) p.page (with_figures c.args.old.now f)) same
-    (renewed_view (store_of kept) p.page c.args.old.now figures (stays_at kept (HasTexts (store_of kept)) c.args.old.now p c.requires.texts at)
-    (c.in_ok-figures.ensures p at)))
+    (renewed_view (store_of kept) p.page c.args.old.now figures
+    (stays_at kept (HasTexts (store_of kept)) c.args.old.now p c.requires.texts at) (c.in_ok-figures.ensures p at)))
 
 pub returns : goal.returns
 returns g c =
