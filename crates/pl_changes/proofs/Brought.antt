@@ -1,12 +1,12 @@
 -- What is found of one page after another: the changes so far, and that they walk from the old views to new ones.
 use Rattle.std.proofs.Common.{◌≡◌, ◌≢◌, ◌∙◌, ◌+◌, ◌<◌, ◌≤◌, ◌++◌, ◌==◌, ◌⊎◌, inl, inr, ℕ, Bool, false}
 use Rattle.std.proofs.Common.{List, [], ◌∷◌, Option, Some, None, ap, arith, get_or, length, map, refl, subst, suc}
-use Rattle.std.proofs.Common.{sym, take}
+use Rattle.std.proofs.Common.{sym, take, take_all}
 use Rattle.std.specs.List.{AllByRecursion, AllPairs, list_any}
 use Rattle.std.specs.List.Sorted.{IsStrictlyIncreasing}
 use Rattle.std.specs.Option.{option_to_list}
 use Rattle.std.proofs.lemmas.Bool.{cases_eq, ne_eqb, or_from}
-use Rattle.std.proofs.lemmas.List.{append-nil, take_more}
+use Rattle.std.proofs.lemmas.List.{take_more}
 use Rattle.std.proofs.lemmas.List.Elements.{recursion_from_All}
 use Rattle.std.proofs.lemmas.List.Kept.{AllPairs-from_increasing}
 use Rattle.pl_base.specs.declared.change.Change.{Change}
@@ -42,18 +42,20 @@ one_more store views pages changes page o (moved {pages = ps} {changes = cs} is 
 
 -- the next of the pages
 pub next_more : (store : Store) (views : List View) (pages : List PageId) (i : ℕ) (d : PageId)
-    (changes next : List Change) (o found : Option Change) → i < length pages
+    (changes next : List Change) (o : Option Change) → i < length pages
     → Brought store views (take i pages) changes → Brings store (get_or pages i d) (view_of (get_or pages i d) views) o
-    → o ≡ found → next ≡ changes ++ option_to_list found → Brought store views (take (i + 1) pages) next
-next_more store views pages i d changes next o found within so_far brings is pushed =
-    subst (λ (cs : List Change). Brought store views (take (i + 1) pages) cs)
-    (ap (λ (p : Option Change). changes ++ option_to_list p) is ∙ sym pushed)
+    → next ≡ changes ++ option_to_list o → Brought store views (take (i + 1) pages) next
+next_more store views pages i d changes next o within so_far brings joined =
+    subst (λ (cs : List Change). Brought store views (take (i + 1) pages) cs) (sym joined)
     (subst (λ (ps : List PageId). Brought store views ps (changes ++ option_to_list o))
     (sym (take_more pages i d within))
     (one_more store views (take i pages) changes (get_or pages i d) o so_far brings))
 
-pub none_pushed : (changes next : List Change) → next ≡ changes → next ≡ changes ++ []
-none_pushed changes next same = same ∙ sym (append-nil changes)
+-- the pages are all
+pub all_brought : (store : Store) (views : List View) (pages : List PageId) (i : ℕ) (changes : List Change)
+    → length pages ≤ i → Brought store views (take i pages) changes → Brought store views pages changes
+all_brought store views pages i changes over brought =
+    subst (λ (ps : List PageId). Brought store views ps changes) (take_all i pages over) brought
 
 -- what the store has of one of the pages
 pub view_there : (store : Store) (views : List View) (pages : List PageId) (changes : List Change)

@@ -1,9 +1,11 @@
 -- A page by its id: that it is there, and the view that follows from its texts and figures.
-use Rattle.std.proofs.Common.{◌≡◌, ◌∙◌, ◌==◌, true, false, Option, Some, None, refl, sym}
+use Rattle.std.proofs.Common.{◌≡◌, ◌∙◌, ◌==◌, true, false, Option, Some, None, refl, subst, sym}
 use Rattle.std.specs.List.{Contains}
 use Rattle.std.specs.Option.{IsSome, is_some, option_map}
 use Rattle.std.proofs.lemmas.Bool.{false≢true}
 use Rattle.std.proofs.lemmas.List.Elements.{All-contains}
+use Rattle.std.proofs.lemmas.Option.{none-some}
+use Rattle.pl_base.specs.declared.change.Change.{Change}
 use Rattle.pl_base.specs.declared.id.PageId.{PageId}
 use Rattle.pl_base.specs.declared.row.Mark.{Mark}
 use Rattle.pl_base.specs.declared.view.View.{View}
@@ -18,7 +20,7 @@ use Rattle.pl_base.proofs.PageLaws.{id_at}
 use Rattle.pl_base.proofs.Truths.{no_test}
 use Rattle.pl_marks.specs.declared.figures.Figures.{Figures}
 use Rattle.pl_marks.specs.Figures.{AreFiguresOf}
-use Rattle.pl_changes.specs.Brings.{HasTexts, HasView, KeepsTexts}
+use Rattle.pl_changes.specs.Brings.{HasTexts, HasView, IfStays, IsChangeTo}
 use Rattle.pl_changes.proofs.Elements.{contained}
 use Rattle.pl_changes.proofs.SameFigures.{with_figures}
 
@@ -68,25 +70,32 @@ has_view kept page view some is =
       seen = is p.0 p.1;
     }
 
+-- the change of a view whose page is gone
+pub is_gone : (store : Store) (old : View) (change : Change) → change ≡ record { old = Some old; new = None }
+    → has_page_at store old.id ≡ false → IsChangeTo store old.id (Some old) change
+is_gone store old change is none =
+    subst (IsChangeTo store old.id (Some old)) (sym is)
+    (record { old = refl; new = none; differ = λ same. none-some old (sym same) })
+
 -- ---- texts and figures
 
--- the texts of the found page are those of the view
-pub texts_at : (kept : Kept) (view : View) (p : KeptPage) → KeepsTexts (store_of kept) view
-    → page_at kept view.id ≡ Some p → HasTexts (store_of kept) p.page view
-texts_at kept view p keeps at =
-    All-contains (λ (q : Page). q.id ≡ view.id → HasTexts (store_of kept) q view) (store_of kept).pages p.page keeps
+-- what is known of the view of a page that stays, of the found page
+pub stays_at : (kept : Kept) (Such : Page → View → Type 0) (view : View) (p : KeptPage)
+    → IfStays Such (store_of kept) view → page_at kept view.id ≡ Some p → Such p.page view
+stays_at kept Such view p stays at =
+    All-contains (λ (q : Page). q.id ≡ view.id → Such q view) (store_of kept).pages p.page stays
     (found_there kept view.id p at) (id_at kept view.id p at)
 
 pub renewed_view : (store : Store) (p : Page) (view : View) (figures : Figures) → HasTexts store p view
     → AreFiguresOf store p figures → IsViewOf store p (with_figures view figures)
 renewed_view store p view figures texts are =
     record {
-      id = texts.id;
-      url = texts.url;
-      title = texts.title;
+      id = texts.address.id;
+      url = texts.address.url;
+      title = texts.address.title;
       mark_title = texts.mark_title;
       tags = texts.tags;
-      origin = texts.origin;
+      origin = texts.address.origin;
       frecency = are.frecency;
       count = are.count;
       last = are.last;

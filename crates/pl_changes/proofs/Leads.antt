@@ -24,7 +24,7 @@ use Rattle.pl_known.specs.Changes.{AllSuit, LeadTo, after}
 use Rattle.pl_known.specs.Known.{shares}
 use Rattle.pl_known.proofs.ViewLookUps.{same_views}
 use Rattle.pl_changes.specs.Brings.{IsViewAt}
-use Rattle.pl_changes.specs.CameFrom.{CameFrom}
+use Rattle.pl_changes.specs.CameFrom.{CameByItems, CameFrom}
 use Rattle.pl_changes.proofs.Brought.{Brought, climbs, is_among, view_there, walk}
 use Rattle.pl_changes.proofs.Elements.{contained, is_in}
 use Rattle.pl_changes.proofs.Mixed.{Follow, mixed, mixed_above, mixed_fits, mixed_in_order}
@@ -85,9 +85,19 @@ some_page store page some = among store.pages some
 
 -- ---- the whole
 
+-- a change that left all items is one that may have changed some
+pub by_items : (pages : List PageId) (known : Known) (store : Store) → CameFrom pages known store
+    → CameByItems pages known store
+by_items pages known store came =
+    record {
+      old = came.old;
+      knows = came.knows;
+      differ = record { others = came.others; pages = came.texts.pages; behind = came.behind };
+    }
+
 module _ (kept : Kept) (well : IsWellKept kept) (good : IsGood (store_of kept)) (pages : List PageId)
     (ascending : IsStrictlyIncreasing (map (λ (page : PageId). page.0) pages)) (known : Known)
-    (came : CameFrom pages known (store_of kept)) (changes : List Change)
+    (came : CameByItems pages known (store_of kept)) (changes : List Change)
     (brought : Brought (store_of kept) known.views.items pages changes) where
   -- each page of the store has a view
   view_at : (p : Page) → In p (store_of kept).pages → (v : View) × IsViewOf (store_of kept) p v
@@ -108,10 +118,11 @@ module _ (kept : Kept) (well : IsWellKept kept) (good : IsGood (store_of kept)) 
           let there = view_there (store_of kept) known.views.items pages changes brought one.0 one.1 in
           from_there one.0 one.2 there.0 there.1
       choose false is =
-          let before : Contains came.old.pages p = came.others.stood p (contained (store_of kept).pages p h) is in
+          let before : Contains came.old.pages p =
+          came.differ.others.stood p (contained (store_of kept).pages p h) is in
           let w =
           view_of_page came.old came.old.pages known.views.items came.knows.views p (is_in came.old.pages p before) in
-          (w.0, came.others.views p before is w.0 w.2)
+          (w.0, came.differ.others.views p before is w.0 w.2)
 
   all_views : (vs : List View) × AreViewsOf (store_of kept) vs
   all_views = built (store_of kept) (store_of kept).pages view_at
@@ -137,15 +148,15 @@ module _ (kept : Kept) (well : IsWellKept kept) (good : IsGood (store_of kept)) 
             tells (record { 0 = n }) (Some v)
             (record {
               element = q;
-              there = came.others.stay q before (other q named);
+              there = came.differ.others.stay q before (other q named);
               named = ap (λ (m : ℕ). record { 0 = m }) named;
-              seen = came.others.views q before (other q named) v sees;
+              seen = came.differ.others.views q before (other q named) v sees;
             })
 
         never : (p : Page) → In p (store_of kept).pages → p.id.0 ≡ n → seen n known.views.items ≡ None → ⊥
         never p h named unseen =
             let before : Contains came.old.pages p =
-            came.others.stood p (contained (store_of kept).pages p h) (other p named) in
+            came.differ.others.stood p (contained (store_of kept).pages p h) (other p named) in
             let w =
             view_of_page came.old came.old.pages known.views.items came.knows.views p
             (is_in came.old.pages p before) in
@@ -184,7 +195,7 @@ module _ (kept : Kept) (well : IsWellKept kept) (good : IsGood (store_of kept)) 
         same_url v w q p g h one two same =
             let named : q.id ≡ p.id = sym one.id ∙ ap (λ (n : ℕ). record { 0 = n }) same ∙ two.id in
             let texts : (q.url ≡ p.url) × (q.title ≡ p.title) =
-            came.texts.pages p q (contained came.old.pages p h) (contained (store_of kept).pages q g) named in
+            came.differ.pages p q (contained came.old.pages p h) (contained (store_of kept).pages q g) named in
             one.url ∙ texts.0 ∙ sym two.url
 
         seen_there : (v : View) (q : Page) → IsViewOf (store_of kept) q v → has_page_at came.old q.id ≡ true
@@ -203,7 +214,7 @@ module _ (kept : Kept) (well : IsWellKept kept) (good : IsGood (store_of kept)) 
             → w.id.0 < v.id.0
         is_behind v w q r g h one two none =
             let later : r.id.0 < q.id.0 =
-            came.behind q r (contained (store_of kept).pages q g)
+            came.differ.behind q r (contained (store_of kept).pages q g)
             (no_test (has_page_at came.old q.id) (λ some. false≢true (sym none ∙ seen_there v q one some)))
             (contained came.old.pages r h) in
             omega (

@@ -2,10 +2,12 @@ pub mod Brought
 pub mod Elements
 pub mod FoundPages
 pub mod KeptTexts
+pub mod KnownPages
 pub mod Leads
 pub mod Mixed
 pub mod NewViews
 pub mod SameFigures
+pub mod SameViews
 pub mod Seen
 pub mod SmallShares
 pub mod Steps

@@ -37,23 +37,38 @@ abbrev pub Brings : Store → PageId → Option View → Option Change → Type 
 Brings store page was None = IsViewAt store page was
 Brings store page was (Some change) = IsChangeTo store page was change
 
--- ---- texts
+-- ---- addresses and texts
 
--- the part of a view that does not follow from visits
-pub record HasTexts (store : Store) (p : Page) (view : View) : Type 0 where
+-- the page has the view's id, address and title
+pub record HasAddress (p : Page) (view : View) : Type 0 where
   pub id : view.id ≡ p.id
   pub url : view.url ≡ p.url
   pub title : view.title ≡ p.title
+  pub origin : origin_of_url p.url ≡ Some (view.prefix, view.host)
+
+-- the part of a view that does not follow from visits
+pub record HasTexts (store : Store) (p : Page) (view : View) : Type 0 where
+  pub address : HasAddress p view
   pub mark_title : view.mark_title ≡ mark_title store p.id
   pub tags : view.tags ≡ tag_text store p.id
-  pub origin : origin_of_url p.url ≡ Some (view.prefix, view.host)
   pub bookmarked : view.bookmarked ≡ is_bookmarked store p.id
   pub referenced : view.referenced ≡ is_referenced store p.id
 
+-- the page of the view, if the store has it, is to the view as is told
+abbrev pub IfStays : (Page → View → Type 0) → Store → View → Type 0
+IfStays Such store view = All (λ (p : Page). p.id ≡ view.id → Such p view) store.pages
+
+-- the page of the view, if the store has it, has the view's address and title
+abbrev pub KeepsAddress : Store → View → Type 0
+KeepsAddress store view = IfStays HasAddress store view
+
+-- the pages of the views do
+abbrev pub KeepAddresses : Store → List View → Type 0
+KeepAddresses store views = All (KeepsAddress store) views
+
 -- the page of the view, if the store has it, has the view's texts
 abbrev pub KeepsTexts : Store → View → Type 0
-KeepsTexts store view =
-    All (λ (p : Page). p.id ≡ view.id → HasTexts store p view) store.pages
+KeepsTexts store view = IfStays (HasTexts store) store view
 
 -- the pages of the views do
 abbrev pub KeepTexts : Store → List View → Type 0

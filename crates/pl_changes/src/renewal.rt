@@ -8,9 +8,10 @@ ghost use Rattle.pl_changes.specs.CameFrom.{CameFrom};
 ghost use Rattle.pl_known.specs.Changes.{LeadTo};
 ghost use Rattle.pl_known.specs.Known.{AreFollowed, view_of};
 
+use crate::one_page::{add, arrived, gone};
 use pl_base::{Change, NoMemory, PageId, Rows, Steps, View};
 use pl_known::Known;
-use pl_marks::{Figures, page_figures, page_view};
+use pl_marks::{Figures, page_figures};
 use std::alloc::Global;
 use std::sync::ledger::Ledger;
 
@@ -26,10 +27,7 @@ fn renewed<R: Rows, L: Ledger>(
     ensures { IfOk result (Brings (store_of (R.kept rows.now)) old.now.id (Some old.now)) }
 {
     if rows.page_at(old.id, steps).is_none() {
-        return Ok(Some(Change {
-            old: Some(old.copied(alloc)?),
-            new: None,
-        }));
+        return Ok(Some(gone(alloc, old)?));
     }
     let figures = page_figures(alloc, rows, old.id, old.referenced, steps)?;
     if figures == Figures::of(old) {
@@ -77,16 +75,10 @@ fn change<R: Rows, L: Ledger>(
     ensures { IfOk result (Brings (store_of (R.kept rows.now)) page
         (view_of page known.now.views.items)) }
 {
-    if let Some(old) = known.view(page) {
-        return renewed(alloc, rows, old, steps);
+    match known.view(page) {
+        Some(old) => renewed(alloc, rows, old, steps),
+        None => arrived(alloc, rows, page, steps),
     }
-    if rows.page_at(page, steps).is_none() {
-        return Ok(None);
-    }
-    Ok(Some(Change {
-        old: None,
-        new: Some(page_view(alloc, rows, page, steps)?),
-    }))
 }
 
 /// The changes of the views of these pages, by which what is known becomes what the rows tell.
@@ -107,9 +99,8 @@ pub fn changes<R: Rows, L: Ledger>(
 {
     let mut changes = Vec::new(alloc);
     for page in pages {
-        if let Some(change) = change(alloc, rows, known, *page, steps)? {
-            changes.push(change)?;
-        }
+        let change = change(alloc, rows, known, *page, steps)?;
+        add(&mut changes, change)?;
     }
     Ok(changes)
 }

@@ -4,20 +4,16 @@ use Rattle.pl_base.specs.Marks.{is_referenced}
 use Rattle.pl_base.specs.Rows.{Kept, store_of}
 use Rattle.pl_base.specs.View.{IsViewOf}
 use Rattle.pl_marks.specs.declared.figures.Figures.{Figures}
-use Rattle.pl_changes.specs.Brings.{HasView}
-use Rattle.pl_changes.proofs.FoundPages.{found, has_view, not_there, renewed_view, texts_at, there}
-use Rattle.pl_changes.proofs.SameFigures.{are_figures, are_same, figures_of, other_view, with_figures}
+use Rattle.pl_changes.specs.Brings.{HasTexts, HasView}
+use Rattle.pl_changes.proofs.FoundPages.{found, has_view, is_gone, not_there, renewed_view, stays_at, there}
+use Rattle.pl_changes.proofs.SameFigures.{are_figures, figures_decide, figures_of, other_view, with_figures}
 use Rattle.pl_changes.proofs.renewal.renewed.Goals as goal
 
 pub returns-then-is_none : goal.returns-then-is_none
 returns-then-is_none g c =
-    record {
-      old = ap (λ (v : View). Some v) c.in_ok-copied.ensures;
-      new =
-          not_there (g.R.Rows.kept c.args.rows.now) c.args.old.now.id c.page_at.result c.page_at.ensures.mark
-          c.if-is_none.ensures;
-      differ = λ same. cc;
-    }
+    let kept : Kept = g.R.Rows.kept c.args.rows.now in
+    is_gone (store_of kept) c.args.old.now c.in_ok-gone.field-0 c.in_ok-gone.ensures
+    (not_there kept c.args.old.now.id c.page_at.result c.page_at.ensures.mark c.if-is_none.ensures)
 
 pub page_figures-requires-clause-page : goal.page_figures-requires-clause-page
 page_figures-requires-clause-page g c =
@@ -30,8 +26,8 @@ page_figures-requires-clause-referenced g c =
     let p =
     found kept c.args.old.now.id
     (there kept c.args.old.now.id c.page_at.result c.page_at.ensures.mark c.if-is_none.ensures) in
-    let texts = texts_at kept c.args.old.now p.0 c.requires.texts p.1 in
-    texts.referenced ∙ ap (is_referenced (store_of kept)) (sym texts.id)
+    let texts = stays_at kept (HasTexts (store_of kept)) c.args.old.now p.0 c.requires.texts p.1 in
+    texts.referenced ∙ ap (is_referenced (store_of kept)) (sym texts.address.id)
 
 pub returns-then-eq : goal.returns-then-eq
 returns-then-eq g c =
@@ -40,12 +36,12 @@ returns-then-eq g c =
     let of : c.of.result ≡ figures_of c.args.old.now =
     are_figures c.args.old.now c.of.result c.of.ensures.frecency c.of.ensures.count c.of.ensures.last
     c.of.ensures.due c.of.ensures.typed c.of.ensures.hidden in
-    let same : figures ≡ figures_of c.args.old.now = are_same figures c.of.result (sym c.if-eq.ensures) ∙ of in
+    let same : figures ≡ figures_of c.args.old.now = (figures_decide figures c.of.result).0 (sym c.if-eq.ensures) ∙ of in
     has_view kept c.args.old.now.id c.args.old.now
     (there kept c.args.old.now.id c.page_at.result c.page_at.ensures.mark c.if-is_none.ensures) (λ p at.
     subst (λ (f : Figures). IsViewOf (store_of kept) p.page (with_figures c.args.old.now f)) same
-    (renewed_view (store_of kept) p.page c.args.old.now figures (texts_at kept c.args.old.now p c.requires.texts at)
-    (c.in_ok-figures.ensures p at)))
+    (renewed_view (store_of kept) p.page c.args.old.now figures
+    (stays_at kept (HasTexts (store_of kept)) c.args.old.now p c.requires.texts at) (c.in_ok-figures.ensures p at)))
 
 pub returns : goal.returns
 returns g c =
@@ -56,14 +52,14 @@ returns g c =
     are_figures c.args.old.now c.of.result c.of.ensures.frecency c.of.ensures.count c.of.ensures.last
     c.of.ensures.due c.of.ensures.typed c.of.ensures.hidden in
     record {
-      old = ap (λ (v : View). Some v) c.in_ok-copied-2.ensures;
+      old = ap (λ (v : View). Some v) c.in_ok-copied.ensures;
       new =
           subst (HasView (store_of kept) c.args.old.now.id) (sym is)
           (has_view kept c.args.old.now.id (with_figures c.args.old.now figures)
           (there kept c.args.old.now.id c.page_at.result c.page_at.ensures.mark c.if-is_none.ensures) (λ p at.
           renewed_view (store_of kept) p.page c.args.old.now figures
-          (texts_at kept c.args.old.now p c.requires.texts at) (c.in_ok-figures.ensures p at)));
+          (stays_at kept (HasTexts (store_of kept)) c.args.old.now p c.requires.texts at) (c.in_ok-figures.ensures p at)));
       differ =
-          other_view c.args.old.now c.in_ok-copied-2.field-0 c.in_ok-with_figures.field-0 figures c.of.result
-          c.in_ok-copied-2.ensures is of (sym c.eq.ensures ∙ c.if-eq.false);
+          other_view c.args.old.now c.in_ok-copied.field-0 c.in_ok-with_figures.field-0 figures c.of.result
+          c.in_ok-copied.ensures is of (sym c.eq.ensures ∙ c.if-eq.false);
     }
