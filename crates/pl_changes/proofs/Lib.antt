@@ -1,10 +1,12 @@
 pub mod Brought
+pub mod DatedSample
 pub mod Elements
 pub mod FoundPages
 pub mod KeptTexts
 pub mod Leads
 pub mod Mixed
 pub mod NewViews
+pub mod OriginsTold
 pub mod SameFigures
 pub mod Seen
 pub mod SmallShares

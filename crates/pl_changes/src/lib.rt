@@ -1,7 +1,9 @@
 //! What the rows of a store tell of its pages, and how what is known of these changes with them.
 #![tactic(auto)]
 
+mod latest;
 mod opening;
+mod origins;
 mod renewal;
 
 pub use opening::known_of;
