@@ -1,4 +1,5 @@
 pub mod Brought
+pub mod DatedSample
 pub mod Elements
 pub mod FoundPages
 pub mod KeptTexts
@@ -6,6 +7,7 @@ pub mod KnownPages
 pub mod Leads
 pub mod Mixed
 pub mod NewViews
+pub mod OriginsTold
 pub mod SameFigures
 pub mod SameViews
 pub mod Seen

@@ -1,2 +1,3 @@
 pub mod Brings
 pub mod CameFrom
+pub mod Origins

@@ -2,8 +2,10 @@
 #![tactic(auto)]
 
 mod items;
+mod latest;
 mod one_page;
 mod opening;
+mod origins;
 mod renewal;
 
 pub use items::item_changes;

@@ -1,13 +1,82 @@
 // What the rows of a store that is opened tell of its pages.
-ghost use Rattle.std.specs.Prelude.{IfOk};
-ghost use Rattle.pl_base.specs.Rows.{IsSound, store_of};
+ghost use Rattle.std.specs.Prelude.{◌≡◌, Some, true, IfOk, OnOk};
+ghost use Rattle.pl_base.specs.Marks as marks;
+ghost use Rattle.pl_base.specs.Rows.{IsSound, KeptPage, has_page, page_at, store_of};
+ghost use Rattle.pl_base.specs.View.{AreViewsOf, IsViewOf};
+ghost use Rattle.pl_changes.specs.Origins.{AreTold};
 ghost use Rattle.pl_known.specs.Known.{Knows};
 
-use pl_base::{NoMemory, Rows, Steps};
+use crate::latest::due_day;
+use crate::origins::Origins;
+use pl_base::{NoMemory, PageId, Rows, Steps, View};
 use pl_known::Known;
-use pl_marks::views;
+use pl_marks::{is_bookmarked, last_date, mark_title, tag_text};
 use std::alloc::Global;
 use std::sync::ledger::Ledger;
+
+/// Whether an item of the bookmark tree has the page.
+pub fn is_referenced<R: Rows, L: Ledger>(rows: &R, page: PageId, steps: &mut Steps<L>) -> bool
+    ensures { result ≡ marks.is_referenced (store_of (R.kept rows.now)) page }
+{
+    rows.first_reference(page, steps).is_some()
+}
+
+// The view of a page, as `page_view` makes it, but that its URL is parsed only where none of its
+// origin was.
+fn view<R: Rows, L: Ledger>(
+    alloc: Global,
+    rows: &R,
+    page: PageId,
+    origins: &mut Origins,
+    steps: &mut Steps<L>,
+) -> Result<View, NoMemory>
+    requires page { has_page (R.kept rows.now) page ≡ true }
+    requires sound { IsSound (R.kept rows.now) }
+    requires told { AreTold (R.kept rows.now) origins.old }
+    ensures view { IfOk result (λ view. (p : KeptPage) → page_at (R.kept rows.now) page ≡ Some p
+        → IsViewOf (store_of (R.kept rows.now)) p.page view) }
+    ensures told { OnOk result (AreTold (R.kept rows.now) origins.new) }
+{
+    let mark = rows.page_at(page, steps).unwrap();
+    let url = rows.url(page, steps)?;
+    let origin = origins.origin(alloc, rows, page, url.as_str(), steps)?;
+    Ok(View {
+        id: page,
+        url,
+        title: rows.title(page, steps)?,
+        mark_title: mark_title(alloc, rows, page, steps)?,
+        tags: tag_text(alloc, rows, page, steps)?,
+        prefix: origin.prefix,
+        host: origin.host,
+        frecency: mark.frecency,
+        count: mark.count,
+        last: last_date(rows, page, steps),
+        due: due_day(alloc, rows, page, steps)?,
+        typed: mark.typed,
+        hidden: mark.hidden,
+        bookmarked: is_bookmarked(rows, page, steps),
+        referenced: is_referenced(rows, page, steps),
+    })
+}
+
+// The view of each page, by ascending id.
+fn views<R: Rows, L: Ledger>(
+    alloc: Global,
+    rows: &R,
+    steps: &mut Steps<L>,
+) -> Result<Vec<View>, NoMemory>
+    requires sound { IsSound (R.kept rows.now) }
+    ensures { IfOk result (λ views. AreViewsOf (store_of (R.kept rows.now)) views.items) }
+{
+    let mut origins = Origins::new(alloc);
+    let mut views = Vec::new(alloc);
+    let mut next = rows.page_after(None, steps);
+    while let Some(page) = next {
+        views.push(view(alloc, rows, page, &mut origins, steps)?)?;
+        next = rows.page_after(Some(page), steps);
+    }
+    Ok(views)
+}
 
 /// What is known of the pages of these rows, all of which are read.
 pub fn known_of<R: Rows, L: Ledger>(
