@@ -1,7 +1,7 @@
 -- What a settled file stands for.
 use Rattle.std.proofs.Common.{◌≡◌, ◌↔◌, ◌≤◌, ◌+◌, arith, ℕ, true, false, List, Some, IfSome, IsSome}
 use Rattle.std.proofs.Common.{Result, Ok, Err, length, take, drop, ap, refl, sym, ◌∙◌, subst}
-use Rattle.std.specs.Prelude.{⊤, IsErrAnd}
+use Rattle.std.specs.Prelude.{⊤, IfOk, IsErrAnd}
 use Rattle.std.proofs.lemmas.Bool.{both_ways}
 use Rattle.std.proofs.lemmas.Option.{MatchOption-at_some, same_Some}
 use Rattle.std.proofs.lemmas.Result.{err_from_is_err_and}
@@ -17,6 +17,7 @@ use Rattle.pl_gate.specs.declared.error.GateError.TheVariants as gate
 use Rattle.pl_gate.specs.Gate.{has_gate, is_set, laid}
 use Rattle.pl_gate.specs.Recovery.{IsSettledAs, StandsAs, recovery_bytes}
 use Rattle.pl_gate.specs.States.{IsClosed}
+use Rattle.pl_known.specs.Known.{Knows}
 use Rattle.pl_reading.specs.File.{HoldStore}
 use Rattle.pl_store.specs.declared.ended.Ended.{Ended}
 use Rattle.pl_store.specs.declared.ended.Ended.TheVariants as ended
@@ -138,3 +139,9 @@ module _ {D : Type 0} (desk : Ghosts D) (told : (now : D) → IsSome (desk.held 
       (λ later has. stands_alike file later has.stands))
   opens limit (Err ended.NotAStore) none = refuses_file none
   opens limit (Err (ended.NotEmpty len)) read = read
+
+-- what is known of a session's pages is what its store tells
+pub session_knows : (result : Result Session Ended)
+    → IfOk result (λ session. Knows (session_store session) session.engine.known)
+session_knows (Ok session) = session.engine.knows
+session_knows (Err end) = tt

@@ -1,11 +1,12 @@
-ghost use Rattle.std.specs.Prelude.{◌≡◌, ◌≤◌, ◌+◌, ℕ, List, Err, Some};
+ghost use Rattle.std.specs.Prelude.{◌≡◌, ◌≤◌, ◌+◌, ℕ, List, Err, IfOk, Some};
 ghost use Rattle.pl_base.specs.Live.{slot_limit};
 ghost use Rattle.pl_desk.specs.Counts.{CountsAt};
 ghost use Rattle.pl_desk.specs.Settling.{Settles};
 ghost use Rattle.pl_gate.specs.FileCalls.{CallsFile};
+ghost use Rattle.pl_known.specs.Known.{Knows};
 ghost use Rattle.pl_store.specs.Bounds.{reopening_bytes};
 ghost use Rattle.pl_store.specs.Ending.{KeepsFinished, Makes, Opens};
-ghost use Rattle.pl_store.specs.Session.{StandsAlike};
+ghost use Rattle.pl_store.specs.Session.{StandsAlike, session_store};
 
 use crate::ended::Ended;
 use crate::read::{read_session, settle};
@@ -50,6 +51,8 @@ pub fn reopen<D: Desk>(alloc: Global, desk: &mut D, limit: u32) -> Result<Sessio
     ensures no_more { (file : List ℕ) → D.held desk.old ≡ Some file
         → D.written desk.new ≤ D.written desk.old + reopening_bytes file }
     ensures calls { CallsFile D.Desk (CountsAt (result ≡ Err Ended.DeviceFault)) desk.old desk.new }
+    // The views in memory are those of the store, and each follower stands for them.
+    ensures known { IfOk result (λ session. Knows (session_store session) session.engine.known) }
 {
     settle(desk)?;
     read_session(alloc, desk, limit)

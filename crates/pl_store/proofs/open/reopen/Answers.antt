@@ -7,7 +7,7 @@ use Rattle.pl_desk.specs.Shown.{Unsaid}
 use Rattle.pl_gate.specs.Recovery.{StandsAs}
 use Rattle.pl_store.specs.Bounds.{reopening_bytes}
 use Rattle.pl_store.specs.Session.{StandsAlike}
-use Rattle.pl_store.proofs.OpenedFiles.{fault_ends, opens, stands_alike, writes_none}
+use Rattle.pl_store.proofs.OpenedFiles.{fault_ends, opens, session_knows, stands_alike, writes_none}
 use Rattle.pl_store.proofs.open.reopen.Given.{Over}
 use Rattle.pl_store.proofs.open.reopen.Goals as goal
 
@@ -68,3 +68,6 @@ pub returns-clause-no_more : goal.returns-clause-no_more
 returns-clause-no_more g c file is =
     subst (λ (n : ℕ). n ≤ g.D.Desk.written c.args.desk.now + reopening_bytes file)
     (sym c.read_session.ensures.reads.file.written) (c.settle.ensures.settles.no_more file is)
+
+pub returns-clause-known : goal.returns-clause-known
+returns-clause-known g c = session_knows c.read_session.result
