@@ -1,15 +1,16 @@
 // What an engine keeps of its pages, after each line of a script, beside what is made afresh from
 // its rows as they then are.
-ghost use Rattle.std.specs.Prelude.{◌≡◌, ◌<◌};
+ghost use Rattle.std.specs.Prelude.{◌≡◌, ◌<◌, IfOk};
 ghost use Rattle.pl_base.specs.Rows.{IsSound};
 ghost use Rattle.pl_step.specs.Commands.{HasDates};
 
 use crate::alike::are_alike;
-use crate::script::line_of;
-use pl_base::{NoMemory, Rows, SLOT_LIMIT, Steps, VisitId};
+use crate::script::{FILE, Last, line_of};
+use pl_base::{NoMemory, Rows, SLOT_LIMIT, Steps};
 use pl_changes::known_of;
 use pl_engine::Engine;
 use pl_linked::Linked;
+use pl_nbread::{FILE_LIMIT, read};
 use pl_plain::Flat;
 use pl_script::{LineError, line};
 use pl_step::{Command, Reply};
@@ -19,8 +20,10 @@ use std::process::Abort;
 use std::sync::ledger::{Blank, Ledger};
 use std::test::Fail;
 
-// How many lines a script has.
+// How many lines a script has, one in a hundred of which is an import.
 const TURNS: u32 = 600;
+
+const TURNS_TO_AN_IMPORT: u32 = 100;
 
 fn expect_followed<R: Rows + Drop, L: Ledger>(
     rt: &impl Abort,
@@ -35,24 +38,32 @@ fn expect_followed<R: Rows + Drop, L: Ledger>(
     Ok(Engine::of(alloc, parts))
 }
 
-// An engine after a line.
+// An engine after a command.
 #[derive(Drop)]
 struct After<R: Rows> {
     engine: Engine<R>,
     is_performed: bool,
-    // The visit that was made, if one was.
-    visit: Option<VisitId>,
+    last: Last,
 }
 
-fn visit_of(reply: &Reply) -> Option<VisitId> {
+// The last ids behind a reply.
+fn last_behind(last: Last, reply: &Reply) -> Last {
     match reply {
-        Reply::Visit { visit, .. } => Some(*visit),
-        _ => None,
+        Reply::Visit { visit, .. } => Last {
+            visit: visit.0,
+            ..last
+        },
+        Reply::Item(item) => Last {
+            item: item.0,
+            ..last
+        },
+        _ => last,
     }
 }
 
 fn performed<R: Rows + Drop, L: Ledger>(
     engine: Engine<R>,
+    last: Last,
     command: Command,
     steps: &mut Steps<L>,
 ) -> Result<After<R>, NoMemory>
@@ -61,31 +72,57 @@ fn performed<R: Rows + Drop, L: Ledger>(
     let done = engine.apply(&command, steps);
     drop(command);
     let (engine, reply) = done?;
-    let visit = visit_of(&reply);
+    let last = last_behind(last, &reply);
     let is_performed = !matches!(reply, Reply::Refused(_));
     drop(reply);
     Ok(After {
         engine,
         is_performed,
-        visit,
+        last,
     })
 }
 
 fn after_line<R: Rows + Drop, L: Ledger>(
     alloc: Global,
     engine: Engine<R>,
+    last: Last,
     text: &str,
     steps: &mut Steps<L>,
 ) -> Result<After<R>, NoMemory> {
     match line(alloc, text.as_bytes()) {
-        Ok(Some(command)) => performed(engine, command, steps),
+        Ok(Some(command)) => performed(engine, last, command, steps),
         Ok(None) | Err(LineError::Refused(_)) => Ok(After {
             engine,
             is_performed: false,
-            visit: None,
+            last,
         }),
         Err(LineError::NoMemory) => Err(NoMemory),
     }
+}
+
+fn import(alloc: Global) -> Result<Command, Fail>
+    ensures { IfOk result HasDates }
+{
+    if FILE.len() >= FILE_LIMIT {
+        return Err("too long".into());
+    }
+    let tree = read(alloc, FILE.as_bytes()).map_err(|_| "no tree")?;
+    Ok(Command::Import(tree))
+}
+
+fn after_turn<R: Rows + Drop, L: Ledger>(
+    alloc: Global,
+    engine: Engine<R>,
+    last: Last,
+    turn: u32,
+    steps: &mut Steps<L>,
+) -> Result<After<R>, Fail> {
+    if turn % TURNS_TO_AN_IMPORT == TURNS_TO_AN_IMPORT - 1 {
+        let command = import(alloc)?;
+        return Ok(performed(engine, last, command, steps)?);
+    }
+    let text = line_of(alloc, turn, last)?;
+    Ok(after_line(alloc, engine, last, text.as_str(), steps)?)
 }
 
 fn expect_all_followed<R: Rows + Drop, L: Ledger>(
@@ -94,19 +131,15 @@ fn expect_all_followed<R: Rows + Drop, L: Ledger>(
     rows: R,
     blank: Blank,
 ) -> Result<(), Fail>
-    requires sound { IsSound (R.kept rows) }
-    requires name { blank.name ≡ L.name }
-    requires parts { blank.parts ≡ L.parts }
     requires some { 0 < blank.parts }
 {
     let mut steps = Steps::<L>::none(blank);
     let mut engine = Engine::over(alloc, rows, SLOT_LIMIT, &mut steps)?;
     let mut count = 0u32;
-    let mut last = VisitId(0);
+    let mut last = Last { visit: 0, item: 6 };
     for turn in 0..TURNS {
-        let text = line_of(alloc, turn, last.0)?;
-        let after = after_line(alloc, engine, text.as_str(), &mut steps)?;
-        last = after.visit.unwrap_or(last);
+        let after = after_turn(alloc, engine, last, turn, &mut steps)?;
+        last = after.last;
         count = count.wrapping_add(u32::from(after.is_performed));
         engine = expect_followed(rt, alloc, after.engine, &mut steps)?;
     }
