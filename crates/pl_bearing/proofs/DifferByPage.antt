@@ -1,5 +1,5 @@
 -- What a change of items differs on, where the rows got a page before it, or none.
-use Rattle.std.proofs.Common.{◌≡◌, ◌∙◌, ◌++◌, ◌==◌, ◌||◌, ℕ, Bool, true, false, List, [], ◌∷◌, Some, None, ap}
+use Rattle.std.proofs.Common.{◌≡◌, ◌∙◌, ◌≤◌, ◌++◌, ◌==◌, ◌||◌, ℕ, Bool, true, false, List, [], ◌∷◌, Option, Some, None, ap}
 use Rattle.std.proofs.Common.{eq-eqb, map, refl, subst, sym}
 use Rattle.std.specs.List.{All}
 use Rattle.std.proofs.lemmas.List.{append-nil, map-append}
@@ -27,7 +27,7 @@ differ_in_items ids old new next items good still is alike =
     differ_by_items_kept ids old new next items [] good still
     (is ∙ ap (λ (pages : List Page). record old { ids = next; items = items; pages = pages })
     (sym (append-nil old.pages)))
-    All-nil alike
+    (All-nil (λ (p : Page). is_one_of ids p.id ≡ true)) alike
 
 -- the same without the pages that nothing keeps any longer
 pub differ_once_settled : (ids : List PageId) (old made new : Store) (items : List Item) → IsGood old → IsGood new
@@ -39,7 +39,7 @@ differ_once_settled ids old made new items good still made_is new_is alike =
     ∙ ap without_idle_pages
     (made_is
     ∙ ap (λ (pages : List Page). record old { items = items; pages = pages }) (sym (append-nil old.pages))))
-    All-nil All-nil alike
+    (All-nil (λ (p : Page). is_one_of ids p.id ≡ true)) (All-nil (λ (p : Page). old.ids.page ≤ p.id.0)) alike
 
 -- ---- a page more, or none
 
@@ -80,7 +80,7 @@ more url (Known known) old mid page w =
           ∙ ap (λ (pages : List Page). record (store_of old) { pages = pages }) (sym (append-nil (store_of old).pages))
           ∙ ap (λ (ids : Ids). record (store_of old) { ids = ids; pages = (store_of old).pages ++ [] })
           (sym (ap (λ (k : Kept). k.ids) w.1));
-      own = All-nil;
+      own = All-nil (λ (p : Page). is_one_of (page ∷ []) p.id ≡ true);
     }
 more url (New origin) old mid page w = choose origin w.1
   where
