@@ -24,6 +24,7 @@ use Rattle.pl_tree.specs.Tagged.{untagged_items, with_tagged}
 use Rattle.pl_history.specs.declared.find.Target.{Target}
 use Rattle.pl_history.specs.Marked.{page_item}
 use Rattle.pl_history.specs.Target.{WithTarget}
+use Rattle.pl_history.proofs.ItemMarks.{reference_moved, sound_alike}
 use Rattle.pl_known.specs.declared.known.Known.{Known}
 use Rattle.pl_known.specs.Known.{Knows}
 use Rattle.pl_changes.specs.CameFrom.{CameByItems}
@@ -86,6 +87,13 @@ tag_came url target old mid new page known name date w well sound still knows is
 within_own : (own : Option PageId) → IfSome own (λ page. is_one_of (option_to_list own) page ≡ true)
 within_own None = tt
 within_own (Some page) = is_itself page
+
+pub moved_sound : (old new : Kept) (item parent : ItemId) (place : Place) (date : Micros) → IsWellKept old
+    → IsWellKept new → HasGoodItems (store_of new) → IsSound old
+    → new ≡ with_items (with_moved item parent place date old.items) old → IsSound new
+moved_sound old new item parent place date well still good sound is =
+    sound_alike old new old.ids (with_moved item parent place date old.items) is well still good
+    (reference_moved item parent place date old.items) sound
 
 pub moved_came : (old new : Kept) (known : Known) (item parent : ItemId) (place : Place) (date : Micros)
     → IsWellKept old → IsSound old → IsSound new → Knows (store_of old) known

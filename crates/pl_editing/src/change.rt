@@ -25,20 +25,25 @@ use pl_tree::{Place, TreeChange};
 use std::alloc::Global;
 use std::sync::ledger::Ledger;
 
-// The page of the item, if it has one.
+// The page of the item.
+fn page_of<R: Rows, L: Ledger>(rows: &R, item: ItemId, steps: &mut Steps<L>) -> Option<PageId>
+    ensures { result ≡ own_page (R.kept rows.now).items item }
+{
+    rows.item_at(item, steps)?.page
+}
+
+// The same as a list, which is empty where the item has no page.
 fn own_pages<R: Rows, L: Ledger>(
     alloc: Global,
     rows: &R,
     item: ItemId,
     steps: &mut Steps<L>,
 ) -> Result<Vec<PageId>, NoMemory>
-    requires item { has_item (R.kept rows.now).items item ≡ true }
     ensures { IfOk result (λ pages. pages.items
         ≡ option_to_list (own_page (R.kept rows.now).items item)) }
 {
     let mut pages = Vec::new(alloc);
-    let row = rows.item_at(item, steps).unwrap();
-    if let Some(page) = row.page {
+    if let Some(page) = page_of(rows, item, steps) {
         pages.push(page)?;
     }
     Ok(pages)
@@ -52,7 +57,6 @@ fn own_changes<R: Rows, L: Ledger>(
     item: ItemId,
     steps: &mut Steps<L>,
 ) -> Result<Vec<Change>, NoMemory>
-    requires item { has_item (R.kept rows.now).items item ≡ true }
     requires sound { IsSound (R.kept rows.now) }
     requires came { CameByItems (option_to_list (own_page (R.kept rows.now).items item)) known.now
         (store_of (R.kept rows.now)) }

@@ -23,11 +23,10 @@ use Rattle.pl_editing.proofs.ImportedPages.{imported_new, imported_once, importe
 use Rattle.pl_editing.proofs.ImportSettled.{imported_settled, imported_stands}
 use Rattle.pl_done.proofs.KnownAddresses.{addresses_grown}
 use Rattle.pl_editing.proofs.imports.import.Goals as goal
-use Rattle.pl_editing.proofs.imports.import.Goals.{In_ok-settle_gained, Over}
 
 pub settle_gained-requires-clause-ascending : goal.settle_gained-requires-clause-ascending
 settle_gained-requires-clause-ascending g c =
-    subst (IsNonDecreasingBy (λ (page : PageId). page.0)) (sym (c.as_slice.ensures ∙ c.in_ok-grafted.ensures.pages))
+    subst (IsNonDecreasingBy (λ (page : PageId). page.0)) (sym (c.as_slice-pages.ensures ∙ c.in_ok-grafted.ensures.pages))
     (imported_rise (store_of (g.R.Rows.kept c.args.rows.now)) (g.R.Rows.kept c.graft.new.rows)
     (g.met.R.Rows.well_kept c.graft.new.rows))
 
@@ -35,10 +34,10 @@ pub settle_gained-requires-clause-made : goal.settle_gained-requires-clause-made
 settle_gained-requires-clause-made g c =
     let old : Kept = g.R.Rows.kept c.args.rows.now in
     let new : Kept = g.R.Rows.kept c.graft.new.rows in
-    subst (λ (first : ℕ). All (λ (page : PageId). first ≤ page.0 → IsNew (store_of new) page) c.as_slice.result.now)
+    subst (λ (first : ℕ). All (λ (page : PageId). first ≤ page.0 → IsNew (store_of new) page) c.as_slice-pages.result.now)
     (sym (ap (λ (ids : Ids). ids.page) c.ids-first.ensures.ids))
     (subst (All (λ (page : PageId). old.ids.page ≤ page.0 → IsNew (store_of new) page))
-    (sym (c.as_slice.ensures ∙ c.in_ok-grafted.ensures.pages))
+    (sym (c.as_slice-pages.ensures ∙ c.in_ok-grafted.ensures.pages))
     (imported_new c.args.tree.now old new (g.met.R.Rows.well_kept c.args.rows.now) c.in_ok-grafted.ensures.store
     c.in_ok-grafted.ensures.grows))
 
@@ -46,7 +45,7 @@ pub settle_gained-requires-clause-settled : goal.settle_gained-requires-clause-s
 settle_gained-requires-clause-settled g c =
     let old : Kept = g.R.Rows.kept c.args.rows.now in
     let new : Kept = g.R.Rows.kept c.graft.new.rows in
-    subst (λ (ids : List PageId). AreSettledBut ids new) (sym (c.as_slice.ensures ∙ c.in_ok-grafted.ensures.pages))
+    subst (λ (ids : List PageId). AreSettledBut ids new) (sym (c.as_slice-pages.ensures ∙ c.in_ok-grafted.ensures.pages))
     (imported_settled c.args.tree.now old new (g.met.R.Rows.well_kept c.args.rows.now)
     (g.met.R.Rows.well_kept c.graft.new.rows) c.requires.sound c.in_ok-grafted.ensures.store
     c.in_ok-grafted.ensures.grows c.in_ok-grafted.ensures.good)
@@ -70,19 +69,10 @@ done limit old new tree refused items tags refused_is none items_is tags_is new_
     ∙ ap (λ (o : Option Refusal). unless_refused o old (import_reply old tree, imported tree old))
     (sym none ∙ refused_is)
 
--- once the pages are settled the store is the imported one
-stands : (g : Over) (c : In_ok-settle_gained g)
-    → store_of (g.R.Rows.kept c.settle_gained.new.rows) ≡ imported c.args.tree.now (store_of (g.R.Rows.kept c.args.rows.now))
-stands g c =
-    c.in_ok-settle_gained.ensures.store
-    ∙ imported_stands c.args.tree.now (g.R.Rows.kept c.args.rows.now) (g.R.Rows.kept c.graft.new.rows) c.requires.sound
-    c.in_ok-grafted.ensures.store c.in_ok-grafted.ensures.grows
-    ∙ c.in_ok-grafted.ensures.store
-
 pub item_changes-requires-clause-ascending : goal.item_changes-requires-clause-ascending
 item_changes-requires-clause-ascending g c =
     subst (λ (pages : List PageId). IsStrictlyIncreasing (map (λ (page : PageId). page.0) pages))
-    (sym (c.as_slice.ensures ∙ c.in_ok-grafted.ensures.pages))
+    (sym (c.as_slice-pages.ensures ∙ c.in_ok-grafted.ensures.pages))
     (imported_once (store_of (g.R.Rows.kept c.args.rows.now)) (g.R.Rows.kept c.graft.new.rows)
     (g.met.R.Rows.well_kept c.graft.new.rows))
 
@@ -92,11 +82,15 @@ item_changes-requires-clause-came g c =
     let new : Store = store_of (g.R.Rows.kept c.settle_gained.new.rows) in
     subst (λ (pages : List PageId). CameByItems pages c.args.known.now new)
     (sym
-    (c.as_slice.ensures ∙ c.in_ok-grafted.ensures.pages
+    (c.as_slice-pages.ensures ∙ c.in_ok-grafted.ensures.pages
     ∙ ap (gained (store_of old)) c.in_ok-grafted.ensures.store))
     (imported_came c.args.tree.now old new c.args.known.now (g.met.R.Rows.well_kept c.args.rows.now) c.requires.sound
     c.in_ok-settle_gained.ensures.sound.good (subst HasGoodItems c.in_ok-grafted.ensures.store c.in_ok-grafted.ensures.good)
-    c.requires.knows (stands g c.before))
+    c.requires.knows
+    (c.in_ok-settle_gained.ensures.store
+    ∙ imported_stands c.args.tree.now (g.R.Rows.kept c.args.rows.now) (g.R.Rows.kept c.graft.new.rows) c.requires.sound
+    c.in_ok-grafted.ensures.store c.in_ok-grafted.ensures.grows
+    ∙ c.in_ok-grafted.ensures.store))
 
 pub returns : goal.returns
 returns g c =
@@ -107,7 +101,11 @@ returns g c =
                 done c.args.limit (store_of (g.R.Rows.kept c.args.rows.now))
                 (store_of (g.R.Rows.kept c.settle_gained.new.rows)) c.args.tree.now c.in_ok-refusal.field-0
                 c.in_ok-grafted.grafted.items c.in_ok-grafted.grafted.tags c.in_ok-refusal.ensures c.in_default.is
-                c.in_ok-grafted.ensures.items c.in_ok-grafted.ensures.tags (stands g c.before.before);
+                c.in_ok-grafted.ensures.items c.in_ok-grafted.ensures.tags
+                (c.in_ok-settle_gained.ensures.store
+                ∙ imported_stands c.args.tree.now (g.R.Rows.kept c.args.rows.now) (g.R.Rows.kept c.graft.new.rows) c.requires.sound
+                c.in_ok-grafted.ensures.store c.in_ok-grafted.ensures.grows
+                ∙ c.in_ok-grafted.ensures.store);
             accepted = refl;
             sound = c.in_ok-settle_gained.ensures.sound;
             base = search rules;

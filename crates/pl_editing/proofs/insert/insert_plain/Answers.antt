@@ -1,5 +1,5 @@
 use Rattle.std.proofs.Common.{◌+◌, ◌∙◌, ap, arith, false, List, refl, rules, sym, ℕ}
-use Rattle.pl_base.specs.Rows.{IsSound, store_of}
+use Rattle.pl_base.specs.Rows.{store_of}
 use Rattle.pl_base.specs.Store.{Store}
 use Rattle.pl_tree.specs.declared.new_item.NewItem.{NewItem}
 use Rattle.pl_step.specs.Step.{after_insert}
@@ -8,7 +8,6 @@ use Rattle.pl_editing.proofs.ItemChanges.{plain_came}
 use Rattle.pl_editing.proofs.ItemStep.{insert_done, insert_refused, live_inserted}
 use Rattle.pl_history.proofs.ItemPages.{sound_inserted}
 use Rattle.pl_editing.proofs.insert.insert_plain.Goals as goal
-use Rattle.pl_editing.proofs.insert.insert_plain.Goals.{In_ok-id, Over}
 
 pub returns-in-Some-room_refusal : goal.returns-in-Some-room_refusal
 returns-in-Some-room_refusal g c =
@@ -30,22 +29,23 @@ returns-in-Some-room_refusal g c =
       );
     }
 
--- the rows are sound with the item
-sound : (g : Over) (c : In_ok-id g) → IsSound (g.R.Rows.kept c.insert_allowed.new.rows)
-sound g c =
+pub item_changes-requires-clause-sound : goal.item_changes-requires-clause-sound
+item_changes-requires-clause-sound g c =
     sound_inserted (g.R.Rows.kept c.args.rows.now) (g.R.Rows.kept c.insert_allowed.new.rows) c.args.parent c.args.place
     (plain_item c.args.kind c.in_ok-copied.field-0 c.args.date) refl c.in_ok-id.ensures.kept
     (g.met.R.Rows.well_kept c.args.rows.now) (g.met.R.Rows.well_kept c.insert_allowed.new.rows)
     c.in_ok-id.ensures.good c.requires.sound
 
-pub item_changes-requires-clause-sound : goal.item_changes-requires-clause-sound
-item_changes-requires-clause-sound g c = sound g c.before
-
 pub item_changes-requires-clause-came : goal.item_changes-requires-clause-came
 item_changes-requires-clause-came g c =
     plain_came (g.R.Rows.kept c.args.rows.now) (g.R.Rows.kept c.insert_allowed.new.rows) c.args.known.now c.args.parent
     c.args.place c.args.kind c.in_ok-copied.field-0 c.args.date (g.met.R.Rows.well_kept c.args.rows.now)
-    c.requires.sound (sound g c.before) c.requires.knows c.in_ok-id.ensures.kept
+    c.requires.sound
+    (sound_inserted (g.R.Rows.kept c.args.rows.now) (g.R.Rows.kept c.insert_allowed.new.rows) c.args.parent c.args.place
+    (plain_item c.args.kind c.in_ok-copied.field-0 c.args.date) refl c.in_ok-id.ensures.kept
+    (g.met.R.Rows.well_kept c.args.rows.now) (g.met.R.Rows.well_kept c.insert_allowed.new.rows)
+    c.in_ok-id.ensures.good c.requires.sound)
+    c.requires.knows c.in_ok-id.ensures.kept
 
 pub returns : goal.returns
 returns g c =
@@ -71,7 +71,11 @@ returns g c =
                 (plain_item c.args.kind title c.args.date) store)
                 c.in_ok-copied.ensures);
             accepted = refl;
-            sound = sound g c.before.before;
+            sound =
+                sound_inserted (g.R.Rows.kept c.args.rows.now) (g.R.Rows.kept c.insert_allowed.new.rows) c.args.parent c.args.place
+                (plain_item c.args.kind c.in_ok-copied.field-0 c.args.date) refl c.in_ok-id.ensures.kept
+                (g.met.R.Rows.well_kept c.args.rows.now) (g.met.R.Rows.well_kept c.insert_allowed.new.rows)
+                c.in_ok-id.ensures.good c.requires.sound;
             base = search rules;
             leads = c.in_ok-changes.ensures;
           };
