@@ -1,6 +1,6 @@
 -- What a change of items differs on, where the rows got a page before it, or none.
-use Rattle.std.proofs.Common.{◌≡◌, ◌∙◌, ◌≤◌, ◌++◌, ◌==◌, ◌||◌, ℕ, Bool, true, false, List, [], ◌∷◌, Option, Some, None, ap}
-use Rattle.std.proofs.Common.{eq-eqb, map, refl, subst, sym}
+use Rattle.std.proofs.Common.{◌≡◌, ◌∙◌, ◌≤◌, ◌++◌, ℕ, true, List, [], ◌∷◌, Option, Some, None, ap}
+use Rattle.std.proofs.Common.{eq-eqb, refl, subst, sym}
 use Rattle.std.specs.List.{All}
 use Rattle.std.proofs.lemmas.List.{append-nil, map-append}
 use Rattle.std.proofs.lemmas.List.Elements.{All-nil, All-from_recursion}
@@ -9,7 +9,7 @@ use Rattle.pl_base.specs.declared.id.PageId.{PageId}
 use Rattle.pl_base.specs.declared.id.Slot.{Slot}
 use Rattle.pl_base.specs.Good.{IsGood}
 use Rattle.pl_base.specs.Removal.{without_idle_pages}
-use Rattle.pl_base.specs.Rows.{Kept, KeptPage, WithPageIn, next_page, store_of, with_new_page, with_origin}
+use Rattle.pl_base.specs.Rows.{Kept, KeptPage, WithPageIn, next_page, store_of, with_new_page}
 use Rattle.pl_base.specs.Store.{Item, Page, Store}
 use Rattle.pl_marks.specs.Alike.{DifferOnlyOn, is_one_of}
 use Rattle.pl_history.specs.declared.find.Target.{Target}

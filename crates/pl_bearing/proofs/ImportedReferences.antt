@@ -34,7 +34,7 @@ use Rattle.pl_graft.specs.Import.{with_list, with_node, with_nodes, with_page_of
 use Rattle.pl_graft.specs.Import.{with_tags_of}
 use Rattle.pl_bearing.specs.References.{AreReferencesAlike, references_of}
 use Rattle.pl_bearing.proofs.AddedItems.{AddsItems, bare_grown, no_items, one_item, references_kept}
-use Rattle.pl_bearing.proofs.NewReferences.{grown}
+use Rattle.pl_bearing.proofs.MappedReferences.{grown}
 
 -- ---- items that come
 
@@ -84,12 +84,14 @@ more_tagged first next page name date items above =
 
 -- ---- a store
 
--- the pages are the old ones, and behind them pages with new ids that have a new item; day and visits are the old ones
+-- the pages are the old ones, and behind them pages with new ids that have a new item and were never typed; day and
+-- visits are the old ones
 pub record AddsPages (old new : Store) : Type 0 where
   pub added : List Page
   pub is : new.pages ≡ old.pages ++ added
   pub behind : All (λ (p : Page). old.ids.page ≤ p.id.0) added
   pub held : All (λ (p : Page). has_new_item old.ids.item new.items p.id ≡ true) added
+  pub untyped : All (λ (p : Page). p.typed ≡ false) added
   pub day : new.day ≡ old.day
   pub visits : new.visits ≡ old.visits
   pub visit_ids : new.ids.visit ≡ old.ids.visit
@@ -110,6 +112,7 @@ adds_none store =
             is = sym (append-nil store.pages);
             behind = All-nil (λ (p : Page). store.ids.page ≤ p.id.0);
             held = All-nil (λ (p : Page). has_new_item store.ids.item store.items p.id ≡ true);
+            untyped = All-nil (λ (p : Page). p.typed ≡ false);
             day = refl;
             visits = refl;
             visit_ids = refl;
@@ -144,6 +147,7 @@ adds_items old store next items above g a =
             is = a.pages.is;
             behind = a.pages.behind;
             held = held_still old store items g a;
+            untyped = a.pages.untyped;
             day = a.pages.day;
             visits = a.pages.visits;
             visit_ids = a.pages.visit_ids;
@@ -171,6 +175,7 @@ adds_page old store url next items above g some a =
             held =
                 All-push (λ (p : Page). has_new_item old.ids.item items p.id ≡ true) a.pages.added page
                 (held_still old store items g a) some;
+            untyped = All-push (λ (p : Page). p.typed ≡ false) a.pages.added page a.pages.untyped refl;
             day = a.pages.day;
             visits = a.pages.visits;
             visit_ids = a.pages.visit_ids;
@@ -268,26 +273,21 @@ adds_imported tree store =
 pub imported_items : (tree : Tree) (store : Store) → AddsItems store.ids.item store.items (imported tree store).items
 imported_items tree store = (adds_imported tree store).items
 
--- the pages of the store stand in front, and behind them pages with new ids, each with a new item
+-- the pages of the store stand in front, and behind them pages with new ids, each with a new item and never typed
 pub imported_pages : (tree : Tree) (store : Store) → AddsPages store (imported tree store)
 imported_pages tree store = (adds_imported tree store).pages
-
--- the ids that come next lie no lower
-pub imported_ids : (tree : Tree) (store : Store)
-    → (store.ids.item ≤ (imported tree store).ids.item) × (store.ids.page ≤ (imported tree store).ids.page)
-imported_ids tree store = ((adds_imported tree store).next_item, (adds_imported tree store).next_page)
 
 -- ---- what the items tell
 
 -- of a page that no new item has the items tell what they told
-pub imported_references : (tree : Tree) (store : Store) (page : PageId)
+imported_references : (tree : Tree) (store : Store) (page : PageId)
     → All (λ (i : Item). i.id.0 < store.ids.item) store.items
     → has_new_item store.ids.item (imported tree store).items page ≡ false
     → references_of (imported tree store).items page ≡ references_of store.items page
 imported_references tree store page below none =
     references_kept store.ids.item store.items (imported tree store).items below (imported_items tree store) page none
 
-pub imported_alike : (tree : Tree) (store : Store) (ids : List PageId)
+imported_alike : (tree : Tree) (store : Store) (ids : List PageId)
     → All (λ (i : Item). i.id.0 < store.ids.item) store.items
     → ((page : PageId) → has_new_item store.ids.item (imported tree store).items page ≡ true
     → is_one_of ids page ≡ true)

@@ -17,7 +17,8 @@ use Rattle.pl_base.proofs.ReferencesRun.{having}
 use Rattle.pl_marks.specs.TagFolders.{tag_folder, tag_title, where_tag}
 use Rattle.pl_marks.proofs.PageTags.{any_filter, outside_is}
 use Rattle.pl_bearing.specs.References.{Reference, reference, references_of}
-use Rattle.pl_bearing.proofs.TagParts.{AreFound, above, are_found}
+use Rattle.pl_bearing.proofs.FoundItems.{AreFound}
+use Rattle.pl_bearing.proofs.TagParts.{above, are_found}
 
 -- ---- whether some item has the page
 

@@ -1,11 +1,12 @@
 pub mod AddedItems
 pub mod DifferByItems
 pub mod DifferByPage
+mod FoundItems
 pub mod ImportedReferences
-pub mod InsertedReferences
 mod ItemParts
 mod ItemViews
-pub mod MappedReferences
+mod LeftReferences
+mod MappedReferences
 pub mod MovedReferences
 pub mod NewReferences
 pub mod RemovedReferences

@@ -7,18 +7,17 @@ use Rattle.std.specs.Option.{option_and_then, option_map}
 use Rattle.std.proofs.lemmas.Bool.{both_ways}
 use Rattle.std.proofs.lemmas.List.{take-append-drop}
 use Rattle.std.proofs.lemmas.List.Folds.{list_any-append}
-use Rattle.std.proofs.lemmas.Option.{same_Some}
 use Rattle.pl_base.specs.declared.id.ItemId.{ItemId}
 use Rattle.pl_base.specs.declared.id.PageId.{PageId}
 use Rattle.pl_base.specs.Rows.{IsWellKept, Kept}
 use Rattle.pl_base.specs.Store.{Item}
 use Rattle.pl_base.specs.Tags.{is_tags_root}
 use Rattle.pl_base.specs.Tree.{has_child, is_page, item_at, item_title, parent_of, without_id}
-use Rattle.pl_base.proofs.Among.{In, all_from_in, at_in}
+use Rattle.pl_base.proofs.Among.{In}
 use Rattle.pl_base.proofs.IdsLaws.{same_page}
-use Rattle.pl_base.proofs.ItemLookUps.{id_of_item, same_item, same_item_number}
+use Rattle.pl_base.proofs.ItemLookUps.{id_of_item, same_item}
 use Rattle.pl_base.proofs.ListLaws.{find-map}
-use Rattle.pl_base.proofs.LookUps.{find-alike, found_holds}
+use Rattle.pl_base.proofs.LookUps.{find-alike}
 use Rattle.pl_base.proofs.ReferencesRun.{items_found}
 use Rattle.pl_base.proofs.Truths.{no_test}
 use Rattle.pl_tree.specs.declared.place.Place.{Place}
@@ -26,10 +25,11 @@ use Rattle.pl_tree.specs.Changes.{position, put}
 use Rattle.pl_marks.specs.Alike.{is_one_of}
 use Rattle.pl_marks.specs.TagFolders.{tag_title, where_tag}
 use Rattle.pl_bearing.specs.References.{AreReferencesAlike, Reference, reference}
+use Rattle.pl_bearing.proofs.FoundItems.{one_item_at}
 
 -- ---- ids with one more and without one
 
-pub any_put : (test : ItemId → Bool) (place : Place) (id : ItemId) (ids : List ItemId) → test id ≡ false
+any_put : (test : ItemId → Bool) (place : Place) (id : ItemId) (ids : List ItemId) → test id ≡ false
     → list_any test (put place id ids) ≡ list_any test ids
 any_put test place id ids other =
     let n : ℕ = position place (length ids) in
@@ -87,18 +87,6 @@ title_mapped f c items same titled =
         → option_map (λ (i : Item). i.title) (option_map f o) ≡ option_map (λ (i : Item). i.title) o
     title_same None is = refl
     title_same (Some i) is = ap (λ (t : List ℕ). Some t) (titled i (id_of_item items c i is))
-
--- what holds of the id of each item holds of a parent
-pub parent_holds : (P : ItemId → Type 0) (items : List Item) (c p : ItemId)
-    → ((i : Item) → In i items → P i.id) → parent_of items c ≡ Some p → P p
-parent_holds P items c p each is = choose (find (has_child c) items) refl is
-  where
-    choose : (o : Option Item) → find (has_child c) items ≡ o → option_map (λ (i : Item). i.id) o ≡ Some p → P p
-    choose None found is = absurd (cc)
-    choose (Some i) found is =
-        subst P (same_Some i.id p is)
-        (found_holds (λ (j : Item). P j.id) (has_child c) items i
-        (all_from_in (λ (j : Item). P j.id) items each) found)
 
 -- ---- what is told
 
@@ -164,9 +152,7 @@ pub other_item : (kept : Kept) (item : ItemId) (ids : List PageId) (page : PageI
     → IfSome (option_and_then (λ (i : Item). i.page) (item_at kept.items item)) (λ p. is_one_of ids p ≡ true)
     → is_one_of ids page ≡ false → (i : Item) → In i kept.items → is_page page i.page ≡ true → i.id.0 ≡ item.0 → ⊥
 other_item kept item ids page h within out i here has same =
-    let found : item_at kept.items item ≡ Some i =
-    ap (item_at kept.items) (sym (same_item_number i.id item same))
-    ∙ at_in (λ (j : Item). item_at kept.items j.id ≡ Some j) kept.items i (items_found kept h) here in
+    let found : item_at kept.items item ≡ Some i = one_item_at kept.items item i (items_found kept h) here same in
     let own : IfSome i.page (λ p. is_one_of ids p ≡ true) =
     subst
     (λ (o : Option Item). IfSome (option_and_then (λ (j : Item). j.page) o) (λ p. is_one_of ids p ≡ true)) found
@@ -178,47 +164,28 @@ pub alike_then : (ids : List PageId) (old between new : List Item) → AreRefere
     → AreReferencesAlike ids between new → AreReferencesAlike ids old new
 alike_then ids old between new first second page out = second page out ∙ first page out
 
--- ---- an item that has one more child, if it is the folder
+-- ---- an item that changes, if it has this id
 
-abbrev pub growing : ItemId → Place → ItemId → Item → Item
-growing parent place id i =
-    if i.id.0 == parent.0 then record i { children = put place id i.children } else i
+-- what the change does not bear on is told as before
+pub changed_same : {A : Type 0} (f : Item → Item) (tell : Item → A) (n : ℕ) → ((i : Item) → tell (f i) ≡ tell i)
+    → (i : Item) → tell (if i.id.0 == n then f i else i) ≡ tell i
+changed_same f tell n same i = choose (i.id.0 == n)
+  where
+    choose : (b : Bool) → tell (if b then f i else i) ≡ tell i
+    choose true = same i
+    choose false = refl
 
-module _ (parent : ItemId) (place : Place) (id : ItemId) (i : Item) where
-  abbrev which : Bool → Item
-  which b = if b then record i { children = put place id i.children } else i
+module _ (parent : ItemId) (place : Place) (id : ItemId) where
+  -- the item, with one more child if it is the parent
+  abbrev pub grown : Item → Item
+  grown i = if i.id.0 == parent.0 then record i { children = put place id i.children } else i
 
-  pub grow_id : (growing parent place id i).id ≡ i.id
-  grow_id = choose (i.id.0 == parent.0)
-    where
-      choose : (b : Bool) → (which b).id ≡ i.id
-      choose true = refl
-      choose false = refl
+  -- what does not tell the children tells what it did
+  pub grown_same : {A : Type 0} (tell : Item → A)
+      → ((i : Item) → tell (record i { children = put place id i.children }) ≡ tell i) → (i : Item)
+      → tell (grown i) ≡ tell i
+  grown_same tell same i = changed_same (λ (j : Item). record j { children = put place id j.children }) tell parent.0 same i
 
-  pub grow_title : (growing parent place id i).title ≡ i.title
-  grow_title = choose (i.id.0 == parent.0)
-    where
-      choose : (b : Bool) → (which b).title ≡ i.title
-      choose true = refl
-      choose false = refl
-
-  pub grow_page : (growing parent place id i).page ≡ i.page
-  grow_page = choose (i.id.0 == parent.0)
-    where
-      choose : (b : Bool) → (which b).page ≡ i.page
-      choose true = refl
-      choose false = refl
-
-  pub grow_modified : (growing parent place id i).modified ≡ i.modified
-  grow_modified = choose (i.id.0 == parent.0)
-    where
-      choose : (b : Bool) → (which b).modified ≡ i.modified
-      choose true = refl
-      choose false = refl
-
-  pub grow_child : (c : ItemId) → (id.0 == c.0) ≡ false → has_child c (growing parent place id i) ≡ has_child c i
-  grow_child c other = choose (i.id.0 == parent.0)
-    where
-      choose : (b : Bool) → has_child c (which b) ≡ has_child c i
-      choose true = any_put (λ (d : ItemId). d.0 == c.0) place id i.children other
-      choose false = refl
+  pub grown_child : (c : ItemId) → (id.0 == c.0) ≡ false → (i : Item) → has_child c (grown i) ≡ has_child c i
+  grown_child c other i =
+      grown_same (has_child c) (λ j. any_put (λ (d : ItemId). d.0 == c.0) place id j.children other) i

@@ -28,9 +28,9 @@ use Rattle.pl_tree.proofs.StoreItems.{if_none, or_none}
 use Rattle.pl_marks.specs.Alike.{is_one_of}
 use Rattle.pl_marks.specs.TagFolders.{tag_title}
 use Rattle.pl_bearing.specs.References.{AreReferencesAlike, reference, references_of}
-use Rattle.pl_bearing.proofs.MappedReferences.{any_without, grow_child, grow_id, grow_modified, grow_page, grow_title}
-use Rattle.pl_bearing.proofs.MappedReferences.{growing, none_left, other_item, parent_mapped, reference_alike}
-use Rattle.pl_bearing.proofs.MappedReferences.{references_mapped, tag_title_alike, title_mapped}
+use Rattle.pl_bearing.proofs.MappedReferences.{any_without, changed_same, grown, grown_child, grown_same, none_left}
+use Rattle.pl_bearing.proofs.MappedReferences.{other_item, parent_mapped, reference_alike, references_mapped}
+use Rattle.pl_bearing.proofs.MappedReferences.{tag_title_alike, title_mapped}
 
 -- ---- what is not refused
 
@@ -49,7 +49,7 @@ may_change items item none = choose (not (has_item items item)) refl none
         (not-false (has_item items item) is, (or_parts (is_root item) (is_tag items item) first.0).1)
 
 -- a folder that takes items is not the tags root
-pub not_tags : (items : List Item) (parent : ItemId) → parent_refusal items parent ≡ None
+not_tags : (items : List Item) (parent : ItemId) → parent_refusal items parent ≡ None
     → (parent.0 == tags_root.0) ≡ false
 not_tags items parent none =
     let parts = or_none (folder_refusal items parent) (if is_closed items parent then Some (Fixed parent) else None)
@@ -66,7 +66,7 @@ module _ (items : List Item) (item parent : ItemId) (place : Place) (date : Micr
   left = leaving item
 
   abbrev grow : Item → Item
-  grow = growing parent place item
+  grow = grown parent place item
 
   abbrev dated : Item → Item
   dated i = if i.id.0 == item.0 then record i { modified = date } else i
@@ -74,73 +74,52 @@ module _ (items : List Item) (item parent : ItemId) (place : Place) (date : Micr
   abbrev move : Item → Item
   move i = dated (grow (left i))
 
-  abbrev pub news : List Item
+  abbrev news : List Item
   news = map move items
 
-  pub same_news : with_moved item parent place date items ≡ news
+  same_news : with_moved item parent place date items ≡ news
   same_news = map-map dated grow (map left items) ∙ map-map (λ (i : Item). dated (grow i)) left items
 
   -- an item
 
-  module _ (i : Item) where
-    abbrev which : Bool → Item
-    which b = if b then record i { modified = date } else i
+  dated_same : {A : Type 0} (tell : Item → A) → ((i : Item) → tell (record i { modified = date }) ≡ tell i)
+      → (i : Item) → tell (dated i) ≡ tell i
+  dated_same tell same i = changed_same (λ (j : Item). record j { modified = date }) tell item.0 same i
 
-    dated_id : (dated i).id ≡ i.id
-    dated_id = choose (i.id.0 == item.0)
-      where
-        choose : (b : Bool) → (which b).id ≡ i.id
-        choose true = refl
-        choose false = refl
+  dated_other : (i : Item) → (i.id.0 == item.0) ≡ false → (dated i).modified ≡ i.modified
+  dated_other i other = ap (λ (b : Bool). (if b then record i { modified = date } else i).modified) other
 
-    dated_title : (dated i).title ≡ i.title
-    dated_title = choose (i.id.0 == item.0)
-      where
-        choose : (b : Bool) → (which b).title ≡ i.title
-        choose true = refl
-        choose false = refl
-
-    dated_page : (dated i).page ≡ i.page
-    dated_page = choose (i.id.0 == item.0)
-      where
-        choose : (b : Bool) → (which b).page ≡ i.page
-        choose true = refl
-        choose false = refl
-
-    dated_child : (c : ItemId) → has_child c (dated i) ≡ has_child c i
-    dated_child c = choose (i.id.0 == item.0)
-      where
-        choose : (b : Bool) → has_child c (which b) ≡ has_child c i
-        choose true = refl
-        choose false = refl
-
-    dated_other : (i.id.0 == item.0) ≡ false → (dated i).modified ≡ i.modified
-    dated_other other = ap (λ (b : Bool). (which b).modified) other
+  move_same : {A : Type 0} (tell : Item → A) → ((i : Item) → tell (record i { modified = date }) ≡ tell i)
+      → ((i : Item) → tell (record i { children = put place item i.children }) ≡ tell i) → (i : Item)
+      → tell (move i) ≡ tell (left i)
+  move_same tell dates grows i =
+      dated_same tell dates (grow (left i)) ∙ grown_same parent place item tell grows (left i)
 
   move_id : (i : Item) → (move i).id ≡ i.id
-  move_id i = dated_id (grow (left i)) ∙ grow_id parent place item (left i)
+  move_id i = move_same (λ (j : Item). j.id) (λ j. refl) (λ j. refl) i
 
   move_title : (i : Item) → (move i).title ≡ i.title
-  move_title i = dated_title (grow (left i)) ∙ grow_title parent place item (left i)
+  move_title i = move_same (λ (j : Item). j.title) (λ j. refl) (λ j. refl) i
 
   move_page : (i : Item) → (move i).page ≡ i.page
-  move_page i = dated_page (grow (left i)) ∙ grow_page parent place item (left i)
+  move_page i = move_same (λ (j : Item). j.page) (λ j. refl) (λ j. refl) i
 
   move_modified : (i : Item) → i.id.0 ≢ item.0 → (move i).modified ≡ i.modified
   move_modified i other =
       dated_other (grow (left i))
-      (ap (λ (d : ItemId). d.0 == item.0) (grow_id parent place item (left i)) ∙ ne_eqb i.id.0 item.0 other)
-      ∙ grow_modified parent place item (left i)
+      (ap (λ (d : ItemId). d.0 == item.0) (grown_same parent place item (λ (j : Item). j.id) (λ j. refl) (left i))
+      ∙ ne_eqb i.id.0 item.0 other)
+      ∙ grown_same parent place item (λ (j : Item). j.modified) (λ j. refl) (left i)
 
   move_child : (c : ItemId) → c.0 ≢ item.0 → (i : Item) → has_child c (move i) ≡ has_child c i
   move_child c other i =
       let apart : (item.0 == c.0) ≡ false = ne_eqb item.0 c.0 (λ same. other (sym same)) in
-      dated_child (grow (left i)) c ∙ grow_child parent place item (left i) c apart
+      dated_same (has_child c) (λ j. refl) (grow (left i)) ∙ grown_child parent place item c apart (left i)
       ∙ any_without (λ (d : ItemId). d.0 == c.0) item i.children apart
 
   -- only the new parent has the item
   moved_to : (i : Item) → has_child item (move i) ≡ true → (i.id.0 == parent.0) ≡ true
-  moved_to i has = choose (i.id.0 == parent.0) refl (sym (dated_child (grow (left i)) item) ∙ has)
+  moved_to i has = choose (i.id.0 == parent.0) refl (sym (dated_same (has_child item) (λ j. refl) (grow (left i))) ∙ has)
     where
       choose : (b : Bool) → (i.id.0 == parent.0) ≡ b
           → has_child item (if b then record (left i) { children = put place item (left i).children } else left i)
@@ -151,10 +130,10 @@ module _ (items : List Item) (item parent : ItemId) (place : Place) (date : Micr
 
   -- parents
 
-  pub parent_moved : (c : ItemId) → c.0 ≢ item.0 → parent_of news c ≡ parent_of items c
+  parent_moved : (c : ItemId) → c.0 ≢ item.0 → parent_of news c ≡ parent_of items c
   parent_moved c other = parent_mapped move c items move_id (move_child c other)
 
-  pub item_no_tag : is_tags_root (parent_of news item) ≡ false
+  item_no_tag : is_tags_root (parent_of news item) ≡ false
   item_no_tag =
       ap (λ (o : Option Item). is_tags_root (option_map (λ (i : Item). i.id) o))
       (find-map (has_child item) move items)
@@ -168,7 +147,7 @@ module _ (items : List Item) (item parent : ItemId) (place : Place) (date : Micr
           moved_to i (found_passes (λ (j : Item). has_child item (move j)) items i found) in
           ap (λ (d : ItemId). d.0 == tags_root.0) (move_id i ∙ same_item i.id parent to) ∙ outside
 
-  pub tag_title_moved : (c : ItemId) → c.0 ≢ item.0 → tag_title news c ≡ tag_title items c
+  tag_title_moved : (c : ItemId) → c.0 ≢ item.0 → tag_title news c ≡ tag_title items c
   tag_title_moved c other =
       tag_title_alike items news c (parent_moved c other) (λ p _. root p)
       (λ p _ _. title_mapped move p items move_id (λ i _. move_title i))
@@ -183,7 +162,7 @@ module _ (items : List Item) (item parent : ItemId) (place : Place) (date : Micr
             | inr apart ↦ ap is_tags_root (parent_moved p apart)
           ]
 
-  pub move_alike : (page : PageId) → ((i : Item) → In i items → is_page page i.page ≡ true → i.id.0 ≢ item.0)
+  move_alike : (page : PageId) → ((i : Item) → In i items → is_page page i.page ≡ true → i.id.0 ≢ item.0)
       → references_of (with_moved item parent place date items) page ≡ references_of items page
   move_alike page others =
       ap (λ (is : List Item). references_of is page) same_news
@@ -215,43 +194,27 @@ module _ (items : List Item) (item : ItemId) (title : List ℕ) (date : Micros) 
   abbrev titled : List Item
   titled = retitled item title date items
 
-  module _ (i : Item) where
-    abbrev named : Bool → Item
-    named b = if b then record i { title = title; modified = date } else i
+  name_same : {A : Type 0} (tell : Item → A)
+      → ((i : Item) → tell (record i { title = title; modified = date }) ≡ tell i) → (i : Item)
+      → tell (name i) ≡ tell i
+  name_same tell same i = changed_same (λ (j : Item). record j { title = title; modified = date }) tell item.0 same i
 
-    name_id : (name i).id ≡ i.id
-    name_id = choose (i.id.0 == item.0)
-      where
-        choose : (b : Bool) → (named b).id ≡ i.id
-        choose true = refl
-        choose false = refl
+  name_id : (i : Item) → (name i).id ≡ i.id
+  name_id i = name_same (λ (j : Item). j.id) (λ j. refl) i
 
-    name_page : (name i).page ≡ i.page
-    name_page = choose (i.id.0 == item.0)
-      where
-        choose : (b : Bool) → (named b).page ≡ i.page
-        choose true = refl
-        choose false = refl
+  name_other : (i : Item) → i.id.0 ≢ item.0 → name i ≡ i
+  name_other i other =
+      ap (λ (b : Bool). if b then record i { title = title; modified = date } else i) (ne_eqb i.id.0 item.0 other)
 
-    name_child : (c : ItemId) → has_child c (name i) ≡ has_child c i
-    name_child c = choose (i.id.0 == item.0)
-      where
-        choose : (b : Bool) → has_child c (named b) ≡ has_child c i
-        choose true = refl
-        choose false = refl
-
-    name_other : i.id.0 ≢ item.0 → name i ≡ i
-    name_other other = ap named (ne_eqb i.id.0 item.0 other)
-
-  pub parent_titled : (c : ItemId) → parent_of titled c ≡ parent_of items c
-  parent_titled c = parent_mapped name c items name_id (λ i. name_child i c)
+  parent_titled : (c : ItemId) → parent_of titled c ≡ parent_of items c
+  parent_titled c = parent_mapped name c items name_id (λ i. name_same (has_child c) (λ j. refl) i)
 
   -- a tag folder is not the item
   tag_other : (p : ItemId) → is_tags_root (parent_of items p) ≡ true → p.0 ≢ item.0
   tag_other p tag same =
       both_ways (is_tag items item) no_tag (ap (is_tag items) (sym (same_item_number p item same)) ∙ tag)
 
-  pub tag_title_titled : (c : ItemId) → tag_title titled c ≡ tag_title items c
+  tag_title_titled : (c : ItemId) → tag_title titled c ≡ tag_title items c
   tag_title_titled c =
       tag_title_alike items titled c (parent_titled c) (λ p _. ap is_tags_root (parent_titled p))
       (λ p _ tag.
@@ -259,11 +222,11 @@ module _ (items : List Item) (item : ItemId) (title : List ℕ) (date : Micros) 
       ap (λ (j : Item). j.title)
       (name_other i (λ same. tag_other p tag (ap (λ (d : ItemId). d.0) (sym e) ∙ same)))))
 
-  pub title_alike : (page : PageId) → ((i : Item) → In i items → is_page page i.page ≡ true → i.id.0 ≢ item.0)
+  title_alike : (page : PageId) → ((i : Item) → In i items → is_page page i.page ≡ true → i.id.0 ≢ item.0)
       → references_of titled page ≡ references_of items page
   title_alike page others =
       references_mapped (reference titled) (reference items) name (λ (i : Item). is_page page i.page) items
-      (λ i h. ap (is_page page) (name_page i))
+      (λ i h. name_same (λ (j : Item). is_page page j.page) (λ j. refl) i)
       (λ i h has.
       let same : name i ≡ i = name_other i (others i h has) in
       reference_alike items titled i (name i) (name_id i) (ap (λ (j : Item). j.title) same)

@@ -1,12 +1,12 @@
 -- The tags of a page, by what the items that have it tell.
-use Rattle.std.proofs.Common.{◌≡◌, ◌==◌, ◌∙◌, ◌||◌, Bool, true, false, inl, inr, ℕ, List, [], ◌∷◌}
-use Rattle.std.proofs.Common.{Option, Some, None, ap, eq-eqb, filter, find, if◌then◌else◌, is_some, map, refl}
+use Rattle.std.proofs.Common.{◌≡◌, ◌==◌, ◌∙◌, Bool, true, false, inl, inr, ℕ, List, [], ◌∷◌}
+use Rattle.std.proofs.Common.{Option, Some, None, ap, eq-eqb, filter, if◌then◌else◌, is_some, map, refl}
 use Rattle.std.proofs.Common.{subst, sym}
-use Rattle.std.specs.List.{AllByRecursion, filter_map, list_any}
+use Rattle.std.specs.List.{AllByRecursion}
 use Rattle.std.specs.List.Sorted.{IsStrictlySortedBy}
 use Rattle.std.specs.Map.{values_of}
 use Rattle.std.specs.Option.{option_and_then, option_map}
-use Rattle.std.proofs.lemmas.Bool.{false≢true, or_left, or_right}
+use Rattle.std.proofs.lemmas.Bool.{false≢true}
 use Rattle.std.proofs.lemmas.List.Kept.{AllPairs-from_increasing}
 use Rattle.std.proofs.lemmas.Option.{same_Some}
 use Rattle.pl_base.specs.declared.id.ItemId.{ItemId}
@@ -18,7 +18,7 @@ use Rattle.pl_base.specs.Tags.{has_tag, is_tags_root, page_tags, tags_of, tags_r
 use Rattle.pl_base.specs.Tree.{child_items, children_of, has_child, is_page, item_at, item_title, parent_of}
 use Rattle.pl_base.proofs.Among.{In, all_from_in, at_in, from_filter, in_filter}
 use Rattle.pl_base.proofs.ItemLookUps.{id_of_item, same_item}
-use Rattle.pl_base.proofs.LookUps.{apart_ascending, found_holds, found_passes, found_self}
+use Rattle.pl_base.proofs.LookUps.{apart_ascending, found_self}
 use Rattle.pl_base.proofs.OneParent.{IsParent, is_among, parents}
 use Rattle.pl_base.proofs.ReferencesRun.{having}
 use Rattle.pl_marks.specs.TagFolders.{tag_title, where_tag, with_tag}
@@ -26,66 +26,10 @@ use Rattle.pl_marks.proofs.PageTags.{ascending_with}
 use Rattle.pl_marks.proofs.TagEntries.{AreOfTags, Ascending, Differ, differ_filter, differ_named, entries_are, look}
 use Rattle.pl_marks.proofs.TagEntries.{of_tags_insert, tag_entry, tags_found, there_insert, there_new, titles_are}
 use Rattle.pl_bearing.specs.References.{Reference, reference, references_of}
-
--- ---- elements that pass a test, and those that were looked up
-
--- one that passes a test
-abbrev Passing : {X : Type 0} → (X → Bool) → List X → Type 0
-Passing {X} test xs = (x : X) × In x xs × (test x ≡ true)
-
-any_in : {X : Type 0} (test : X → Bool) (xs : List X) → list_any test xs ≡ true → Passing test xs
-any_in test [] some = absurd (false≢true some)
-any_in test (x ∷ xs) some = choose (test x) refl some (any_in test xs)
-  where
-    choose : (b : Bool) → test x ≡ b → (b || list_any test xs) ≡ true → (list_any test xs ≡ true → Passing test xs)
-        → Passing test (x ∷ xs)
-    choose true is some rest = (x, inl refl, is)
-    choose false is some rest = let r = rest some in (r.0, inr r.1, r.2)
-
-in_any : {X : Type 0} (test : X → Bool) (xs : List X) (x : X) → In x xs → test x ≡ true → list_any test xs ≡ true
-in_any test [] x there is = absurd there
-in_any test (y ∷ ys) x (inl same) is = or_left (test y) (list_any test ys) (ap test (sym same) ∙ is)
-in_any test (y ∷ ys) x (inr there) is = or_right (test y) (list_any test ys) (in_any test ys x there is)
-
-in_found : (test : Item → Bool) (items : List Item) (i : Item) → find test items ≡ Some i → In i items
-in_found test items i found =
-    found_holds (λ (j : Item). In j items) test items i (all_from_in (λ (j : Item). In j items) items (λ j h. h)) found
-
-in_looked : (at : ItemId → Option Item) (ids : List ItemId) (c : ItemId) (i : Item) → In c ids → at c ≡ Some i
-    → In i (filter_map at ids)
-in_looked at [] c i there is = absurd there
-in_looked at (d ∷ ds) c i (inl same) is =
-    let here : at d ≡ Some i = ap at (sym same) ∙ is in
-    rw here (inl refl)
-in_looked at (d ∷ ds) c i (inr there) is = choose (at d) refl (in_looked at ds c i there is)
-  where
-    choose : (o : Option Item) → at d ≡ o → In i (filter_map at ds) → In i (filter_map at (d ∷ ds))
-    choose None here rest = rw here rest
-    choose (Some j) here rest = rw here (inr rest)
-
--- an id at which the item was looked up
-abbrev LookedUp : (ItemId → Option Item) → List ItemId → Item → Type 0
-LookedUp at ids i = (c : ItemId) × In c ids × (at c ≡ Some i)
-
-looked_in : (at : ItemId → Option Item) (ids : List ItemId) (i : Item) → In i (filter_map at ids) → LookedUp at ids i
-looked_in at [] i there = absurd there
-looked_in at (d ∷ ds) i there = choose (at d) refl (looked_in at ds i)
-  where
-    first : (j : Item) → at d ≡ Some j → In i (j ∷ filter_map at ds)
-        → (In i (filter_map at ds) → LookedUp at ds i) → LookedUp at (d ∷ ds) i
-    first j here (inl same) rest = (d, inl refl, here ∙ ap (λ (k : Item). Some k) (sym same))
-    first j here (inr behind) rest = let r = rest behind in (r.0, inr r.1, r.2)
-
-    choose : (o : Option Item) → at d ≡ o → (In i (filter_map at ds) → LookedUp at ds i) → LookedUp at (d ∷ ds) i
-    choose None here rest =
-        let r = rest (rw here at there) in (r.0, inr r.1, r.2)
-    choose (Some j) here rest = first j here (rw here at there) rest
+use Rattle.pl_bearing.proofs.FoundItems.{AreFound, any_in, at_its_id, children_in, found_in, in_any, in_looked}
+use Rattle.pl_bearing.proofs.FoundItems.{looked_in, parent_there}
 
 -- ---- parents and children
-
--- each item is found by its id
-abbrev pub AreFound : List Item → Type 0
-AreFound items = AllByRecursion (λ (i : Item). item_at items i.id ≡ Some i) items
 
 pub are_found : (store : Store) → IsGood store → AreFound store.items
 are_found store good =
@@ -93,28 +37,12 @@ are_found store good =
     (apart_ascending (λ (i : Item). i.id.0) store.items
     (AllPairs-from_increasing (map (λ (i : Item). i.id.0) store.items) good.item_ids.ascending))
 
-at_its_id : (items : List Item) (i : Item) → AreFound items → In i items → item_at items i.id ≡ Some i
-at_its_id items i found there = at_in (λ (j : Item). item_at items j.id ≡ Some j) items i found there
-
 -- a parent is an item that has the child
 pub above : (items : List Item) (id parent : ItemId) → AreFound items → parent_of items id ≡ Some parent
     → (q : Item) × (item_at items parent ≡ Some q) × (has_child id q ≡ true)
-above items id parent found is = choose (find (has_child id) items) refl is
-  where
-    choose : (o : Option Item) → find (has_child id) items ≡ o → option_map (λ (i : Item). i.id) o ≡ Some parent
-        → (q : Item) × (item_at items parent ≡ Some q) × (has_child id q ≡ true)
-    choose None at is = absurd (cc)
-    choose (Some q) at is = (
-      q,
-      ap (item_at items) (sym (same_Some q.id parent is))
-          ∙ at_its_id items q found (in_found (has_child id) items q at),
-      found_passes (has_child id) items q at,
-    )
-
--- as `children_of` has it
-abbrev children_in : Option Item → List ItemId
-children_in None = []
-children_in (Some i) = i.children
+above items id parent found is =
+    let q = parent_there items id parent is in
+    (q.0, subst (λ (p : ItemId). item_at items p ≡ Some q.0) q.2 (at_its_id items q.0 found q.1), q.3)
 
 among_in : (id : ItemId) (ids : List ItemId) → is_among id ids ≡ true → In id ids
 among_in id ids some =
@@ -142,8 +70,8 @@ in_child items parent i tree there =
         in_any (λ (d : ItemId). d.0 == c.0) q.children c within (eq-eqb c.0 c.0 refl) in
         let own : IsParent items q =
         at_in (IsParent items) items q (parents items tree)
-        (in_found (λ (j : Item). j.id.0 == parent.0) items q q_at) in (
-          in_found (λ (j : Item). j.id.0 == c.0) items i at,
+        (found_in (λ (j : Item). j.id.0 == parent.0) items q q_at).0 in (
+          (found_in (λ (j : Item). j.id.0 == c.0) items i at).0,
           ap (parent_of items) (id_of_item items c i at)
               ∙ ap (option_map (λ (j : Item). j.id)) (own c has)
               ∙ ap (λ (p : ItemId). Some p) (id_of_item items parent q q_at),
@@ -178,7 +106,7 @@ gives_tag store i title found there is = choose (parent_of items i.id) refl is
         record {
           tag = t;
           there =
-              child_in items tags_root t found (in_found (λ (j : Item). j.id.0 == f.0) items t at)
+              child_in items tags_root t found (found_in (λ (j : Item). j.id.0 == f.0) items t at).0
               (ap (parent_of items) id ∙ tags_root_is (parent_of items f) below);
           holds = child_in items t.id i found there (within ∙ ap (λ (j : ItemId). Some j) (sym id));
           is = same_Some t.title title is;

@@ -16,7 +16,8 @@ use Rattle.pl_tree.specs.Tagged.{new_entry, new_tag, tag_named, tagged_items}
 use Rattle.pl_tree.proofs.GoodChanges.{below_next}
 use Rattle.pl_marks.specs.Alike.{is_one_of}
 use Rattle.pl_bearing.specs.References.{AreReferencesAlike}
-use Rattle.pl_bearing.proofs.NewReferences.{alike_then, grown, grown_same, new_alike, other_page}
+use Rattle.pl_bearing.proofs.MappedReferences.{alike_then, grown, grown_same, other_page}
+use Rattle.pl_bearing.proofs.NewReferences.{new_alike}
 
 module _ (next : ℕ) (page : PageId) (name : List ℕ) (date : Micros) (ids : List PageId) (items : List Item)
     (fresh : (i : Item) → In i items → i.id.0 < next) (one : is_one_of ids page ≡ true) where
@@ -47,7 +48,7 @@ module _ (next : ℕ) (page : PageId) (name : List ℕ) (date : Micros) (ids : L
       → AreReferencesAlike ids olds (with_new (item_id n) folder End (new_entry page date) olds)
   entry_alike olds n folder below =
       new_alike ids olds (item_id n) folder End (new_entry page date) (λ i h same. omega (arith, below i h))
-      (λ other none. other_page ids page other one none)
+      (λ other none. other_page ids other (Some page) none one)
 
   -- as `tagged_items` has it
   abbrev tagged_by : Option Item → List Item
@@ -64,7 +65,7 @@ module _ (next : ℕ) (page : PageId) (name : List ℕ) (date : Micros) (ids : L
       entry_alike items (next + (1 - 1)) tag.id (λ i h. omega (arith, fresh i h))
 
   -- of any items whose ids lie below the next one
-  pub items_tagged_alike : AreReferencesAlike ids items (tagged_items next page name date items)
+  items_tagged_alike : AreReferencesAlike ids items (tagged_items next page name date items)
   items_tagged_alike = by_alike (tag_named name items)
 
 pub tagged_alike : (kept : Kept) (page : PageId) (name : List ℕ) (date : Micros) (ids : List PageId)

@@ -1,7 +1,7 @@
 -- What holds of the rows behind an import: each page stands there, and what was computed of a page that has no new
 -- item stays right.
 use Rattle.std.proofs.Common.{◌≡◌, ◌≢◌, ◌∙◌, ◌<◌, ◌≤◌, ◌==◌, ◌&&◌, ◌||◌, ◌++◌, ℕ, All, Bool, true, false, IsTrue}
-use Rattle.std.proofs.Common.{List, [], ◌∷◌, Option, ap, arith, count_by, eq-eqb, filter, get_or}
+use Rattle.std.proofs.Common.{List, [], ◌∷◌, ap, arith, count_by, eq-eqb, filter, get_or}
 use Rattle.std.proofs.Common.{map, refl, subst, sym}
 use Rattle.std.specs.Prelude.{nat_le}
 use Rattle.std.specs.List.{AllByRecursion, AllPairs, list_any}
@@ -14,7 +14,6 @@ use Rattle.std.proofs.lemmas.List.Folds.{list_any-append, list_any_at}
 use Rattle.std.proofs.lemmas.List.Kept.{AllPairs-filter, AllPairs-from_increasing}
 use Rattle.pl_base.specs.declared.date.Day.{Day}
 use Rattle.pl_base.specs.declared.id.Ids.{Ids}
-use Rattle.pl_base.specs.declared.id.ItemId.{ItemId}
 use Rattle.pl_base.specs.declared.id.PageId.{PageId}
 use Rattle.pl_base.specs.Good.{HasGoodItems, is_visited}
 use Rattle.pl_base.specs.Marks.{is_counted, visit_count}
@@ -22,6 +21,7 @@ use Rattle.pl_base.specs.Removal.{is_standing, without_idle_pages}
 use Rattle.pl_base.specs.Rows.{HaveSums, IsSound, IsWellKept, Kept, KeptOrigin, KeptPage, has_page, store_of}
 use Rattle.pl_base.specs.Store.{Item, Page, Store, Visit}
 use Rattle.pl_base.specs.Tree.{is_page}
+use Rattle.pl_base.proofs.ItemLaws.{bare}
 use Rattle.pl_base.proofs.ListLaws.{All-from_map, AllPairs-from_map, AllPairs-map, all_stay, list_any-map, weaker}
 use Rattle.pl_base.proofs.LookUps.{none_pass, rest_of}
 use Rattle.pl_base.proofs.OriginSums.{sums_of_sound}
@@ -35,16 +35,17 @@ use Rattle.pl_history.proofs.TakenVisits.{any-filter}
 use Rattle.pl_nbread.specs.declared.tree.Tree.{Tree}
 use Rattle.pl_graft.specs.Gained.{Grows, IsBlank, gained, has_new_item}
 use Rattle.pl_graft.specs.Import.{imported}
+use Rattle.pl_bearing.proofs.AddedItems.{AddsItems}
+use Rattle.pl_bearing.proofs.ImportedReferences.{AddsPages, imported_items, imported_pages}
 use Rattle.pl_editing.proofs.ListParts.{left, none_counted, right}
-use Rattle.pl_editing.proofs.ImportedRows.{AddsItems, AddsPages, by_page, imported_items, imported_pages}
 
 -- ---- the items of a page
 
 module _ (first : ℕ) (old items : List Item) (page : PageId) (a : AddsItems first old items) where
   old_reference : has_reference a.front page ≡ has_reference old page
   old_reference =
-      let test : ItemId × Option PageId → Bool = λ (r : ItemId × Option PageId). is_page page r.1 in
-      sym (list_any-map test by_page a.front) ∙ ap (list_any test) a.same ∙ list_any-map test by_page old
+      let test : Item → Bool = λ (i : Item). is_page page i.page in
+      sym (list_any-map test bare a.front) ∙ ap (list_any test) a.same ∙ list_any-map test bare old
 
   references : has_reference items page ≡ (has_reference old page || has_reference a.added page)
   references =
@@ -274,9 +275,8 @@ new_held : (tree : Tree) (old new : Kept) → store_of new ≡ imported tree (st
 new_held tree old new is g =
     let page_of : KeptPage → Page = λ (p : KeptPage). p.page in
     let Held : Page → Type 0 = λ (p : Page). IsTrue (has_new_item old.ids.item new.items p.id) in
-    let a : AddsPages old.ids.item (store_of old).pages (store_of new).pages new.items =
-    subst (λ (s : Store). AddsPages old.ids.item (store_of old).pages s.pages s.items) (sym is)
-    (imported_pages tree (store_of old)) in
+    let a : AddsPages (store_of old) (store_of new) =
+    subst (AddsPages (store_of old)) (sym is) (imported_pages tree (store_of old)) in
     let same : map page_of g.added ≡ a.added =
     append_cancel_left (map page_of old.pages) (map page_of g.added) a.added
     (sym (map-append page_of old.pages g.added) ∙ sym (ap (map page_of) g.pages) ∙ a.is) in

@@ -14,9 +14,9 @@ use Rattle.pl_base.proofs.PageLaws.{ids_below}
 use Rattle.pl_nbread.specs.declared.tree.Tree.{Tree}
 use Rattle.pl_graft.specs.Gained.{Grows, gained, has_new_item}
 use Rattle.pl_graft.specs.Import.{imported}
+use Rattle.pl_bearing.proofs.ImportedReferences.{AddsPages, imported_pages}
 use Rattle.pl_editing.specs.NewPage.{IsNew}
 use Rattle.pl_editing.proofs.ImportSettled.{gained_ascend, gained_there, has_new}
-use Rattle.pl_editing.proofs.ImportedRows.{AddsPages, imported_pages}
 
 -- ---- the old pages
 
@@ -58,9 +58,7 @@ module _ (tree : Tree) (old new : Kept) (h : IsWellKept old) (is : store_of new 
       → All (λ (p : Page). p.id ≡ page → p.typed ≡ false) (store_of new).pages
   untyped page above =
       let Untyped : Page → Type 0 = λ (p : Page). p.id ≡ page → p.typed ≡ false in
-      let a : AddsPages old.ids.item (store_of old).pages (imported tree (store_of old)).pages
-      (imported tree (store_of old)).items =
-      imported_pages tree (store_of old) in
+      let a : AddsPages (store_of old) (imported tree (store_of old)) = imported_pages tree (store_of old) in
       subst (All Untyped) (sym (ap (λ (s : Store). s.pages) is ∙ a.is))
       (All-append Untyped (store_of old).pages a.added
       (All-map Untyped (λ (p : KeptPage). p.page) old.pages

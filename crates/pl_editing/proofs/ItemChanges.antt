@@ -30,8 +30,8 @@ use Rattle.pl_known.specs.Known.{Knows}
 use Rattle.pl_changes.specs.CameFrom.{CameByItems}
 use Rattle.pl_bearing.specs.References.{AreReferencesAlike}
 use Rattle.pl_bearing.proofs.DifferByPage.{differ_in_items, differ_once_settled, differ_with_page}
-use Rattle.pl_bearing.proofs.InsertedReferences.{inserted_alike}
 use Rattle.pl_bearing.proofs.MovedReferences.{moved_alike, retitled_alike}
+use Rattle.pl_bearing.proofs.NewReferences.{inserted_alike}
 use Rattle.pl_bearing.proofs.RemovedReferences.{removed_alike}
 use Rattle.pl_bearing.proofs.TaggedReferences.{tagged_alike}
 use Rattle.pl_bearing.proofs.UntaggedReferences.{untagged_alike}

@@ -3,7 +3,6 @@ mod FreshPage
 mod ImportChanges
 mod ImportSettled
 mod ImportedPages
-mod ImportedRows
 mod ItemChanges
 mod ItemStep
 mod ItemTitled

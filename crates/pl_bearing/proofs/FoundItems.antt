@@ -1,0 +1,151 @@
+-- What is found in lists: in front of others, among those that stay, and by ids.
+use Rattle.std.proofs.Common.{◌≡◌, ◌∙◌, ◌||◌, ◌++◌, inl, inr, Bool, true, false, List, [], ◌∷◌}
+use Rattle.std.proofs.Common.{Option, Some, None, ap, filter, find, if◌then◌else◌, refl, sym}
+use Rattle.std.specs.List.{AllByRecursion, filter_map, list_any}
+use Rattle.std.specs.Option.{option_map}
+use Rattle.std.proofs.lemmas.Bool.{both_ways, false≢true, or_left, or_right}
+use Rattle.std.proofs.lemmas.List.{append-nil}
+use Rattle.std.proofs.lemmas.List.Elements.{filter-append}
+use Rattle.std.proofs.lemmas.Option.{same_Some}
+use Rattle.pl_base.specs.declared.id.ItemId.{ItemId}
+use Rattle.pl_base.specs.Store.{Item}
+use Rattle.pl_base.specs.Tree.{has_child, item_at, parent_of}
+use Rattle.pl_base.proofs.Among.{In, at_in}
+use Rattle.pl_base.proofs.ItemLookUps.{same_item_number}
+use Rattle.pl_base.proofs.LookUps.{none_kept}
+
+-- ---- elements that pass a test
+
+pub found_in : {X : Type 0} (test : X → Bool) (xs : List X) (x : X) → find test xs ≡ Some x → In x xs × (test x ≡ true)
+found_in test [] x found = absurd (cc)
+found_in test (y ∷ ys) x found = choose (test y) refl found (found_in test ys x)
+  where
+    choose : (b : Bool) → test y ≡ b → (if b then Some y else find test ys) ≡ Some x
+        → (find test ys ≡ Some x → In x ys × (test x ≡ true)) → In x (y ∷ ys) × (test x ≡ true)
+    choose true is here rest =
+        let same : y ≡ x = same_Some y x here in
+        (inl (sym same), ap test (sym same) ∙ is)
+    choose false is here rest = let r = rest here in (inr r.0, r.1)
+
+-- one that passes a test
+abbrev pub Passing : {X : Type 0} → (X → Bool) → List X → Type 0
+Passing {X} test xs = (x : X) × In x xs × (test x ≡ true)
+
+pub any_in : {X : Type 0} (test : X → Bool) (xs : List X) → list_any test xs ≡ true → Passing test xs
+any_in test [] some = absurd (false≢true some)
+any_in test (x ∷ xs) some = choose (test x) refl some (any_in test xs)
+  where
+    choose : (b : Bool) → test x ≡ b → (b || list_any test xs) ≡ true → (list_any test xs ≡ true → Passing test xs)
+        → Passing test (x ∷ xs)
+    choose true is some rest = (x, inl refl, is)
+    choose false is some rest = let r = rest some in (r.0, inr r.1, r.2)
+
+pub in_any : {X : Type 0} (test : X → Bool) (xs : List X) (x : X) → In x xs → test x ≡ true → list_any test xs ≡ true
+in_any test [] x there is = absurd there
+in_any test (y ∷ ys) x (inl same) is = or_left (test y) (list_any test ys) (ap test (sym same) ∙ is)
+in_any test (y ∷ ys) x (inr there) is = or_right (test y) (list_any test ys) (in_any test ys x there is)
+
+-- ---- elements in front of others that do not pass
+
+module _ {X : Type 0} (test : X → Bool) where
+  pub find_front : (xs ys : List X) → AllByRecursion (λ y. test y ≡ false) ys → find test (xs ++ ys) ≡ find test xs
+  find_front [] [] fail = refl
+  find_front [] (y ∷ ys) fail = rw fail.0 (find_front [] ys fail.1)
+  find_front (x ∷ xs) ys fail = ap (λ (o : Option X). if test x then Some x else o) (find_front xs ys fail)
+
+  pub filter_front : (xs ys : List X) → AllByRecursion (λ y. test y ≡ false) ys
+      → filter test (xs ++ ys) ≡ filter test xs
+  filter_front xs ys fail =
+      filter-append test xs ys ∙ ap (λ (zs : List X). filter test xs ++ zs) (none_kept test ys fail)
+      ∙ append-nil (filter test xs)
+
+-- ---- lists without elements that do not pass
+
+module _ {X : Type 0} (stays test : X → Bool) where
+  pub find_among : (xs : List X) → AllByRecursion (λ x. test x ≡ true → stays x ≡ true) xs
+      → find test (filter stays xs) ≡ find test xs
+  find_among [] all = refl
+  find_among (x ∷ xs) all = choose (stays x) (test x) refl refl (find_among xs all.1)
+    where
+      choose : (b c : Bool) → stays x ≡ b → test x ≡ c → find test (filter stays xs) ≡ find test xs
+          → find test (if b then x ∷ filter stays xs else filter stays xs) ≡ (if c then Some x else find test xs)
+      choose true c stay pass rest = rw pass (ap (λ (o : Option X). if c then Some x else o) rest)
+      choose false true gone pass rest = absurd (both_ways (stays x) gone (all.0 pass))
+      choose false false gone pass rest = rest
+
+  pub filter_among : (xs : List X) → AllByRecursion (λ x. test x ≡ true → stays x ≡ true) xs
+      → filter test (filter stays xs) ≡ filter test xs
+  filter_among [] all = refl
+  filter_among (x ∷ xs) all = choose (stays x) (test x) refl refl (filter_among xs all.1)
+    where
+      choose : (b c : Bool) → stays x ≡ b → test x ≡ c → filter test (filter stays xs) ≡ filter test xs
+          → filter test (if b then x ∷ filter stays xs else filter stays xs)
+          ≡ (if c then x ∷ filter test xs else filter test xs)
+      choose true c stay pass rest =
+          rw pass (ap (λ (ys : List X). if c then x ∷ ys else ys) rest)
+      choose false true gone pass rest = absurd (both_ways (stays x) gone (all.0 pass))
+      choose false false gone pass rest = rest
+
+-- ---- items that were looked up
+
+pub in_looked : (at : ItemId → Option Item) (ids : List ItemId) (c : ItemId) (i : Item) → In c ids → at c ≡ Some i
+    → In i (filter_map at ids)
+in_looked at [] c i there is = absurd there
+in_looked at (d ∷ ds) c i (inl same) is =
+    let here : at d ≡ Some i = ap at (sym same) ∙ is in
+    rw here (inl refl)
+in_looked at (d ∷ ds) c i (inr there) is = choose (at d) refl (in_looked at ds c i there is)
+  where
+    choose : (o : Option Item) → at d ≡ o → In i (filter_map at ds) → In i (filter_map at (d ∷ ds))
+    choose None here rest = rw here rest
+    choose (Some j) here rest = rw here (inr rest)
+
+-- an id at which the item was looked up
+abbrev pub LookedUp : (ItemId → Option Item) → List ItemId → Item → Type 0
+LookedUp at ids i = (c : ItemId) × In c ids × (at c ≡ Some i)
+
+pub looked_in : (at : ItemId → Option Item) (ids : List ItemId) (i : Item) → In i (filter_map at ids) → LookedUp at ids i
+looked_in at [] i there = absurd there
+looked_in at (d ∷ ds) i there = choose (at d) refl (looked_in at ds i)
+  where
+    first : (j : Item) → at d ≡ Some j → In i (j ∷ filter_map at ds)
+        → (In i (filter_map at ds) → LookedUp at ds i) → LookedUp at (d ∷ ds) i
+    first j here (inl same) rest = (d, inl refl, here ∙ ap (λ (k : Item). Some k) (sym same))
+    first j here (inr behind) rest = let r = rest behind in (r.0, inr r.1, r.2)
+
+    choose : (o : Option Item) → at d ≡ o → (In i (filter_map at ds) → LookedUp at ds i) → LookedUp at (d ∷ ds) i
+    choose None here rest =
+        let r = rest (rw here at there) in (r.0, inr r.1, r.2)
+    choose (Some j) here rest = first j here (rw here at there) rest
+
+-- as `children_of` has it
+abbrev pub children_in : Option Item → List ItemId
+children_in None = []
+children_in (Some i) = i.children
+
+-- ---- items by their ids
+
+-- each item is found by its id
+abbrev pub AreFound : List Item → Type 0
+AreFound items = AllByRecursion (λ (i : Item). item_at items i.id ≡ Some i) items
+
+pub at_its_id : (items : List Item) (i : Item) → AreFound items → In i items → item_at items i.id ≡ Some i
+at_its_id items i found there = at_in (λ (j : Item). item_at items j.id ≡ Some j) items i found there
+
+-- so items with one id are one
+pub one_item_at : (items : List Item) (id : ItemId) (i : Item) → AreFound items → In i items → i.id.0 ≡ id.0
+    → item_at items id ≡ Some i
+one_item_at items id i found there same =
+    ap (item_at items) (sym (same_item_number i.id id same)) ∙ at_its_id items i found there
+
+-- the parent is there, and has the child
+pub parent_there : (items : List Item) (c p : ItemId) → parent_of items c ≡ Some p
+    → (i : Item) × In i items × (i.id ≡ p) × (has_child c i ≡ true)
+parent_there items c p is = choose (find (has_child c) items) refl is
+  where
+    choose : (o : Option Item) → find (has_child c) items ≡ o → option_map (λ (i : Item). i.id) o ≡ Some p
+        → (i : Item) × In i items × (i.id ≡ p) × (has_child c i ≡ true)
+    choose None found is = absurd (cc)
+    choose (Some i) found is =
+        let r = found_in (has_child c) items i found in
+        (i, r.0, same_Some i.id p is, r.1)
