@@ -1,12 +1,14 @@
 -- The dates of the latest visits of a page, as a walk over its visits has seen them.
 use Rattle.std.proofs.Common.{◌≡◌, ◌≢◌, ◌+◌, ◌≤◌, ◌++◌, ◌∙◌, ℕ, List, [], ◌∷◌, Option, Some, ap, arith, length, map}
-use Rattle.std.proofs.Common.{subst, sym, take}
+use Rattle.std.proofs.Common.{None, refl, subst, sym, take}
+use Rattle.std.specs.List.{slice_get}
 use Rattle.std.proofs.lemmas.List.{length-append, length-map, length-take, map_push, take-append-le, take_all}
 use Rattle.pl_base.specs.declared.date.Day.{Day}
 use Rattle.pl_base.specs.declared.date.Micros.{Micros}
 use Rattle.pl_base.specs.declared.id.PageId.{PageId}
 use Rattle.pl_base.specs.declared.id.VisitId.{VisitId}
 use Rattle.pl_base.specs.Due.{IsDue, IsFirstDay, some_weighs_anew}
+use Rattle.pl_base.specs.Marks.{last_date_of}
 use Rattle.pl_base.specs.Rows.{Kept, page_visits, store_of}
 use Rattle.pl_base.specs.Store.{Store, Visit}
 use Rattle.pl_base.specs.Visits.{latest_first, sample_of, sample_size, visits_of}
@@ -73,3 +75,17 @@ few store page sample is =
       length-map (sample_of store page) (λ (v : Visit). v.date),
       length-take sample_size visits,
     )
+
+-- as `last_date_of` has it
+abbrev first_of : List Visit → Option Micros
+first_of [] = None
+first_of (v ∷ vs) = Some v.date
+
+-- the first of them is that of the latest visit
+pub last_is : (store : Store) (page : PageId) (dates : List Micros) → dates ≡ visit_dates (sample_of store page)
+    → slice_get dates 0 ≡ last_date_of store page
+last_is store page dates is = ap (λ (ds : List Micros). slice_get ds 0) is ∙ choose (latest_first (visits_of store page))
+  where
+    choose : (visits : List Visit) → slice_get (visit_dates (take sample_size visits)) 0 ≡ first_of visits
+    choose [] = refl
+    choose (v ∷ vs) = refl

@@ -1,12 +1,14 @@
 // The dates of the latest visits of a page.
-ghost use Rattle.std.specs.Prelude.{◌≡◌, ◌≤◌, length, map, IfOk};
+ghost use Rattle.std.specs.Prelude.{◌≡◌, map, IfOk};
+ghost use Rattle.std.specs.List.{slice_get};
 ghost use Rattle.pl_base.specs.Due.{IsDue};
+ghost use Rattle.pl_base.specs.Marks.{last_date_of};
 ghost use Rattle.pl_base.specs.Rows.{store_of};
 ghost use Rattle.pl_base.specs.Store.{Visit};
 ghost use Rattle.pl_base.specs.Visits.{sample_of};
 ghost use Rattle.pl_score.specs.Sample.{dates_of};
 
-use pl_base::{Day, NoMemory, PageId, Rows, Steps};
+use pl_base::{Day, Micros, NoMemory, PageId, Rows, Steps};
 use pl_score::{SAMPLE_SIZE, Sampled, next_due};
 use std::alloc::Global;
 use std::sync::ledger::Ledger;
@@ -37,17 +39,37 @@ fn dated_sample<R: Rows, L: Ledger>(
     Ok(sample)
 }
 
-/// The first day after that of the rows on which a visit of the page's sample has another weight.
-/// No redirect is looked for.
-pub fn due_day<R: Rows, L: Ledger>(
+// The date of the first visit of a sample.
+fn first_date(sample: &[Sampled]) -> Option<Micros>
+    ensures { result ≡ slice_get (dates_of sample.now) 0 }
+{
+    let visit = sample.first()?;
+    Some(visit.date)
+}
+
+/// What the view of a page has of the dates of its visits.
+#[derive(Clone, Copy)]
+pub struct Dates {
+    pub last: Option<Micros>,
+    pub due: Option<Day>,
+}
+
+/// The date of the latest visit of a page, and the first day after that of the rows on which a
+/// visit of its sample has another weight. No redirect is looked for.
+pub fn page_dates<R: Rows, L: Ledger>(
     alloc: Global,
     rows: &R,
     page: PageId,
     steps: &mut Steps<L>,
-) -> Result<Option<Day>, NoMemory>
-    ensures { IfOk result (IsDue (store_of (R.kept rows.now)) page) }
+) -> Result<Dates, NoMemory>
+    ensures last { IfOk result (λ dates.
+        dates.last ≡ last_date_of (store_of (R.kept rows.now)) page) }
+    ensures due { IfOk result (λ dates. IsDue (store_of (R.kept rows.now)) page dates.due) }
 {
     let sample = dated_sample(alloc, rows, page, steps)?;
     let day = rows.day(steps);
-    Ok(next_due(&sample, day))
+    Ok(Dates {
+        last: first_date(&sample),
+        due: next_due(&sample, day),
+    })
 }

@@ -6,11 +6,11 @@ ghost use Rattle.pl_base.specs.View.{AreViewsOf, IsViewOf};
 ghost use Rattle.pl_changes.specs.Origins.{AreTold};
 ghost use Rattle.pl_known.specs.Known.{Knows};
 
-use crate::latest::due_day;
+use crate::latest::page_dates;
 use crate::origins::Origins;
 use pl_base::{NoMemory, PageId, Rows, Steps, View};
 use pl_known::Known;
-use pl_marks::{is_bookmarked, last_date, mark_title, tag_text};
+use pl_marks::{is_bookmarked, mark_title, tag_text};
 use std::alloc::Global;
 use std::sync::ledger::Ledger;
 
@@ -40,6 +40,7 @@ fn view<R: Rows, L: Ledger>(
     let mark = rows.page_at(page, steps).unwrap();
     let url = rows.url(page, steps)?;
     let origin = origins.origin(alloc, rows, page, url.as_str(), steps)?;
+    let dates = page_dates(alloc, rows, page, steps)?;
     Ok(View {
         id: page,
         url,
@@ -50,8 +51,8 @@ fn view<R: Rows, L: Ledger>(
         host: origin.host,
         frecency: mark.frecency,
         count: mark.count,
-        last: last_date(rows, page, steps),
-        due: due_day(alloc, rows, page, steps)?,
+        last: dates.last,
+        due: dates.due,
         typed: mark.typed,
         hidden: mark.hidden,
         bookmarked: is_bookmarked(rows, page, steps),

@@ -7,6 +7,7 @@ ghost use Rattle.pl_follow.specs.Changes.{AreInOrder, FitStore, IsChange, Suits,
 ghost use Rattle.pl_known.specs.Changes.{AllSuit, AreEachOnce, after};
 ghost use Rattle.pl_known.specs.Known.{AreFollowed, FollowersStand, view_of};
 
+use crate::told::told;
 use crate::views::{drop_views, find_view, put_views};
 use pl_base::{Change, Day, NoMemory, PageId, View};
 use pl_calendar::Calendar;
@@ -34,19 +35,19 @@ impl Known {
         ensures views { IfOk result (λ known. known.views.items ≡ views.items) }
         ensures followed { IfOk result AreFollowed }
     {
-        let mut known = Known {
-            views: Vec::new(alloc),
-            urls: UrlIndex::new(alloc),
-            order: OrderIndex::new(alloc),
-            texts: FoldedTexts::new(alloc),
-            calendar: Calendar::new(alloc, day),
-            totals: Totals::new(alloc),
-        };
-        for view in &views {
-            known.tell(alloc, None, Some(view))?;
-        }
-        known.views = views;
-        Ok(known)
+        let urls = told(alloc, UrlIndex::new(alloc), &views)?;
+        let order = told(alloc, OrderIndex::new(alloc), &views)?;
+        let texts = told(alloc, FoldedTexts::new(alloc), &views)?;
+        let calendar = told(alloc, Calendar::new(alloc, day), &views)?;
+        let totals = told(alloc, Totals::new(alloc), &views)?;
+        Ok(Known {
+            views,
+            urls,
+            order,
+            texts,
+            calendar,
+            totals,
+        })
     }
 
     // Each follower is told of a change.

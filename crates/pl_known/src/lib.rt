@@ -2,6 +2,7 @@
 #![tactic(auto)]
 
 mod known;
+mod told;
 mod views;
 
 pub use known::Known;
