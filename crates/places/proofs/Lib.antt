@@ -10,6 +10,7 @@ mod ImportLemmas
 mod LineLemmas
 mod LongLines
 mod OpeningLemmas
+mod PieceLemmas
 pub mod ProgressLemmas
 mod RefusalLemmas
 mod SaidLemmas

@@ -54,22 +54,13 @@ impl ScriptRun {
     {
         let mut run = self;
         for &byte in piece {
-            run = run.take(byte, desk)?;
+            if byte == b'\n' {
+                run = run.end_line(desk)?;
+            } else {
+                run.keep(byte)?;
+            }
         }
         Ok(run)
-    }
-
-    fn take<D: Desk>(self, byte: u8, desk: &mut D) -> Result<ScriptRun, AnswerError>
-        ensures takes { Takes D.Desk self (byte ∷ []) result desk.old desk.new }
-        ensures serves { Serves D.Desk self.keeper (λ run. run.keeper) result desk.old desk.new }
-        ensures counted { CountsFaults D.Desk (result ≡ Err AnswerError.SayFault)
-            (result ≡ Err AnswerError.DeviceFault) desk.old desk.new }
-    {
-        if byte == b'\n' {
-            self.end_line(desk)
-        } else {
-            Ok(self.keep(byte)?)
-        }
     }
 
     // The line has ended with LF.
@@ -93,19 +84,19 @@ impl ScriptRun {
         })
     }
 
-    // The line goes on with this byte.
-    fn keep(mut self, byte: u8) -> Result<ScriptRun, NoMemory>
+    // The line goes on with this byte. The run stays in place, as moving it takes far longer.
+    fn keep(&mut self, byte: u8) -> Result<(), NoMemory>
         requires { byte ≢ 10 }
-        ensures ok { IfOk result (λ run. (start : Store) (bytes : List ℕ)
-            (begun said : Option (List ℕ))
-            → IsAt start bytes begun self said → IsAt start (bytes ++ byte ∷ []) begun run said) }
-        ensures keeper { IfOk result (λ run. run.keeper ≡ self.keeper) }
+        ensures ok { OnOk result ((start : Store) (bytes : List ℕ) (begun said : Option (List ℕ))
+            → IsAt start bytes begun self.old said
+            → IsAt start (bytes ++ byte ∷ []) begun self.new said) }
+        ensures keeper { self.new.keeper ≡ self.old.keeper }
     {
         if self.line.len() >= KEPT {
-            return Ok(self);
+            return Ok(());
         }
         self.line.push(byte)?;
-        Ok(self)
+        Ok(())
     }
 
     /// The input has ended: the line that has not ended with LF ends too.
