@@ -1,8 +1,8 @@
 use Rattle.std.proofs.Common.{ℕ, List, bytes_eq, length}
 use Rattle.pl_base.proofs.PagesRun.{following, page_names}
 use Rattle.pl_base.proofs.Walk.{Walk, left}
-use Rattle.pl_history.proofs.SearchedPages.{NonePasses}
-use Rattle.pl_history.proofs.find.find_page.Given as goal
+use Rattle.trials_trees.proofs.SearchedPages.{NonePasses}
+use Rattle.trials_trees.proofs.target.find_page.Given as goal
 
 abbrev pub invariant-loop-next : goal.invariant-loop-next
 invariant-loop-next g l =
