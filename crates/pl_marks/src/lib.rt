@@ -6,16 +6,16 @@ mod bookmarks;
 mod dates;
 mod figures;
 mod mark;
-mod page_view;
 mod tags;
 mod totals;
 mod url_parts;
+mod views;
 
 pub use bookmarks::mark_title;
 pub use dates::last_date;
 pub use figures::{Figures, page_figures};
 pub use mark::{computed_mark, is_referenced, refresh, unvisited_mark, visited_mark};
-pub use page_view::page_view;
 pub use tags::{is_bookmarked, is_tagged, page_tags, tag_folder, tag_text};
 pub use totals::keep_mark;
 pub use url_parts::{canon_of, parts_of};
+pub use views::page_view;
