@@ -27,7 +27,6 @@ use Rattle.pl_base.proofs.Walk.{StandsAt}
 use Rattle.pl_link.proofs.OriginParts.{origin_by_parts}
 use Rattle.pl_link.specs.declared.parts.Parts.{Parts}
 use Rattle.pl_marks.specs.UrlParts.{HasParts}
-use Rattle.pl_history.proofs.SearchedPages.{none_found}
 use Rattle.pl_graft.specs.KnownPages.{IsOriginPage, KnowsPages, is_key, kept_page}
 use Rattle.pl_graft.specs.contracts.pages.OriginOrd.TheImpl.{cmp-value}
 use Rattle.pl_graft.specs.declared.pages.Origin.{Origin}
@@ -232,6 +231,11 @@ apart (q ∷ front) p rest pairs =
           ((bytes_eq-Decides q.page.url p.page.url).0 same)),
       apart front p rest (λ i j d before within. pairs (suc i) (suc j) d (omega arith) (omega arith)),
     )
+
+none_found : (test : List ℕ → Bool) (ps : List KeptPage) → AllByRecursion (λ (p : KeptPage). test p.page.url ≡ false) ps
+    → find (λ (p : Page). test p.url) (map (λ (p : KeptPage). p.page) ps) ≡ None
+none_found test [] failed = refl
+none_found test (p ∷ ps) failed = rw failed.0 (none_found test ps failed.1)
 
 -- no page in front of a page of the rows has its URL
 pub not_in_front : (kept : Kept) (front : List KeptPage) (p : KeptPage) (rest : List KeptPage) → IsWellKept kept

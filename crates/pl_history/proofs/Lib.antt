@@ -21,7 +21,6 @@ pub mod RemovedVisits
 pub mod RightAfter
 pub mod RightRemoved
 pub mod SameVisits
-pub mod SearchedPages
 pub mod Settled
 pub mod SourcePage
 pub mod StaleOrder

@@ -1,17 +1,13 @@
-// The page with a URL, and where a visit goes: to that page, or else to the origin of the URL.
-ghost use Rattle.std.specs.Prelude.{◌≡◌, ◌&&◌, ℕ, List, Some, true, bytes_eq, IfOk, IfSome};
+// Where a visit goes: to the page with its URL, or else to the origin of the URL; and whether a page
+// is a query.
+ghost use Rattle.std.specs.Prelude.{◌≡◌, Some, true, IfOk, IfSome};
 ghost use Rattle.std.specs.Option.{option_map};
-ghost use Rattle.pl_base.specs.Address as address;
 ghost use Rattle.pl_base.specs.Address.{is_place_url};
-ghost use Rattle.pl_base.specs.Rows.{IsOriginOf, Kept, has_page, store_of, url_of};
-ghost use Rattle.pl_base.specs.Store.{Page};
-ghost use Rattle.pl_base.specs.Visiting as spec;
+ghost use Rattle.pl_base.specs.Rows.{Kept, has_page, url_of};
 ghost use Rattle.pl_history.specs.Addresses.{HasAddress, HaveAddresses};
-ghost use Rattle.pl_history.specs.Target.{IsTargetOf, is_new};
-ghost use Rattle.pl_marks.specs.UrlParts.{HasParts};
+ghost use Rattle.pl_history.specs.Target.{is_new};
 
 use pl_base::{NoMemory, PageId, Rows, Slot, Steps, View};
-use pl_link::{Canon, Parts};
 use pl_marks::parts_of;
 use std::alloc::Global;
 use std::sync::ledger::Ledger;
@@ -29,40 +25,6 @@ impl Target {
     {
         matches!(self, Target::New(_))
     }
-}
-
-fn has_url<R: Rows, L: Ledger>(
-    rows: &R,
-    page: PageId,
-    url: &str,
-    steps: &mut Steps<L>,
-) -> Result<bool, NoMemory>
-    requires { has_page (R.kept rows.now) page ≡ true }
-    ensures { IfOk result (λ has. Some has
-        ≡ option_map (λ (text : List ℕ). bytes_eq text url.now) (url_of (R.kept rows.now) page)) }
-{
-    let text = rows.url(page, steps)?;
-    Ok(text.as_str() == url)
-}
-
-/// The page with the URL.
-pub fn find_page<R: Rows, L: Ledger>(
-    rows: &R,
-    url: &str,
-    steps: &mut Steps<L>,
-) -> Result<Option<PageId>, NoMemory>
-    ensures { IfOk result (λ page. page
-        ≡ option_map (λ (p : Page). p.id)
-        (spec.find_page url.now (store_of (R.kept rows.now)).pages)) }
-{
-    let mut next = rows.page_after(None, steps);
-    while let Some(page) = next {
-        if has_url(rows, page, url, steps)? {
-            return Ok(Some(page));
-        }
-        next = rows.page_after(Some(page), steps);
-    }
-    Ok(None)
 }
 
 // Whether the prefix is that of a query.
@@ -109,66 +71,4 @@ pub fn is_place<R: Rows, L: Ledger>(
     let text = rows.url(page, steps)?;
     let parts = parts_of(alloc, text.as_str())?;
     Ok(parts.is_place)
-}
-
-fn have_same_origin(parts: &Parts, other: &Parts) -> bool
-    ensures { result
-        ≡ (bytes_eq parts.now.prefix other.now.prefix && bytes_eq parts.now.host other.now.host) }
-{
-    parts.prefix.as_str() == other.prefix.as_str() && parts.host.as_str() == other.host.as_str()
-}
-
-// Whether the page's URL has the same origin as one with these parts.
-fn has_origin<R: Rows, L: Ledger>(
-    alloc: Global,
-    rows: &R,
-    page: PageId,
-    parts: &Parts,
-    steps: &mut Steps<L>,
-) -> Result<bool, NoMemory>
-    requires { has_page (R.kept rows.now) page ≡ true }
-    ensures { IfOk result (λ has. (url : List ℕ) → HasParts url parts.now
-        → Some has ≡ option_map (λ (text : List ℕ). address.same_origin text url)
-        (url_of (R.kept rows.now) page)) }
-{
-    let text = rows.url(page, steps)?;
-    let own = parts_of(alloc, text.as_str())?;
-    Ok(have_same_origin(&own, parts))
-}
-
-// The origin of a URL with these parts, if a page has it.
-fn find_origin<R: Rows, L: Ledger>(
-    alloc: Global,
-    rows: &R,
-    parts: &Parts,
-    steps: &mut Steps<L>,
-) -> Result<Option<Slot>, NoMemory>
-    ensures { IfOk result (λ origin. (url : List ℕ) → HasParts url parts.now
-        → IsOriginOf (R.kept rows.now) url origin) }
-{
-    let mut next = rows.page_after(None, steps);
-    while let Some(page) = next {
-        if has_origin(alloc, rows, page, parts, steps)? {
-            return Ok(Some(rows.origin_of(page, steps)));
-        }
-        next = rows.page_after(Some(page), steps);
-    }
-    Ok(None)
-}
-
-/// Where a visit to the URL with these parts goes.
-pub fn find_target<R: Rows, L: Ledger>(
-    alloc: Global,
-    rows: &R,
-    url: &Canon,
-    parts: &Parts,
-    steps: &mut Steps<L>,
-) -> Result<Target, NoMemory>
-    requires { HasParts url.now parts.now }
-    ensures { IfOk result (IsTargetOf (R.kept rows.now) url.now) }
-{
-    if let Some(page) = find_page(rows, url.text(), steps)? {
-        return Ok(Target::Known(page));
-    }
-    Ok(Target::New(find_origin(alloc, rows, parts, steps)?))
 }

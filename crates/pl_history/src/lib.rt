@@ -1,4 +1,4 @@
-//! History, changed over any rows: pages are found by their URLs or made, visits are added, and
+//! History, changed over any rows: pages are made for URLs, visits are added, and
 //! go one by one or because they are old, pages get bookmarks and tags, pages go that nothing
 //! keeps any longer, and the day goes on. What is computed of each page that a change bears on is
 //! right behind it, and visits that come or go tell which pages these are.
@@ -18,7 +18,7 @@ mod visiting;
 pub use bookmarks::add_bookmark;
 pub use days::set_day;
 pub use expiration::{expire, forget};
-pub use find::{Target, find_page, find_target, is_place};
+pub use find::{Target, is_place};
 pub use removal::{Removal, Removed, put_in_order, remove_visits};
 pub use settle::settle_all;
 pub use slots::slots_after;

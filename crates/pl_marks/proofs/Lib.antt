@@ -12,4 +12,3 @@ pub mod TagEntries
 pub mod TagNames
 pub mod TagTree
 mod TaggedPage
-pub mod ViewsSoFar

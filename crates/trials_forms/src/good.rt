@@ -9,11 +9,11 @@ use crate::{Address, Answer, Words, kept};
 use pl_base::{
     Day, Ids, LONGEST_TITLE, Mark, Micros, PageId, Rows, Steps, VisitId, VisitRow, chunks,
 };
-use pl_history::find_target;
 use pl_link::split;
 use std::alloc::Global;
 use std::sync::ledger::Ledger;
 use std::test::Fail;
+use trials_trees::find_target;
 
 /// Rows whose items are those of a good store, so that calls on the bookmark tree may follow.
 #[derive(Drop)]

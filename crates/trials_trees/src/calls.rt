@@ -6,8 +6,9 @@ ghost use Rattle.pl_base.specs.Rows as spec;
 ghost use Rattle.pl_base.specs.Rows.{store_of};
 ghost use Rattle.pl_history.specs.Target.{IsTargetOf};
 
+use crate::target::find_target;
 use pl_base::{Ids, Micros, NoMemory, PageId, Rows, SLOT_LIMIT, Steps, VisitId, VisitRow, chunks};
-use pl_history::{Target, find_target, page_for};
+use pl_history::{Target, page_for};
 use pl_link::{Canon, split};
 use std::alloc::Global;
 use std::sync::ledger::Ledger;

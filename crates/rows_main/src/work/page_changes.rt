@@ -6,11 +6,12 @@ use crate::fault::Fault;
 use crate::known::{known_page, with_room};
 use crate::sum::Sum;
 use pl_base::{Ids, Rows, Steps, chunks};
-use pl_history::{Target, find_target};
+use pl_history::Target;
 use pl_link::{Canon, split};
 use std::alloc::Global;
 use std::sync::ledger::Ledger;
 use trials_forms::is_idle;
+use trials_trees::find_target;
 
 // No page has it, and none has its origin.
 const URL: &str = "https://a-host-that-no-page-has.example/a-page";

@@ -1,9 +1,10 @@
-// A folder that is 5,000 deep, and one with 5,000 children.
+// A folder that is 5,000 deep, and two with 5,000 children.
 ghost use Rattle.std.specs.Prelude.{IfOk};
 ghost use Rattle.pl_step.specs.Commands.{HasDates};
 
 use crate::told::talked;
 use pl_base::{ItemId, Micros, Txt};
+use pl_link::Canon;
 use pl_nbread::{FILE_LIMIT, read};
 use pl_step::{Command, Reply};
 use pl_store::SLOT_LIMIT;
@@ -64,6 +65,37 @@ fn deep(rt: &impl Abort, alloc: Global) -> Result<Memory, Fail> {
     Ok(memory)
 }
 
+// A bookmark of a page of its own, in front of the others in folder 7.
+fn bookmark(alloc: Global, id: u32) -> Result<Command, Fail>
+    ensures { IfOk result HasDates }
+{
+    let text = format!(in alloc; "https://a.example/{id}")?;
+    let url = Canon::read(alloc, text.as_str())?;
+    let title = Txt::copied(alloc, "A")?;
+    Ok(Command::Bookmark {
+        parent: ItemId(7),
+        place: Place::Number(0),
+        url,
+        title,
+        date: Micros(0),
+    })
+}
+
+fn with_bookmark(rt: &impl Abort, alloc: Global, memory: Memory, id: u32) -> Result<Memory, Fail> {
+    let command = bookmark(alloc, id)?;
+    with_item(rt, memory, command, id)
+}
+
+// Folder 7 holds the other items.
+fn wide(rt: &impl Abort, alloc: Global) -> Result<Memory, Fail> {
+    let memory = Memory::opening(alloc, SLOT_LIMIT)?;
+    let mut memory = with_folder(rt, alloc, memory, 2, 7)?;
+    for id in 8..=LAST {
+        memory = with_bookmark(rt, alloc, memory, id)?;
+    }
+    Ok(memory)
+}
+
 // A bookmark file with a folder that holds the other items, all of which have one page.
 fn file(alloc: Global) -> Result<String, Fail> {
     let head = "<!DOCTYPE NETSCAPE-Bookmark-file-1>\n<DL><p>\n<DT><H3>F</H3>\n<DL><p>\n";
@@ -97,9 +129,8 @@ fn is_imported(reply: Reply) -> bool {
     is_imported
 }
 
-// Folder 7 holds bookmarks of one page. They come by one import, since each command on an item makes
-// anew what is known of its page, for which vectors are gone over for each item that has it.
-fn wide(rt: &impl Abort, alloc: Global) -> Result<Memory, Fail> {
+// The same by one import, and the bookmarks are of one page.
+fn wide_of_one_page(rt: &impl Abort, alloc: Global) -> Result<Memory, Fail> {
     let memory = Memory::opening(alloc, SLOT_LIMIT)?;
     let (memory, reply) = stepped(memory, import(alloc)?)?;
     assert!(rt; is_imported(reply));
@@ -125,6 +156,24 @@ fn removes_a_deep_folder(rt: HostRuntime) -> Result<(), Fail> {
 
 const WIDE: &[(&[u8], &str)] = &[
     (
+        b"page\thttps://a.example/5006",
+        "page\t4999\t140\t0\t-\t0\t0\t1\thttps://a.example/5006\t\t\n",
+    ),
+    (b"remove\t7", "ok\n"),
+    (b"list\t5006", "refused\t5\t5006\n"),
+    (b"page\thttps://a.example/5006", "refused\t4\n"),
+    (b"list\t2", "rows\t0\n"),
+];
+
+#[test]
+fn removes_a_wide_folder(rt: HostRuntime) -> Result<(), Fail> {
+    let memory = wide(&rt, rt.alloc())?;
+    let _ = talked(&rt, rt.alloc(), memory, WIDE)?;
+    Ok(())
+}
+
+const OF_ONE_PAGE: &[(&[u8], &str)] = &[
+    (
         b"page\thttps://a.example/",
         "page\t1\t140\t0\t-\t0\t0\t1\thttps://a.example/\t\t\n",
     ),
@@ -135,8 +184,8 @@ const WIDE: &[(&[u8], &str)] = &[
 ];
 
 #[test]
-fn removes_a_wide_folder(rt: HostRuntime) -> Result<(), Fail> {
-    let memory = wide(&rt, rt.alloc())?;
-    let _ = talked(&rt, rt.alloc(), memory, WIDE)?;
+fn removes_the_items_of_one_page(rt: HostRuntime) -> Result<(), Fail> {
+    let memory = wide_of_one_page(&rt, rt.alloc())?;
+    let _ = talked(&rt, rt.alloc(), memory, OF_ONE_PAGE)?;
     Ok(())
 }

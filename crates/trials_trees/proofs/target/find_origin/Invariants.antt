@@ -3,8 +3,8 @@ use Rattle.pl_base.specs.Address.{same_origin}
 use Rattle.pl_base.proofs.PagesRun.{following, page_names}
 use Rattle.pl_base.proofs.Walk.{Walk, left}
 use Rattle.pl_marks.specs.UrlParts.{HasParts}
-use Rattle.pl_history.proofs.SearchedPages.{NonePasses}
-use Rattle.pl_history.proofs.find.find_origin.Given as goal
+use Rattle.trials_trees.proofs.SearchedPages.{NonePasses}
+use Rattle.trials_trees.proofs.target.find_origin.Given as goal
 
 abbrev pub invariant-loop-next : goal.invariant-loop-next
 invariant-loop-next g l =

@@ -12,7 +12,7 @@ use Rattle.pl_base.proofs.LookUps.{found_passes}
 use Rattle.pl_link.proofs.OriginParts.{origin_by_parts}
 use Rattle.pl_marks.specs.Figures.{AreFiguresOf}
 use Rattle.pl_marks.proofs.KeptUrls.{url-of_store}
-use Rattle.pl_marks.proofs.page_views.page_view.Goals as goal
+use Rattle.pl_marks.proofs.views.page_view.Goals as goal
 
 pub parts_of-requires : goal.parts_of-requires
 parts_of-requires g c =

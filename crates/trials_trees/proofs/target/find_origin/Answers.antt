@@ -4,8 +4,8 @@ use Rattle.pl_base.specs.Address.{same_origin}
 use Rattle.pl_base.specs.Rows.{Kept, KeptPage}
 use Rattle.pl_base.proofs.PagesRun.{first_behind, following, has_page_here, page_names, pages_run}
 use Rattle.pl_base.proofs.Walk.{ends, goes_on, nears, stands, starts}
-use Rattle.pl_history.proofs.SearchedPages.{NonePasses, origin_found, search_goes_on}
-use Rattle.pl_history.proofs.find.find_origin.Goals as goal
+use Rattle.trials_trees.proofs.SearchedPages.{NonePasses, origin_found, search_goes_on}
+use Rattle.trials_trees.proofs.target.find_origin.Goals as goal
 
 pub loop-next-init : goal.loop-next-init
 loop-next-init g c =

@@ -1,8 +1,8 @@
 use Rattle.std.proofs.Common.{Some, ap, ◌∙◌, ℕ, List}
 use Rattle.pl_base.specs.Rows.{url_of}
 use Rattle.pl_marks.proofs.KeptUrls.{url-of_store}
-use Rattle.pl_history.proofs.OriginParts.{same_origin-by_parts}
-use Rattle.pl_history.proofs.find.has_origin.Goals as goal
+use Rattle.trials_trees.proofs.SameOrigin.{same_origin-by_parts}
+use Rattle.trials_trees.proofs.target.has_origin.Goals as goal
 
 pub parts_of-requires : goal.parts_of-requires
 parts_of-requires g c =

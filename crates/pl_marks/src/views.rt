@@ -1,8 +1,8 @@
-// The views of pages.
+// The view of a page.
 ghost use Rattle.std.specs.Prelude.{◌≡◌, Some, true, IfOk};
 ghost use Rattle.pl_base.specs.Good.{IsGood};
 ghost use Rattle.pl_base.specs.Rows.{IsRight, KeptPage, has_page, page_at, store_of};
-ghost use Rattle.pl_base.specs.View.{AreViewsOf, IsViewOf};
+ghost use Rattle.pl_base.specs.View.{IsViewOf};
 
 use crate::bookmarks::mark_title;
 use crate::figures::page_figures;
@@ -47,23 +47,4 @@ pub fn page_view<R: Rows, L: Ledger>(
         bookmarked: is_bookmarked(rows, page, steps),
         referenced,
     })
-}
-
-/// The view of each page, by ascending id.
-pub fn views<R: Rows, L: Ledger>(
-    alloc: Global,
-    rows: &R,
-    steps: &mut Steps<L>,
-) -> Result<Vec<View>, NoMemory>
-    requires good { IsGood (store_of (R.kept rows.now)) }
-    requires right { IsRight (R.kept rows.now) }
-    ensures { IfOk result (λ views. AreViewsOf (store_of (R.kept rows.now)) views.items) }
-{
-    let mut views = Vec::new(alloc);
-    let mut next = rows.page_after(None, steps);
-    while let Some(page) = next {
-        views.push(page_view(alloc, rows, page, steps)?)?;
-        next = rows.page_after(Some(page), steps);
-    }
-    Ok(views)
 }

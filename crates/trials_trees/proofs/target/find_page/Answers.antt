@@ -4,8 +4,8 @@ use Rattle.pl_base.specs.Rows.{Kept}
 use Rattle.pl_base.specs.Store.{Page}
 use Rattle.pl_base.proofs.PagesRun.{first_behind, following, page_names, pages_run}
 use Rattle.pl_base.proofs.Walk.{ends, nears, stands, starts}
-use Rattle.pl_history.proofs.SearchedPages.{NonePasses, found_here, none_found, search_goes_on}
-use Rattle.pl_history.proofs.find.find_page.Goals as goal
+use Rattle.trials_trees.proofs.SearchedPages.{NonePasses, found_here, none_found, search_goes_on}
+use Rattle.trials_trees.proofs.target.find_page.Goals as goal
 
 pub loop-next-init : goal.loop-next-init
 loop-next-init g c =
