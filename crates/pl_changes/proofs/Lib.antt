@@ -14,3 +14,4 @@ pub mod Seen
 pub mod SmallShares
 pub mod Steps
 pub mod StoreViews
+pub mod ViewsSoFar

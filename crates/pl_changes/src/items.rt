@@ -10,10 +10,9 @@ ghost use Rattle.pl_known.specs.Changes.{LeadTo};
 ghost use Rattle.pl_known.specs.Known.{AreFollowed, view_of};
 
 use crate::one_page::{add, arrived, gone};
-use crate::opening::is_referenced;
 use pl_base::{Change, NoMemory, PageId, Rows, Steps, Txt, View};
 use pl_known::Known;
-use pl_marks::{is_bookmarked, mark_title, page_figures, tag_text};
+use pl_marks::{is_bookmarked, is_referenced, mark_title, page_figures, tag_text};
 use std::alloc::Global;
 use std::sync::ledger::Ledger;
 

@@ -1,6 +1,5 @@
 // What the rows of a store that is opened tell of its pages.
 ghost use Rattle.std.specs.Prelude.{◌≡◌, Some, true, IfOk, OnOk};
-ghost use Rattle.pl_base.specs.Marks as marks;
 ghost use Rattle.pl_base.specs.Rows.{IsSound, KeptPage, has_page, page_at, store_of};
 ghost use Rattle.pl_base.specs.View.{AreViewsOf, IsViewOf};
 ghost use Rattle.pl_changes.specs.Origins.{AreTold};
@@ -10,16 +9,9 @@ use crate::latest::page_dates;
 use crate::origins::Origins;
 use pl_base::{NoMemory, PageId, Rows, Steps, View};
 use pl_known::Known;
-use pl_marks::{is_bookmarked, mark_title, tag_text};
+use pl_marks::{is_bookmarked, is_referenced, mark_title, tag_text};
 use std::alloc::Global;
 use std::sync::ledger::Ledger;
-
-/// Whether an item of the bookmark tree has the page.
-pub fn is_referenced<R: Rows, L: Ledger>(rows: &R, page: PageId, steps: &mut Steps<L>) -> bool
-    ensures { result ≡ marks.is_referenced (store_of (R.kept rows.now)) page }
-{
-    rows.first_reference(page, steps).is_some()
-}
 
 // The view of a page, as `page_view` makes it, but that its URL is parsed only where none of its
 // origin was.

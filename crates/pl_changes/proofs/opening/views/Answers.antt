@@ -3,7 +3,7 @@ use Rattle.pl_base.specs.declared.view.View.{View}
 use Rattle.pl_base.specs.Rows.{Kept, store_of}
 use Rattle.pl_base.proofs.PagesRun.{first_behind, following, found_at, has_page_here, page_names, pages_run}
 use Rattle.pl_base.proofs.Walk.{StandsAt, ends, goes_on, nears, stands, starts}
-use Rattle.pl_marks.proofs.ViewsSoFar.{HasViews, one_more}
+use Rattle.pl_changes.proofs.ViewsSoFar.{HasViews, one_more}
 use Rattle.pl_changes.proofs.opening.views.Goals as goal
 
 pub loop-next-init : goal.loop-next-init

@@ -2,7 +2,7 @@ use Rattle.std.proofs.Common.{length}
 use Rattle.pl_base.specs.Rows.{store_of}
 use Rattle.pl_base.proofs.PagesRun.{following, page_names}
 use Rattle.pl_base.proofs.Walk.{Walk, left}
-use Rattle.pl_marks.proofs.ViewsSoFar.{HasViews}
+use Rattle.pl_changes.proofs.ViewsSoFar.{HasViews}
 use Rattle.pl_changes.specs.Origins.{AreTold}
 use Rattle.pl_changes.proofs.opening.views.Given as goal
 
