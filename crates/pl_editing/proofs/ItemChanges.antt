@@ -1,21 +1,18 @@
 -- The pages that a command on items bore on, and the store that it came from.
-use Rattle.std.proofs.Common.{◌≡◌, ◌∙◌, ℕ, Bool, true, List, [], ◌∷◌, Option, Some, None, ap, eq-eqb, option_to_list, refl}
-use Rattle.std.proofs.Common.{subst, sym}
+use Rattle.std.proofs.Common.{◌≡◌, ◌∙◌, ℕ, true, List, [], ◌∷◌, Option, Some, None, ap, eq-eqb, option_to_list, refl}
 use Rattle.std.specs.Prelude.{◌==◌, IfSome}
 use Rattle.std.specs.List.{list_any}
 use Rattle.pl_base.specs.declared.date.Micros.{Micros}
-use Rattle.pl_base.specs.declared.id.Ids.{Ids}
 use Rattle.pl_base.specs.declared.id.ItemId.{ItemId}
 use Rattle.pl_base.specs.declared.id.PageId.{PageId}
 use Rattle.pl_base.specs.declared.item.ItemKind.{ItemKind}
 use Rattle.pl_base.specs.Good.{HasGoodItems}
 use Rattle.pl_base.specs.Removal.{without_idle_pages}
 use Rattle.pl_base.specs.Rows.{IsSound, IsWellKept, Kept, store_of, with_items}
-use Rattle.pl_base.specs.Store.{Item, Store}
+use Rattle.pl_base.specs.Store.{Store}
 use Rattle.pl_base.specs.Tree.{retitled}
 use Rattle.pl_base.proofs.ListLaws.{list_any-alike}
 use Rattle.pl_marks.specs.Alike.{DifferOnlyOn, is_one_of}
-use Rattle.pl_tree.specs.declared.new_item.NewItem.{NewItem}
 use Rattle.pl_tree.specs.declared.place.Place.{Place}
 use Rattle.pl_tree.specs.declared.tree_change.TreeChange.TheVariants.{Move, Remove, Retitle}
 use Rattle.pl_tree.specs.Changes.{loses_item, with_inserted, with_moved, with_removed}
@@ -28,7 +25,6 @@ use Rattle.pl_history.proofs.ItemMarks.{reference_moved, sound_alike}
 use Rattle.pl_known.specs.declared.known.Known.{Known}
 use Rattle.pl_known.specs.Known.{Knows}
 use Rattle.pl_changes.specs.CameFrom.{CameByItems}
-use Rattle.pl_bearing.specs.References.{AreReferencesAlike}
 use Rattle.pl_bearing.proofs.DifferByPage.{differ_in_items, differ_once_settled, differ_with_page}
 use Rattle.pl_bearing.proofs.MovedReferences.{moved_alike, retitled_alike}
 use Rattle.pl_bearing.proofs.NewReferences.{inserted_alike}

@@ -131,6 +131,9 @@ fn expect_all_followed<R: Rows + Drop, L: Ledger>(
     rows: R,
     blank: Blank,
 ) -> Result<(), Fail>
+    requires sound { IsSound (R.kept rows) }
+    requires name { blank.name ≡ L.name }
+    requires parts { blank.parts ≡ L.parts }
     requires some { 0 < blank.parts }
 {
     let mut steps = Steps::<L>::none(blank);
