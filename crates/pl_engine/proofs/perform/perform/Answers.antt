@@ -5,12 +5,16 @@ use Rattle.pl_base.specs.Rows.{store_of}
 use Rattle.pl_base.specs.Totals.{scored_pages}
 use Rattle.pl_base.specs.Visiting.{find_page}
 use Rattle.pl_bar.specs.Filled.{filled}
-use Rattle.pl_step.specs.declared.command.Command.TheVariants.{Fill as FillCommand}
+use Rattle.pl_place.specs.Canonical.{canonical}
+use Rattle.pl_step.specs.declared.command.Command.TheVariants.{Bar as BarCommand, Fill as FillCommand}
 use Rattle.pl_step.specs.declared.command.Command.TheVariants.{List as ListCommand, Origin as OriginCommand}
-use Rattle.pl_step.specs.declared.command.Command.TheVariants.{Page as PageCommand}
+use Rattle.pl_step.specs.declared.command.Command.TheVariants.{Page as PageCommand, Place as PlaceCommand}
+use Rattle.pl_step.specs.declared.command.Command.TheVariants.{Query as QueryCommand, Stats as StatsCommand}
+use Rattle.pl_step.specs.declared.reply.Reply.TheVariants.{Place as PlaceReply}
 use Rattle.pl_step.specs.declared.step_error.StepError.{StepError}
 use Rattle.pl_step.specs.Refused.{is_refused}
-use Rattle.pl_step.specs.Step.{group_reply, list_reply, perform, told_origin, told_page}
+use Rattle.pl_step.specs.Step.{bar_reply, group_reply, list_reply, perform, query_reply, stats_reply, told_origin}
+use Rattle.pl_step.specs.Step.{told_page}
 use Rattle.pl_tree.specs.Refused.{folder_refusal}
 use Rattle.pl_engine.proofs.Reading.{group_said, is_refusal, is_said, store_stays}
 use Rattle.pl_engine.proofs.perform.perform.Goals as goal
@@ -49,10 +53,10 @@ pub returns-in-Separator-clause-performs : goal.returns-in-Separator-clause-perf
 returns-in-Separator-clause-performs g c = rw c.in-Separator.is c.separator.ensures.performs
 
 pub returns-in-Move-clause-performs : goal.returns-in-Move-clause-performs
-returns-in-Move-clause-performs g c = rw c.in-Move.is (c.move_item.ensures.performs c.args.limit c.args.known.now)
+returns-in-Move-clause-performs g c = rw c.in-Move.is (c.move_item.ensures.performs c.args.limit)
 
 pub returns-in-Retitle-clause-performs : goal.returns-in-Retitle-clause-performs
-returns-in-Retitle-clause-performs g c = rw c.in-Retitle.is (c.retitle.ensures.performs c.args.known.now)
+returns-in-Retitle-clause-performs g c = rw c.in-Retitle.is c.retitle.ensures.performs
 
 pub returns-in-Remove-clause-performs : goal.returns-in-Remove-clause-performs
 returns-in-Remove-clause-performs g c = rw c.in-Remove.is (c.remove.ensures.performs c.args.limit)
@@ -138,4 +142,44 @@ returns-in_ok-fill-in-Fill-clause-performs g c =
       ap is_refused (c.in_ok-fill-in-Fill.ensures (store_of (g.R.Rows.kept c.args.rows.now)) c.requires.knows)
           ∙ group_said (filled (scored_pages (store_of (g.R.Rows.kept c.args.rows.now))) c.in-Fill.text),
     )
+    refl)
+
+pub returns-in-Stats-clause-performs : goal.returns-in-Stats-clause-performs
+returns-in-Stats-clause-performs g c =
+    rw c.in-Stats.is
+    (is_said g.R.Rows.kept g.R.Rows.base c.args.rows.now c.args.known.now
+    (stats_reply (store_of (g.R.Rows.kept c.args.rows.now)))
+    (perform c.args.limit (store_of (g.R.Rows.kept c.args.rows.now)) StatsCommand)
+    c.stats.result c.told-in-Stats.result c.requires.sound c.requires.knows c.told-in-Stats.ensures.reply c.told-in-Stats.ensures.leads
+    (c.stats.ensures, ap is_refused c.stats.ensures)
+    refl)
+
+pub returns-in_ok-query-in-Query-clause-performs : goal.returns-in_ok-query-in-Query-clause-performs
+returns-in_ok-query-in-Query-clause-performs g c =
+    rw c.in-Query.is
+    (is_said g.R.Rows.kept g.R.Rows.base c.args.rows.now c.args.known.now
+    (query_reply (store_of (g.R.Rows.kept c.args.rows.now)) c.in-Query.asked)
+    (perform c.args.limit (store_of (g.R.Rows.kept c.args.rows.now)) (QueryCommand c.in-Query.asked))
+    c.in_ok-query-in-Query.field-0 c.told-in-Query.result c.requires.sound c.requires.knows c.told-in-Query.ensures.reply c.told-in-Query.ensures.leads
+    (c.in_ok-query-in-Query.ensures, ap is_refused c.in_ok-query-in-Query.ensures)
+    refl)
+
+pub returns-in_ok-place-in-Place-clause-performs : goal.returns-in_ok-place-in-Place-clause-performs
+returns-in_ok-place-in-Place-clause-performs g c =
+    rw c.in-Place.is
+    (is_said g.R.Rows.kept g.R.Rows.base c.args.rows.now c.args.known.now
+    (PlaceReply (canonical c.in-Place.query))
+    (perform c.args.limit (store_of (g.R.Rows.kept c.args.rows.now)) (PlaceCommand c.in-Place.query))
+    c.in_ok-place-in-Place.field-0 c.told-in-Place.result c.requires.sound c.requires.knows c.told-in-Place.ensures.reply c.told-in-Place.ensures.leads
+    (c.in_ok-place-in-Place.ensures, ap is_refused c.in_ok-place-in-Place.ensures)
+    refl)
+
+pub returns-in_ok-bar-in-Bar-clause-performs : goal.returns-in_ok-bar-in-Bar-clause-performs
+returns-in_ok-bar-in-Bar-clause-performs g c =
+    rw c.in-Bar.is
+    (is_said g.R.Rows.kept g.R.Rows.base c.args.rows.now c.args.known.now
+    (bar_reply (store_of (g.R.Rows.kept c.args.rows.now)) c.in-Bar.max c.in-Bar.text)
+    (perform c.args.limit (store_of (g.R.Rows.kept c.args.rows.now)) (BarCommand c.in-Bar.max c.in-Bar.text))
+    c.in_ok-bar-in-Bar.field-0 c.told-in-Bar.result c.requires.sound c.requires.knows c.told-in-Bar.ensures.reply c.told-in-Bar.ensures.leads
+    (c.in_ok-bar-in-Bar.ensures, ap is_refused c.in_ok-bar-in-Bar.ensures)
     refl)
