@@ -6,6 +6,8 @@
 #[cfg(test)]
 mod items;
 #[cfg(test)]
+mod kept;
+#[cfg(test)]
 mod large_trees;
 #[cfg(test)]
 mod tree;
