@@ -1,11 +1,15 @@
 #!/usr/bin/env python3
-"""Times the check of files of linked slots by `files_main`, beside SQLite's checks of databases with the same rows.
+"""Times the opening of files of linked slots, and its check alone, beside SQLite's checks of databases with the same rows.
 
-    bench/open.py [PROGRAM]    by default crates/files_main/out/files_main, which `rt ci files_main` builds
+    bench/open.py [CHECKER [PROGRAM]]
+
+CHECKER is by default crates/files_main/out/files_main, which `rt ci files_main` builds, and PROGRAM out/places, which the
+launcher builds. CHECKER checks a file; PROGRAM runs an empty script on it (`places run FILE`): it checks the file, and makes
+what it keeps of each page in memory.
 
 The files are made by `linked_file.py`: histories of about 1, 10 and 80 MB, 148,000 items, and as many slots as a store may
 take, which the longest URLs fill. The databases have the tables and indexes of `schema.sql` with the other fields of the
-rows, and bookmarks with their indexes. By turns each file is checked and each database opened for `PRAGMA
+rows, and bookmarks with their indexes. By turns each file is checked, and opened, and each database opened for `PRAGMA
 integrity_check` and `PRAGMA quick_check`: of three times the least is told. The peak of memory is that of one more run, by
 `/usr/bin/time`. It is no timed test: it fails only where a file is not accepted, or said to have another number of slots,
 or where SQLite finds a fault.
@@ -22,6 +26,7 @@ import time
 import linked_file
 from imports import IN_FOLDER, url
 from linked_file import BOOKMARK, DAY, FOLDER, LINK, PERMANENT, RELOAD, TYPED, Item, Page, Store, Visit, roots
+from program import program
 
 SCHEMA = pathlib.Path(__file__).with_name("schema.sql")
 RUNS = 3
@@ -176,13 +181,23 @@ def make(kind, count, file, base):
 # ---- runs
 
 def check(words, file, live):
-    """The time of a check in seconds."""
+    """The time in seconds of a check of the file, which comes on standard input."""
     with open(file, "rb") as stdin:
         start = time.perf_counter()
         done = subprocess.run(words, stdin=stdin, capture_output=True)
         took = time.perf_counter() - start
     if done.returncode or done.stdout != live:
         sys.exit(f"open.py: {' '.join(words)}: status {done.returncode}, {done.stdout!r} for {live!r}, {done.stderr!r}")
+    return took
+
+
+def opened(words, file):
+    """The time of a run without a line on the file."""
+    start = time.perf_counter()
+    done = subprocess.run([*words, "run", str(file)], stdin=subprocess.DEVNULL, capture_output=True)
+    took = time.perf_counter() - start
+    if done.returncode or done.stdout:
+        sys.exit(f"open.py: {' '.join(words)} run: status {done.returncode}, {done.stdout!r}, {done.stderr!r}")
     return took
 
 
@@ -198,26 +213,28 @@ def pragma(word, path):
     return took
 
 
-def peak(program, file, live, room):
-    """The most memory that a check holds, in bytes. `/usr/bin/time` starts it: of a child of Python it would be Python's."""
+def peak(run, words, room):
+    """The most memory that a run holds, in bytes. `/usr/bin/time` starts it: of a child of Python it would be Python's."""
     told = room / "peak"
-    check(["/usr/bin/time", "-f", "%M", "-o", str(told), program, "check"], file, live)
+    run(["/usr/bin/time", "-f", "%M", "-o", str(told), *words])
     return 1024 * int(told.read_text())
 
 
-def measure(program, name, kind, count, room):
+def measure(checker, places, name, kind, count, room):
     file, base = room / "file", room / "base"
     base.unlink(missing_ok=True)
     # In a process of its own, which gives back the memory that the rows take.
     made = subprocess.run([sys.executable, __file__, "--make", kind, str(count), str(file), str(base)],
                           stdout=subprocess.PIPE, check=True)
     live = made.stdout
-    turns = [(check([program, "check"], file, live), pragma("integrity_check", base), pragma("quick_check", base))
-             for _ in range(RUNS)]
-    ours, whole, quick = (min(times) for times in zip(*turns))
-    memory, size = peak(program, file, live, room), file.stat().st_size
-    print(f"| {name} | {size / 1e6:.1f} | {int(live):,} | {ours:.3f} | {memory / 1e6:.1f} | {memory / size:.2f} "
-          f"| {base.stat().st_size / 1e6:.1f} | {whole:.3f} | {quick:.3f} |", flush=True)
+    turns = [(check([checker, "check"], file, live), opened([places], file), pragma("integrity_check", base),
+              pragma("quick_check", base)) for _ in range(RUNS)]
+    checked, open_all, whole, quick = (min(times) for times in zip(*turns))
+    size = file.stat().st_size
+    check_peak = peak(lambda words: check(words, file, live), [checker, "check"], room)
+    open_peak = peak(lambda words: opened(words, file), [places], room)
+    print(f"| {name} | {size / 1e6:.1f} | {int(live):,} | {checked:.3f} | {check_peak / size:.2f} | {open_all:.3f} "
+          f"| {open_peak / size:.2f} | {base.stat().st_size / 1e6:.1f} | {whole:.3f} | {quick:.3f} |", flush=True)
 
 
 def machine():
@@ -228,13 +245,15 @@ def machine():
 
 
 def main():
-    program = linked_file.program("open.py")
+    checker = linked_file.program("open.py")
+    del sys.argv[1:2]
+    places = program()
     print(f"{machine()}\n")
-    print("| Store | file, MB | slots | `check`, s | peak, MB | peak / file | database, MB | `integrity_check`, s "
-          "| `quick_check`, s |\n|---|---|---|---|---|---|---|---|---|")
+    print("| Store | file, MB | slots | `check`, s | peak / file | opened, s | peak / file | database, MB "
+          "| `integrity_check`, s | `quick_check`, s |\n|---|---|---|---|---|---|---|---|---|---|")
     with tempfile.TemporaryDirectory() as room:
         for name, kind, count in STORES:
-            measure(program, name, kind, count, pathlib.Path(room))
+            measure(checker, places, name, kind, count, pathlib.Path(room))
     print(f"\n{machine()}")
 
 
