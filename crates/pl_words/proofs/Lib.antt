@@ -1,3 +1,4 @@
+mod AsciiFolds
 mod BarRows
 mod FoldRows
 mod MatchSteps
