@@ -1,7 +1,7 @@
 -- How well a word stands in a text, byte by byte.
 use Rattle.std.proofs.Common.{◌≡◌, ◌≢◌, ◌∙◌, ◌+◌, ◌-◌, ◌<◌, ◌≤◌, ◌&&◌, ◌||◌, ◌==◌, ℕ, Bool, true, false}
 use Rattle.std.proofs.Common.{List, [], ◌∷◌, add-one, ap, ap₂, arith, drop, drop-cons, get_or}
-use Rattle.std.proofs.Common.{if◌then◌else◌, length, nat_eq, not, refl, suc, sym, take}
+use Rattle.std.proofs.Common.{if◌then◌else◌, length, nat_eq, not, refl, sym, take}
 use Rattle.std.specs.Char.{is_ascii_alphabetic}
 use Rattle.std.specs.List.{starts_with}
 use Rattle.std.proofs.lemmas.List.{drop_all, take_rest}
