@@ -1,5 +1,5 @@
-// Where a visit goes: to the page with its URL, or else to the origin of the URL; and whether a page
-// is a query.
+// Where a visit goes: to the page with its URL, or else to the origin of the URL; and whether a
+// page is a query.
 ghost use Rattle.std.specs.Prelude.{◌≡◌, Some, true, IfOk, IfSome};
 ghost use Rattle.std.specs.Option.{option_map};
 ghost use Rattle.pl_base.specs.Address.{is_place_url};

@@ -1,5 +1,6 @@
 //! What the tests of rows share: the rows of a store with bookmarks and tags as a table, and calls
-//! that bring pages and visits to any rows, with the walk that finds where they go. It has no tests, so that it is proved once.
+//! that bring pages and visits to any rows, with the walk that finds where they go. It has no
+//! tests, so that it is proved once.
 #![tactic(auto)]
 
 mod calls;
