@@ -49,7 +49,7 @@ const SLOTS: &[&[u8]] = &[
     b"\
         \x04\x01\0\0\x0e\0\0\0\x10\0\0\0\x08\0\0\0\x09\0\0\0\x0e\0\0\0\0\0\0\0\0\0\0\0\
         \0\0\0\0\x06\0\0\0\0\0\0\0\0\0\0\0\x19\0\0\0\x01",
-    // `Red` with an entry of the first page and one of the second, and `blue` with one of the first.
+    // `Red` with an entry of the first page and one of the second, `blue` with one of the first.
     b"\
         \x04\x02\0\0\x0f\0\0\0\x11\0\0\0\x09\0\0\0\x0b\0\0\0\x11\0\0\0\0\0\0\0\x12\0\0\0\
         \x13\0\0\0\0\0\0\0\0\0\0\0\0\0\0\0\x1a\0\0\0\x03",
