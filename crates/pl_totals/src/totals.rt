@@ -100,9 +100,8 @@ impl Totals {
         requires room { HasRoom (prefix.now, host.now) step self.old }
         ensures steps { OnOk result (Steps (prefix.now, host.now) step self.old self.new) }
     {
-        let was = self.kept_total(prefix, host);
+        let was = self.origins.apply(alloc, prefix, host, step)?;
         let is = was - step.from + step.to;
-        self.origins.apply(alloc, prefix, host, step)?;
         self.apply_to_group(alloc, host, step)?;
         self.count = self.count + u32::from(is > 0) - u32::from(was > 0);
         self.sum = self.sum - step.from + step.to;
@@ -121,9 +120,7 @@ impl Totals {
         if host.is_empty() {
             return Ok(());
         }
-        let group = without_www(host);
-        let total = self.groups.total(group) - step.from + step.to;
-        self.groups.set(alloc, group, total)
+        self.groups.apply(alloc, without_www(host), step)
     }
 
     // A view goes.
@@ -186,22 +183,16 @@ impl Totals {
         self.gain(alloc, new)
     }
 
-    fn kept_total(&self, prefix: &str, host: &str) -> u64
-        ensures { result ≡ kept_total self.now (prefix.now, host.now) }
-    {
-        match self.origins.at(prefix, host) {
-            Some(kept) => kept.total,
-            None => 0,
-        }
-    }
-
     /// The total of the origin with this prefix and host, in points of frecency; 0 where no page
     /// with a positive frecency has it.
     pub fn total(&self, prefix: &str, host: &str) -> u64
         ensures { (views : List View) → Stands self.now views
             → result ≡ total_of (scored_views views) (prefix.now, host.now) }
     {
-        self.kept_total(prefix, host)
+        match self.origins.at(prefix, host) {
+            Some(kept) => kept.total,
+            None => 0,
+        }
     }
 
     /// How many pages have the origin with this prefix and host.
