@@ -8,6 +8,11 @@ use Rattle.std.specs.Ordering.{nat_cmp}
 use Rattle.std.specs.String.{string_bytes, string_cmp}
 use Rattle.std.proofs.lemmas.Map.Text.{btree_map_updates_text}
 
+-- a test twice
+pub if_twice : {A : Type 0} (b : Bool) (x y z : A) → (if b then x else if b then y else z) ≡ (if b then x else z)
+if_twice true x y z = refl
+if_twice false x y z = refl
+
 -- what a map tells at a text, and this where it has nothing there
 abbrev pub told : {X Y : Type 0} → (X → Y) → Y → BTreeMap (String Global) X → List ℕ → Y
 told f none m text = unwrap_or (option_map f (get_by_text m text)) none
@@ -24,11 +29,6 @@ told_after {X} f none text m n w updates other =
         ≡ (if b then unwrap_or (option_map f w) none else told f none m other)
     choose true = refl
     choose false = refl
-
--- a test twice
-pub if_twice : {A : Type 0} (b : Bool) (x y z : A) → (if b then x else if b then y else z) ≡ (if b then x else z)
-if_twice true x y z = refl
-if_twice false x y z = refl
 
 -- the same of numbers, where nothing is 0
 pub number_after : (text : List ℕ) (m n : BTreeMap (String Global) ℕ) (w : Option ℕ)

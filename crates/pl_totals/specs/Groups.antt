@@ -33,6 +33,6 @@ abbrev pub or_best : Grouped → Option Grouped → Grouped
 or_best group None = group
 or_best group (Some best) = if is_ahead group best then group else best
 
--- a group, or the best so far, where its total does not pass or it is not ahead of that
+-- a group, or the best so far, where the group's total does not pass or it is not ahead of that
 abbrev pub or_better : (ℕ → Bool) → Grouped → Option Grouped → Option Grouped
 or_better passes group best = if passes group.1 then Some (or_best group best) else best

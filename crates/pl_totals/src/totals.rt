@@ -240,7 +240,7 @@ impl Totals {
         (self.count, self.sum)
     }
 
-    // The group, or the best so far, where it does not pass or is not ahead of that.
+    // The group, or the best so far, where the group does not pass or is not ahead of that.
     fn or_better<'a>(&self, best: Option<Group<'a>>, group: Group<'a>) -> Option<Group<'a>>
         ensures { option_map grouped result
             ≡ or_better (is_enough self.now) (grouped group.entry) (option_map grouped best.entry) }
