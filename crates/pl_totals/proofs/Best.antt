@@ -1,12 +1,13 @@
 -- The best of groups as they are gone through.
 use Rattle.std.proofs.Common.{◌≡◌, ◌∙◌, ◌==◌, ◌&&◌, ◌||◌, ◌++◌, ℕ, Bool, true, false, List, [], ◌∷◌}
-use Rattle.std.proofs.Common.{Bor, String, Global}
-use Rattle.std.proofs.Common.{Option, Some, None, ap, arith, if◌then◌else◌, inl, inr, map, nat_lt, not, refl, sym}
+use Rattle.std.proofs.Common.{Bor, String, Global, Option, Some, None, ap, arith, if◌then◌else◌, inl, inr}
+use Rattle.std.proofs.Common.{map, nat_eq, nat_lt, not, refl, sym}
 use Rattle.std.specs.declared.cmp.Ordering.{Ordering}
 use Rattle.std.specs.declared.cmp.Ordering.TheVariants.{Less, Equal, Greater}
 use Rattle.std.specs.Cmp.{IsStrictWeakOrder}
 use Rattle.std.specs.Cmp.Lexicographic.{nat_list_cmp_total, slice_cmp}
 use Rattle.std.specs.Map.Iter.{deref_pair}
+use Rattle.std.specs.List.{starts_with}
 use Rattle.std.specs.List.Sorted.{ties}
 use Rattle.std.specs.Ordering.{is_lt, nat_cmp, ordering_reverse}
 use Rattle.std.specs.String.{string_bytes}
@@ -17,7 +18,8 @@ use Rattle.std.proofs.lemmas.Map.Lookups.{exact_bytes}
 use Rattle.std.proofs.lemmas.List.Sorted.{IsStrictWeakOrder-by_number, IsStrictWeakOrder-flip, ranks_by}
 use Rattle.pl_base.proofs.SortLaws.{ranks_alike, then_by, then_ranks}
 use Rattle.pl_base.proofs.Among.{In, in_front}
-use Rattle.pl_totals.specs.Groups.{Grouped, is_ahead, or_best}
+use Rattle.pl_totals.specs.declared.totals.Totals.{Totals}
+use Rattle.pl_totals.specs.Groups.{Grouped, is_ahead, is_enough, or_best, or_better}
 use Rattle.pl_totals.proofs.Members.{in_last, in_pushed}
 use Rattle.pl_totals.proofs.Sorted.{itself}
 
@@ -36,6 +38,10 @@ shown_more entries name total text is =
     ap (λ (t : List ℕ). shown entries ++ (t, total.now) ∷ []) is
     ∙ sym (ap (map entry) (map-append deref_pair entries ((name, total) ∷ []))
     ∙ map-append entry (map deref_pair entries) ((name.now, total.now) ∷ []))
+
+-- a group passes, and its name begins with the text
+abbrev pub fills : Totals → List ℕ → Grouped → Bool
+fills totals text group = is_enough totals group.1 && starts_with nat_eq group.0 text
 
 -- ---- the order
 
@@ -134,3 +140,27 @@ best_more test all (Some b) g passes h = choose (is_ahead g b) refl
             | inr e ↦ ap (λ y. is_ahead y b) e ∙ behind
           ],
     )
+
+-- a group more that passes by its total, where it passes by its name
+pub best_next : (passes : ℕ → Bool) (begins : Grouped → Bool) (all : List Grouped) (best : Option Grouped)
+    (g : Grouped) → begins g ≡ true → IsBest (λ h. passes h.1 && begins h) all best
+    → IsBest (λ h. passes h.1 && begins h) (all ++ g ∷ []) (or_better passes g best)
+best_next passes begins all best g named h = choose (passes g.1) refl
+  where
+    choose : (b : Bool) → passes g.1 ≡ b
+        → IsBest (λ h. passes h.1 && begins h) (all ++ g ∷ []) (if b then Some (or_best g best) else best)
+    choose true is =
+        best_more (λ h. passes h.1 && begins h) all best g (ap (λ b. b && begins g) is ∙ named) h
+    choose false is = best_passed (λ h. passes h.1 && begins h) all best g (ap (λ b. b && begins g) is) h
+
+-- the best of a part that has all that pass is that of all
+pub best_of_part : (test : Grouped → Bool) (part all : List Grouped) (best : Option Grouped)
+    → ((g : Grouped) → In g part → In g all) → ((g : Grouped) → In g all → test g ≡ true → In g part)
+    → IsBest test part best → IsBest test all best
+best_of_part test part all None of has none = λ g member. choose g member (test g) refl
+  where
+    choose : (g : Grouped) → In g all → (b : Bool) → test g ≡ b → b ≡ false
+    choose g member true is = absurd (false≢true (sym (none g (has g member is)) ∙ is))
+    choose g member false is = refl
+best_of_part test part all (Some best) of has h =
+    (of best h.0, h.1, λ g member is. h.2 g (has g member is) is)

@@ -10,7 +10,7 @@ use Rattle.std.proofs.lemmas.Bool.{false≢true}
 use Rattle.std.proofs.lemmas.Slice.Eq.{bytes_eq-Decides}
 use Rattle.pl_base.specs.Totals.{Origin, is_origin}
 use Rattle.pl_totals.specs.Held.{Held, nothing, settled}
-use Rattle.pl_totals.proofs.TextKeys.{told, told_after}
+use Rattle.pl_totals.proofs.TextKeys.{if_twice, told, told_after}
 
 settled_some : (h : Held) → (h.1 ≡ [] → ⊥) → settled h ≡ h
 settled_some (total, []) some = absurd (some refl)
@@ -32,10 +32,6 @@ goes h now is_empty same test none =
     settled_none h (sym (ap (λ (x : Held). x.1) same) ∙ test.0 none)
 
 -- a key that was written and then removed
-if_twice : {A : Type 0} (b : Bool) (x y z : A) → (if b then x else if b then y else z) ≡ (if b then x else z)
-if_twice true x y z = refl
-if_twice false x y z = refl
-
 pub told_removed : {X Y : Type 0} (f : X → Y) (none : Y) (text : List ℕ) (m mid n : BTreeMap (String Global) X) (x : X)
     → UpdatesBy string_cmp (λ (k : String Global). slice_cmp nat_cmp text (string_bytes k)) m mid (Some x)
     → UpdatesBy string_cmp (λ (k : String Global). slice_cmp nat_cmp text (string_bytes k)) mid n None

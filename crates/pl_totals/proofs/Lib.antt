@@ -1,3 +1,4 @@
+mod Beginnings
 pub mod Best
 mod FillingRows
 pub mod Followed

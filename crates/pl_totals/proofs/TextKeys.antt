@@ -1,5 +1,5 @@
 -- What a change of one key makes of the look-ups in a map by texts.
-use Rattle.std.proofs.Common.{◌≡◌, ◌∙◌, List, ℕ, Bool, true, false, Option, Global, String, ap, bytes_eq}
+use Rattle.std.proofs.Common.{◌≡◌, ◌∙◌, List, ℕ, Bool, true, false, Option, Some, None, Global, String, ap, bytes_eq}
 use Rattle.std.proofs.Common.{if◌then◌else◌, refl, unwrap_or}
 use Rattle.std.specs.BTreeMap.{BTreeMap, UpdatesBy, get_by_text}
 use Rattle.std.specs.Cmp.Lexicographic.{slice_cmp}
@@ -7,6 +7,11 @@ use Rattle.std.specs.Option.{option_map}
 use Rattle.std.specs.Ordering.{nat_cmp}
 use Rattle.std.specs.String.{string_bytes, string_cmp}
 use Rattle.std.proofs.lemmas.Map.Text.{btree_map_updates_text}
+
+-- a test twice
+pub if_twice : {A : Type 0} (b : Bool) (x y z : A) → (if b then x else if b then y else z) ≡ (if b then x else z)
+if_twice true x y z = refl
+if_twice false x y z = refl
 
 -- what a map tells at a text, and this where it has nothing there
 abbrev pub told : {X Y : Type 0} → (X → Y) → Y → BTreeMap (String Global) X → List ℕ → Y
@@ -38,3 +43,14 @@ number_after text m n w updates other =
         ≡ (if b then unwrap_or w 0 else unwrap_or (get_by_text m other) 0)
     choose true = refl
     choose false = refl
+
+-- a number that was written and then removed
+pub number_removed : (text : List ℕ) (m mid n : BTreeMap (String Global) ℕ) (x : ℕ)
+    → UpdatesBy string_cmp (λ (k : String Global). slice_cmp nat_cmp text (string_bytes k)) m mid (Some x)
+    → UpdatesBy string_cmp (λ (k : String Global). slice_cmp nat_cmp text (string_bytes k)) mid n None
+    → (other : List ℕ)
+    → unwrap_or (get_by_text n other) 0 ≡ (if bytes_eq text other then 0 else unwrap_or (get_by_text m other) 0)
+number_removed text m mid n x first second other =
+    number_after text mid n None second other
+    ∙ ap (λ y. if bytes_eq text other then 0 else y) (number_after text m mid (Some x) first other)
+    ∙ if_twice (bytes_eq text other) 0 x (unwrap_or (get_by_text m other) 0)

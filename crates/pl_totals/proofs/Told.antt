@@ -1,10 +1,10 @@
 -- What the entries of the map tell of the groups that pages have.
-use Rattle.std.proofs.Common.{◌≡◌, ◌∙◌, ◌<◌, ◌==◌, ◌*◌, ℕ, Bool, true, false, List, [], ◌∷◌, String, Global}
+use Rattle.std.proofs.Common.{◌≡◌, ◌∙◌, ◌<◌, ◌==◌, ◌*◌, ◌++◌, ℕ, Bool, true, false, List, [], ◌∷◌, String, Global}
 use Rattle.std.proofs.Common.{Option, Some, None, ap, arith, bytes_eq, filter, if◌then◌else◌, inl, inr, length, map}
 use Rattle.std.proofs.Common.{nat_eq, nat_le, nat_lt, not, refl, subst, sym, unwrap_or}
 use Rattle.std.specs.BTreeMap.{BTreeMap, IsOrdered, get_by_text, is_at}
 use Rattle.std.specs.Cmp.Lexicographic.{slice_cmp}
-use Rattle.std.specs.List.{slice_get, starts_with, sum_by}
+use Rattle.std.specs.List.{slice_get, starts_with, sum_by, take_while}
 use Rattle.std.specs.Option.{option_map}
 use Rattle.std.specs.Ordering.{is_eq, nat_cmp}
 use Rattle.std.specs.String.{string_bytes, string_cmp, string_cmp_total}
@@ -18,12 +18,13 @@ use Rattle.pl_base.specs.Sorting.{sorted_by}
 use Rattle.pl_base.specs.Totals.{Origin, Scored, distinct, group_passes, group_total, is_in_group, is_origin}
 use Rattle.pl_base.specs.Totals.{origins_of, origins_with_total, sum_of_totals, total_of, without_www}
 use Rattle.pl_base.proofs.SortLaws.{sorted_map}
-use Rattle.pl_base.proofs.Among.{In, from_filter, from_map, in_filter, in_map}
+use Rattle.pl_base.proofs.Among.{In, from_filter, from_map, in_filter, in_front, in_map}
 use Rattle.pl_totals.specs.declared.totals.Totals.{Totals}
 use Rattle.pl_totals.specs.Filling.{best_group, group_names, is_better, is_filling}
-use Rattle.pl_totals.specs.Groups.{Grouped, fills, is_ahead}
+use Rattle.pl_totals.specs.Groups.{Grouped, is_ahead, is_enough}
 use Rattle.pl_totals.specs.Standing.{StandsFor, kept_group}
-use Rattle.pl_totals.proofs.Best.{IsBest, ahead_ranks, ahead_tied, entry}
+use Rattle.pl_totals.proofs.Beginnings.{Stops, begins, from_text, in_taken, stand_together, upto}
+use Rattle.pl_totals.proofs.Best.{IsBest, ahead_ranks, ahead_tied, best_of_part, entry, fills}
 use Rattle.pl_totals.proofs.Members.{at_place, place_of}
 use Rattle.pl_totals.proofs.Sorted.{first_sorted, none_sorted}
 
@@ -153,7 +154,7 @@ module _ (totals : Totals) (text : List ℕ) (pages : List Scored) (stands : Sta
       first_of (sorted_by (is_better pages) filling)
       ∙ ap (λ (gs : List Grouped). slice_get gs 0) (sorted_map with_total is_ahead filling)
 
-  pub best_is : (best : Option Grouped) → IsBest (fills totals text) entries best → best ≡ best_group pages text
+  best_is : (best : Option Grouped) → IsBest (fills totals text) entries best → best ≡ best_group pages text
   best_is None none =
       sym (best_first ∙ none_sorted is_ahead ahead_ranks (map with_total filling)
       (λ g member. let h = entered g member in false≢true (sym (none g h.0) ∙ h.1)))
@@ -161,3 +162,35 @@ module _ (totals : Totals) (text : List ℕ) (pages : List Scored) (stands : Sta
       sym (best_first ∙ first_sorted is_ahead ahead_ranks ahead_tied (map with_total filling) best
       (kept_filling best h.0 h.1)
       (λ g member. let e = entered g member in h.2 g e.0 e.1))
+
+-- the best of the entries from a text on, up to one that does not begin with it
+pub best_of_front : (totals : Totals) (text : String Global) (pages : List Scored) → StandsFor totals pages
+    → IsOrdered string_cmp totals.groups.totals → (part rest : List (String Global × ℕ))
+    → from_text text totals.groups.totals.entries ≡ part ++ rest → Stops (begins text) rest
+    → (best : Option Grouped) → IsBest (fills totals (string_bytes text)) (map entry part) best
+    → best ≡ best_group pages (string_bytes text)
+best_of_front totals text pages stands ordered part rest whole stops best h =
+    best_is totals (string_bytes text) pages stands ordered best
+    (best_of_part (fills totals (string_bytes text)) (map entry part) (map entry entries) best of has h)
+  where
+    entries : List (String Global × ℕ)
+    entries = totals.groups.totals.entries
+
+    of : (g : Grouped) → In g (map entry part) → In g (map entry entries)
+    of g member =
+        let from = from_map entry part g member in
+        let here = subst (In from.0) (sym whole) (in_front part rest from.0 from.1) in
+        subst (λ (h : Grouped). In h (map entry entries)) (sym from.2)
+        (in_map entry entries from.0 (from_filter (upto text) entries from.0 here).0)
+
+    has : (g : Grouped) → In g (map entry entries) → fills totals (string_bytes text) g ≡ true
+        → In g (map entry part)
+    has g member passes =
+        let from = from_map entry entries g member in
+        let named : begins text from.0 ≡ true =
+        (and_parts (is_enough totals from.0.1) (begins text from.0)
+        (ap (fills totals (string_bytes text)) (sym from.2) ∙ passes)).1 in
+        let kept = subst (In from.0) (stand_together text entries ordered ∙ ap (take_while (begins text)) whole)
+        (in_filter (begins text) entries from.0 from.1 named) in
+        subst (λ (h : Grouped). In h (map entry part)) (sym from.2)
+        (in_map entry part from.0 (in_taken (begins text) part rest stops from.0 kept))

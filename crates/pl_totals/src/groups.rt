@@ -4,7 +4,9 @@ ghost use Rattle.std.specs.Prelude.{bytes_eq, if◌then◌else◌};
 ghost use Rattle.std.specs.Option.{option_map};
 ghost use Rattle.pl_base.specs.Totals as spec;
 ghost use Rattle.pl_totals.specs.Groups.{grouped, is_ahead, or_best, total_in};
+ghost use Rattle.pl_totals.specs.Standing.{Takes, stepped};
 
+use crate::kept::Step;
 use pl_base::NoMemory;
 use std::alloc::Global;
 use std::collections::BTreeMap;
@@ -37,33 +39,34 @@ impl Groups {
         self.totals.get(group).copied().unwrap_or(0)
     }
 
-    // A total that is 0 is not kept.
-    pub fn set(&mut self, alloc: Global, group: &str, total: u64) -> Result<(), NoMemory>
+    // Of the total of a group one share goes, and another comes. A total that is 0 is not kept.
+    pub fn apply(&mut self, alloc: Global, group: &str, step: Step) -> Result<(), NoMemory>
+        requires { Takes step (total_in self.old group.now) }
+        ensures { OnOk result ((other : List ℕ) → total_in self.new other
+            ≡ (if bytes_eq group.now other
+            then stepped step (total_in self.old group.now)
+            else total_in self.old other)) }
+    {
+        let Some(total) = self.totals.get_mut(group) else {
+            return self.begin(alloc, group, step.to);
+        };
+        let is = *total - step.from + step.to;
+        *total = is;
+        if is == 0 {
+            self.totals.remove(group);
+        }
+        Ok(())
+    }
+
+    // The first share of a group.
+    fn begin(&mut self, alloc: Global, group: &str, total: u64) -> Result<(), NoMemory>
+        requires { total_in self.old group.now ≡ 0 }
         ensures { OnOk result ((other : List ℕ) → total_in self.new other
             ≡ (if bytes_eq group.now other then total else total_in self.old other)) }
     {
         if total == 0 {
-            self.totals.remove(group);
             return Ok(());
         }
-        self.keep(alloc, group, total)
-    }
-
-    fn keep(&mut self, alloc: Global, group: &str, total: u64) -> Result<(), NoMemory>
-        ensures { OnOk result ((other : List ℕ) → total_in self.new other
-            ≡ (if bytes_eq group.now other then total else total_in self.old other)) }
-    {
-        let Some(kept) = self.totals.get_mut(group) else {
-            return self.begin(alloc, group, total);
-        };
-        *kept = total;
-        Ok(())
-    }
-
-    fn begin(&mut self, alloc: Global, group: &str, total: u64) -> Result<(), NoMemory>
-        ensures { OnOk result ((other : List ℕ) → total_in self.new other
-            ≡ (if bytes_eq group.now other then total else total_in self.old other)) }
-    {
         let group = String::from_str(alloc, group)?;
         self.totals.insert(group, total)?;
         Ok(())

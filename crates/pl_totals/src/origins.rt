@@ -1,6 +1,6 @@
 // What is kept of each origin, by its prefix and then its host.
-ghost use Rattle.std.specs.Prelude.{◌≡◌, ◌+◌, ◌-◌, ◌<◌, ◌≤◌, ◌^◌, ℕ, List, [], OnOk, Option};
-ghost use Rattle.std.specs.Prelude.{true, bytes_eq, if◌then◌else◌, unwrap_or};
+ghost use Rattle.std.specs.Prelude.{◌≡◌, ◌+◌, ◌-◌, ◌<◌, ◌≤◌, ◌^◌, ℕ, List, [], Option};
+ghost use Rattle.std.specs.Prelude.{IfOk, OnOk, true, bytes_eq, if◌then◌else◌, unwrap_or};
 ghost use Rattle.std.specs.Option.{option_copied, option_map};
 ghost use Rattle.pl_base.specs.Totals.{Origin, is_origin};
 ghost use Rattle.pl_totals.specs.Held.{after, held_at, held_in, held_of, nothing, settled};
@@ -56,23 +56,27 @@ impl Hosts {
         Ok(())
     }
 
-    fn apply(&mut self, alloc: Global, host: &str, step: Step) -> Result<(), NoMemory>
+    // Answers the total before.
+    fn apply(&mut self, alloc: Global, host: &str, step: Step) -> Result<u64, NoMemory>
         requires from { step.from ≤ (held_in self.old host.now).0 }
         requires fits { (held_in self.old host.now).0 - step.from + step.to < 2 ^ 64 }
-        ensures { OnOk result ((other : List ℕ) → held_in self.new other
+        ensures was { IfOk result (λ was. was ≡ (held_in self.old host.now).0) }
+        ensures held { OnOk result ((other : List ℕ) → held_in self.new other
             ≡ (if bytes_eq host.now other
             then settled (after step (held_in self.old host.now))
             else held_in self.old other)) }
     {
         let Some(kept) = self.map.get_mut(host) else {
-            return self.begin(alloc, host, step);
+            self.begin(alloc, host, step)?;
+            return Ok(0);
         };
+        let was = kept.total;
         kept.apply(step)?;
         let is_empty = kept.is_empty();
         if is_empty {
             self.map.remove(host);
         }
-        Ok(())
+        Ok(was)
     }
 }
 
@@ -108,30 +112,32 @@ impl Origins {
         Ok(())
     }
 
-    // A page comes to the origin or goes, or its share changes.
+    // A page comes to the origin or goes, or its share changes. Answers the total before.
     pub fn apply(
         &mut self,
         alloc: Global,
         prefix: &str,
         host: &str,
         step: Step,
-    ) -> Result<(), NoMemory>
+    ) -> Result<u64, NoMemory>
         requires from { step.from ≤ (held_at self.old (prefix.now, host.now)).0 }
         requires fits { (held_at self.old (prefix.now, host.now)).0 - step.from + step.to
             < 2 ^ 64 }
-        ensures { OnOk result ((other : Origin) → held_at self.new other
+        ensures was { IfOk result (λ was. was ≡ (held_at self.old (prefix.now, host.now)).0) }
+        ensures held { OnOk result ((other : Origin) → held_at self.new other
             ≡ (if is_origin (prefix.now, host.now) other
             then settled (after step (held_at self.old (prefix.now, host.now)))
             else held_at self.old other)) }
     {
         let Some(hosts) = self.prefixes.get_mut(prefix) else {
-            return self.begin(alloc, prefix, host, step);
+            self.begin(alloc, prefix, host, step)?;
+            return Ok(0);
         };
-        hosts.apply(alloc, host, step)?;
+        let was = hosts.apply(alloc, host, step)?;
         let is_empty = hosts.is_empty();
         if is_empty {
             self.prefixes.remove(prefix);
         }
-        Ok(())
+        Ok(was)
     }
 }

@@ -2,6 +2,8 @@
 ghost use Rattle.std.specs.Prelude.{◌≡◌, ◌^◌, ◌<◌, ◌&&◌, ◌==◌, [], ℕ, List, Some, true};
 ghost use Rattle.std.specs.Prelude.{IfOk, OnOk, bytes_eq, length, if◌then◌else◌};
 ghost use Rattle.std.specs.List.{slice_get};
+ghost use Rattle.std.specs.Option.{option_map};
+ghost use Rattle.std.specs.String.{string_bytes};
 ghost use Rattle.pl_base.specs.declared.view.View.{View};
 ghost use Rattle.pl_base.specs.Totals as spec;
 ghost use Rattle.pl_base.specs.Totals.{group_passes, is_in_group, origins_with_total};
@@ -9,7 +11,7 @@ ghost use Rattle.pl_base.specs.Totals.{sum_of_totals, total_of};
 ghost use Rattle.pl_base.specs.View.{scored_views};
 ghost use Rattle.pl_follow.specs.Changes.{Suits, with_view, without_id};
 ghost use Rattle.pl_totals.specs.Filling.{best_group};
-ghost use Rattle.pl_totals.specs.Groups.{fills, grouped, is_enough};
+ghost use Rattle.pl_totals.specs.Groups.{grouped, is_enough, or_better};
 ghost use Rattle.pl_totals.specs.Standing.{HasRoom, MayCome, MayGo, MayTurn, Stands, StandsWith};
 ghost use Rattle.pl_totals.specs.Standing.{Steps, Takes, kept_group, kept_total, pages_of, stepped};
 
@@ -98,9 +100,8 @@ impl Totals {
         requires room { HasRoom (prefix.now, host.now) step self.old }
         ensures steps { OnOk result (Steps (prefix.now, host.now) step self.old self.new) }
     {
-        let was = self.kept_total(prefix, host);
+        let was = self.origins.apply(alloc, prefix, host, step)?;
         let is = was - step.from + step.to;
-        self.origins.apply(alloc, prefix, host, step)?;
         self.apply_to_group(alloc, host, step)?;
         self.count = self.count + u32::from(is > 0) - u32::from(was > 0);
         self.sum = self.sum - step.from + step.to;
@@ -119,9 +120,7 @@ impl Totals {
         if host.is_empty() {
             return Ok(());
         }
-        let group = without_www(host);
-        let total = self.groups.total(group) - step.from + step.to;
-        self.groups.set(alloc, group, total)
+        self.groups.apply(alloc, without_www(host), step)
     }
 
     // A view goes.
@@ -184,22 +183,16 @@ impl Totals {
         self.gain(alloc, new)
     }
 
-    fn kept_total(&self, prefix: &str, host: &str) -> u64
-        ensures { result ≡ kept_total self.now (prefix.now, host.now) }
-    {
-        match self.origins.at(prefix, host) {
-            Some(kept) => kept.total,
-            None => 0,
-        }
-    }
-
     /// The total of the origin with this prefix and host, in points of frecency; 0 where no page
     /// with a positive frecency has it.
     pub fn total(&self, prefix: &str, host: &str) -> u64
         ensures { (views : List View) → Stands self.now views
             → result ≡ total_of (scored_views views) (prefix.now, host.now) }
     {
-        self.kept_total(prefix, host)
+        match self.origins.at(prefix, host) {
+            Some(kept) => kept.total,
+            None => 0,
+        }
     }
 
     /// How many pages have the origin with this prefix and host.
@@ -247,31 +240,51 @@ impl Totals {
         (self.count, self.sum)
     }
 
-    // Whether the group passes, and its name begins with the text.
-    fn fills(&self, text: &str, group: Group) -> bool
-        ensures { result ≡ fills self.now text.now (grouped group.entry) }
+    // The group, or the best so far, where the group does not pass or is not ahead of that.
+    fn or_better<'a>(&self, best: Option<Group<'a>>, group: Group<'a>) -> Option<Group<'a>>
+        ensures { option_map grouped result
+            ≡ or_better (is_enough self.now) (grouped group.entry) (option_map grouped best.entry) }
     {
-        self.is_enough(group.total) && group.name.starts_with(text)
+        if self.is_enough(group.total) {
+            Some(group.or_best(best))
+        } else {
+            best
+        }
+    }
+
+    // The best of the groups that pass and whose names begin with the text: these stand together,
+    // from the text on.
+    fn best_group(&self, text: &String) -> Option<Group<'_>>
+        ensures { (views : List View) → Stands self.now views
+            → option_map grouped result
+            ≡ best_group (scored_views views) (string_bytes text.now) }
+    {
+        let mut best: Option<Group> = None;
+        for (name, total) in self.groups.totals.range(text..) {
+            let group = Group {
+                name: name.as_str(),
+                total: *total,
+            };
+            if !group.name.starts_with(text.as_str()) {
+                break;
+            }
+            best = self.or_better(best, group);
+        }
+        best
     }
 
     /// Of the groups that pass and whose names begin with this text the one with the greatest
     /// total, and that total. Of several with the same total it is the one whose name is first,
     /// byte by byte.
+    ///
+    /// Walks the groups whose names begin with the text, and no others.
     pub fn best(&self, alloc: Global, text: &str) -> Result<Option<(Txt, u64)>, NoMemory>
         ensures { IfOk result (λ best. (views : List View) → Stands self.now views
             → best ≡ best_group (scored_views views) text.now) }
     {
-        let mut best: Option<Group> = None;
-        for (name, total) in self.groups.totals.iter() {
-            let group = Group {
-                name: name.as_str(),
-                total: *total,
-            };
-            if self.fills(text, group) {
-                best = Some(group.or_best(best));
-            }
-        }
-        match best {
+        // A range of names begins at a `String`.
+        let text = String::from_str(alloc, text)?;
+        match self.best_group(&text) {
             Some(group) => Ok(Some((Txt::copied(alloc, group.name)?, group.total))),
             None => Ok(None),
         }

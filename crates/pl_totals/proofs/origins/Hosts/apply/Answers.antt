@@ -5,8 +5,8 @@ use Rattle.pl_totals.proofs.HeldLaws.{goes, stays, told_removed}
 use Rattle.pl_totals.proofs.TextKeys.{told_after}
 use Rattle.pl_totals.proofs.origins.Hosts.apply.Goals as goal
 
-pub returns-then-is_empty : goal.returns-then-is_empty
-returns-then-is_empty c other =
+pub returns-then-is_empty-clause-held : goal.returns-then-is_empty-clause-held
+returns-then-is_empty-clause-held c other =
     let was : held_of c.in-Some.kept.now ≡ held_in c.args.self.now c.args.host.now =
     ap (λ r. unwrap_or (option_map held_of r) nothing) c.in-Some.ensures.value in
     let now : held_of c.apply.new.self ≡ after c.args.step (held_in c.args.self.now c.args.host.now) =
@@ -18,8 +18,8 @@ returns-then-is_empty c other =
     (sym (goes (after c.args.step (held_in c.args.self.now c.args.host.now)) (held_of c.apply.new.self)
     c.is_empty-is_empty.result now c.is_empty-is_empty.ensures c.if-is_empty.true))
 
-pub returns-else-is_empty : goal.returns-else-is_empty
-returns-else-is_empty c other =
+pub returns-else-is_empty-clause-held : goal.returns-else-is_empty-clause-held
+returns-else-is_empty-clause-held c other =
     let was : held_of c.in-Some.kept.now ≡ held_in c.args.self.now c.args.host.now =
     ap (λ r. unwrap_or (option_map held_of r) nothing) c.in-Some.ensures.value in
     let now : held_of c.apply.new.self ≡ after c.args.step (held_in c.args.self.now c.args.host.now) =

@@ -7,8 +7,8 @@ use Rattle.pl_totals.proofs.HeldLaws.{told_removed, two_keys}
 use Rattle.pl_totals.proofs.TextKeys.{told_after}
 use Rattle.pl_totals.proofs.origins.Origins.apply.Goals as goal
 
-pub returns-then-is_empty : goal.returns-then-is_empty
-returns-then-is_empty c other =
+pub returns-then-is_empty-clause-held : goal.returns-then-is_empty-clause-held
+returns-then-is_empty-clause-held c other =
     let old : Origin → Held = held_at c.args.self.now in
     let prefix : List ℕ = c.args.prefix.now in
     let host : List ℕ = c.args.host.now in
@@ -16,7 +16,7 @@ returns-then-is_empty c other =
     λ x. ap (λ r. unwrap_or (option_map (λ (h : Hosts). held_in h x) r) nothing) c.in-Some.ensures.value in
     let none : nothing
     ≡ (if bytes_eq host other.1 then settled (after c.args.step (old (prefix, host))) else old (prefix, other.1)) =
-    sym (c.is_empty-is_empty.ensures c.if-is_empty.true other.1) ∙ c.in_ok-apply.ensures other.1
+    sym (c.is_empty-is_empty.ensures c.if-is_empty.true other.1) ∙ c.in_ok-was.ensures.held other.1
     ∙ ap (λ (h : Held). if bytes_eq host other.1 then settled (after c.args.step h)
     else held_in c.in-Some.hosts.now other.1) (was host)
     ∙ ap (λ (h : Held). if bytes_eq host other.1 then settled (after c.args.step (old (prefix, host))) else h)
@@ -27,8 +27,8 @@ returns-then-is_empty c other =
     ∙ ap (λ (h : Held). if bytes_eq prefix other.0 then h else old other) none
     ∙ two_keys old prefix host (settled (after c.args.step (old (prefix, host)))) other
 
-pub returns-else-is_empty : goal.returns-else-is_empty
-returns-else-is_empty c other =
+pub returns-else-is_empty-clause-held : goal.returns-else-is_empty-clause-held
+returns-else-is_empty-clause-held c other =
     let old : Origin → Held = held_at c.args.self.now in
     let prefix : List ℕ = c.args.prefix.now in
     let host : List ℕ = c.args.host.now in
@@ -36,7 +36,7 @@ returns-else-is_empty c other =
     λ x. ap (λ r. unwrap_or (option_map (λ (h : Hosts). held_in h x) r) nothing) c.in-Some.ensures.value in
     let now : held_in c.apply.new.self other.1
     ≡ (if bytes_eq host other.1 then settled (after c.args.step (old (prefix, host))) else old (prefix, other.1)) =
-    c.in_ok-apply.ensures other.1
+    c.in_ok-was.ensures.held other.1
     ∙ ap (λ (h : Held). if bytes_eq host other.1 then settled (after c.args.step h)
     else held_in c.in-Some.hosts.now other.1) (was host)
     ∙ ap (λ (h : Held). if bytes_eq host other.1 then settled (after c.args.step (old (prefix, host))) else h)

@@ -14,7 +14,7 @@ returns c other =
     let host : List ℕ = c.args.host.now in
     let first : held_in c.apply.new.self other.1
     ≡ (if bytes_eq host other.1 then settled (after c.args.step nothing) else old (prefix, other.1)) =
-    c.in_ok-apply.ensures other.1
+    c.in_ok-apply.ensures.held other.1
     ∙ ap (λ (h : Held). if bytes_eq host other.1 then settled (after c.args.step h)
     else held_in c.new-hosts.result other.1) (c.new-hosts.ensures host)
     ∙ ap (λ (h : Held). if bytes_eq host other.1 then settled (after c.args.step nothing) else h)
