@@ -3,6 +3,7 @@ pub mod FreshestItem
 pub mod KeptUrls
 pub mod LatestVisit
 mod MovedTotals
+mod NoItems
 pub mod PageRows
 pub mod PageScore
 pub mod PageTags
