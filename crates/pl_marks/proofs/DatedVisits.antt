@@ -1,7 +1,7 @@
 -- The dates of the latest visits of a page, as a walk over its visits has seen them.
 use Rattle.std.proofs.Common.{◌≡◌, ◌≢◌, ◌+◌, ◌-◌, ◌<◌, ◌≤◌, ◌++◌, ◌==◌, ◌||◌, ◌&&◌, ◌∙◌, ℕ, true, false, List, [], ◌∷◌}
-use Rattle.std.proofs.Common.{Option, Some, None, ap, append_assoc, arith, drop, length, ltb, eqb, map, refl, subst}
-use Rattle.std.proofs.Common.{suc, sym, take}
+use Rattle.std.proofs.Common.{Option, Some, ap, append_assoc, arith, drop, length, ltb, eqb, map, refl, subst}
+use Rattle.std.proofs.Common.{sym, take}
 use Rattle.std.specs.List.{AllByRecursion}
 use Rattle.std.specs.Option.{option_or}
 use Rattle.std.proofs.Math.Bool.{or-false}

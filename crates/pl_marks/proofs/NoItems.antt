@@ -1,5 +1,5 @@
 -- What a page has of items where none has it: no title, no tags, no bookmark.
-use Rattle.std.proofs.Common.{◌≡◌, ◌∙◌, ◌&&◌, ℕ, false, not, List, [], Option, None, ap, refl, sym, unwrap_or}
+use Rattle.std.proofs.Common.{◌≡◌, ◌∙◌, ◌&&◌, false, not, List, [], None, ap, refl, sym, unwrap_or}
 use Rattle.std.specs.List.{AllByRecursion}
 use Rattle.std.specs.List.Sorted.{IsStrictlySortedBy}
 use Rattle.std.specs.Option.{option_map}
@@ -9,9 +9,9 @@ use Rattle.pl_base.specs.Good.{IsGood}
 use Rattle.pl_base.specs.Marks.{is_referenced}
 use Rattle.pl_base.specs.Rows.{IsWellKept, Kept, store_of}
 use Rattle.pl_base.specs.Store.{Item, Store}
-use Rattle.pl_base.specs.Tags.{comma_joined, is_bookmarked, is_tag_entry, tag_text}
+use Rattle.pl_base.specs.Tags.{comma_joined, is_tag_entry, tag_text}
 use Rattle.pl_base.specs.Tree.{is_page}
-use Rattle.pl_base.specs.View.{freshest, mark_title}
+use Rattle.pl_base.specs.View.{freshest}
 use Rattle.pl_base.proofs.ListLaws.{weaker}
 use Rattle.pl_base.proofs.LookUps.{any_none, none_kept, none_pass}
 use Rattle.pl_base.proofs.ReferencesRun.{having, item_names}
