@@ -12,7 +12,7 @@ ghost use Rattle.pl_known.specs.Known.{AreFollowed, view_of};
 use crate::one_page::{add, arrived, gone};
 use pl_base::{Change, NoMemory, PageId, Rows, Steps, Txt, View};
 use pl_known::Known;
-use pl_marks::{is_bookmarked, is_referenced, mark_title, page_figures, tag_text};
+use pl_marks::{item_figures, page_figures};
 use std::alloc::Global;
 use std::sync::ledger::Ledger;
 
@@ -30,14 +30,14 @@ fn view_now<R: Rows, L: Ledger>(
         → page_at (R.kept rows.now) old.now.id ≡ Some p
         → IsViewOf (store_of (R.kept rows.now)) p.page view) }
 {
-    let referenced = is_referenced(rows, old.id, steps);
-    let figures = page_figures(alloc, rows, old.id, referenced, steps)?;
+    let figures = page_figures(rows, old.id, steps);
+    let items = item_figures(alloc, rows, old.id, steps)?;
     Ok(View {
         id: old.id,
         url: Txt::copied(alloc, old.url.as_str())?,
         title: Txt::copied(alloc, old.title.as_str())?,
-        mark_title: mark_title(alloc, rows, old.id, steps)?,
-        tags: tag_text(alloc, rows, old.id, steps)?,
+        mark_title: items.mark_title,
+        tags: items.tags,
         prefix: Txt::copied(alloc, old.prefix.as_str())?,
         host: Txt::copied(alloc, old.host.as_str())?,
         frecency: figures.frecency,
@@ -46,8 +46,8 @@ fn view_now<R: Rows, L: Ledger>(
         due: figures.due,
         typed: figures.typed,
         hidden: figures.hidden,
-        bookmarked: is_bookmarked(rows, old.id, steps),
-        referenced,
+        bookmarked: items.bookmarked,
+        referenced: items.referenced,
     })
 }
 

@@ -2,7 +2,6 @@
 #![tactic(auto)]
 
 mod items;
-mod latest;
 mod one_page;
 mod opening;
 mod origins;

@@ -5,11 +5,10 @@ ghost use Rattle.pl_base.specs.View.{AreViewsOf, IsViewOf};
 ghost use Rattle.pl_changes.specs.Origins.{AreTold};
 ghost use Rattle.pl_known.specs.Known.{Knows};
 
-use crate::latest::page_dates;
 use crate::origins::Origins;
 use pl_base::{NoMemory, PageId, Rows, Steps, View};
 use pl_known::Known;
-use pl_marks::{is_bookmarked, is_referenced, mark_title, tag_text};
+use pl_marks::{item_figures, page_figures};
 use std::alloc::Global;
 use std::sync::ledger::Ledger;
 
@@ -29,26 +28,26 @@ fn view<R: Rows, L: Ledger>(
         → IsViewOf (store_of (R.kept rows.now)) p.page view) }
     ensures told { OnOk result (AreTold (R.kept rows.now) origins.new) }
 {
-    let mark = rows.page_at(page, steps).unwrap();
+    let figures = page_figures(rows, page, steps);
+    let items = item_figures(alloc, rows, page, steps)?;
     let url = rows.url(page, steps)?;
     let origin = origins.origin(alloc, rows, page, url.as_str(), steps)?;
-    let dates = page_dates(alloc, rows, page, steps)?;
     Ok(View {
         id: page,
         url,
         title: rows.title(page, steps)?,
-        mark_title: mark_title(alloc, rows, page, steps)?,
-        tags: tag_text(alloc, rows, page, steps)?,
+        mark_title: items.mark_title,
+        tags: items.tags,
         prefix: origin.prefix,
         host: origin.host,
-        frecency: mark.frecency,
-        count: mark.count,
-        last: dates.last,
-        due: dates.due,
-        typed: mark.typed,
-        hidden: mark.hidden,
-        bookmarked: is_bookmarked(rows, page, steps),
-        referenced: is_referenced(rows, page, steps),
+        frecency: figures.frecency,
+        count: figures.count,
+        last: figures.last,
+        due: figures.due,
+        typed: figures.typed,
+        hidden: figures.hidden,
+        bookmarked: items.bookmarked,
+        referenced: items.referenced,
     })
 }
 

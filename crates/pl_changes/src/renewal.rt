@@ -29,7 +29,7 @@ fn renewed<R: Rows, L: Ledger>(
     if rows.page_at(old.id, steps).is_none() {
         return Ok(Some(gone(alloc, old)?));
     }
-    let figures = page_figures(alloc, rows, old.id, old.referenced, steps)?;
+    let figures = page_figures(rows, old.id, steps);
     if figures == Figures::of(old) {
         return Ok(None);
     }

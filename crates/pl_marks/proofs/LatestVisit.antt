@@ -13,7 +13,7 @@ use Rattle.pl_base.specs.Store.{Visit}
 use Rattle.pl_base.proofs.VisitsRun.{IsVisitOf, row_is, visits_stand}
 
 -- as `last_date_of` has it
-abbrev first_date : List Visit → Option Micros
+abbrev pub first_date : List Visit → Option Micros
 first_date [] = None
 first_date (v ∷ vs) = Some v.date
 

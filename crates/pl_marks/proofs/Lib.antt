@@ -1,8 +1,9 @@
+pub mod DatedVisits
 pub mod FreshestItem
 pub mod KeptUrls
 pub mod LatestVisit
 mod MovedTotals
-pub mod PageDue
+mod NoItems
 pub mod PageRows
 pub mod PageScore
 pub mod PageTags

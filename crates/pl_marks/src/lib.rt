@@ -5,6 +5,7 @@
 mod bookmarks;
 mod dates;
 mod figures;
+mod items;
 mod mark;
 mod tags;
 mod totals;
@@ -12,8 +13,9 @@ mod url_parts;
 mod views;
 
 pub use bookmarks::mark_title;
-pub use dates::last_date;
+pub use dates::{Dates, last_date, page_dates};
 pub use figures::{Figures, page_figures};
+pub use items::{ItemFigures, item_figures};
 pub use mark::{computed_mark, is_referenced, refresh, unvisited_mark, visited_mark};
 pub use tags::{is_bookmarked, is_tagged, page_tags, tag_folder, tag_text};
 pub use totals::keep_mark;

@@ -4,10 +4,8 @@ ghost use Rattle.pl_base.specs.Good.{IsGood};
 ghost use Rattle.pl_base.specs.Rows.{IsRight, KeptPage, has_page, page_at, store_of};
 ghost use Rattle.pl_base.specs.View.{IsViewOf};
 
-use crate::bookmarks::mark_title;
 use crate::figures::page_figures;
-use crate::mark::is_referenced;
-use crate::tags::{is_bookmarked, tag_text};
+use crate::items::item_figures;
 use crate::url_parts::parts_of;
 use pl_base::{NoMemory, PageId, Rows, Steps, View};
 use std::alloc::Global;
@@ -26,16 +24,16 @@ pub fn page_view<R: Rows, L: Ledger>(
     ensures { IfOk result (λ view. (p : KeptPage) → page_at (R.kept rows.now) page ≡ Some p
         → IsViewOf (store_of (R.kept rows.now)) p.page view) }
 {
-    let referenced = is_referenced(rows, page, steps);
-    let figures = page_figures(alloc, rows, page, referenced, steps)?;
+    let figures = page_figures(rows, page, steps);
+    let items = item_figures(alloc, rows, page, steps)?;
     let url = rows.url(page, steps)?;
     let parts = parts_of(alloc, url.as_str())?;
     Ok(View {
         id: page,
         url,
         title: rows.title(page, steps)?,
-        mark_title: mark_title(alloc, rows, page, steps)?,
-        tags: tag_text(alloc, rows, page, steps)?,
+        mark_title: items.mark_title,
+        tags: items.tags,
         prefix: parts.prefix,
         host: parts.host,
         frecency: figures.frecency,
@@ -44,7 +42,7 @@ pub fn page_view<R: Rows, L: Ledger>(
         due: figures.due,
         typed: figures.typed,
         hidden: figures.hidden,
-        bookmarked: is_bookmarked(rows, page, steps),
-        referenced,
+        bookmarked: items.bookmarked,
+        referenced: items.referenced,
     })
 }

@@ -1,22 +1,23 @@
 -- The days on which visits weigh anew.
 use Rattle.std.proofs.Common.{◌≡◌, ◌==◌, ◌+◌, ◌-◌, ◌<◌, ◌≤◌, ◌||◌, ◌∙◌, ℕ, ℤ, pos, negsuc, Bool, true, false, not}
-use Rattle.std.proofs.Common.{List, Option, Some, None, ap, arith, get_or, if◌then◌else◌, refl, sym}
-use Rattle.std.proofs.Common.{length, take, zero, suc}
+use Rattle.std.proofs.Common.{◌++◌, List, [], ◌∷◌, Option, Some, None, ap, arith, get_or, if◌then◌else◌, refl}
+use Rattle.std.proofs.Common.{length, subst, suc, sym, take, zero}
 use Rattle.std.specs.Bool.{then_some}
 use Rattle.std.specs.Prelude.{◌-ℤ◌, ◌≤ℤ◌, nat_le, nat_lt}
-use Rattle.std.proofs.lemmas.Bool.{or_left, or_right}
+use Rattle.std.proofs.Math.Bool.{or-false}
+use Rattle.std.proofs.lemmas.Bool.{false≢true, or_left, or_right}
 use Rattle.std.proofs.lemmas.Bool.Decides.{nat_tests}
 use Rattle.std.proofs.lemmas.Int.{ints}
-use Rattle.std.proofs.lemmas.List.Folds.{list_any_more}
+use Rattle.std.proofs.lemmas.List.{map_push, take_more}
+use Rattle.std.proofs.lemmas.List.Folds.{list_any-append}
 use Rattle.pl_base.specs.declared.date.Day.{Day}
 use Rattle.pl_base.specs.declared.date.Micros.{Micros}
 use Rattle.pl_base.specs.Date.{day_number, last_day}
 use Rattle.pl_base.specs.Due.{IsFirstDay, some_weighs_anew, weighs_anew}
 use Rattle.pl_base.specs.Tables.{weight_of}
-use Rattle.pl_base.proofs.ListLaws.{list_any-map}
 use Rattle.pl_score.specs.declared.sample.Sampled.{Sampled}
 use Rattle.pl_score.specs.declared.table.TheConstants.{CHANGES}
-use Rattle.pl_score.specs.Due.{earlier_of}
+use Rattle.pl_score.specs.Due.{KeepsWeight, earlier_of}
 use Rattle.pl_score.specs.Sample.{dates_of}
 
 -- ---- the weights by age
@@ -163,18 +164,40 @@ pub no_change : (date : Micros) (after : Day) → AreOver (day_number date) afte
 no_change date after over other low high =
     after_fourth (day_number date) other (omega (arith, over 3 (omega arith)))
 
+-- ---- visits that are so old that no change is left
+
+pub keeps_over : (date : Micros) (day : Day) → day_number date + 91 ≤ day.0 → KeepsWeight day date
+keeps_over date day over later after = after_fourth (day_number date) later (omega arith)
+
+pub over_keeps : (date : Micros) (day : Day) → KeepsWeight day date → day_number date + 91 ≤ day.0
+over_keeps date day keeps = choose (nat_le (day_number date + 91) day.0) refl
+  where
+    choose : (b : Bool) → nat_le (day_number date + 91) day.0 ≡ b → day_number date + 91 ≤ day.0
+    choose true over = grind (arith, nat_tests)
+    choose false left =
+        let after : day.0 < day_number date + 91 = grind (arith, nat_tests) in
+        absurd (false≢true (sym (keeps (day_number date + 91) after)
+        ∙ at_fourth (day_number date) (day_number date + 91) refl))
+
+-- with a visit each that is no later keeps its weight too
+pub keeps_older : (date older : Micros) (day : Day) → older.0 ≤ date.0 → KeepsWeight day date → KeepsWeight day older
+keeps_older date older day no_later keeps =
+    let days : day_number older ≤ day_number date = omega arith in
+    keeps_over older day (omega (arith, over_keeps date day keeps))
+
 -- ---- the first day of several visits
 
-pub first_alike : (p q : ℕ → Bool) (after : Day) (day : Option Day) → ((d : ℕ) → p d ≡ q d) → IsFirstDay p after day
-    → IsFirstDay q after day
+-- of two tests that are the same on later days
+pub first_alike : (p q : ℕ → Bool) (after : Day) (day : Option Day) → ((d : ℕ) → after.0 < d → p d ≡ q d)
+    → IsFirstDay p after day → IsFirstDay q after day
 first_alike p q after (Some day) alike first =
     record {
       later = first.later;
       within = first.within;
-      found = sym (alike day.0) ∙ first.found;
-      first = λ other low high. sym (alike other) ∙ first.first other low high;
+      found = sym (alike day.0 first.later) ∙ first.found;
+      first = λ other low high. sym (alike other low) ∙ first.first other low high;
     }
-first_alike p q after None alike first = λ other low high. sym (alike other) ∙ first other low high
+first_alike p q after None alike first = λ other low high. sym (alike other low) ∙ first other low high
 
 -- of two tests, one of which may hold
 pub first_of_either : (p q : ℕ → Bool) (after : Day) (one other : Option Day) → IsFirstDay p after one
@@ -215,23 +238,29 @@ first_of_either p q after (Some a) (Some b) one other = choose (nat_lt b.0 a.0) 
           first = λ d low high. rw (one.first d low high) (other.first d low (omega arith));
         }
 
--- one sampled visit more
+-- one visit more
+pub first_pushed : (dates : List Micros) (date : Micros) (after : Day) (due change more : Option Day)
+    → IsFirstDay (some_weighs_anew dates) after due → IsFirstDay (λ day. weighs_anew day date) after change
+    → more ≡ earlier_of due change → IsFirstDay (some_weighs_anew (dates ++ date ∷ [])) after more
+first_pushed dates date after due change more so_far here is =
+    rw is (first_alike (λ day. some_weighs_anew dates day || weighs_anew day date)
+    (some_weighs_anew (dates ++ date ∷ [])) after (earlier_of due change) (λ day later. alike day)
+    (first_of_either (some_weighs_anew dates) (λ day. weighs_anew day date) after due change so_far here))
+  where
+    alike : (day : ℕ) → (some_weighs_anew dates day || weighs_anew day date)
+        ≡ some_weighs_anew (dates ++ date ∷ []) day
+    alike day =
+        ap (λ (b : Bool). some_weighs_anew dates day || b) (sym (or-false (weighs_anew day date)))
+        ∙ sym (list_any-append (weighs_anew day) dates (date ∷ []))
+
+-- that of a sample
 pub first_more : (sample : List Sampled) (i : ℕ) (otherwise : Sampled) (after : Day) (due change more : Option Day)
     → i < length sample → IsFirstDay (some_weighs_anew (dates_of (take i sample))) after due
     → IsFirstDay (λ day. weighs_anew day (get_or sample i otherwise).date) after change
     → more ≡ earlier_of due change → IsFirstDay (some_weighs_anew (dates_of (take (i + 1) sample))) after more
 first_more sample i otherwise after due change more within so_far here is =
-    let date : Micros = (get_or sample i otherwise).date in
-    rw is (first_alike (λ day. some_weighs_anew (dates_of (take i sample)) day || weighs_anew day date)
-    (some_weighs_anew (dates_of (take (i + 1) sample))) after (earlier_of due change) alike
-    (first_of_either (some_weighs_anew (dates_of (take i sample))) (λ day. weighs_anew day date) after due change
-    so_far here))
-  where
-    alike : (day : ℕ) → (some_weighs_anew (dates_of (take i sample)) day
-        || weighs_anew day (get_or sample i otherwise).date)
-        ≡ some_weighs_anew (dates_of (take (i + 1) sample)) day
-    alike day =
-        ap (λ (b : Bool). b || weighs_anew day (get_or sample i otherwise).date)
-        (list_any-map (weighs_anew day) (λ (v : Sampled). v.date) (take i sample))
-        ∙ sym (list_any_more (λ (v : Sampled). weighs_anew day v.date) sample i otherwise within)
-        ∙ sym (list_any-map (weighs_anew day) (λ (v : Sampled). v.date) (take (i + 1) sample))
+    let seen : Sampled = get_or sample i otherwise in
+    subst (λ (dates : List Micros). IsFirstDay (some_weighs_anew dates) after more)
+    (sym (ap dates_of (take_more sample i otherwise within)
+    ∙ map_push (λ (v : Sampled). v.date) (take i sample) seen))
+    (first_pushed (dates_of (take i sample)) seen.date after due change more so_far here is)

@@ -1,7 +1,7 @@
-ghost use Rattle.std.specs.Prelude.{◌≡◌, ◌≤◌, length};
+ghost use Rattle.std.specs.Prelude.{◌≡◌, ◌≤◌, ◌↔◌, length, IsTrue};
 ghost use Rattle.pl_base.specs.Due.{IsFirstDay, some_weighs_anew, weighs_anew};
 ghost use Rattle.pl_base.specs.Visits.{sample_size};
-ghost use Rattle.pl_score.specs.Due.{earlier_of};
+ghost use Rattle.pl_score.specs.Due.{KeepsWeight, earlier_of};
 ghost use Rattle.pl_score.specs.Sample.{dates_of};
 
 use crate::sample::Sampled;
@@ -22,8 +22,9 @@ pub fn next_due(sample: &[Sampled], day: Day) -> Option<Day>
     due
 }
 
-// The same of one visit of this date.
-fn next_change(date: Micros, day: Day) -> Option<Day>
+/// The first day after `day`, and no later than [`Day::LAST`], on which a visit of this date has
+/// another weight than on the day before; none where there is no such day.
+pub fn next_change(date: Micros, day: Day) -> Option<Day>
     ensures { IsFirstDay (λ other. weighs_anew other date) day result }
 {
     let visited = date.day();
@@ -36,8 +37,16 @@ fn next_change(date: Micros, day: Day) -> Option<Day>
     None
 }
 
-// The earlier of two days, either of which may be none.
-fn earlier(one: Option<Day>, other: Option<Day>) -> Option<Day>
+/// Whether a visit of this date is so old on `day` that its weight never changes again.
+pub fn keeps_weight(date: Micros, day: Day) -> bool
+    ensures { IsTrue result ↔ KeepsWeight day date }
+{
+    let [.., last] = CHANGES;
+    date.day().0 + last <= day.0
+}
+
+/// The earlier of two days, either of which may be none.
+pub fn earlier(one: Option<Day>, other: Option<Day>) -> Option<Day>
     ensures { result ≡ earlier_of one other }
 {
     let Some(day) = one else {

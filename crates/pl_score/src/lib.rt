@@ -6,6 +6,6 @@ mod due;
 mod sample;
 mod table;
 
-pub use due::next_due;
+pub use due::{earlier, keeps_weight, next_change, next_due};
 pub use sample::{SAMPLE_SIZE, Sampled, score};
 pub use table::{bonus, weight};

@@ -32,8 +32,8 @@ returns g c p at =
       frecency =
           to_z-of_z w64 c.unwrap-mark.result.frecency (search rules) ∙ ap (λ (m : Mark). m.frecency) marks;
       count = ap (λ (m : Mark). m.count) marks;
-      last = c.last_date.ensures ∙ ap (last_date_of store) same;
-      due = subst (λ (id : PageId). IsDue store id c.in_ok-due.due) same c.in_ok-due.ensures;
+      last = c.page_dates-dates.ensures.last ∙ ap (last_date_of store) same;
+      due = subst (λ (id : PageId). IsDue store id c.page_dates-dates.result.due) same c.page_dates-dates.ensures.due;
       typed = ap (λ (m : Mark). m.typed) marks;
       hidden = ap (λ (m : Mark). m.hidden) marks;
     }

@@ -1,16 +1,14 @@
-use Rattle.std.proofs.Common.{◌≡◌, ◌==◌, ◌∙◌, ap, List, Some, ℕ, rules, sym, w64}
+use Rattle.std.proofs.Common.{◌≡◌, ◌==◌, ◌∙◌, ap, List, Some, ℕ, rules, subst, sym, w64}
 use Rattle.std.specs.Option.{option_map}
 use Rattle.std.proofs.lemmas.Int.{to_z-of_z}
+use Rattle.pl_base.specs.declared.id.PageId.{PageId}
 use Rattle.pl_base.specs.Address.{origin_of_url}
-use Rattle.pl_base.specs.Marks.{is_referenced}
 use Rattle.pl_base.specs.Rows.{Kept, KeptPage, store_of}
 use Rattle.pl_base.specs.Store.{Store}
-use Rattle.pl_base.specs.Tags.{is_bookmarked, tag_text}
-use Rattle.pl_base.specs.View.{mark_title}
 use Rattle.pl_base.proofs.IdsLaws.{same_page}
 use Rattle.pl_base.proofs.LookUps.{found_passes}
 use Rattle.pl_link.proofs.OriginParts.{origin_by_parts}
-use Rattle.pl_marks.specs.Figures.{AreFiguresOf}
+use Rattle.pl_marks.specs.Figures.{AreFiguresOf, AreItemFiguresOf}
 use Rattle.pl_marks.proofs.KeptUrls.{url-of_store}
 use Rattle.pl_marks.proofs.views.page_view.Goals as goal
 
@@ -32,22 +30,24 @@ returns g c p at =
     let some_title : Some c.in_ok-title.field-0 ≡ Some p.page.title =
     c.in_ok-title.ensures.title ∙ ap (option_map (λ (q : KeptPage). q.page.title)) at in
     let url_is : c.in_ok-url.url ≡ p.page.url = cc in
-    let are : AreFiguresOf store p.page c.in_ok-figures.figures = c.in_ok-figures.ensures p at in
+    let are : AreFiguresOf store p.page c.page_figures-figures.result = c.page_figures-figures.ensures p at in
+    let have : AreItemFiguresOf store p.page.id c.in_ok-items.items =
+    subst (λ (id : PageId). AreItemFiguresOf store id c.in_ok-items.items) same c.in_ok-items.ensures in
     record {
       id = same;
       url = c.url-2.view_is ∙ url_is;
       title = cc;
-      mark_title = c.in_ok-mark_title.ensures ∙ ap (mark_title store) same;
-      tags = c.in_ok-tag_text.ensures ∙ ap (tag_text store) same;
+      mark_title = have.mark_title;
+      tags = have.tags;
       origin =
           ap origin_of_url (sym url_is ∙ sym c.as_str.ensures)
           ∙ origin_by_parts c.as_str.result.now c.in_ok-parts.parts c.in_ok-parts.ensures;
-      frecency = to_z-of_z w64 c.in_ok-figures.figures.frecency (search rules) ∙ are.frecency;
+      frecency = to_z-of_z w64 c.page_figures-figures.result.frecency (search rules) ∙ are.frecency;
       count = are.count;
       last = are.last;
       due = are.due;
       typed = are.typed;
       hidden = are.hidden;
-      bookmarked = c.is_bookmarked.ensures ∙ ap (is_bookmarked store) same;
-      referenced = c.is_referenced-referenced.ensures ∙ ap (is_referenced store) same;
+      bookmarked = have.bookmarked;
+      referenced = have.referenced;
     }
