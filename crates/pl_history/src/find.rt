@@ -28,7 +28,7 @@ impl Target {
 }
 
 // Whether the prefix is that of a query.
-fn has_place_prefix(view: &View) -> bool
+pub(crate) fn has_place_prefix(view: &View) -> bool
     ensures { (kept : Kept) → HasAddress kept view.now → has_page kept view.now.id ≡ true
         → Some result ≡ option_map is_place_url (url_of kept view.now.id) }
 {
