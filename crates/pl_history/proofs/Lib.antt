@@ -8,6 +8,7 @@ pub mod KeptAddresses
 pub mod KeptMark
 pub mod KnownPage
 pub mod LiveAfter
+pub mod NewDay
 pub mod NotDue
 pub mod OriginParts
 pub mod OthersAlike

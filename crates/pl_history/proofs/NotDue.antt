@@ -89,7 +89,7 @@ module _ (day : Day) (store : Store) (later : store.day.0 ≤ day.0) where
 
   pub due_still : (page : PageId) (due : Option Day) → IsStill day store page → IsDue store page due
       → IsDue (on_day day store) page due
-  due_still page None still none other above within = none other (omega (arith, later, above)) within
+  due_still page None still none = λ other above within. none other (omega (arith, later, above)) within
   due_still page (Some d) still first =
       record {
         later = behind (cases_lt day.0 d.0);
