@@ -11,12 +11,12 @@ use Rattle.pl_base.specs.Due.{IsDue}
 use Rattle.pl_base.specs.Frecency.{frecency_of}
 use Rattle.pl_base.specs.Marks.{is_hidden, is_referenced, visit_count}
 use Rattle.pl_base.specs.Rows.{IsWellKept, Kept, KeptPage, has_page, store_of, with_mark, with_origins}
-use Rattle.pl_base.specs.Store.{Page, Store}
+use Rattle.pl_base.specs.Store.{Page}
 use Rattle.pl_base.specs.Visits.{visits_of}
 use Rattle.pl_base.proofs.IdsLaws.{same_page}
 use Rattle.pl_base.proofs.ListLaws.{All-from_map, list_any-map}
 use Rattle.pl_marks.specs.declared.mark.Aged.{Aged}
-use Rattle.pl_marks.specs.Refreshed.{AreRightBut, Refreshes}
+use Rattle.pl_marks.specs.Refreshed.{AreRightBut}
 use Rattle.pl_marks.proofs.SeenVisits.{hidden_by}
 use Rattle.pl_history.specs.Aging.{HadPageOf, HasPageOf, with_aged}
 use Rattle.pl_history.proofs.OthersAlike.{pages_once}
