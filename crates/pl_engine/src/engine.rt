@@ -14,6 +14,7 @@ ghost use Rattle.pl_step.specs.Step as spec;
 ghost use Rattle.pl_engine.specs.Idle.{IsIdle};
 ghost use Rattle.pl_engine.specs.Parts.{known_in};
 ghost use Rattle.pl_engine.specs.Returns.{Returns};
+ghost use Rattle.pl_visiting.specs.NewDay.{ReadsFew};
 ghost use Rattle.pl_visiting.specs.VisitPages.{AddsFewPages};
 
 use crate::parts::Parts;
@@ -147,6 +148,8 @@ impl<R: Rows + Drop> Engine<R> {
         // The views are those of the store, and each follower stands for them.
         ensures known { IfOk result (λ done.
             Knows (store_of (R.kept done.0.rows)) done.0.known) }
+        // A new day reads what it bears on, and not the whole store.
+        ensures reads { ReadsFew command.now (store_of (R.kept self.rows)) steps.old steps.new }
 
         // A visit that is not recorded wants no memory, nor a move that is refused.
         ensures no_memory { IsErr result → MayWantMemory self.limit

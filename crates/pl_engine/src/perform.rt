@@ -10,6 +10,7 @@ ghost use Rattle.pl_step.specs.Commands.{HasDates, MayWantMemory, is_change};
 ghost use Rattle.pl_step.specs.Step as spec;
 ghost use Rattle.pl_engine.specs.Idle.{IsIdle};
 ghost use Rattle.pl_done.specs.Performed.{Performs};
+ghost use Rattle.pl_visiting.specs.NewDay.{ReadsFew};
 ghost use Rattle.pl_visiting.specs.VisitPages.{AddsFewPages};
 
 use pl_base::{Rows, Steps};
@@ -55,6 +56,7 @@ pub fn perform<R: Rows, L: Ledger>(
         → rows.new ≡ rows.old) }
     ensures pages { OnOk result (AddsFewPages command.now (store_of (R.kept rows.old))
         (R.pending rows.old) (R.pending rows.new)) }
+    ensures reads { ReadsFew command.now (store_of (R.kept rows.old)) steps.old steps.new }
     ensures no_memory { IsErrOf result StepError.NoMemory
         → MayWantMemory limit (store_of (R.kept rows.old)) command.now }
 {

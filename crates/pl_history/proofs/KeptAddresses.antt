@@ -10,14 +10,13 @@ use Rattle.pl_base.specs.declared.row.Mark.{Mark}
 use Rattle.pl_base.specs.declared.view.View.{View}
 use Rattle.pl_base.specs.Address.{origin_of_url}
 use Rattle.pl_base.specs.Rows.{Kept, KeptPage, WithPageIn, marked, next_page, store_of, with_mark}
-use Rattle.pl_base.specs.Rows.{with_new_page, with_origin, with_origins}
+use Rattle.pl_base.specs.Rows.{with_new_page, with_origin}
 use Rattle.pl_base.specs.Store.{Page, Store}
 use Rattle.pl_base.specs.View.{AreViews, AreViewsOf, IsViewOf}
 use Rattle.pl_base.proofs.ListLaws.{All-from_map, weaker}
 use Rattle.pl_marks.specs.Alike.{HaveSameTexts}
 use Rattle.pl_marks.specs.Refreshed.{Refreshes}
 use Rattle.pl_history.specs.Addresses.{HaveAddresses}
-use Rattle.pl_history.specs.Fresh.{fresh, with_fresh}
 use Rattle.pl_history.specs.Settled.{Drops}
 use Rattle.pl_history.proofs.Dropped.{along}
 
@@ -59,19 +58,6 @@ pub addresses_refreshed : (views : List View) (old new : Kept) (page : PageId) (
 addresses_refreshed views old new page mark is_place frecency r all =
     subst (HaveAddresses views) (sym r.rows)
     (addresses_marked views page (record mark { frecency = frecency; hidden = r.hidden }) old all)
-
-pub addresses_fresh : (views : List View) (old new : Kept) (page : PageId)
-    → new ≡ with_origins new.origins (with_fresh page old) → HaveAddresses views old → HaveAddresses views new
-addresses_fresh views old new page is all =
-    subst (HaveAddresses views) (sym is)
-    (λ k d within.
-    let view : View = get_or views k d in
-    All-map (λ (p : KeptPage). IsTold view p.page)
-    (λ (p : KeptPage). if p.page.id.0 == page.0 then fresh (store_of old) p else p) old.pages
-    (All-weaker (λ (p : KeptPage). IsTold view p.page)
-    (λ (p : KeptPage). IsTold view (if p.page.id.0 == page.0 then fresh (store_of old) p else p).page)
-    (λ p told. either_page view (p.page.id.0 == page.0) p (fresh (store_of old) p) refl refl told) old.pages
-    (all k d within)))
 
 -- a page that goes
 pub addresses_dropped : (views : List View) (page : PageId) (old new : Kept) → Drops page old new

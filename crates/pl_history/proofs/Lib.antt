@@ -1,5 +1,5 @@
+pub mod AgedPage
 pub mod Dropped
-pub mod Freshened
 pub mod GoodRows
 pub mod GrownItems
 pub mod ItemMarks
@@ -8,6 +8,8 @@ pub mod KeptAddresses
 pub mod KeptMark
 pub mod KnownPage
 pub mod LiveAfter
+pub mod NewDay
+pub mod NotDue
 pub mod OriginParts
 pub mod OthersAlike
 pub mod PageCounts

@@ -83,9 +83,12 @@ place_url url own host is =
 
 -- ---- the view of a page
 
-view_tells : (kept : Kept) (view : View) (told : Bool) → told ≡ has_place view.prefix → HasAddress kept view
-    → has_page kept view.id ≡ true → Some told ≡ option_map is_place_url (url_of kept view.id)
-view_tells kept view told is has there =
+-- what is told of each URL with the view's origin is told of the page's
+view_tells : (kept : Kept) (view : View) (told : Bool)
+    → ((url : List ℕ) → origin_of_url url ≡ Some (view.prefix, view.host) → told ≡ is_place_url url)
+    → HasAddress kept view → has_page kept view.id ≡ true
+    → Some told ≡ option_map is_place_url (url_of kept view.id)
+view_tells kept view told tells has there =
     choose (find test kept.pages) refl (found_in test kept.pages there)
   where
     test : KeptPage → Bool
@@ -102,7 +105,7 @@ view_tells kept view told is has there =
         (recursion_from_All (λ (q : KeptPage). q.page.id ≡ view.id
         → origin_of_url q.page.url ≡ Some (view.prefix, view.host)) kept.pages has)
         at id in
-        ap (λ (b : Bool). Some b) (is ∙ place_url p.page.url view.prefix view.host own)
+        ap (λ (b : Bool). Some b) (tells p.page.url own)
 
 either : (a b : Bool) → a ≡ true → a ≡ (a || b)
 either true b is = refl
@@ -113,33 +116,30 @@ neither true b is = absurd (false≢true (sym is))
 neither false b is = refl
 
 -- by the first of the two prefixes
-pub by_first : (kept : Kept) (view : View) (text : List ℕ) (told : Bool) → text ≡ view.prefix
-    → told ≡ bytes_eq text (codes "place:") → told ≡ true → HasAddress kept view → has_page kept view.id ≡ true
-    → Some told ≡ option_map is_place_url (url_of kept view.id)
-by_first kept view text told same is here =
-    view_tells kept view told
-    (is ∙ either (bytes_eq text (codes "place:")) (bytes_eq text (codes "place://")) (sym is ∙ here)
-    ∙ ap has_place same)
+pub by_first : (view : View) (text url : List ℕ) (told : Bool) → text ≡ view.prefix
+    → told ≡ bytes_eq text (codes "place:") → told ≡ true → origin_of_url url ≡ Some (view.prefix, view.host)
+    → told ≡ is_place_url url
+by_first view text url told same is here own =
+    is ∙ either (bytes_eq text (codes "place:")) (bytes_eq text (codes "place://")) (sym is ∙ here)
+    ∙ ap has_place same ∙ place_url url view.prefix view.host own
 
 -- by the second of them
-pub by_second : (kept : Kept) (view : View) (text : List ℕ) (first told : Bool) → text ≡ view.prefix
+pub by_second : (view : View) (text url : List ℕ) (first told : Bool) → text ≡ view.prefix
     → first ≡ bytes_eq text (codes "place:") → first ≡ false → told ≡ bytes_eq text (codes "place://")
-    → HasAddress kept view → has_page kept view.id ≡ true → Some told ≡ option_map is_place_url (url_of kept view.id)
-by_second kept view text first told same other none is =
-    view_tells kept view told
-    (is ∙ neither (bytes_eq text (codes "place:")) (bytes_eq text (codes "place://")) (sym other ∙ none)
-    ∙ ap has_place same)
+    → origin_of_url url ≡ Some (view.prefix, view.host) → told ≡ is_place_url url
+by_second view text url first told same other none is own =
+    is ∙ neither (bytes_eq text (codes "place:")) (bytes_eq text (codes "place://")) (sym other ∙ none)
+    ∙ ap has_place same ∙ place_url url view.prefix view.host own
 
 pub found_tells : (kept : Kept) (views : List View) (place : ℕ) (view : View) (page : PageId) (told : Bool)
     → slice_get views place ≡ Some view → (view.id.0 == page.0) ≡ true
-    → (HasAddress kept view → has_page kept view.id ≡ true
-    → Some told ≡ option_map is_place_url (url_of kept view.id))
+    → ((url : List ℕ) → origin_of_url url ≡ Some (view.prefix, view.host) → told ≡ is_place_url url)
     → HaveAddresses views kept → has_page kept page ≡ true
     → Some told ≡ option_map is_place_url (url_of kept page)
 found_tells kept views place view page told at same tells all there =
     let id : view.id ≡ page = same_page view.id page same in
     subst (λ (i : PageId). Some told ≡ option_map is_place_url (url_of kept i)) id
-    (tells
+    (view_tells kept view told tells
     (subst (HasAddress kept) (get_or_from_slice_get views place view view at)
     (all place view (slice_get_within views place view at)))
     (subst (λ (i : PageId). has_page kept i ≡ true) (sym id) there))

@@ -1,8 +1,8 @@
 pub mod Added
 pub mod Addresses
+pub mod Aging
 pub mod Bears
 pub mod Borne
-pub mod Fresh
 pub mod Marked
 pub mod Ready
 pub mod Settled

@@ -1,10 +1,10 @@
 // Where a visit goes: to the page with its URL, or else to the origin of the URL; and whether a
 // page is a query.
-ghost use Rattle.std.specs.Prelude.{◌≡◌, Some, true, IfOk, IfSome};
+ghost use Rattle.std.specs.Prelude.{◌≡◌, ℕ, List, Some, true, IfOk, IfSome};
 ghost use Rattle.std.specs.Option.{option_map};
-ghost use Rattle.pl_base.specs.Address.{is_place_url};
+ghost use Rattle.pl_base.specs.Address.{is_place_url, origin_of_url};
 ghost use Rattle.pl_base.specs.Rows.{Kept, has_page, url_of};
-ghost use Rattle.pl_history.specs.Addresses.{HasAddress, HaveAddresses};
+ghost use Rattle.pl_history.specs.Addresses.{HaveAddresses};
 ghost use Rattle.pl_history.specs.Target.{is_new};
 
 use pl_base::{NoMemory, PageId, Rows, Slot, Steps, View};
@@ -27,10 +27,10 @@ impl Target {
     }
 }
 
-// Whether the prefix is that of a query.
-fn has_place_prefix(view: &View) -> bool
-    ensures { (kept : Kept) → HasAddress kept view.now → has_page kept view.now.id ≡ true
-        → Some result ≡ option_map is_place_url (url_of kept view.now.id) }
+/// Whether the prefix is that of a query, and so the page's URL is one.
+pub(crate) fn has_place_prefix(view: &View) -> bool
+    ensures { (url : List ℕ) → origin_of_url url ≡ Some (view.now.prefix, view.now.host)
+        → result ≡ is_place_url url }
 {
     let prefix = view.prefix.as_str();
     prefix == "place:" || prefix == "place://"

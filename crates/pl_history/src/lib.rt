@@ -16,7 +16,7 @@ mod trimming;
 mod visiting;
 
 pub use bookmarks::add_bookmark;
-pub use days::set_day;
+pub use days::age_page;
 pub use expiration::{expire, forget};
 pub use find::{Target, is_place};
 pub use removal::{Removal, Removed, put_in_order, remove_visits};

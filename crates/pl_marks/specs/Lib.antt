@@ -1,3 +1,4 @@
+pub mod Aged
 pub mod Alike
 pub mod Figures
 pub mod Freshest

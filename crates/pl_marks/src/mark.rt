@@ -1,23 +1,25 @@
 // What is kept of a page, computed afresh.
-ghost use Rattle.std.specs.Prelude.{◌≡◌, ◌<◌, ◌≤◌, ◌||◌, ℕ, List, Some, None, true, map, take};
-ghost use Rattle.std.specs.Prelude.{IfOk, OnOk, if◌then◌else◌};
+ghost use Rattle.std.specs.Prelude.{◌≡◌, ◌+◌, ◌*◌, ◌<◌, ◌≤◌, ◌||◌, ℕ, List, Some, None, true};
+ghost use Rattle.std.specs.Prelude.{IfOk, OnOk, if◌then◌else◌, map, take};
 ghost use Rattle.pl_base.specs.Address.{is_place_url};
+ghost use Rattle.pl_base.specs.Due.{IsDue};
 ghost use Rattle.pl_base.specs.Frecency.{frecency_of};
 ghost use Rattle.pl_base.specs.Good.{end_of_ids};
 ghost use Rattle.pl_base.specs.Marks as marks;
 ghost use Rattle.pl_base.specs.Redirects as redirects;
-ghost use Rattle.pl_base.specs.Rows.{HaveSums, has_page, has_visit, page_visits, row_of, store_of};
-ghost use Rattle.pl_base.specs.Rows.{visit_at};
+ghost use Rattle.pl_base.specs.Rows.{HaveSums, has_page, has_visit, most_reads, page_visits};
+ghost use Rattle.pl_base.specs.Rows.{row_of, store_of, visit_at};
 ghost use Rattle.pl_base.specs.Store.{Page, Visit};
 ghost use Rattle.pl_base.specs.Totals.{most_share, share};
 ghost use Rattle.pl_base.specs.Touched.{IsAtMostMore};
 ghost use Rattle.pl_base.specs.Visits.{sample_size};
 ghost use Rattle.pl_score.specs.Sample.{sampled_of};
+ghost use Rattle.pl_marks.specs.Aged.{aged_reads, sample_reads, sampled_reads};
 ghost use Rattle.pl_marks.specs.Refreshed as spec;
 
 use crate::totals::keep_mark;
-use pl_base::{Mark, NoMemory, PageId, Rows, Steps, Transition, VisitId, VisitRow};
-use pl_score::{SAMPLE_SIZE, Sampled, bonus, score};
+use pl_base::{Day, Mark, NoMemory, PageId, Rows, Steps, Transition, VisitId, VisitRow};
+use pl_score::{SAMPLE_SIZE, Sampled, bonus, next_due, score};
 use std::alloc::Global;
 use std::sync::ledger::Ledger;
 
@@ -48,8 +50,9 @@ pub fn unvisited_mark(mark: Mark, transition: Transition) -> Mark
 
 // Whether the visit led to a redirect.
 fn is_redirect_source<R: Rows, L: Ledger>(rows: &R, visit: VisitId, steps: &mut Steps<L>) -> bool
-    ensures { (v : Visit) → v.id ≡ visit
+    ensures is_source { (v : Visit) → v.id ≡ visit
         → result ≡ redirects.is_redirect_source (store_of (R.kept rows.now)) v }
+    ensures cost { steps.new ≤ steps.old + 2 * most_reads }
 {
     // A redirect stands before all others.
     let Some(target) = rows.first_target(visit, steps) else {
@@ -65,8 +68,9 @@ fn source_transition<R: Rows, L: Ledger>(
     row: &VisitRow,
     steps: &mut Steps<L>,
 ) -> Option<Transition>
-    ensures { (v : Visit) → row_of v ≡ row.now
+    ensures source { (v : Visit) → row_of v ≡ row.now
         → result ≡ redirects.source_transition (store_of (R.kept rows.now)) v }
+    ensures cost { steps.new ≤ steps.old + most_reads }
 {
     if !row.transition.is_redirect() {
         return None;
@@ -90,9 +94,10 @@ fn sampled<R: Rows, L: Ledger>(
     steps: &mut Steps<L>,
 ) -> Sampled
     requires { has_visit (R.kept rows.now) visit ≡ true }
-    ensures { (v : Visit) → visit_at (R.kept rows.now) visit ≡ Some v
+    ensures sampled { (v : Visit) → visit_at (R.kept rows.now) visit ≡ Some v
         → referenced ≡ marks.is_referenced (store_of (R.kept rows.now)) v.page
         → result ≡ sampled_of (store_of (R.kept rows.now)) v }
+    ensures cost { steps.new ≤ steps.old + sampled_reads }
 {
     let row = rows.visit_at(visit, steps).unwrap();
     let source = source_transition(rows, &row, steps);
@@ -112,9 +117,10 @@ pub(crate) fn sample<R: Rows, L: Ledger>(
     steps: &mut Steps<L>,
 ) -> Result<Vec<Sampled>, NoMemory>
     requires { referenced ≡ marks.is_referenced (store_of (R.kept rows.now)) page }
-    ensures { IfOk result (λ sample. sample.items
+    ensures sample { IfOk result (λ sample. sample.items
         ≡ map (sampled_of (store_of (R.kept rows.now)))
         (take sample_size (page_visits (R.kept rows.now) page))) }
+    ensures cost { steps.new ≤ steps.old + sample_reads }
 {
     let mut sample = Vec::new(alloc);
     let mut next = rows.latest(page, steps);
@@ -126,6 +132,44 @@ pub(crate) fn sample<R: Rows, L: Ledger>(
         next = rows.older(visit, steps);
     }
     Ok(sample)
+}
+
+/// What a new day changes of a page: its frecency, and the day on which that is to be computed again.
+#[derive(Clone, Copy, Debug, PartialEq, Eq)]
+pub struct Aged {
+    pub frecency: i64,
+    /// As in a view.
+    pub due: Option<Day>,
+}
+
+/// The frecency of a page on the day of the rows, and its due day, by its `visit_count` and by
+/// whether an item has it, it was typed and its URL is a query. Of its visits those of the sample
+/// alone are read, and no text.
+pub fn aged_page<R: Rows, L: Ledger>(
+    alloc: Global,
+    rows: &R,
+    page: PageId,
+    count: u32,
+    referenced: bool,
+    typed: bool,
+    is_place: bool,
+    steps: &mut Steps<L>,
+) -> Result<Aged, NoMemory>
+    requires count { count ≡ marks.visit_count (store_of (R.kept rows.now)) page }
+    requires referenced { referenced ≡ marks.is_referenced (store_of (R.kept rows.now)) page }
+    ensures frecency { IfOk result (λ aged. (p : Page) → p.id ≡ page
+        → typed ≡ p.typed → is_place ≡ is_place_url p.url
+        → aged.frecency ≡ frecency_of (store_of (R.kept rows.now)) p) }
+    ensures small { IfOk result (λ aged. share aged.frecency ≤ most_share) }
+    ensures due { IfOk result (λ aged. IsDue (store_of (R.kept rows.now)) page aged.due) }
+    ensures cost { steps.new ≤ steps.old + aged_reads }
+{
+    let sample = sample(alloc, rows, page, referenced, steps)?;
+    let day = rows.day(steps);
+    Ok(Aged {
+        frecency: score(&sample, day, count, referenced, typed, is_place),
+        due: next_due(&sample, day),
+    })
 }
 
 // The frecency of a page with this `visit_count` and typed mark.
@@ -144,9 +188,10 @@ fn frecency<R: Rows, L: Ledger>(
     ensures small { IfOk result (λ frecency. share frecency ≤ most_share) }
 {
     let referenced = is_referenced(rows, page, steps);
-    let sample = sample(alloc, rows, page, referenced, steps)?;
-    let day = rows.day(steps);
-    Ok(score(&sample, day, mark.count, referenced, mark.typed, is_place))
+    let aged = aged_page(
+        alloc, rows, page, mark.count, referenced, mark.typed, is_place, steps,
+    )?;
+    Ok(aged.frecency)
 }
 
 // Whether the visit is within a frame or led to a redirect.

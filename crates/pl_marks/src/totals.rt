@@ -1,9 +1,10 @@
 // A page's mark, and with it the total of its origin.
-ghost use Rattle.std.specs.Prelude.{◌≡◌, ◌≤◌, ℕ, List, true};
+ghost use Rattle.std.specs.Prelude.{◌≡◌, ◌+◌, ◌≤◌, ℕ, List, true};
 ghost use Rattle.pl_base.specs.Rows.{HaveSums, has_page, with_mark, with_origins};
 ghost use Rattle.pl_base.specs.Totals as spec;
 ghost use Rattle.pl_base.specs.Totals.{most_share};
 ghost use Rattle.pl_base.specs.Touched.{IsAtMostMore};
+ghost use Rattle.pl_marks.specs.Aged.{mark_reads};
 ghost use Rattle.pl_marks.specs.Refreshed.{mark_pages};
 
 use pl_base::{Mark, PageId, Rows, Steps};
@@ -27,6 +28,7 @@ pub fn keep_mark<R: Rows, L: Ledger>(rows: &mut R, page: PageId, mark: Mark, ste
     ensures sums { HaveSums (R.kept rows.new) }
     ensures pages { IsAtMostMore mark_pages (R.pending rows.old) (R.pending rows.new) }
     ensures base { (bytes : List ℕ) → R.base rows.old bytes → R.base rows.new bytes }
+    ensures cost { steps.new ≤ steps.old + mark_reads }
 {
     let was = rows.page_at(page, steps).unwrap();
     let origin = rows.origin_of(page, steps);

@@ -1,6 +1,9 @@
+mod AgingWeights
+mod DuePages
 mod FewPages
-mod HistoryViews
+mod FoundViews
 mod LiveTitled
+mod MovedPages
 mod Removals
 mod TitleStep
 mod Titled

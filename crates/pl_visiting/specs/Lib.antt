@@ -1,2 +1,3 @@
+pub mod NewDay
 pub mod Titled
 pub mod VisitPages

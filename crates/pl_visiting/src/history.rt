@@ -1,9 +1,7 @@
-// The day that the store is at, and history that goes.
+// History that goes.
 ghost use Rattle.std.specs.Prelude.{◌≡◌, ℕ, IfOk, map};
 ghost use Rattle.std.specs.List.Sorted.{IsStrictlyIncreasing};
 ghost use Rattle.pl_base.specs.declared.id.PageId.{PageId};
-ghost use Rattle.pl_base.specs.declared.view.View.{View};
-ghost use Rattle.pl_base.specs.Date.{IsDay};
 ghost use Rattle.pl_base.specs.Rows.{IsSound, store_of};
 ghost use Rattle.pl_changes.specs.CameFrom.{CameFrom};
 ghost use Rattle.pl_known.specs.Changes.{LeadTo};
@@ -11,10 +9,10 @@ ghost use Rattle.pl_known.specs.Known.{Knows};
 ghost use Rattle.pl_step.specs.Step as spec;
 ghost use Rattle.pl_done.specs.Performed.{Performs};
 
-use pl_base::{Change, Day, NoMemory, PageId, Refusal, Rows, Steps, View, VisitId};
+use pl_base::{Day, NoMemory, Refusal, Rows, Steps, VisitId};
 use pl_changes::changes;
 use pl_done::Done;
-use pl_history::{Removal, remove_visits, set_day};
+use pl_history::{Removal, remove_visits};
 use pl_known::Known;
 use pl_link::Canon;
 use pl_step::{Command, Reply, StepError};
@@ -44,57 +42,6 @@ fn removed<R: Rows, L: Ledger>(
         pages: removal.went.pages,
     };
     Ok(Done { reply, changes })
-}
-
-// The ids of the pages of these views.
-fn page_ids(alloc: Global, views: &[View]) -> Result<Vec<PageId>, NoMemory>
-    ensures { IfOk result (λ pages. pages.items ≡ map (λ (view : View). view.id) views.now) }
-{
-    Ok(views.iter().map(|view| view.id).collect(alloc)?)
-}
-
-// The changes of the views of all pages, each of which is asked for its figures.
-fn all_changes<R: Rows, L: Ledger>(
-    alloc: Global,
-    rows: &R,
-    known: &Known,
-    steps: &mut Steps<L>,
-) -> Result<Vec<Change>, NoMemory>
-    requires sound { IsSound (R.kept rows.now) }
-    requires came { CameFrom (map (λ (view : View). view.id) known.now.views.items) known.now
-        (store_of (R.kept rows.now)) }
-    ensures { IfOk result (λ changes. LeadTo (store_of (R.kept rows.now))
-        known.now.views.items changes.items) }
-{
-    let pages = page_ids(alloc, &known.views)?;
-    changes(alloc, rows, known, &pages, steps)
-}
-
-/// The store is at this day from then on.
-pub fn day<R: Rows, L: Ledger>(
-    alloc: Global,
-    rows: &mut R,
-    known: &Known,
-    day: Day,
-    steps: &mut Steps<L>,
-) -> Result<Done, StepError>
-    requires day { IsDay day }
-    requires sound { IsSound (R.kept rows.old) }
-    requires knows { Knows (store_of (R.kept rows.old)) known.now }
-    ensures performs { (limit : ℕ) → Performs R.kept R.base
-        (spec.perform limit (store_of (R.kept rows.old)) (Command.Day day))
-        rows.old rows.new known.now result }
-{
-    let kept = rows.day(steps);
-    if day < kept {
-        return Err(StepError::Refused(Refusal::DayBack(kept)));
-    }
-    let changed = set_day(alloc, rows, &known.views, day, steps)?;
-    let changes = all_changes(alloc, rows, known, steps)?;
-    Ok(Done {
-        reply: Reply::Day { day, changed },
-        changes,
-    })
 }
 
 /// A visit goes.

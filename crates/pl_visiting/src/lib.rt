@@ -2,10 +2,12 @@
 //! tells the changes of views.
 #![tactic(auto)]
 
+mod days;
 mod history;
 mod titles;
 mod visits;
 
-pub use history::{day, expire, forget, trim, unvisit};
+pub use days::day;
+pub use history::{expire, forget, trim, unvisit};
 pub use titles::title;
 pub use visits::visit;

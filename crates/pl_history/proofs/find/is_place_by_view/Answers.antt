@@ -10,4 +10,4 @@ returns-then-eq c kept has there =
     c.has_place_prefix.result
     (sym (got_at c.args.views.now c.partition_point-place.result c.get.result c.get.ensures.lookup.3)
     ∙ ap option_copied c.in_ok-view.was)
-    (sym c.eq.ensures ∙ c.if-eq.true) (c.has_place_prefix.ensures kept) has there
+    (sym c.eq.ensures ∙ c.if-eq.true) c.has_place_prefix.ensures has there

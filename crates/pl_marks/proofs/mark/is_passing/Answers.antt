@@ -15,7 +15,7 @@ unwrap-row-requires g c =
 
 pub returns-else-is_framed : goal.returns-else-is_framed
 returns-else-is_framed g c v at =
-    c.is_redirect_source.ensures v (visit_is (g.R.Rows.kept c.args.rows.now) c.args.visit v at)
+    c.is_redirect_source.ensures.is_source v (visit_is (g.R.Rows.kept c.args.rows.now) c.args.visit v at)
     ∙ ap (λ (b : Bool). b || is_redirect_source (store_of (g.R.Rows.kept c.args.rows.now)) v)
     (sym c.if-is_framed.false ∙ c.is_framed.ensures
     ∙ ap (λ (r : VisitRow). is_framed r.transition)

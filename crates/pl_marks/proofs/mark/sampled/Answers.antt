@@ -11,13 +11,13 @@ unwrap-row-requires g c =
     found_where (λ (v : Visit). v.id.0 == c.args.visit.0) row_of (g.R.Rows.kept c.args.rows.now).visits
     c.visit_at.result c.requires c.visit_at.ensures.row
 
-pub returns : goal.returns
-returns g c v at referenced =
+pub returns-clause-sampled : goal.returns-clause-sampled
+returns-clause-sampled g c v at referenced =
     let kept : Kept = g.R.Rows.kept c.args.rows.now in
     let rows : c.unwrap-row.result ≡ row_of v =
     row_is kept c.args.visit c.unwrap-row.result v (sym c.unwrap-row.ensures ∙ c.visit_at.ensures.row) at in
     sampled_is (store_of kept) v c.unwrap-row.result c.source_transition-source.result
     c.is_redirect_source-is_source.result c.args.referenced c.bonus.result rows
-    (c.source_transition-source.ensures v (sym rows))
-    (c.is_redirect_source-is_source.ensures v (visit_is kept c.args.visit v at)) referenced
+    (c.source_transition-source.ensures.source v (sym rows))
+    (c.is_redirect_source-is_source.ensures.is_source v (visit_is kept c.args.visit v at)) referenced
     c.bonus.ensures.exact

@@ -12,7 +12,7 @@ use Rattle.pl_step.specs.declared.reply.Reply.{Reply}
 use Rattle.pl_step.specs.Step.{after_title}
 use Rattle.pl_done.specs.Performed.{Performs}
 use Rattle.pl_done.proofs.FoundPages.{found_id, none_found}
-use Rattle.pl_visiting.proofs.HistoryViews.{found_view}
+use Rattle.pl_visiting.proofs.FoundViews.{found_view}
 use Rattle.pl_visiting.proofs.TitleStep.{no_page, same_of, step_of}
 use Rattle.pl_visiting.proofs.TitledViews.{page_there, seen, title_there}
 use Rattle.pl_visiting.proofs.titles.title.Given.{Over}
