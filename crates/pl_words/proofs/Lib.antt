@@ -1,9 +1,10 @@
+mod AsciiFolds
 mod BarRows
 mod FoldRows
-mod MatchSteps
 mod PieceRows
 mod PieceSteps
 mod PrefixSteps
+pub mod StandingSteps
 pub mod TagListLaws
 pub mod TagNames
 mod TagRows

@@ -1,6 +1,6 @@
 -- The words of a text, and where a word stands in one.
 use Rattle.std.specs.Prelude.{ℕ, ◌==◌, ◌&&◌, ◌||◌, not, Bool, true, false, List, [], ◌∷◌}
-use Rattle.std.specs.Prelude.{map, length, Ok, Err}
+use Rattle.std.specs.Prelude.{◌-◌, map, length, Ok, Err, slice_index}
 use Rattle.std.specs.Prelude.{chars, drop, encode_utf8_all, nat_eq, if◌then◌else◌}
 use Rattle.std.specs.Char.{is_ascii_alphabetic, is_whitespace}
 use Rattle.std.specs.List.{filter, slice_split, starts_with}
@@ -10,6 +10,8 @@ use Rattle.url.specs.Parser.{Parsed}
 use Rattle.url.specs.Parts.{Parts}
 use Rattle.pl_base.specs.Address.{prefix, record_of}
 use Rattle.pl_base.specs.Fold.{folded}
+use Rattle.pl_words.specs.declared.stands.Standing.{Standing}
+use Rattle.pl_words.specs.declared.stands.Standing.TheVariants.{Boundary, Inside, Nowhere}
 
 -- the words of a text: what stands between its white space, as Unicode has it
 abbrev pub pieces : List ℕ → List (List ℕ)
@@ -37,6 +39,15 @@ on_boundary word text = occurs_behind true word text
 -- the word stands in the text, on a boundary where that is asked
 abbrev pub found : Bool → List ℕ → List ℕ → Bool
 found boundary word text = if boundary then on_boundary word text else occurs word text
+
+-- the place is at the front of the text, or behind a byte that is no ASCII letter
+abbrev pub is_boundary : List ℕ → ℕ → Bool
+is_boundary text place = (place == 0) || not (is_ascii_alphabetic (slice_index text (place - 1)))
+
+-- how well the word stands in the text
+abbrev pub standing : List ℕ → List ℕ → Standing
+standing word text =
+    if found true word text then Boundary else if found false word text then Inside else Nowhere
 
 -- a URL as it is searched: without its prefix, its percent-escapes decoded, with U+FFFD for what is
 -- no UTF-8 then, and folded

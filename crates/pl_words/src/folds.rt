@@ -6,9 +6,16 @@ use pl_base::{NoMemory, Txt};
 use std::alloc::Global;
 
 /// The text with its case folded, by the default case folding of the Unicode Standard. Two texts
-/// are the same without regard to case where their folds are.
+/// are the same without regard to case where their folds are. The fold takes no more room than its
+/// bytes need.
 pub fn fold(alloc: Global, text: &str) -> Result<Txt, NoMemory>
     ensures { IfOk result (λ folds. folds ≡ folded text.now) }
 {
-    Ok(Txt::from(default_case_fold_str(alloc, text)?))
+    if text.is_ascii() {
+        let mut lower = String::from_str(alloc, text)?;
+        lower.make_ascii_lowercase();
+        return Ok(Txt::from(lower));
+    }
+    let folds = default_case_fold_str(alloc, text)?;
+    Txt::copied(alloc, folds.as_str())
 }

@@ -4,6 +4,7 @@
 
 mod bar_text;
 mod folds;
+mod stands;
 mod tag_list;
 mod tag_name;
 mod words;
@@ -12,4 +13,5 @@ pub use bar_text::{BarText, Marks, tokens};
 pub use folds::fold;
 pub use tag_list::first_tags;
 pub use tag_name::{TagError, TagName, is_tag_name};
-pub use words::{matches, pieces, searched};
+pub use stands::Standing;
+pub use words::{matches, pieces, searched, standing};

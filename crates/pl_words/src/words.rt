@@ -1,9 +1,10 @@
 // The words of texts, and where a word stands in one.
-ghost use Rattle.std.specs.Prelude.{◌≡◌, IfOk, nat_eq, true};
+ghost use Rattle.std.specs.Prelude.{◌≡◌, ◌<◌, IfOk, length, nat_eq, true};
 ghost use Rattle.std.specs.List.{starts_with};
 ghost use Rattle.pl_words.specs.Pieces as spec;
+ghost use Rattle.pl_words.specs.Pieces.{is_boundary};
 
-use crate::fold;
+use crate::{Standing, fold};
 use percent_encoding::percent_decode_str;
 use pl_base::{NoMemory, Txt};
 use std::alloc::Global;
@@ -29,22 +30,44 @@ pub fn searched(alloc: Global, url: &str, prefix: &str) -> Result<Txt, NoMemory>
     fold(alloc, decoded.as_str())
 }
 
-/// Whether the word stands in the text; on a boundary, where that is asked: at the front of the
-/// text, or behind a byte that is no ASCII letter.
-pub fn matches(text: &Txt, word: &Txt, boundary: bool) -> bool
-    ensures { result ≡ spec.found boundary word.now text.now }
+/// Whether a word that begins at the place stands on a boundary: at the front of the text, or behind
+/// a byte that is no ASCII letter.
+fn is_boundary(text: &[u8], place: usize) -> bool
+    requires within { place < length text.now }
+    ensures { result ≡ is_boundary text.now place }
+{
+    place == 0 || !text[place - 1].is_ascii_alphabetic()
+}
+
+/// How well the word stands in the text, wherever it stands best: `Boundary` at the front of the
+/// text, or behind a byte that is no ASCII letter. The empty word stands so in each text.
+pub fn standing(text: &Txt, word: &Txt) -> Standing
+    ensures { result ≡ spec.standing word.now text.now }
 {
     let text = text.as_str().as_bytes();
     let [first, rest @ ..] = word.as_str().as_bytes() else {
-        return true;
+        return Standing::Boundary;
     };
-    let mut behind_letter = false;
+    let mut seen = Standing::Nowhere;
     for (place, byte) in text.iter().enumerate() {
-        let inside = boundary && behind_letter;
-        if byte == first && !inside && text[place + 1..].starts_with(rest) {
-            return true;
+        if byte == first && text[place + 1..].starts_with(rest) {
+            if is_boundary(text, place) {
+                return Standing::Boundary;
+            }
+            seen = Standing::Inside;
         }
-        behind_letter = byte.is_ascii_alphabetic();
     }
-    false
+    seen
+}
+
+/// Whether the word stands in the text; on a boundary, where that is asked.
+pub fn matches(text: &Txt, word: &Txt, boundary: bool) -> bool
+    ensures { result ≡ spec.found boundary word.now text.now }
+{
+    let least = if boundary {
+        Standing::Boundary
+    } else {
+        Standing::Inside
+    };
+    standing(text, word) >= least
 }
