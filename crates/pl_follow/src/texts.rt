@@ -11,7 +11,7 @@ ghost use Rattle.pl_follow.specs.Texts.{KeepsTexts, folded_of, searched_title, t
 
 use crate::Follow;
 use pl_base::{NoMemory, PageId, Txt, View};
-use pl_words as words;
+use pl_words::{fold, searched};
 use std::alloc::Global;
 use std::collections::HashMap;
 
@@ -109,23 +109,6 @@ impl Follow for FoldedTexts {
     }
 }
 
-// What a text folds to, without the room that folding it took.
-fn fold(alloc: Global, text: &str) -> Result<Txt, NoMemory>
-    ensures { IfOk result (λ folds. folds ≡ folded text.now) }
-{
-    let folds = words::fold(alloc, text)?;
-    Txt::copied(alloc, folds.as_str())
-}
-
-// The same of an address as it is searched.
-fn searched(alloc: Global, view: &View) -> Result<Txt, NoMemory>
-    requires prefix { starts_with nat_eq view.now.url view.now.prefix ≡ true }
-    ensures { IfOk result (λ text. text ≡ pieces.searched view.now.url view.now.prefix) }
-{
-    let text = words::searched(alloc, view.url.as_str(), view.prefix.as_str())?;
-    Txt::copied(alloc, text.as_str())
-}
-
 // The title by which the page is searched.
 fn title_of(view: &View) -> &str
     ensures { result.now ≡ searched_title view.now }
@@ -156,7 +139,7 @@ fn folded_texts(alloc: Global, view: &View) -> Result<Folded, NoMemory>
 {
     Ok(Folded {
         title: fold(alloc, title_of(view))?,
-        address: searched(alloc, view)?,
+        address: searched(alloc, view.url.as_str(), view.prefix.as_str())?,
         tags: fold(alloc, view.tags.as_str())?,
     })
 }
@@ -197,5 +180,5 @@ fn refold_address(alloc: Global, kept: Txt, old: &View, new: &View) -> Result<Tx
     if has_same_address(old, new) {
         return Ok(kept);
     }
-    searched(alloc, new)
+    searched(alloc, new.url.as_str(), new.prefix.as_str())
 }

@@ -1,10 +1,11 @@
 mod AsciiFolds
 mod BarRows
 mod FoldRows
+pub mod FoundLaws
 mod PieceRows
 mod PieceSteps
 mod PrefixSteps
-pub mod StandingSteps
+mod StandingSteps
 pub mod TagListLaws
 pub mod TagNames
 mod TagRows

@@ -6,7 +6,8 @@ use Rattle.std.specs.Str.{chars, is_utf8}
 use Rattle.std.specs.Str.Lossy.{utf8_error_len, utf8_lossy, utf8_valid_len}
 use Rattle.caseless.proofs.Computing.{caseless}
 use Rattle.percent_encoding.specs.Percent.{percent_decode}
-use Rattle.pl_words.specs.Pieces.{occurs, on_boundary, pieces, searched}
+use Rattle.pl_words.specs.declared.stands.Standing.TheVariants.{Boundary, Inside, Nowhere}
+use Rattle.pl_words.specs.Pieces.{occurs, on_boundary, pieces, searched, standing}
 
 -- ---- words
 
@@ -69,6 +70,15 @@ empty_word = refl
 
 no_letter_first : map (on_boundary (codes ".b")) (codes "a.b" ∷ codes "a..b" ∷ []) ≡ false ∷ true ∷ []
 no_letter_first = refl
+
+-- the best place tells
+standings :
+    map (standing (codes "cat")) (codes "cut" ∷ codes "scat" ∷ codes "cats" ∷ codes "scat cat" ∷ codes "cat scat" ∷ [])
+    ≡ Nowhere ∷ Inside ∷ Boundary ∷ Boundary ∷ Boundary ∷ []
+standings = refl
+
+nothing_stands_well : map (standing []) ([] ∷ codes "ab" ∷ []) ≡ Boundary ∷ Boundary ∷ []
+nothing_stands_well = refl
 
 -- ---- URLs
 

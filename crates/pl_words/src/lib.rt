@@ -11,7 +11,7 @@ mod words;
 
 pub use bar_text::{BarText, Marks, tokens};
 pub use folds::fold;
+pub use stands::Standing;
 pub use tag_list::first_tags;
 pub use tag_name::{TagError, TagName, is_tag_name};
-pub use stands::Standing;
 pub use words::{matches, pieces, searched, standing};

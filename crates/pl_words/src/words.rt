@@ -21,7 +21,7 @@ pub fn pieces(alloc: Global, text: &Txt) -> Result<Vec<Txt>, NoMemory>
 }
 
 /// A URL as it is searched: without this prefix of it, its percent-escapes decoded, with U+FFFD for
-/// what is no UTF-8 then, and with its case folded.
+/// what is no UTF-8 then, and with its case folded. It has no spare room, as `fold` gives it.
 pub fn searched(alloc: Global, url: &str, prefix: &str) -> Result<Txt, NoMemory>
     requires prefix { starts_with nat_eq url.now prefix.now ≡ true }
     ensures { IfOk result (λ text. text ≡ spec.searched url.now prefix.now) }
@@ -30,8 +30,7 @@ pub fn searched(alloc: Global, url: &str, prefix: &str) -> Result<Txt, NoMemory>
     fold(alloc, decoded.as_str())
 }
 
-/// Whether a word that begins at the place stands on a boundary: at the front of the text, or behind
-/// a byte that is no ASCII letter.
+/// Whether the place is at the front of the text, or behind a byte that is no ASCII letter.
 fn is_boundary(text: &[u8], place: usize) -> bool
     requires within { place < length text.now }
     ensures { result ≡ is_boundary text.now place }
@@ -39,8 +38,8 @@ fn is_boundary(text: &[u8], place: usize) -> bool
     place == 0 || !text[place - 1].is_ascii_alphabetic()
 }
 
-/// How well the word stands in the text, wherever it stands best: `Boundary` at the front of the
-/// text, or behind a byte that is no ASCII letter. The empty word stands so in each text.
+/// How well the word stands in the text, at its best place. The empty word stands on a boundary of
+/// each text.
 pub fn standing(text: &Txt, word: &Txt) -> Standing
     ensures { result ≡ spec.standing word.now text.now }
 {

@@ -1,7 +1,6 @@
-use Rattle.std.proofs.Common.{◌≡◌, ◌∙◌, ◌+◌, ◌<◌, ◌≤◌, ℕ, List, false, true, ap, arith, drop, length, nat_eq, subst, sym}
+use Rattle.std.proofs.Common.{◌≡◌, ◌∙◌, ◌+◌, ◌<◌, ◌≤◌, ℕ, List, false, ap, arith, drop, length, nat_eq, subst, sym}
 use Rattle.std.specs.List.{starts_with}
 use Rattle.pl_words.specs.declared.stands.Standing.TheVariants.{Nowhere}
-use Rattle.pl_words.specs.Pieces.{standing}
 use Rattle.pl_words.proofs.StandingSteps.{best_from, nothing_left, nothing_sought, other_first, same_first}
 use Rattle.pl_words.proofs.StandingSteps.{stands_elsewhere, stands_on_boundary, stands_within}
 use Rattle.pl_words.proofs.words.standing.Goals as goal
