@@ -11,4 +11,5 @@ pub folded_ascii : (text : List ℕ) → IsAscii text → folded text ≡ map to
 folded_ascii text ascii =
     ap encode_utf8_all (default_case_fold-ascii _ (All-chars text ascii)
     ∙ ap (map to_ascii_lowercase) (chars-IsAscii text ascii))
-    ∙ encodes-IsAscii (map to_ascii_lowercase text) (IsAscii-map to_ascii_lowercase text lowercase_ascii ascii)
+    ∙ encodes-IsAscii (map to_ascii_lowercase text)
+    (IsAscii-map to_ascii_lowercase text lowercase_ascii ascii)

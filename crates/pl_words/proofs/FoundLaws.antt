@@ -1,5 +1,6 @@
 -- A word that stands on a boundary of a text stands in it.
-use Rattle.std.proofs.Common.{◌≡◌, ◌&&◌, ◌||◌, Bool, true, false, List, [], ◌∷◌, ℕ, nat_eq, not, refl, sym}
+use Rattle.std.proofs.Common.{◌≡◌, ◌&&◌, ◌||◌, ℕ, Bool, true, false, List, [], ◌∷◌, nat_eq, not}
+use Rattle.std.proofs.Common.{refl, sym}
 use Rattle.std.specs.Char.{is_ascii_alphabetic}
 use Rattle.std.specs.List.{starts_with}
 use Rattle.std.proofs.lemmas.Bool.{true≢false}
@@ -20,5 +21,6 @@ occurs_somewhere front word (b ∷ text) is =
     either true false behind ahead is goes_on = goes_on is
     either false false behind ahead is goes_on = goes_on is
 
-pub found_somewhere : (word text : List ℕ) → found true word text ≡ true → found false word text ≡ true
+pub found_somewhere : (word text : List ℕ) → found true word text ≡ true
+    → found false word text ≡ true
 found_somewhere word text = occurs_somewhere true word text

@@ -73,7 +73,8 @@ no_letter_first = refl
 
 -- the best place tells
 standings :
-    map (standing (codes "cat")) (codes "cut" ∷ codes "scat" ∷ codes "cats" ∷ codes "scat cat" ∷ codes "cat scat" ∷ [])
+    map (standing (codes "cat"))
+    (codes "cut" ∷ codes "scat" ∷ codes "cats" ∷ codes "scat cat" ∷ codes "cat scat" ∷ [])
     ≡ Nowhere ∷ Inside ∷ Boundary ∷ Boundary ∷ Boundary ∷ []
 standings = refl
 

@@ -1,7 +1,7 @@
 -- How well a word stands in a text, byte by byte.
-use Rattle.std.proofs.Common.{◌≡◌, ◌≢◌, ◌∙◌, ◌+◌, ◌-◌, ◌<◌, ◌≤◌, ◌&&◌, ◌||◌, ◌==◌, ℕ, Bool, true, false}
-use Rattle.std.proofs.Common.{List, [], ◌∷◌, add-one, ap, ap₂, arith, drop, drop-cons, get_or}
-use Rattle.std.proofs.Common.{if◌then◌else◌, length, nat_eq, not, refl, sym, take}
+use Rattle.std.proofs.Common.{◌≡◌, ◌≢◌, ◌∙◌, ◌+◌, ◌-◌, ◌<◌, ◌≤◌, ◌&&◌, ◌||◌, ◌==◌, ℕ, Bool, true}
+use Rattle.std.proofs.Common.{false, List, [], ◌∷◌, add-one, ap, ap₂, arith, drop, drop-cons}
+use Rattle.std.proofs.Common.{get_or, if◌then◌else◌, length, nat_eq, not, refl, sym, take}
 use Rattle.std.specs.Char.{is_ascii_alphabetic}
 use Rattle.std.specs.List.{starts_with}
 use Rattle.std.proofs.lemmas.List.{drop_all, take_rest}
@@ -48,10 +48,14 @@ same_first word text place some within same =
 abbrev pub best : Standing → Bool → Bool → Standing
 best seen boundary inside = if boundary then Boundary else if inside then Inside else seen
 
+-- with what the rest of a text has, whose front may be a boundary
+abbrev best_at : Standing → Bool → List ℕ → List ℕ → Standing
+best_at seen front word rest = best seen (occurs_behind front word rest) (occurs word rest)
+
 -- with what comes from the place on
 abbrev pub best_from : Standing → List ℕ → List ℕ → ℕ → Standing
 best_from seen word text place =
-    best seen (occurs_behind (is_boundary text place) word (drop place text)) (occurs word (drop place text))
+    best_at seen (is_boundary text place) word (drop place text)
 
 pub at_start : (word text : List ℕ) → standing word text ≡ best_from Nowhere word text 0
 at_start word text = refl
@@ -67,9 +71,6 @@ next_boundary : (text : List ℕ) (place : ℕ)
 next_boundary text place =
     ap₂ (λ front before. front || not (is_ascii_alphabetic (get_or text before 0)))
     (ne_eqb (place + 1) 0 (λ same. omega arith)) (omega arith)
-
-abbrev best_at : Standing → Bool → List ℕ → List ℕ → Standing
-best_at seen front word text = best seen (occurs_behind front word text) (occurs word text)
 
 -- ---- one byte more
 
@@ -105,26 +106,31 @@ module _ (seen : Standing) (word text : List ℕ) (place : ℕ) (within : place 
   from_byte : best_from seen word text place ≡ best_at seen (is_boundary text place) word (b ∷ rest)
   from_byte = ap (best_at seen (is_boundary text place) word) split
 
-  begins : (is : Bool) → starts_with nat_eq (drop place text) word ≡ is → starts_with nat_eq (b ∷ rest) word ≡ is
+  begins : (is : Bool) → starts_with nat_eq (drop place text) word ≡ is
+      → starts_with nat_eq (b ∷ rest) word ≡ is
   begins is here = ap (λ bs. starts_with nat_eq bs word) (sym split) ∙ here
 
   -- the rest begins on a boundary where the byte is no letter
-  rest_is : (now : Standing) → best_at now (not (is_ascii_alphabetic b)) word rest ≡ best_from now word text (place + 1)
+  rest_is : (now : Standing)
+      → best_at now (not (is_ascii_alphabetic b)) word rest ≡ best_from now word text (place + 1)
   rest_is now = ap (λ front. best_at now front word rest) (sym (next_boundary text place))
 
-  pub stands_on_boundary : is_boundary text place ≡ true → starts_with nat_eq (drop place text) word ≡ true
-      → best_from seen word text place ≡ Boundary
+  pub stands_on_boundary : is_boundary text place ≡ true
+      → starts_with nat_eq (drop place text) word ≡ true → best_from seen word text place ≡ Boundary
   stands_on_boundary front here =
       from_byte
       ∙ on_boundary seen (is_boundary text place) (starts_with nat_eq (b ∷ rest) word)
-      (occurs_behind (not (is_ascii_alphabetic b)) word rest) (occurs word rest) front (begins true here)
+      (occurs_behind (not (is_ascii_alphabetic b)) word rest) (occurs word rest) front
+      (begins true here)
 
-  pub stands_within : is_boundary text place ≡ false → starts_with nat_eq (drop place text) word ≡ true
+  pub stands_within : is_boundary text place ≡ false
+      → starts_with nat_eq (drop place text) word ≡ true
       → best_from seen word text place ≡ best_from Inside word text (place + 1)
   stands_within front here =
       from_byte
       ∙ within_text seen (is_boundary text place) (starts_with nat_eq (b ∷ rest) word)
-      (occurs_behind (not (is_ascii_alphabetic b)) word rest) (occurs word rest) front (begins true here)
+      (occurs_behind (not (is_ascii_alphabetic b)) word rest) (occurs word rest) front
+      (begins true here)
       ∙ rest_is Inside
 
   pub stands_elsewhere : starts_with nat_eq (drop place text) word ≡ false
@@ -135,9 +141,11 @@ module _ (seen : Standing) (word text : List ℕ) (place : ℕ) (within : place 
       (occurs_behind (not (is_ascii_alphabetic b)) word rest) (occurs word rest) (begins false none)
       ∙ rest_is seen
 
-pub nothing_left : (seen : Standing) (word text : List ℕ) (place : ℕ) → 1 ≤ length word → length text ≤ place
-    → best_from seen word text place ≡ seen
-nothing_left seen word text place some past = ap (best_at seen (is_boundary text place) word) (drop_all place text past) ∙ none (is_boundary text place) word some
+pub nothing_left : (seen : Standing) (word text : List ℕ) (place : ℕ) → 1 ≤ length word
+    → length text ≤ place → best_from seen word text place ≡ seen
+nothing_left seen word text place some past =
+    ap (best_at seen (is_boundary text place) word) (drop_all place text past)
+    ∙ none (is_boundary text place) word some
   where
     none : (front : Bool) (word : List ℕ) → 1 ≤ length word → best_at seen front word [] ≡ seen
     none front [] some = absurd (omega arith)

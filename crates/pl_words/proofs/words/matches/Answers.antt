@@ -12,7 +12,8 @@ use Rattle.pl_words.proofs.words.matches.Goals.{then-boundary, else-boundary}
 abbrev is_at_least : Standing → Standing → Bool
 is_at_least = partial_ge partial_cmp-value.it
 
-on_boundary : (boundary inside : Bool) → is_at_least (best Nowhere boundary inside) Boundary ≡ boundary
+on_boundary : (boundary inside : Bool)
+    → is_at_least (best Nowhere boundary inside) Boundary ≡ boundary
 on_boundary true inside = refl
 on_boundary false true = refl
 on_boundary false false = refl
@@ -33,6 +34,7 @@ returns c =
     ∙ elim c.if-boundary.branch [
       | then-boundary w ↦ ap₂ is_at_least c.standing.ensures w.least-is ∙ on_boundary on at
           ∙ ap (λ boundary. found boundary word text) (sym w.if-boundary.true)
-      | else-boundary w ↦ ap₂ is_at_least c.standing.ensures w.least-is ∙ anywhere on at (found_somewhere word text)
+      | else-boundary w ↦ ap₂ is_at_least c.standing.ensures w.least-is
+          ∙ anywhere on at (found_somewhere word text)
           ∙ ap (λ boundary. found boundary word text) (sym w.if-boundary.false)
     ]
