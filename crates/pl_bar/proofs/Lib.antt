@@ -1,5 +1,2 @@
-mod Candidates
 mod OfferRows
-mod PageTexts
-mod Ranking
-mod Tiers
+pub mod WordStandings

@@ -1,4 +1,6 @@
 pub mod AddressBar
+pub mod Cost
 pub mod Filled
-pub mod FoldedTexts
-pub mod RankedPages
+pub mod Followers
+pub mod Offers
+pub mod Standings

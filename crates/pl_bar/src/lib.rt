@@ -2,9 +2,10 @@
 #![tactic(auto)]
 
 mod filling;
-mod folded;
+mod items;
 mod offers;
-mod ranked;
+mod tiers;
+mod wording;
 
 pub use filling::fill;
 pub use offers::answer;

@@ -1,151 +1,153 @@
 // The pages that the address bar offers.
-ghost use Rattle.std.specs.Prelude.{◌≡◌, ◌&&◌, ◌||◌, ◌++◌, ◌∷◌, [], Some, map, not, nat_lt, pos};
-ghost use Rattle.std.specs.Prelude.{true, IfOk, OnOk};
-ghost use Rattle.std.specs.List.{filter_map};
-ghost use Rattle.std.specs.Ordering.{int_eq};
+ghost use Rattle.std.specs.Prelude.{◌≡◌, ◌++◌, ◌∷◌, ◌≤◌, ◌+◌, ◌-◌, ℤ, [], List, map, nat_le, true};
+ghost use Rattle.std.specs.Prelude.{IfOk, OnOk, length};
+ghost use Rattle.std.specs.Iterator.Adapters.{rev_source};
+ghost use Rattle.std.specs.List.{All, filter, sum_by};
+ghost use Rattle.pl_base.specs.declared.id.PageId.{PageId};
 ghost use Rattle.pl_base.specs.Good.{IsGood};
-ghost use Rattle.pl_base.specs.Rows.{IsRight, KeptPage, has_page, mark_of, page_at, store_of};
+ghost use Rattle.pl_base.specs.Rows.{IsRight, store_of};
 ghost use Rattle.pl_base.specs.Store.{Page};
-ghost use Rattle.pl_base.specs.Tags as tags;
-ghost use Rattle.pl_bar.specs.AddressBar as spec;
+ghost use Rattle.pl_words.specs.declared.stands.Standing.{Standing};
 ghost use Rattle.pl_bar.specs.AddressBar.{offered};
-ghost use Rattle.pl_bar.specs.RankedPages.{ranked_of, tier_of};
+ghost use Rattle.pl_bar.specs.Cost.{FillsFirst, offering_cost, page_cost};
+ghost use Rattle.pl_bar.specs.Followers.{AreFollowing, HaveTexts};
+ghost use Rattle.pl_bar.specs.Offers.{GoOn, filled_up, has_counted, ids_of, in_first, is_boundary};
+ghost use Rattle.pl_bar.specs.Offers.{is_inside, up_to};
 
-use crate::folded::Folded;
-use crate::ranked::{Ranked, Tier, first_ids};
-use pl_base::{Mark, NoMemory, PageId, Rows, Steps};
-use pl_marks::{is_bookmarked, is_tagged};
-use pl_words::{BarText, Marks, fold, tokens};
+use crate::tiers::tier;
+use pl_base::{NoMemory, PageId, Rows, Steps};
+use pl_follow::{FoldedTexts, OrderIndex};
+use pl_words::{BarText, Standing, fold, tokens};
 use std::alloc::Global;
+use std::collections::btree_set;
+use std::iter::Rev;
 use std::sync::ledger::Ledger;
 
-// Whether its frecency is not 0, and it was visited, if that is asked.
-fn is_counted(mark: Mark, marks: Marks) -> bool
-    ensures { result ≡ (not (int_eq mark.frecency (pos 0))
-        && (not marks.history || nat_lt 0 mark.count)) }
-{
-    mark.frecency != 0 && (!marks.history || mark.count > 0)
+// The pages that are offered, as far as they are found, in their order.
+#[derive(Drop)]
+struct Offers {
+    // Those of the first tier.
+    first: Vec<PageId>,
+    // Those of the second, which are offered behind them.
+    second: Vec<PageId>,
+    // Each list has so many at the most.
+    max: usize,
 }
 
-// Whether it is bookmarked, and has a tag, if these are asked.
-fn is_kept<R: Rows, L: Ledger>(rows: &R, page: PageId, marks: Marks, steps: &mut Steps<L>) -> bool
-    ensures { result
-        ≡ ((not marks.bookmark || tags.is_bookmarked (store_of (R.kept rows.now)) page)
-        && (not marks.tag || tags.is_tagged (store_of (R.kept rows.now)) page)) }
-{
-    if marks.bookmark && !is_bookmarked(rows, page, steps) {
-        return false;
+impl Offers {
+    fn new(alloc: Global, max: u32) -> Offers
+        ensures first { result.first.items ≡ [] }
+        ensures second { result.second.items ≡ [] }
+        ensures max { result.max ≡ max }
+    {
+        Offers {
+            first: Vec::new(alloc),
+            second: Vec::new(alloc),
+            max: max as usize,
+        }
     }
-    !marks.tag || is_tagged(rows, page, steps)
-}
 
-// Whether the page may be offered: its frecency is not 0, and the marks keep it.
-fn is_candidate<R: Rows, L: Ledger>(
-    rows: &R,
-    page: PageId,
-    mark: Mark,
-    marks: Marks,
-    steps: &mut Steps<L>,
-) -> bool
-    requires { IsRight (R.kept rows.now) }
-    ensures { (p : KeptPage) → page_at (R.kept rows.now) page ≡ Some p → mark ≡ mark_of p
-        → result ≡ spec.is_candidate (store_of (R.kept rows.now)) marks p.page }
-{
-    is_counted(mark, marks) && is_kept(rows, page, marks, steps)
-}
+    // Whether no further page is offered.
+    fn is_full(&self) -> bool
+        ensures { result ≡ nat_le self.now.max (length self.now.first.items) }
+    {
+        self.first.len() >= self.max
+    }
 
-// How well the words stand in the page, if each of them does. Without a word no text is read.
-fn tier<R: Rows, L: Ledger>(
-    alloc: Global,
-    rows: &R,
-    page: PageId,
-    asked: &BarText,
-    steps: &mut Steps<L>,
-) -> Result<Option<Tier>, NoMemory>
-    requires page { has_page (R.kept rows.now) page ≡ true }
-    requires good { IsGood (store_of (R.kept rows.now)) }
-    ensures { IfOk result (λ tier. (p : KeptPage) → page_at (R.kept rows.now) page ≡ Some p
-        → tier ≡ tier_of (store_of (R.kept rows.now)) asked.now.marks asked.now.words p.page) }
-{
-    let words = asked.words.as_slice();
-    if words.is_empty() {
-        return Ok(Some(Tier::Boundary));
+    // A page joins the list of its tier, the second one where there is room.
+    fn add(&mut self, page: PageId, tier: Standing) -> Result<(), NoMemory>
+        ensures max { OnOk result (self.new.max ≡ self.old.max) }
+        ensures first { OnOk result (self.new.first.items
+            ≡ self.old.first.items ++ filter (λ _. is_boundary tier) (page ∷ [])) }
+        ensures second { OnOk result (self.new.second.items
+            ≡ filled_up self.old.max self.old.second.items (filter (λ _. is_inside tier) (page ∷ []))) }
+    {
+        match tier {
+            Standing::Boundary => self.first.push(page)?,
+            Standing::Inside if self.second.len() < self.max => self.second.push(page)?,
+            Standing::Inside | Standing::Nowhere => {}
+        }
+        Ok(())
     }
-    let texts = Folded::of(alloc, rows, page, asked.marks, steps)?;
-    Ok(texts.tier(asked.marks, words))
-}
 
-// The page joins the others where it may be offered.
-fn add_candidate<R: Rows, L: Ledger>(
-    alloc: Global,
-    rows: &R,
-    page: PageId,
-    asked: &BarText,
-    ranked: &mut Vec<Ranked>,
-    steps: &mut Steps<L>,
-) -> Result<(), NoMemory>
-    requires page { has_page (R.kept rows.now) page ≡ true }
-    requires good { IsGood (store_of (R.kept rows.now)) }
-    requires right { IsRight (R.kept rows.now) }
-    ensures { OnOk result ((p : KeptPage) → page_at (R.kept rows.now) page ≡ Some p
-        → ranked.new.items ≡ ranked.old.items
-        ++ filter_map (ranked_of (store_of (R.kept rows.now)) asked.now.marks asked.now.words)
-        (p.page ∷ [])) }
-{
-    let mark = rows.page_at(page, steps).unwrap();
-    if !is_candidate(rows, page, mark, asked.marks, steps) {
-        return Ok(());
+    // The pages that stand at these ranks are gone through until no further one is offered.
+    fn go_on<R: Rows, L: Ledger>(
+        &mut self,
+        rows: &R,
+        texts: &FoldedTexts,
+        asked: &BarText,
+        ranks: Rev<btree_set::Range<'_, (i64, PageId)>>,
+        steps: &mut Steps<L>,
+    ) -> Result<(), NoMemory>
+        requires right { IsRight (R.kept rows.now) }
+        requires texts { HaveTexts (store_of (R.kept rows.now)) texts.now }
+        requires counted { All (λ (id : PageId). has_counted (store_of (R.kept rows.now)) id ≡ true)
+            (ids_of (rev_source ranks)) }
+        ensures goes_on { OnOk result (GoOn (store_of (R.kept rows.now)) asked.now
+            (ids_of (rev_source ranks.entry)) self.old self.new) }
+        ensures cost { OnOk result (steps.new ≤ steps.old
+            + sum_by (page_cost (store_of (R.kept rows.now)))
+            (up_to (in_first (store_of (R.kept rows.now)) asked.now)
+            (self.old.max - length self.old.first.items) (ids_of (rev_source ranks.entry)))) }
+    {
+        for &(_, page) in ranks {
+            if self.is_full() {
+                return Ok(());
+            }
+            let tier = tier(rows, texts, page, asked, steps);
+            self.add(page, tier)?;
+        }
+        Ok(())
     }
-    if let Some(tier) = tier(alloc, rows, page, asked, steps)? {
-        ranked.push(Ranked {
-            tier,
-            frecency: mark.frecency,
-            page,
-        })?;
-    }
-    Ok(())
-}
 
-// The pages that may be offered, by ascending id.
-fn candidates<R: Rows, L: Ledger>(
-    alloc: Global,
-    rows: &R,
-    asked: &BarText,
-    steps: &mut Steps<L>,
-) -> Result<Vec<Ranked>, NoMemory>
-    requires good { IsGood (store_of (R.kept rows.now)) }
-    requires right { IsRight (R.kept rows.now) }
-    ensures { IfOk result (λ ranked. ranked.items
-        ≡ filter_map (ranked_of (store_of (R.kept rows.now)) asked.now.marks asked.now.words)
-        (store_of (R.kept rows.now)).pages) }
-{
-    let mut ranked = Vec::new(alloc);
-    let mut next = rows.page_after(None, steps);
-    while let Some(page) = next {
-        add_candidate(alloc, rows, page, asked, &mut ranked, steps)?;
-        next = rows.page_after(Some(page), steps);
+    // The first list, and behind it as many of the second as there is room for.
+    fn joined(self) -> Result<Vec<PageId>, NoMemory>
+        ensures { IfOk result (λ pages.
+            pages.items ≡ filled_up self.max self.first.items self.second.items) }
+    {
+        let Offers {
+            mut first,
+            mut second,
+            max,
+        } = self;
+        second.truncate(max.saturating_sub(first.len()));
+        first.append(&mut second)?;
+        Ok(first)
     }
-    Ok(ranked)
 }
 
 /// The pages that are offered for a text, `max` at the most. The text is cut at white space into
 /// marks, `^ * + # $`, and words. Pages whose every word begins at the front of a text or behind a
 /// byte that is no ASCII letter come first, the others behind them, each by frecency and then id,
 /// the greatest first.
+///
+/// The pages are gone through in that order, those of frecency 0 left out, until there are `max` of
+/// the first kind. No text is read or folded for a page.
 pub fn answer<R: Rows, L: Ledger>(
     alloc: Global,
     rows: &R,
+    order: &OrderIndex,
+    texts: &FoldedTexts,
     text: &str,
     max: u32,
     steps: &mut Steps<L>,
 ) -> Result<Vec<PageId>, NoMemory>
     requires good { IsGood (store_of (R.kept rows.now)) }
     requires right { IsRight (R.kept rows.now) }
-    ensures { IfOk result (λ pages. pages.items
+    requires following { AreFollowing (store_of (R.kept rows.now)) order.now texts.now }
+    ensures offered { IfOk result (λ pages. pages.items
         ≡ map (λ (p : Page). p.id) (offered (store_of (R.kept rows.now)) text.now max)) }
+    ensures cost { OnOk result (FillsFirst (store_of (R.kept rows.now)) text.now max
+        → steps.new ≤ steps.old + offering_cost (store_of (R.kept rows.now)) text.now max) }
 {
     let folded = fold(alloc, text)?;
     let asked = tokens(alloc, &folded)?;
-    let ranked = candidates(alloc, rows, &asked, steps)?;
-    first_ids(alloc, ranked, max)
+    let mut offers = Offers::new(alloc, max);
+
+    // Ids are at least 1, so that these are all pages of positive frecency, and all of -1.
+    let positive = order.ahead((1, PageId(0)));
+    offers.go_on(rows, texts, &asked, positive, steps)?;
+    let negative = order.behind((0, PageId(0)));
+    offers.go_on(rows, texts, &asked, negative, steps)?;
+    offers.joined()
 }

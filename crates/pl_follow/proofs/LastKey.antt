@@ -16,7 +16,7 @@ use Rattle.pl_follow.specs.Order.{is_above, is_behind}
 
 module _ {R : Type 0} where
   -- some keys, from the last on
-  filter_reversed : (test : R → Bool) (xs : List R) → filter test (reverse xs) ≡ reverse (filter test xs)
+  pub filter_reversed : (test : R → Bool) (xs : List R) → filter test (reverse xs) ≡ reverse (filter test xs)
   filter_reversed test [] = refl
   filter_reversed test (x ∷ xs) =
       ap (filter test) (reverse_onto xs x []) ∙ filter-append test (reverse xs) (x ∷ [])
@@ -46,7 +46,7 @@ module _ {R : Type 0} where
   last_of_all cmp ks last rest takes =
       last_key ks last rest takes ∙ ap (λ zs. slice_get zs 0) (sym (all_kept (reverse ks)))
 
-  in_part : (cmp : R → R → Ordering) (place rank : R)
+  pub in_part : (cmp : R → R → Ordering) (place rank : R)
       → range_contains cmp Unbounded (Excluded place) rank ≡ is_above cmp place rank
   in_part cmp place rank = choose (cmp place rank)
     where

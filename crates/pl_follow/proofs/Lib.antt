@@ -3,6 +3,7 @@ pub mod LastKey
 pub mod OneByOne
 pub mod Parted
 pub mod RankLists
+pub mod RankParts
 pub mod RanksChange
 pub mod TextsFollow
 pub mod Told

@@ -72,7 +72,7 @@ compared true false m n = refl
 compared false true m n = refl
 compared false false m n = grind (arith, nat_tests)
 
-ahead_below : (x y : ℤ × PageId) → is_below frecency_cmp y x ≡ is_ahead x y
+pub ahead_below : (x y : ℤ × PageId) → is_below frecency_cmp y x ≡ is_ahead x y
 ahead_below x y = compared (int_lt x.0 y.0) (int_lt y.0 x.0) y.1.0 x.1.0
 
 later_below : (x y : Micros × PageId) → is_below visit_cmp y x ≡ is_later x y
@@ -82,7 +82,7 @@ later_below x y = dates x.0.0 y.0.0 x.1.0 y.1.0
         ≡ (nat_lt b a || ((a == b) && nat_lt n m))
     dates a b m n = grind (arith, nat_tests)
 
-ahead_above : is_above frecency_cmp ≡ is_ahead
+pub ahead_above : is_above frecency_cmp ≡ is_ahead
 ahead_above i x y = (above_alike frecency_cmp frecency_total x y ∙ ahead_below x y) i
 
 later_above : is_above visit_cmp ≡ is_later

@@ -1,5 +1,6 @@
 // Two orders of the views, kept as the views change.
 ghost use Rattle.std.specs.Prelude.{◌≡◌, ℤ, [], List, OnOk, reverse};
+ghost use Rattle.std.specs.List.{filter};
 ghost use Rattle.std.specs.Iterator.Adapters.{rev_source};
 ghost use Rattle.std.specs.Map.Iter.{ShowsInReverse, deref};
 ghost use Rattle.std.specs.Option.{option_and_then, option_copied, option_map};
@@ -16,6 +17,7 @@ use pl_base::{Micros, NoMemory, PageId, View};
 use std::alloc::Global;
 use std::collections::{BTreeSet, btree_set};
 use std::iter::Rev;
+use std::ops::Bound;
 
 /// The views of a store in two orders: by frecency, and by the date of their latest visit.
 ///
@@ -69,6 +71,29 @@ impl OrderIndex {
         ensures runs { ShowsInReverse (deref {X = ℤ × PageId}) }
     {
         self.frecencies.iter().rev()
+    }
+
+    /// The frecencies and ids of the views that come before a place by frecency, from the first of
+    /// them to the last. No view need stand at the place.
+    pub fn ahead(&self, place: (i64, PageId)) -> Rev<btree_set::Range<'_, (i64, PageId)>>
+        ensures order { (views : List View) → Orders self.now views
+            → reverse (rev_source result)
+            ≡ filter (λ rank. is_ahead rank place) (sorted_by is_ahead (frecency_ranks views)) }
+        ensures runs { ShowsInReverse (deref {X = ℤ × PageId}) }
+    {
+        let from = (Bound::Excluded(place), Bound::Unbounded);
+        self.frecencies.range(from).rev()
+    }
+
+    /// The frecencies and ids of the views that come behind a place by frecency, from the first of
+    /// them to the last. No view need stand at the place.
+    pub fn behind(&self, place: (i64, PageId)) -> Rev<btree_set::Range<'_, (i64, PageId)>>
+        ensures order { (views : List View) → Orders self.now views
+            → reverse (rev_source result)
+            ≡ filter (is_ahead place) (sorted_by is_ahead (frecency_ranks views)) }
+        ensures runs { ShowsInReverse (deref {X = ℤ × PageId}) }
+    {
+        self.frecencies.range(..place).rev()
     }
 
     /// The dates and ids of the views that have a visit, from the latest visit to the earliest.

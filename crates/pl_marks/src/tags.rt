@@ -1,15 +1,15 @@
 // Whether a page is bookmarked, and its tags, found by way of the items that have it.
-ghost use Rattle.std.specs.Prelude.{◌≡◌, Some, true, IfOk, OnOk};
+ghost use Rattle.std.specs.Prelude.{◌≡◌, ◌≤◌, ◌+◌, Some, true, IfOk, OnOk};
 ghost use Rattle.std.specs.BTreeMap.{values};
 ghost use Rattle.std.specs.List.{All};
 ghost use Rattle.pl_base.specs.Good.{IsGood, IsTagName};
-ghost use Rattle.pl_base.specs.Rows.{store_of};
+ghost use Rattle.pl_base.specs.Rows.{most_reads, store_of};
 ghost use Rattle.pl_base.specs.Tags as tags;
 ghost use Rattle.pl_base.specs.Tags.{comma_joined};
 ghost use Rattle.pl_base.specs.Tree as tree;
 ghost use Rattle.pl_base.specs.Tree.{has_item};
 ghost use Rattle.pl_marks.specs.TagFolders as spec;
-ghost use Rattle.pl_marks.specs.TagFolders.{tag_title, with_tag};
+ghost use Rattle.pl_marks.specs.TagFolders.{folder_reads, tag_title, with_tag};
 
 use pl_base::{ItemId, NoMemory, PageId, Rows, Seq, Steps, Txt};
 use pl_words::{TagName, fold};
@@ -91,7 +91,8 @@ impl Ord for Fold {
 // The item whose child it is.
 fn parent<R: Rows, L: Ledger>(rows: &R, item: ItemId, steps: &mut Steps<L>) -> Option<ItemId>
     requires { has_item (R.kept rows.now).items item ≡ true }
-    ensures { result ≡ tree.parent_of (R.kept rows.now).items item }
+    ensures parent { result ≡ tree.parent_of (R.kept rows.now).items item }
+    ensures cost { steps.new ≤ steps.old + most_reads }
 {
     rows.item_at(item, steps)?.parent
 }
@@ -103,7 +104,8 @@ pub fn tag_folder<R: Rows, L: Ledger>(
     steps: &mut Steps<L>,
 ) -> Option<ItemId>
     requires { has_item (R.kept rows.now).items item ≡ true }
-    ensures { result ≡ spec.tag_folder (R.kept rows.now).items item }
+    ensures folder { result ≡ spec.tag_folder (R.kept rows.now).items item }
+    ensures cost { steps.new ≤ steps.old + folder_reads }
 {
     let folder = parent(rows, item, steps)?;
     if parent(rows, folder, steps) == Some(ItemId::TAGS) {

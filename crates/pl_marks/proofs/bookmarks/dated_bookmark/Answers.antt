@@ -9,7 +9,7 @@ use Rattle.pl_marks.proofs.bookmarks.dated_bookmark.Goals as goal
 pub returns-then-is_some : goal.returns-then-is_some
 returns-then-is_some g c i at =
     sym (bookmark_is (g.R.Rows.kept c.args.rows.now).items c.args.item i true at
-    (ap is_some (sym c.tag_folder.ensures) ∙ sym c.is_some.ensures ∙ c.if-is_some.true))
+    (ap is_some (sym c.tag_folder.ensures.folder) ∙ sym c.is_some.ensures ∙ c.if-is_some.true))
 
 pub unwrap-row-requires : goal.unwrap-row-requires
 unwrap-row-requires g c =
@@ -22,4 +22,4 @@ returns g c i at =
     (dated_by_row (g.R.Rows.kept c.args.rows.now).items c.args.item i c.unwrap-row.result at
     (sym c.unwrap-row.ensures ∙ c.item_at.ensures.row))
     ∙ sym (bookmark_is (g.R.Rows.kept c.args.rows.now).items c.args.item i false at
-    (ap is_some (sym c.tag_folder.ensures) ∙ sym c.is_some.ensures ∙ c.if-is_some.false))
+    (ap is_some (sym c.tag_folder.ensures.folder) ∙ sym c.is_some.ensures ∙ c.if-is_some.false))

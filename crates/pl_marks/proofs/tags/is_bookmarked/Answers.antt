@@ -22,7 +22,7 @@ returns-then-is_none g c =
     outside_here kept c.args.page c.in-Some.item (NoneOutside kept.items)
     (stands item_names (having kept.items c.args.page) (NoneOutside kept.items) c.loop-next.next c.in-Some.item
     c.loop-next.invariant c.in-Some.is)
-    (ap is_none (sym c.tag_folder.ensures) ∙ ap not c.is_none.ensures
+    (ap is_none (sym c.tag_folder.ensures.folder) ∙ ap not c.is_none.ensures
     ∙ ap (λ (b : Bool). not (not b)) c.if-is_none.true)
 
 pub loop-next-smaller : goal.loop-next-smaller
@@ -45,7 +45,7 @@ loop-next-preserved g c =
     (references_run kept c.args.page (g.met.R.Rows.well_kept c.args.rows.now)) w c.next_reference-next.ensures.next
     (none_more kept.items w.front w.element w.so_far
     (ap (λ (i : ItemId). is_none (tag_folder kept.items i)) w.is
-    ∙ ap is_none (sym c.tag_folder.ensures) ∙ ap not c.is_none.ensures
+    ∙ ap is_none (sym c.tag_folder.ensures.folder) ∙ ap not c.is_none.ensures
     ∙ ap (λ (b : Bool). not (not b)) c.if-is_none.false))
 
 pub returns : goal.returns

@@ -21,7 +21,7 @@ returns-then-is_some g c =
     inside_here kept c.args.page c.in-Some.item (NoneInside kept.items)
     (stands item_names (having kept.items c.args.page) (NoneInside kept.items) c.loop-next.next c.in-Some.item
     c.loop-next.invariant c.in-Some.is)
-    (ap is_some (sym c.tag_folder.ensures) ∙ sym c.is_some.ensures ∙ c.if-is_some.true)
+    (ap is_some (sym c.tag_folder.ensures.folder) ∙ sym c.is_some.ensures ∙ c.if-is_some.true)
 
 pub loop-next-smaller : goal.loop-next-smaller
 loop-next-smaller g c =
@@ -43,7 +43,7 @@ loop-next-preserved g c =
     (references_run kept c.args.page (g.met.R.Rows.well_kept c.args.rows.now)) w c.next_reference-next.ensures.next
     (none_inside_more kept.items w.front w.element w.so_far
     (ap (λ (i : ItemId). is_some (tag_folder kept.items i)) w.is
-    ∙ ap is_some (sym c.tag_folder.ensures) ∙ sym c.is_some.ensures ∙ c.if-is_some.false))
+    ∙ ap is_some (sym c.tag_folder.ensures.folder) ∙ sym c.is_some.ensures ∙ c.if-is_some.false))
 
 pub returns : goal.returns
 returns g c =

@@ -12,7 +12,7 @@ returns-in_err-item_at g c =
     (item_row (g.R.Rows.kept c.args.rows.now).items) (g.R.Rows.kept c.args.rows.now).items c.item_at.result c.requires
     c.item_at.ensures.row)))
 
-pub returns : goal.returns
-returns g c =
+pub returns-clause-parent : goal.returns-clause-parent
+returns-clause-parent g c =
     parent_told (g.R.Rows.kept c.args.rows.now).items c.args.item c.in_ok-item_at.field-0
     (sym c.in_ok-item_at.was ∙ c.item_at.ensures.row)

@@ -13,7 +13,7 @@ returns-then-is_some g c i at =
     let kept : Kept = g.R.Rows.kept c.args.rows.now in
     sym (inside (store_of kept) c.args.dates i
     (entry_is (store_of kept) c.args.item i true at
-    (ap is_some (sym c.tag_folder.ensures) ∙ sym c.is_some.ensures ∙ c.if-is_some.true)))
+    (ap is_some (sym c.tag_folder.ensures.folder) ∙ sym c.is_some.ensures ∙ c.if-is_some.true)))
 
 pub unwrap-row-requires : goal.unwrap-row-requires
 unwrap-row-requires g c =
@@ -31,4 +31,4 @@ returns g c i at =
     (item_is kept.items c.args.item i c.unwrap-row.result at (sym c.unwrap-row.ensures ∙ c.item_at.ensures.row)))
     ∙ sym (outside (store_of kept) c.args.dates i
     (entry_is (store_of kept) c.args.item i false at
-    (ap is_some (sym c.tag_folder.ensures) ∙ sym c.is_some.ensures ∙ c.if-is_some.false)))
+    (ap is_some (sym c.tag_folder.ensures.folder) ∙ sym c.is_some.ensures ∙ c.if-is_some.false)))

@@ -10,7 +10,7 @@ pub returns-then-is_none : goal.returns-then-is_none
 returns-then-is_none g c i at =
     let store : Store = store_of (g.R.Rows.kept c.args.rows.now) in
     let outside : not (is_tag_entry store i.id) ≡ true =
-    sym (outside_at store c.args.item i at) ∙ ap is_none (sym c.tag_folder.ensures) ∙ ap not c.is_none.ensures
+    sym (outside_at store c.args.item i at) ∙ ap is_none (sym c.tag_folder.ensures.folder) ∙ ap not c.is_none.ensures
     ∙ ap (λ (b : Bool). not (not b)) c.if-is_none.true in
     rw outside (c.is_in_parents.ensures i at)
 
@@ -18,6 +18,6 @@ pub returns-else-is_none : goal.returns-else-is_none
 returns-else-is_none g c i at =
     let store : Store = store_of (g.R.Rows.kept c.args.rows.now) in
     let inside : not (is_tag_entry store i.id) ≡ false =
-    sym (outside_at store c.args.item i at) ∙ ap is_none (sym c.tag_folder.ensures) ∙ ap not c.is_none.ensures
+    sym (outside_at store c.args.item i at) ∙ ap is_none (sym c.tag_folder.ensures.folder) ∙ ap not c.is_none.ensures
     ∙ ap (λ (b : Bool). not (not b)) c.if-is_none.false in
     rw inside c.if-is_none.false

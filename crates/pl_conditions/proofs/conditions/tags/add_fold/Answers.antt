@@ -5,4 +5,4 @@ use Rattle.pl_conditions.proofs.conditions.tags.add_fold.Goals as goal
 pub item_title-requires : goal.item_title-requires
 item_title-requires g c =
     has_folder (g.R.Rows.kept c.args.rows.now) c.args.item c.in-Some.folder (g.met.R.Rows.well_kept c.args.rows.now)
-    (sym c.tag_folder.ensures ∙ c.in-Some.is)
+    (sym c.tag_folder.ensures.folder ∙ c.in-Some.is)

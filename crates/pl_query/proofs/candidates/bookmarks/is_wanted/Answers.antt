@@ -15,7 +15,7 @@ returns-then-is_some g c i at =
     let kept : Kept = g.R.Rows.kept c.args.rows.now in
     entry_unwanted (store_of kept) c.args.asked.now.query.now i
     (entry_is (store_of kept) c.args.item i true at
-    (ap is_some (sym c.tag_folder.ensures) ∙ sym c.is_some.ensures ∙ c.if-is_some.true))
+    (ap is_some (sym c.tag_folder.ensures.folder) ∙ sym c.is_some.ensures ∙ c.if-is_some.true))
 
 pub unwrap-row-requires : goal.unwrap-row-requires
 unwrap-row-requires g c =
@@ -28,7 +28,7 @@ returns-then-is_in_times g c i at =
     ap (λ (b : Bool). b && c.is_in_parents.result) (sym c.if-is_in_times.true)
     ∙ wanted_by (store_of kept) c.args.asked.now.query.now i c.is_in_times.result c.is_in_parents.result
     (entry_is (store_of kept) c.args.item i false at
-    (ap is_some (sym c.tag_folder.ensures) ∙ sym c.is_some.ensures ∙ c.if-is_some.false))
+    (ap is_some (sym c.tag_folder.ensures.folder) ∙ sym c.is_some.ensures ∙ c.if-is_some.false))
     (c.is_in_times.ensures (store_of kept) c.requires.asked
     ∙ ap (λ (r : ItemRow). in_times (store_of kept) c.args.asked.now.query.now r.added)
     (item_is kept.items c.args.item i c.unwrap-row.result at (sym c.unwrap-row.ensures ∙ c.item_at.ensures.row)))

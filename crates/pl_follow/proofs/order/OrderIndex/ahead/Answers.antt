@@ -1,0 +1,9 @@
+use Rattle.std.proofs.Common.{◌∙◌, ap, reverse}
+use Rattle.pl_follow.proofs.RankParts.{ahead_walk}
+use Rattle.pl_follow.proofs.order.OrderIndex.ahead.Goals as goal
+
+pub returns-clause-order : goal.returns-clause-order
+returns-clause-order c =
+    λ views orders.
+    ap reverse (c.rev.ensures.source ∙ c.range.ensures.between tt)
+    ∙ ahead_walk c.args.place c.args.self.now views orders c.range.ensures.ordered
