@@ -1,5 +1,5 @@
-// Rows of a store over vectors: pages with a redirect, its source and a link with the same source, and
-// what is added to them.
+// Rows of a store over vectors: pages with a redirect, its source and a link with the same source,
+// and what is added to them.
 ghost use Rattle.std.specs.Prelude.{◌≡◌, ◌<◌};
 
 use pl_base::{Day, Mark, Micros, PageId, Rows, Slot, Steps, Transition, VisitId, VisitRow};
@@ -12,8 +12,8 @@ use std::sync::ledger::{Blank, Ledger};
 use std::test::Fail;
 use trials_trees::{add_page, add_visit};
 
-// Each page with its URL, its title, the name of its origin, its frecency, and whether it is hidden.
-// Each has one visit that counts.
+// Each page with its URL, its title, the name of its origin, its frecency, and whether it is
+// hidden. Each has one visit that counts.
 const PAGES: &[(u32, &str, &str, u32, i64, bool)] = &[
     (1, "https://a.example/", "A", 1, 25, true),
     (2, "https://b.example/", "", 2, 100, false),

@@ -1,5 +1,5 @@
-//! What the tests of lines share: lines on a store in memory, which the plain program takes too, and
-//! the replies to them. It has no tests, so that it is proved once.
+//! What the tests of lines share: lines on a store in memory, which the plain program takes too,
+//! and the replies to them. It has no tests, so that it is proved once.
 #![tactic(auto)]
 
 mod engines;

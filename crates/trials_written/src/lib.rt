@@ -1,5 +1,5 @@
-//! What the tests of files and `files_main` share: the file of linked slots that a script leaves. It
-//! has no tests, so that it is proved once.
+//! What the tests of files and `files_main` share: the file of linked slots that a script leaves.
+//! It has no tests, so that it is proved once.
 #![tactic(auto)]
 
 mod written;
