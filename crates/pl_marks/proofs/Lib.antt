@@ -1,4 +1,4 @@
-pub mod DatedVisits
+mod DatedVisits
 pub mod FreshestItem
 pub mod KeptUrls
 pub mod LatestVisit
