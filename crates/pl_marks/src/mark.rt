@@ -109,7 +109,7 @@ fn sampled<R: Rows, L: Ledger>(
 }
 
 /// What the ten latest visits of a page count, the latest first.
-pub(crate) fn sample<R: Rows, L: Ledger>(
+fn sample<R: Rows, L: Ledger>(
     alloc: Global,
     rows: &R,
     page: PageId,
