@@ -4,6 +4,7 @@ pub mod KeptUrls
 pub mod LatestVisit
 mod MovedTotals
 mod NoItems
+mod PageDue
 pub mod PageRows
 pub mod PageScore
 pub mod PageTags
