@@ -1,0 +1,97 @@
+// The conditions for which nothing is folded.
+ghost use Rattle.std.specs.Prelude.{◌≡◌, ◌∷◌, false, nat_eq};
+ghost use Rattle.std.specs.List.{ends_with};
+ghost use Rattle.url.specs.Parser.{host_len};
+ghost use Rattle.pl_conditions.specs.AskedParts as conditions;
+ghost use Rattle.pl_conditions.specs.Conditions.{is_host_in, is_uri};
+ghost use Rattle.pl_query.specs.Decides as spec;
+
+use pl_base::View;
+use pl_link::Canon;
+use pl_place::Query;
+
+/// Whether the page was visited, and its URL, its `visit_count` and its marks are as the query
+/// asks. With its tags and its words that is all that a query asks of a view.
+pub fn holds_unfolded(query: &Query, view: &View) -> bool
+    ensures { result ≡ spec.holds_unfolded query.now view.now }
+{
+    view.last.is_some()
+        && is_count_asked(query, view.count)
+        && (!query.only_bookmarked || view.bookmarked)
+        && (query.include_hidden || !view.hidden)
+        && is_uri(&query.uri, view.url.as_str())
+        && is_host_asked(query, view.host.as_str())
+        && !(query.exclude_queries && view.url.as_str().starts_with("place:"))
+}
+
+// Whether the number of visits lies within the bounds.
+fn is_count_asked(query: &Query, count: u32) -> bool
+    ensures { result ≡ conditions.is_count_asked query.now count }
+{
+    query.min_visits.is_none_or(|least| least <= count)
+        && query.max_visits.is_none_or(|most| count <= most)
+}
+
+// Whether the URL is the one that is asked for, if any.
+fn is_uri(uri: &Option<Canon>, url: &str) -> bool
+    ensures { result ≡ is_uri uri.now url.now }
+{
+    match uri {
+        Some(uri) => url == uri.text(),
+        None => true,
+    }
+}
+
+// Whether the host, which may have a port, lies in the domain, if there is one.
+fn is_host_asked(query: &Query, host: &str) -> bool
+    ensures { result ≡ spec.is_host_asked query.now.domain query.now.domain_is_host host.now }
+{
+    match &query.domain {
+        Some(domain) => {
+            is_host_in(domain.as_str().as_bytes(), query.domain_is_host, host_alone(host))
+        }
+        None => true,
+    }
+}
+
+// The host without its port: what stands before the first `:` that is not between brackets.
+fn host_alone(host: &str) -> &[u8]
+    ensures { result.now ≡ spec.host_alone host.now }
+{
+    let host = host.as_bytes();
+    &host[..host_len(host)]
+}
+
+// How many bytes the host has without its port.
+fn host_len(host: &[u8]) -> usize
+    ensures value { result ≡ host_len false host.now }
+    ensures within { result ≤ length host.now }
+{
+    let mut in_brackets = false;
+    for (place, byte) in host.iter().enumerate() {
+        match byte {
+            b':' if !in_brackets => return place,
+            b'[' => in_brackets = true,
+            b']' => in_brackets = false,
+            _ => {}
+        }
+    }
+    host.len()
+}
+
+// Whether the host is the domain, or lies below it where that is not ruled out.
+fn is_host_in(domain: &[u8], is_host: bool, host: &[u8]) -> bool
+    ensures { result ≡ is_host_in domain.now is_host host.now }
+{
+    host == domain || !is_host && is_below(domain, host)
+}
+
+// Whether the host ends with a full stop and the domain.
+fn is_below(domain: &[u8], host: &[u8]) -> bool
+    ensures { result ≡ ends_with nat_eq host.now (46 ∷ domain.now) }
+{
+    match host.strip_suffix(domain) {
+        Some(front) => front.ends_with(b"."),
+        None => false,
+    }
+}
