@@ -1,9 +1,10 @@
 -- Queries that the views of pages decide, and the views that each of them takes.
 use Rattle.std.specs.Prelude.{ℕ, ◌==◌, ◌&&◌, ◌||◌, not, Bool, true, false, List, length, nat_eq}
-use Rattle.std.specs.Prelude.{Option, Some, None, is_some}
+use Rattle.std.specs.Prelude.{Option, Some, None, is_some, if◌then◌else◌}
+use Rattle.std.specs.Char.{is_ascii_digit}
 use Rattle.std.specs.List.{list_all, list_any, slice_split, starts_with}
 use Rattle.std.specs.Option.{is_none}
-use Rattle.url.specs.Parser.{split_port}
+use Rattle.url.specs.Input.{rsplit_once}
 use Rattle.pl_base.specs.declared.view.View.{View}
 use Rattle.pl_base.specs.Fold.{folded}
 use Rattle.pl_words.specs.Pieces.{occurs, searched}
@@ -55,9 +56,14 @@ is_watchable q =
 
 -- ---- conditions for which nothing is folded
 
+-- what stands before a last `:`, where digits alone stand behind it, and else the whole
+abbrev pub before_port : List ℕ → Option (List ℕ) → List ℕ → List ℕ
+before_port host None port = host
+before_port host (Some name) port = if list_all is_ascii_digit port then name else host
+
 -- a host without its port
 abbrev pub host_alone : List ℕ → List ℕ
-host_alone host = (split_port host).0
+host_alone host = before_port host (rsplit_once 58 host).0 (rsplit_once 58 host).1
 
 -- the host, which may have a port, lies in the domain, if there is one
 abbrev pub is_host_asked : Option (List ℕ) → Bool → List ℕ → Bool
@@ -84,9 +90,9 @@ has_word_in v word =
 abbrev pub comma_split : List ℕ → List (List ℕ)
 comma_split text = slice_split (λ b. b == 44) text
 
--- one of the names that the text joins is of this tag
+-- a tag of this name is one of those that the text joins; the empty text joins none
 abbrev pub is_tag_in : List ℕ → List ℕ → Bool
-is_tag_in text name = list_any (is_same_tag name) (comma_split text)
+is_tag_in text name = not (length text == 0) && list_any (is_same_tag name) (comma_split text)
 
 -- all tags are in the text, or none of them where that is asked
 abbrev pub are_tags_in : List (List ℕ) → Bool → List ℕ → Bool

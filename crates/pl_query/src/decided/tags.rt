@@ -36,7 +36,7 @@ pub fn has_tags_in(folds: &[Txt], not_tags: bool, text: &str) -> bool
 fn is_fold_in(fold: &Txt, text: &str) -> bool
     ensures { result ≡ parts.is_fold_in text.now fold.now }
 {
-    text.split(',').any(|part| part == fold.as_str())
+    !text.is_empty() && text.split(',').any(|part| part == fold.as_str())
 }
 
 /// Whether the view has all tags that the query asks for, or none of them where that is asked.

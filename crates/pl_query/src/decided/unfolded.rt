@@ -1,7 +1,6 @@
 // The conditions for which nothing is folded.
-ghost use Rattle.std.specs.Prelude.{◌≡◌, ◌∷◌, false, nat_eq};
+ghost use Rattle.std.specs.Prelude.{◌≡◌, ◌∷◌, nat_eq};
 ghost use Rattle.std.specs.List.{ends_with};
-ghost use Rattle.url.specs.Parser.{host_len};
 ghost use Rattle.pl_conditions.specs.AskedParts as conditions;
 ghost use Rattle.pl_conditions.specs.Conditions.{is_host_in, is_uri};
 ghost use Rattle.pl_query.specs.Decides as spec;
@@ -47,50 +46,33 @@ fn is_host_asked(query: &Query, host: &str) -> bool
     ensures { result ≡ spec.is_host_asked query.now.domain query.now.domain_is_host host.now }
 {
     match &query.domain {
-        Some(domain) => {
-            is_host_in(domain.as_str().as_bytes(), query.domain_is_host, host_alone(host))
-        }
+        Some(domain) => is_host_in(domain.as_str(), query.domain_is_host, host_alone(host)),
         None => true,
     }
 }
 
-// The host without its port: what stands before the first `:` that is not between brackets.
-fn host_alone(host: &str) -> &[u8]
+// The host without its port.
+fn host_alone(host: &str) -> &str
     ensures { result.now ≡ spec.host_alone host.now }
 {
-    let host = host.as_bytes();
-    &host[..host_len(host)]
-}
-
-// How many bytes the host has without its port.
-fn host_len(host: &[u8]) -> usize
-    ensures value { result ≡ host_len false host.now }
-    ensures within { result ≤ length host.now }
-{
-    let mut in_brackets = false;
-    for (place, byte) in host.iter().enumerate() {
-        match byte {
-            b':' if !in_brackets => return place,
-            b'[' => in_brackets = true,
-            b']' => in_brackets = false,
-            _ => {}
-        }
+    match host.rsplit_once(':') {
+        Some((name, port)) if port.bytes().all(|byte| byte.is_ascii_digit()) => name,
+        _ => host,
     }
-    host.len()
 }
 
 // Whether the host is the domain, or lies below it where that is not ruled out.
-fn is_host_in(domain: &[u8], is_host: bool, host: &[u8]) -> bool
+fn is_host_in(domain: &str, is_host: bool, host: &str) -> bool
     ensures { result ≡ is_host_in domain.now is_host host.now }
 {
     host == domain || !is_host && is_below(domain, host)
 }
 
 // Whether the host ends with a full stop and the domain.
-fn is_below(domain: &[u8], host: &[u8]) -> bool
+fn is_below(domain: &str, host: &str) -> bool
     ensures { result ≡ ends_with nat_eq host.now (46 ∷ domain.now) }
 {
-    match host.strip_suffix(domain) {
+    match host.as_bytes().strip_suffix(domain.as_bytes()) {
         Some(front) => front.ends_with(b"."),
         None => false,
     }
