@@ -14,7 +14,7 @@ is_fold_in text fold = not (length text == 0) && list_any (bytes_eq fold) (comma
 -- all folds of tags are in the text, or none of them where that is asked
 abbrev pub are_folds_in : List (List ℕ) → Bool → List ℕ → Bool
 are_folds_in folds false text = list_all (is_fold_in text) folds
-are_folds_in folds true text = list_all (λ fold. not (is_fold_in text fold)) folds
+are_folds_in folds true text = not (list_any (is_fold_in text) folds)
 
 -- the texts of a view in which words are looked for
 abbrev pub texts_of : View → ViewTexts

@@ -20,8 +20,8 @@ use Rattle.pl_place.specs.declared.sort.SortKey.{SortKey}
 use Rattle.pl_place.specs.declared.sort.SortKey.TheVariants.{Title, Date, Url, VisitCount}
 use Rattle.pl_place.specs.declared.sort.SortKey.TheVariants.{Added, Modified, Tags, Frecency}
 use Rattle.pl_place.specs.PlaceText.{place_prefix}
-use Rattle.pl_conditions.specs.Conditions.{is_at_least, is_at_most, is_host_in, is_uri}
-use Rattle.pl_conditions.specs.Conditions.{words_asked}
+use Rattle.pl_conditions.specs.AskedParts.{is_count_asked}
+use Rattle.pl_conditions.specs.Conditions.{is_host_in, is_uri, words_asked}
 
 -- ---- which queries
 
@@ -70,13 +70,21 @@ abbrev pub is_host_asked : Option (List ℕ) → Bool → List ℕ → Bool
 is_host_asked None is_host host = true
 is_host_asked (Some domain) is_host host = is_host_in domain is_host (host_alone host)
 
--- the page was visited, and its URL, its `visit_count` and its marks are as the query asks
-abbrev pub holds_unfolded : Query → View → Bool
-holds_unfolded q v =
-    is_some v.last && is_at_least q.min_visits v.count && is_at_most q.max_visits v.count
-    && (not q.only_bookmarked || v.bookmarked) && (q.include_hidden || not v.hidden)
-    && is_uri q.uri v.url && is_host_asked q.domain q.domain_is_host v.host
+-- the page was visited, and its `visit_count` and its marks are as the query asks
+abbrev pub has_marks_asked : Query → View → Bool
+has_marks_asked q v =
+    is_some v.last && is_count_asked q v.count && (not q.only_bookmarked || v.bookmarked)
+    && (q.include_hidden || not v.hidden)
+
+-- its URL is as the query asks
+abbrev pub has_url_asked : Query → View → Bool
+has_url_asked q v =
+    is_uri q.uri v.url && is_host_asked q.domain q.domain_is_host v.host
     && (not q.exclude_queries || not (starts_with nat_eq v.url place_prefix))
+
+-- both are
+abbrev pub holds_unfolded : Query → View → Bool
+holds_unfolded q v = has_marks_asked q v && has_url_asked q v
 
 -- ---- words and tags
 

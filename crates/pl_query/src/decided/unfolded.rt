@@ -1,26 +1,31 @@
 // The conditions for which nothing is folded.
 ghost use Rattle.std.specs.Prelude.{◌≡◌, ◌∷◌, nat_eq};
-ghost use Rattle.std.specs.List.{ends_with};
+ghost use Rattle.std.specs.List.{ends_with, starts_with};
+ghost use Rattle.pl_place.specs.PlaceText.{place_prefix};
 ghost use Rattle.pl_conditions.specs.AskedParts as conditions;
 ghost use Rattle.pl_conditions.specs.Conditions.{is_host_in, is_uri};
 ghost use Rattle.pl_query.specs.Decides as spec;
 
-use pl_base::View;
+use pl_base::{View, all_digits};
 use pl_link::Canon;
 use pl_place::Query;
 
-/// Whether the page was visited, and its URL, its `visit_count` and its marks are as the query
-/// asks. With its tags and its words that is all that a query asks of a view.
+/// Whether the page was visited, and its `visit_count`, its marks and its URL are as the query
+/// asks. Its tags and its texts are what is left then.
 pub fn holds_unfolded(query: &Query, view: &View) -> bool
     ensures { result ≡ spec.holds_unfolded query.now view.now }
+{
+    has_marks_asked(query, view) && has_url_asked(query, view)
+}
+
+// Whether the page was visited, and its `visit_count` and its marks are as the query asks.
+fn has_marks_asked(query: &Query, view: &View) -> bool
+    ensures { result ≡ spec.has_marks_asked query.now view.now }
 {
     view.last.is_some()
         && is_count_asked(query, view.count)
         && (!query.only_bookmarked || view.bookmarked)
         && (query.include_hidden || !view.hidden)
-        && is_uri(&query.uri, view.url.as_str())
-        && is_host_asked(query, view.host.as_str())
-        && !(query.exclude_queries && view.url.as_str().starts_with("place:"))
 }
 
 // Whether the number of visits lies within the bounds.
@@ -31,6 +36,15 @@ fn is_count_asked(query: &Query, count: u32) -> bool
         && query.max_visits.is_none_or(|most| count <= most)
 }
 
+// Whether the page's URL is as the query asks.
+fn has_url_asked(query: &Query, view: &View) -> bool
+    ensures { result ≡ spec.has_url_asked query.now view.now }
+{
+    is_uri(&query.uri, view.url.as_str())
+        && is_host_asked(query, view.host.as_str())
+        && !(query.exclude_queries && is_place(view.url.as_str()))
+}
+
 // Whether the URL is the one that is asked for, if any.
 fn is_uri(uri: &Option<Canon>, url: &str) -> bool
     ensures { result ≡ is_uri uri.now url.now }
@@ -39,6 +53,13 @@ fn is_uri(uri: &Option<Canon>, url: &str) -> bool
         Some(uri) => url == uri.text(),
         None => true,
     }
+}
+
+// Whether the URL begins as that of a query.
+fn is_place(url: &str) -> bool
+    ensures { result ≡ starts_with nat_eq url.now place_prefix }
+{
+    url.as_bytes().starts_with(b"place:")
 }
 
 // Whether the host, which may have a port, lies in the domain, if there is one.
@@ -56,7 +77,7 @@ fn host_alone(host: &str) -> &str
     ensures { result.now ≡ spec.host_alone host.now }
 {
     match host.rsplit_once(':') {
-        Some((name, port)) if port.bytes().all(|byte| byte.is_ascii_digit()) => name,
+        Some((name, port)) if all_digits(port.as_bytes()) => name,
         _ => host,
     }
 }
@@ -65,15 +86,15 @@ fn host_alone(host: &str) -> &str
 fn is_host_in(domain: &str, is_host: bool, host: &str) -> bool
     ensures { result ≡ is_host_in domain.now is_host host.now }
 {
-    host == domain || !is_host && is_below(domain, host)
+    host == domain || !is_host && is_below(domain.as_bytes(), host.as_bytes())
 }
 
 // Whether the host ends with a full stop and the domain.
-fn is_below(domain: &str, host: &str) -> bool
+fn is_below(domain: &[u8], host: &[u8]) -> bool
     ensures { result ≡ ends_with nat_eq host.now (46 ∷ domain.now) }
 {
-    match host.as_bytes().strip_suffix(domain.as_bytes()) {
-        Some(front) => front.ends_with(b"."),
-        None => false,
+    match host.len().checked_sub(domain.len()) {
+        None | Some(0) => false,
+        Some(front) => host[front - 1] == b'.' && &host[front..] == domain,
     }
 }

@@ -49,6 +49,13 @@ fn is_in_texts(texts: &ViewTexts, word: &Txt) -> bool
         || matches(&texts.tags, word, false)
 }
 
+// Whether each word stands in one of the texts.
+fn are_in_texts(texts: &ViewTexts, words: &[Txt]) -> bool
+    ensures { result ≡ list_all (parts.is_in_texts texts.now) words.now }
+{
+    words.iter().all(|word| is_in_texts(texts, word))
+}
+
 /// Whether each word that the query looks for stands in the view's title, address or tags.
 pub fn has_words_asked(alloc: Global, query: &Query, view: &View) -> Result<bool, NoMemory>
     requires prefix { starts_with nat_eq view.now.url view.now.prefix ≡ true }
@@ -60,5 +67,5 @@ pub fn has_words_asked(alloc: Global, query: &Query, view: &View) -> Result<bool
         return Ok(true);
     }
     let texts = view_texts(alloc, view)?;
-    Ok(words.iter().all(|word| is_in_texts(&texts, word)))
+    Ok(are_in_texts(&texts, &words))
 }
