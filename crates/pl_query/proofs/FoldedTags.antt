@@ -1,18 +1,23 @@
--- The fold of a text is cut at its commas as the text is.
-use Rattle.std.proofs.Common.{◌≡◌, ◌∙◌, ◌&&◌, ◌==◌, ◌++◌, ◌+◌, ◌/◌, ◌%◌, ◌<◌, ◌≤◌, ℕ, Bool, true, false, not, List, [], ◌∷◌, ap, arith}
-use Rattle.std.proofs.Common.{IsUtf8, chars, inl, inr, map, refl, subst, sym, ⊎_elim, if◌then◌else◌, nat_lt}
-use Rattle.std.specs.List.{AllByRecursion, flat_map, list_all, onto_first, slice_split}
-use Rattle.std.specs.Str.{all_scalars, encode_utf8_all}
-use Rattle.std.proofs.lemmas.Bool.{and_from, and_parts, cases_lt, eqb-true, not-true}
+-- The fold of a text is cut at its commas where the text is, so tags are told by their folds.
+use Rattle.std.proofs.Common.{◌≡◌, ◌∙◌, ◌&&◌, ◌||◌, ◌==◌, ◌++◌, ◌+◌, ◌/◌, ◌%◌, ◌≤◌, ℕ, Bool, true, false, not}
+use Rattle.std.proofs.Common.{List, [], ◌∷◌, IsUtf8, ap, arith, bytes_eq, chars, if◌then◌else◌, length, length-append}
+use Rattle.std.proofs.Common.{map, nat_lt, refl, subst, sym, ⊎_elim}
+use Rattle.std.specs.List.{AllByRecursion, flat_map, list_all, list_any, onto_first, slice_split}
+use Rattle.std.proofs.lemmas.Bool.{and_from, and_parts, cases_lt, eqb-true, ne_eqb, not-true}
 use Rattle.std.proofs.lemmas.Bool.Decides.{nat_tests}
-use Rattle.std.proofs.lemmas.Str.{chars-encodes, encode_ascii, encodes-chars, scalars-chars}
+use Rattle.std.proofs.lemmas.List.Folds.{list_all-map}
+use Rattle.std.proofs.lemmas.Str.{chars-encodes, chars-nil, encode_ascii, encodes-chars, length-le-encodes, scalars-chars}
 use lib.Utf8.{encode, encodes, scalar, scalars}
 use Rattle.ucd_table.proofs.RangedFacts.{values_ok, Stepped-at_values}
 use Rattle.ucd_table.proofs.Computing.{tables}
 use Rattle.ucd_case.specs.CaseFolding.{full_fold, full_folding, or_itself}
 use Rattle.ucd_case.proofs.CaseFoldingLemmas.{full_fold-ascii, full_folding_stepped}
 use Rattle.caseless.specs.Caseless.{default_case_fold}
+use Rattle.caseless.proofs.CaselessLemmas.{default_case_fold-cons, default_case_fold-nil}
 use Rattle.pl_base.specs.Fold.{folded}
+use Rattle.pl_base.proofs.ListLaws.{list_all-alike, list_any-map}
+use Rattle.pl_query.specs.DecidedParts.{are_folds_in, is_fold_in}
+use Rattle.pl_query.specs.Decides.{are_tags_in, is_tag_in}
 use Rattle.pl_query.proofs.CutTexts.{Cuts, Fails, cut_alike}
 
 abbrev is_comma : ℕ → Bool
@@ -21,7 +26,7 @@ is_comma c = c == 44
 -- ---- characters
 
 -- no character folds to something with a comma
-pub no_comma_made : (c : ℕ) → list_all (λ x. not (x == 44)) (full_folding c) ≡ true
+no_comma_made : (c : ℕ) → list_all (λ x. not (x == 44)) (full_folding c) ≡ true
 unfolding tables values_ok full_folding_stepped
 no_comma_made c =
     Stepped-at_values full_folding full_folding_stepped (λ v. list_all (λ x. not (x == 44)) v) refl c
@@ -134,3 +139,54 @@ folded_cut text utf8 =
     encodes_cut (default_case_fold cs) ∙ ap (map encodes) (folds_cut cs)
     ∙ folded_parts (slice_split is_comma cs) (parts_scalar cs all)
     ∙ ap (map folded) (sym (encodes_cut cs) ∙ ap (slice_split is_comma) (encodes-chars text utf8))
+
+-- ---- tags
+
+some_fold : (c : ℕ) (cs : List ℕ) → 1 ≤ length (default_case_fold (c ∷ cs))
+some_fold c cs =
+    let table = or_some c (full_folding c) in
+    omega (arith, ap length (default_case_fold-cons c cs), length-append (full_fold c) (default_case_fold cs), table)
+  where
+    or_some : (c : ℕ) (table : List ℕ) → 1 ≤ length (or_itself c table)
+    or_some c [] = omega arith
+    or_some c (x ∷ table) = omega arith
+
+some_chars : (text cs : List ℕ) → encodes cs ≡ text → 1 ≤ length text → 1 ≤ length (encodes (default_case_fold cs))
+some_chars text [] same some = absurd (omega (arith, ap length same))
+some_chars text (c ∷ cs) same some =
+    omega (arith, some_fold c cs, length-le-encodes (default_case_fold (c ∷ cs)))
+
+-- a text is empty where its fold is
+fold_empty : (text : List ℕ) → IsUtf8 text → (length (folded text) == 0) ≡ (length text == 0)
+fold_empty [] utf8 = ap (λ cs. length (encodes cs) == 0) (ap default_case_fold chars-nil ∙ default_case_fold-nil)
+fold_empty (b ∷ text) utf8 =
+    let some = some_chars (b ∷ text) (chars (b ∷ text)) (encodes-chars (b ∷ text) utf8) (omega arith) in
+    ne_eqb (length (folded (b ∷ text))) 0 (λ none. omega arith)
+    ∙ sym (ne_eqb (length (b ∷ text)) 0 (λ none. omega arith))
+
+-- the fold of a tag is in the fold of a text where the tag is in the text
+fold_in : (text : List ℕ) → IsUtf8 text → (name : List ℕ) → is_fold_in (folded text) (folded name) ≡ is_tag_in text name
+fold_in text utf8 name =
+    (λ i. not (fold_empty text utf8 i) && list_any (bytes_eq (folded name)) (folded_cut text utf8 i))
+    ∙ ap (λ (b : Bool). not (length text == 0) && b)
+    (list_any-map (bytes_eq (folded name)) folded (slice_split is_comma text))
+
+none_in : (p q : List ℕ → Bool) (names : List (List ℕ)) → ((name : List ℕ) → p (folded name) ≡ q name)
+    → not (list_any p (map folded names)) ≡ list_all (λ name. not (q name)) names
+none_in p q [] alike = refl
+none_in p q (name ∷ names) alike = choose (p (folded name)) (q name) (alike name) (none_in p q names alike)
+  where
+    choose : (a b : Bool) → a ≡ b → not (list_any p (map folded names)) ≡ list_all (λ n. not (q n)) names
+        → not (a || list_any p (map folded names)) ≡ (not b && list_all (λ n. not (q n)) names)
+    choose true true same rest = refl
+    choose true false same rest = absurd (cc)
+    choose false true same rest = absurd (cc)
+    choose false false same rest = rest
+
+-- the folds of tags tell of the fold of a text what the tags tell of the text
+pub folds_tell : (tags : List (List ℕ)) (not_tags : Bool) (text : List ℕ) → IsUtf8 text
+    → are_folds_in (map folded tags) not_tags (folded text) ≡ are_tags_in tags not_tags text
+folds_tell tags false text utf8 =
+    list_all-map (is_fold_in (folded text)) folded tags
+    ∙ list_all-alike (λ name. is_fold_in (folded text) (folded name)) (is_tag_in text) tags (fold_in text utf8)
+folds_tell tags true text utf8 = none_in (is_fold_in (folded text)) (is_tag_in text) tags (fold_in text utf8)

@@ -4,6 +4,7 @@ pub mod AnsweredRows
 pub mod CandidateOrder
 mod CutTexts
 pub mod FoldedTags
+mod HostCuts
 pub mod MarksLatest
 pub mod PageParts
 pub mod PartLists

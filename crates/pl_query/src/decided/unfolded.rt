@@ -95,6 +95,6 @@ fn is_below(domain: &[u8], host: &[u8]) -> bool
 {
     match host.len().checked_sub(domain.len()) {
         None | Some(0) => false,
-        Some(front) => host[front - 1] == b'.' && &host[front..] == domain,
+        Some(front) => host[front - 1] == b'.' && domain == &host[front..],
     }
 }
