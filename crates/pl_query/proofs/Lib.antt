@@ -9,4 +9,6 @@ pub mod MarksLatest
 pub mod PageParts
 pub mod PartLists
 pub mod RowsShown
+mod TagsTold
 mod UrlRecords
+pub mod ViewsDecide

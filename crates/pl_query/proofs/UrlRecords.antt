@@ -4,7 +4,7 @@ use Rattle.std.proofs.Common.{All, None, Option, Some, Ok, Err, ap, append-nil, 
 use Rattle.std.proofs.Common.{length, nat_lt, refl, subst, suc, sym, take, unwrap_or, zero, if◌then◌else◌, ⊎_elim, lit<, is_some, drop_at, take_at, length-append, append_assoc}
 use Rattle.std.specs.Char.{is_ascii_digit}
 use Rattle.std.specs.Int.{to_be_bytes, w32}
-use Rattle.std.specs.List.{list_all, list_any, starts_with}
+use Rattle.std.specs.List.{concat, list_all, list_any, starts_with}
 use Rattle.std.specs.Prelude.{IfSome, bytes_eq, codes, nat_eq}
 use Rattle.std.proofs.lemmas.List.{take-append-drop}
 use Rattle.std.proofs.Math.Seq.{take-append_seam}
@@ -35,7 +35,7 @@ use Rattle.url.specs.Parser.{Parsed, after_double_slash, after_file_double_slash
 use Rattle.url.specs.Parser.{file_with_host, lacks_host, leading_slashes, parse_authority, parse_body}
 use Rattle.url.specs.Parser.{parse_by_scheme, parse_file, parse_non_special, parse_parts, parse_port, parse_url}
 use Rattle.url.specs.Parser.{split_port, split_scheme, with_path, with_tail, without_default_port}
-use Rattle.url.specs.Parts.{Parts, host_or_empty, kind_of}
+use Rattle.url.specs.Parts.{Parts, has_authority, host_or_empty, kind_of, pieces, serialize}
 use Rattle.url.specs.Path.{escape_end, is_windows_drive_letter, segment_len}
 use Rattle.url.specs.Scheme.{IsScheme, is_file, is_special, scheme_len, scheme_type}
 use Rattle.url.specs.Head.{scheme_only, with_authority}
@@ -45,8 +45,9 @@ use Rattle.url.proofs.SetLemmas.{All_kept_differs}
 use Rattle.url.proofs.SchemeLemmas.{IsScheme_file, scheme_at_front}
 use Rattle.url.proofs.RoundTrip.{split_own_scheme}
 use Rattle.pl_base.proofs.Truths.{same_tests}
-use Rattle.pl_base.specs.Address.{host_and_port, record_of}
+use Rattle.pl_base.specs.Address.{host_and_port, is_place, record_of}
 use Rattle.pl_base.proofs.Numerals.{decimal_numeral, digits_from_numeral}
+use Rattle.pl_place.specs.PlaceText.{place_prefix}
 use Rattle.pl_query.specs.Decides.{before_port, host_alone}
 
 -- ---- the last colon
@@ -79,6 +80,7 @@ bracketed front = choose (rsplit_once 58 host).0
   where
     host : List ℕ
     host = front ++ 93 ∷ []
+
     choose : (name : Option (List ℕ)) → before_port host name (rsplit_once 58 host).1 ≡ host
     choose None = refl
     choose (Some name) = ap (λ t. cond t name host) (behind_bracket front)
@@ -341,10 +343,10 @@ read_by_scheme None body query fragment url named is = cc
 read_by_scheme (Some split) body query fragment url named is =
     read_parts (lowercase split.0) split.1 query fragment url named is
 
--- a record is read
-pub read : (text : List ℕ) (url : Parts) → record_of text ≡ Ok url → IsRead url
+-- each record is so
+pub record_read : (text : List ℕ) (url : Parts) → record_of text ≡ Ok url → IsRead url
 unfolding parse_url
-read text url is =
+record_read text url is =
     let hash = split_once 35 (strip_tabs_and_new_lines (trim_c0_control_and_space text)) in
     let question = split_once 63 hash.0 in
     read_by_scheme (split_scheme question.0) question.0 question.1 hash.1 url (scheme_split question.0) is
@@ -375,3 +377,15 @@ whole_begins scheme rest text same named =
     ∙ split_own_scheme (codes "place") (drop 6 text) place_scheme in
     (bytes_eq-Decides scheme (codes "place")).1
     (ap (λ (split : Option (List ℕ × List ℕ)). (unwrap_or split ([], [])).0) both))
+
+place_at : (authority : Bool) (scheme rest text : List ℕ)
+    → scheme ++ ((if authority then codes "://" else codes ":") ++ rest) ≡ text → IsScheme scheme
+    → bytes_eq scheme (codes "place") ≡ starts_with nat_eq text place_prefix
+place_at true scheme rest text own named = whole_begins scheme (47 ∷ 47 ∷ rest) text own named
+place_at false scheme rest text own named = whole_begins scheme rest text own named
+
+-- a URL that is its own text holds a query where it begins so
+pub place_told : (text : List ℕ) (url : Parts) → record_of text ≡ Ok url → serialize url ≡ text
+    → is_place url ≡ starts_with nat_eq text place_prefix
+place_told text url is own =
+    place_at (has_authority url) url.scheme (concat (drop 2 (pieces url))) text own (record_read text url is).scheme

@@ -1,9 +1,7 @@
 // Whether the views of pages decide a query, and which views it takes.
 ghost use Rattle.std.specs.Prelude.{◌≡◌, IfOk, nat_eq, true};
-ghost use Rattle.std.specs.List.{list_all, starts_with};
+ghost use Rattle.std.specs.List.{starts_with};
 ghost use Rattle.pl_query.specs.Decides as spec;
-ghost use Rattle.pl_query.specs.Decides.{has_word_in};
-ghost use Rattle.pl_conditions.specs.Conditions as conditions;
 
 mod tags;
 mod unfolded;
@@ -12,7 +10,6 @@ mod words;
 use pl_base::{NoMemory, View};
 use pl_place::{Query, QueryType, ResultType, Sort, SortKey};
 use std::alloc::Global;
-
 use tags::has_tags_asked;
 pub use tags::{has_tags_in, tags_asked};
 pub use unfolded::holds_unfolded;
