@@ -1,7 +1,7 @@
 -- A host that is cut at its last colon, and one that ends with a domain.
-use Rattle.std.proofs.Common.{◌≡◌, ◌≢◌, ◌∙◌, ◌+◌, ◌-◌, ◌<◌, ◌≤◌, ◌==◌, ◌++◌, ℕ, List, [], ◌∷◌, Bor}
-use Rattle.std.proofs.Common.{None, Option, Some, All, ap, arith, drop, get_or, if◌then◌else◌, length, nat_eq, suc, sym, take}
-use Rattle.std.specs.Char.{is_ascii_digit, len_utf8}
+use Rattle.std.proofs.Common.{◌≡◌, ◌≢◌, ◌∙◌, ◌+◌, ◌-◌, ◌<◌, ◌≤◌, ℕ, List, ◌∷◌, Bor}
+use Rattle.std.proofs.Common.{None, Option, Some, ap, arith, drop, get_or, if◌then◌else◌, length, nat_eq, suc, sym, take}
+use Rattle.std.specs.Char.{is_ascii_digit}
 use Rattle.std.specs.List.{ends_with, list_all}
 use Rattle.std.specs.Option.{MatchOption}
 use Rattle.std.specs.Str.Pattern.{RFindsChar}
@@ -10,8 +10,7 @@ use Rattle.std.proofs.Math.Seq.{drop-cons}
 use Rattle.std.specs.Cmp.Lexicographic.{pointwise}
 use Rattle.std.proofs.lemmas.Str.{len_utf8_ascii}
 use Rattle.std.proofs.lemmas.Str.Pattern.{NoCharPasses-char}
-use Rattle.url.specs.Input.{rsplit_once}
-use Rattle.url.proofs.InputLemmas.{IsNot, rsplit_once_at_last, rsplit_once_none}
+use Rattle.url.proofs.InputLemmas.{rsplit_once_at_last, rsplit_once_none}
 use Rattle.pl_query.specs.Decides.{before_port, host_alone}
 
 -- the clause of a call of `rsplit_once` at a colon

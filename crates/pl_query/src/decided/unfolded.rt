@@ -76,9 +76,13 @@ fn is_host_asked(query: &Query, host: &str) -> bool
 fn host_alone(host: &str) -> &str
     ensures { result.now ≡ spec.host_alone host.now }
 {
-    match host.rsplit_once(':') {
-        Some((name, port)) if all_digits(port.as_bytes()) => name,
-        _ => host,
+    let Some((name, port)) = host.rsplit_once(':') else {
+        return host;
+    };
+    if all_digits(port.as_bytes()) {
+        name
+    } else {
+        host
     }
 }
 

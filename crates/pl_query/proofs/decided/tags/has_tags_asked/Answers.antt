@@ -1,5 +1,4 @@
 use Rattle.std.proofs.Common.{◌∙◌, List, ap, ℕ}
-use Rattle.pl_base.specs.Fold.{folded}
 use Rattle.pl_query.specs.Decides.{are_tags_in}
 use Rattle.pl_query.specs.DecidedParts.{are_folds_in}
 use Rattle.pl_query.proofs.FoldedTags.{folds_tell}

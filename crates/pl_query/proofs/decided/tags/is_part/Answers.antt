@@ -1,5 +1,4 @@
-use Rattle.std.proofs.Common.{◌∙◌, ◌==◌, ap, bytes_eq, lit<, rules}
-use Rattle.std.specs.Str.Iter.{split_has_more, split_pattern, split_text}
+use Rattle.std.proofs.Common.{bytes_eq, lit<, rules}
 use Rattle.std.proofs.lemmas.Iterator.Search.{any_from_yields_List}
 use Rattle.std.proofs.lemmas.Iterator.Splits.{YieldsList-from_str_split}
 use Rattle.pl_query.proofs.decided.tags.is_part.Goals as goal

@@ -1,4 +1,4 @@
-use Rattle.std.proofs.Common.{◌∙◌, List, ap, ℕ}
+use Rattle.std.proofs.Common.{◌∙◌, ap}
 use Rattle.std.specs.List.{list_all}
 use Rattle.pl_query.specs.declared.decided.words.ViewTexts.{ViewTexts}
 use Rattle.pl_query.specs.DecidedParts.{is_in_texts}
