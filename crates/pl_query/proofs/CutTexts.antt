@@ -23,7 +23,8 @@ some_part p [] = refl
 some_part p (x ∷ xs) = choose (p x) (slice_split p xs)
   where
     choose : (b : Bool) (parts : List (List _))
-        → put [] (if b then [] ∷ parts else onto_first x parts) ≡ (if b then [] ∷ parts else onto_first x parts)
+        → put [] (if b then [] ∷ parts else onto_first x parts)
+        ≡ (if b then [] ∷ parts else onto_first x parts)
     choose true parts = refl
     choose false [] = refl
     choose false (part ∷ parts) = refl
@@ -48,11 +49,13 @@ pub record Cuts {A B : Type 0} (p : A → Bool) (q : B → Bool) (f : A → List
 
 -- then what the elements stand for is cut where they are
 pub cut_alike : {A B : Type 0} (p : A → Bool) (q : B → Bool) (f : A → List B) (xs : List A)
-    → AllByRecursion (Cuts p q f) xs → slice_split q (flat_map f xs) ≡ map (flat_map f) (slice_split p xs)
+    → AllByRecursion (Cuts p q f) xs
+    → slice_split q (flat_map f xs) ≡ map (flat_map f) (slice_split p xs)
 cut_alike p q f [] cuts = refl
 cut_alike p q f (x ∷ xs) cuts = choose (p x) refl (cut_alike p q f xs cuts.1)
   where
-    choose : (b : Bool) → p x ≡ b → slice_split q (flat_map f xs) ≡ map (flat_map f) (slice_split p xs)
+    choose : (b : Bool) → p x ≡ b
+        → slice_split q (flat_map f xs) ≡ map (flat_map f) (slice_split p xs)
         → slice_split q (f x ++ flat_map f xs) ≡ map (flat_map f) (slice_split p (x ∷ xs))
     choose true is rest =
         let one = cuts.0.there is in
@@ -61,4 +64,5 @@ cut_alike p q f (x ∷ xs) cuts = choose (p x) refl (cut_alike p q f xs cuts.1)
         ∙ sym (ap (map (flat_map f)) (slice_split-cons_yes p x xs is))
     choose false is rest =
         not_cut q (f x) (flat_map f xs) (cuts.0.elsewhere is) ∙ ap (put (f x)) rest
-        ∙ sym (in_first f x (slice_split p xs)) ∙ sym (ap (map (flat_map f)) (slice_split-cons_no p x xs is))
+        ∙ sym (in_first f x (slice_split p xs))
+        ∙ sym (ap (map (flat_map f)) (slice_split-cons_no p x xs is))

@@ -1,12 +1,14 @@
 -- The fold of a text is cut at its commas where the text is, so tags are told by their folds.
-use Rattle.std.proofs.Common.{◌≡◌, ◌∙◌, ◌&&◌, ◌||◌, ◌==◌, ◌++◌, ◌+◌, ◌/◌, ◌%◌, ◌≤◌, ℕ, Bool, true, false, not}
-use Rattle.std.proofs.Common.{List, [], ◌∷◌, IsUtf8, ap, arith, bytes_eq, chars, if◌then◌else◌, length, length-append}
-use Rattle.std.proofs.Common.{map, nat_lt, refl, subst, sym, ⊎_elim}
+use Rattle.std.proofs.Common.{◌≡◌, ◌∙◌, ◌&&◌, ◌||◌, ◌==◌, ◌++◌, ◌+◌, ◌/◌, ◌%◌, ◌≤◌, ℕ, Bool, true}
+use Rattle.std.proofs.Common.{false, not, List, [], ◌∷◌, IsUtf8, ap, arith, bytes_eq, chars}
+use Rattle.std.proofs.Common.{if◌then◌else◌, length, length-append, map, nat_lt, refl, subst, sym}
+use Rattle.std.proofs.Common.{⊎_elim}
 use Rattle.std.specs.List.{AllByRecursion, flat_map, list_all, list_any, onto_first, slice_split}
 use Rattle.std.proofs.lemmas.Bool.{and_from, and_parts, cases_lt, eqb-true, ne_eqb, not-true}
 use Rattle.std.proofs.lemmas.Bool.Decides.{nat_tests}
 use Rattle.std.proofs.lemmas.List.Folds.{list_all-map}
-use Rattle.std.proofs.lemmas.Str.{chars-encodes, chars-nil, encode_ascii, encodes-chars, length-le-encodes, scalars-chars}
+use Rattle.std.proofs.lemmas.Str.{chars-encodes, chars-nil, encode_ascii, encodes-chars}
+use Rattle.std.proofs.lemmas.Str.{length-le-encodes, scalars-chars}
 use lib.Utf8.{encode, encodes, scalar, scalars}
 use Rattle.ucd_table.proofs.RangedFacts.{values_ok, Stepped-at_values}
 use Rattle.ucd_table.proofs.Computing.{tables}
@@ -29,9 +31,10 @@ is_comma c = c == 44
 no_comma_made : (c : ℕ) → list_all (λ x. not (x == 44)) (full_folding c) ≡ true
 unfolding tables values_ok full_folding_stepped
 no_comma_made c =
-    Stepped-at_values full_folding full_folding_stepped (λ v. list_all (λ x. not (x == 44)) v) refl c
+    Stepped-at_values full_folding full_folding_stepped (list_all (λ x. not (x == 44))) refl c
 
-none_passes : (xs : List ℕ) → list_all (λ x. not (x == 44)) xs ≡ true → AllByRecursion (Fails is_comma) xs
+none_passes : (xs : List ℕ) → list_all (λ x. not (x == 44)) xs ≡ true
+    → AllByRecursion (Fails is_comma) xs
 none_passes [] all = tt
 none_passes (x ∷ xs) all =
     let parts = and_parts (not (x == 44)) (list_all (λ y. not (y == 44)) xs) all in
@@ -48,7 +51,8 @@ fold_cuts c =
       there = λ is.
           let same : c ≡ 44 = eqb-true c 44 is in
           (44, ap full_fold same ∙ full_fold-ascii 44 (omega arith), refl);
-      elsewhere = λ other. itself_too c (full_folding c) (none_passes (full_folding c) (no_comma_made c)) other;
+      elsewhere = λ other.
+          itself_too c (full_folding c) (none_passes (full_folding c) (no_comma_made c)) other;
     }
 
 each_fold : (cs : List ℕ) → AllByRecursion (Cuts is_comma is_comma full_fold) cs
@@ -62,14 +66,22 @@ above b high = grind (arith, nat_tests)
 
 high_bytes : (c : ℕ) → 128 ≤ c → AllByRecursion (Fails is_comma) (encode c)
 unfolding encode
-high_bytes c high = choose (nat_lt c 128) (nat_lt c 2048) (nat_lt c 65536) (grind (arith, nat_tests))
+high_bytes c high =
+    choose (nat_lt c 128) (nat_lt c 2048) (nat_lt c 65536) (grind (arith, nat_tests))
   where
     choose : (a b d : Bool) → a ≡ false → AllByRecursion (Fails is_comma)
-        (if a then c ∷ [] else (if b then (192 + c / 64) ∷ (128 + c % 64) ∷ [] else (if d then (224 + c / 4096) ∷ (128 + c / 64 % 64) ∷ (128 + c % 64) ∷ [] else (240 + c / 262144) ∷ (128 + c / 4096 % 64) ∷ (128 + c / 64 % 64) ∷ (128 + c % 64) ∷ [])))
+        (if a then c ∷ [] else
+        (if b then (192 + c / 64) ∷ (128 + c % 64) ∷ [] else
+        (if d then (224 + c / 4096) ∷ (128 + c / 64 % 64) ∷ (128 + c % 64) ∷ [] else
+        (240 + c / 262144) ∷ (128 + c / 4096 % 64) ∷ (128 + c / 64 % 64) ∷ (128 + c % 64) ∷ [])))
     choose true b d is = cc
     choose false true d is = (above _ (omega arith), (above _ (omega arith), tt))
-    choose false false true is = (above _ (omega arith), (above _ (omega arith), (above _ (omega arith), tt)))
-    choose false false false is = (above _ (omega arith), (above _ (omega arith), (above _ (omega arith), (above _ (omega arith), tt))))
+    choose false false true is =
+        (above _ (omega arith), (above _ (omega arith), (above _ (omega arith), tt)))
+    choose false false false is = (
+      above _ (omega arith),
+      (above _ (omega arith), (above _ (omega arith), (above _ (omega arith), tt))),
+    )
 
 bytes_of : (c : ℕ) → Fails is_comma c → AllByRecursion (Fails is_comma) (encode c)
 bytes_of c other =
@@ -93,9 +105,11 @@ encodes_is : (cs : List ℕ) → encodes cs ≡ flat_map encode cs
 encodes_is [] = refl
 encodes_is (c ∷ cs) = ap (λ bs. encode c ++ bs) (encodes_is cs)
 
-encodes_cut : (cs : List ℕ) → slice_split is_comma (encodes cs) ≡ map encodes (slice_split is_comma cs)
+encodes_cut : (cs : List ℕ)
+    → slice_split is_comma (encodes cs) ≡ map encodes (slice_split is_comma cs)
 encodes_cut cs =
-    ap (slice_split is_comma) (encodes_is cs) ∙ cut_alike is_comma is_comma encode cs (each_encode cs)
+    ap (slice_split is_comma) (encodes_is cs)
+    ∙ cut_alike is_comma is_comma encode cs (each_encode cs)
     ∙ map_alike (slice_split is_comma cs)
   where
     map_alike : (parts : List (List ℕ)) → map (flat_map encode) parts ≡ map encodes parts
@@ -112,11 +126,13 @@ folds_cut cs = cut_alike is_comma is_comma full_fold cs (each_fold cs)
 abbrev Scalars : List (List ℕ) → Type 0
 Scalars parts = AllByRecursion (λ part. scalars part ≡ true) parts
 
-with_first : (c : ℕ) (cs : List ℕ) (parts : List (List ℕ)) (cut : Bool) → scalar c ≡ true → Scalars parts
+with_first : (c : ℕ) (cs : List ℕ) (parts : List (List ℕ)) (cut : Bool) → scalar c ≡ true
+    → Scalars parts
     → Scalars (if cut then [] ∷ parts else onto_first c parts)
 with_first c cs parts true one rest = (refl, rest)
 with_first c cs [] false one rest = (and_from (scalar c) true one refl, tt)
-with_first c cs (part ∷ parts) false one rest = (and_from (scalar c) (scalars part) one rest.0, rest.1)
+with_first c cs (part ∷ parts) false one rest =
+    (and_from (scalar c) (scalars part) one rest.0, rest.1)
 
 parts_scalar : (cs : List ℕ) → scalars cs ≡ true → Scalars (slice_split is_comma cs)
 parts_scalar [] all = (refl, tt)
@@ -145,38 +161,47 @@ folded_cut text utf8 =
 some_fold : (c : ℕ) (cs : List ℕ) → 1 ≤ length (default_case_fold (c ∷ cs))
 some_fold c cs =
     let table = or_some c (full_folding c) in
-    omega (arith, ap length (default_case_fold-cons c cs), length-append (full_fold c) (default_case_fold cs), table)
+    let both = length-append (full_fold c) (default_case_fold cs) in
+    omega (arith, ap length (default_case_fold-cons c cs), both, table)
   where
     or_some : (c : ℕ) (table : List ℕ) → 1 ≤ length (or_itself c table)
     or_some c [] = omega arith
     or_some c (x ∷ table) = omega arith
 
-some_chars : (text cs : List ℕ) → encodes cs ≡ text → 1 ≤ length text → 1 ≤ length (encodes (default_case_fold cs))
+some_chars : (text cs : List ℕ) → encodes cs ≡ text → 1 ≤ length text
+    → 1 ≤ length (encodes (default_case_fold cs))
 some_chars text [] same some = absurd (omega (arith, ap length same))
 some_chars text (c ∷ cs) same some =
     omega (arith, some_fold c cs, length-le-encodes (default_case_fold (c ∷ cs)))
 
 -- a text is empty where its fold is
 fold_empty : (text : List ℕ) → IsUtf8 text → (length (folded text) == 0) ≡ (length text == 0)
-fold_empty [] utf8 = ap (λ cs. length (encodes cs) == 0) (ap default_case_fold chars-nil ∙ default_case_fold-nil)
+fold_empty [] utf8 =
+    ap (λ cs. length (encodes cs) == 0) (ap default_case_fold chars-nil ∙ default_case_fold-nil)
 fold_empty (b ∷ text) utf8 =
-    let some = some_chars (b ∷ text) (chars (b ∷ text)) (encodes-chars (b ∷ text) utf8) (omega arith) in
+    let same = encodes-chars (b ∷ text) utf8 in
+    let some = some_chars (b ∷ text) (chars (b ∷ text)) same (omega arith) in
     ne_eqb (length (folded (b ∷ text))) 0 (λ none. omega arith)
     ∙ sym (ne_eqb (length (b ∷ text)) 0 (λ none. omega arith))
 
 -- the fold of a tag is in the fold of a text where the tag is in the text
-fold_in : (text : List ℕ) → IsUtf8 text → (name : List ℕ) → is_fold_in (folded text) (folded name) ≡ is_tag_in text name
+fold_in : (text : List ℕ) → IsUtf8 text → (name : List ℕ)
+    → is_fold_in (folded text) (folded name) ≡ is_tag_in text name
 fold_in text utf8 name =
-    (λ i. not (fold_empty text utf8 i) && list_any (bytes_eq (folded name)) (folded_cut text utf8 i))
+    (λ i. not (fold_empty text utf8 i) && list_any (bytes_eq (folded name))
+    (folded_cut text utf8 i))
     ∙ ap (λ (b : Bool). not (length text == 0) && b)
     (list_any-map (bytes_eq (folded name)) folded (slice_split is_comma text))
 
-none_in : (p q : List ℕ → Bool) (names : List (List ℕ)) → ((name : List ℕ) → p (folded name) ≡ q name)
+none_in : (p q : List ℕ → Bool) (names : List (List ℕ))
+    → ((name : List ℕ) → p (folded name) ≡ q name)
     → not (list_any p (map folded names)) ≡ list_all (λ name. not (q name)) names
 none_in p q [] alike = refl
-none_in p q (name ∷ names) alike = choose (p (folded name)) (q name) (alike name) (none_in p q names alike)
+none_in p q (name ∷ names) alike =
+    choose (p (folded name)) (q name) (alike name) (none_in p q names alike)
   where
-    choose : (a b : Bool) → a ≡ b → not (list_any p (map folded names)) ≡ list_all (λ n. not (q n)) names
+    choose : (a b : Bool) → a ≡ b
+        → not (list_any p (map folded names)) ≡ list_all (λ n. not (q n)) names
         → not (a || list_any p (map folded names)) ≡ (not b && list_all (λ n. not (q n)) names)
     choose true true same rest = refl
     choose true false same rest = absurd (cc)
@@ -188,5 +213,7 @@ pub folds_tell : (tags : List (List ℕ)) (not_tags : Bool) (text : List ℕ) �
     → are_folds_in (map folded tags) not_tags (folded text) ≡ are_tags_in tags not_tags text
 folds_tell tags false text utf8 =
     list_all-map (is_fold_in (folded text)) folded tags
-    ∙ list_all-alike (λ name. is_fold_in (folded text) (folded name)) (is_tag_in text) tags (fold_in text utf8)
-folds_tell tags true text utf8 = none_in (is_fold_in (folded text)) (is_tag_in text) tags (fold_in text utf8)
+    ∙ list_all-alike (λ name. is_fold_in (folded text) (folded name)) (is_tag_in text) tags
+    (fold_in text utf8)
+folds_tell tags true text utf8 =
+    none_in (is_fold_in (folded text)) (is_tag_in text) tags (fold_in text utf8)

@@ -1,7 +1,7 @@
 -- The tags of a page of a good store, told by the text that joins them.
-use Rattle.std.proofs.Common.{◌≡◌, ◌∙◌, ◌<◌, ◌==◌, ◌&&◌, ◌||◌, ◌++◌, not, ℕ, Bool, true, false, List, [], ◌∷◌}
+use Rattle.std.proofs.Common.{◌≡◌, ◌∙◌, ◌==◌, ◌&&◌, ◌||◌, not, ℕ, Bool, true, false, List, [], ◌∷◌}
 use Rattle.std.proofs.Common.{All, ap, arith, filter, if◌then◌else◌, length, map, refl, sym}
-use Rattle.std.specs.List.{AllByRecursion, list_any, slice_split}
+use Rattle.std.specs.List.{AllByRecursion, list_any}
 use Rattle.std.proofs.Math.Bool.{and_comm}
 use Rattle.std.proofs.lemmas.Bool.{ne_eqb}
 use Rattle.std.proofs.lemmas.List.Elements.{recursion_from_All}
@@ -10,7 +10,8 @@ use Rattle.pl_base.specs.declared.id.PageId.{PageId}
 use Rattle.pl_base.specs.Good.{HasTags, IsTagFolder, IsTagName}
 use Rattle.pl_base.specs.Sorting.{put_in_place, sorted_by}
 use Rattle.pl_base.specs.Store.{Item, Store}
-use Rattle.pl_base.specs.Tags.{by_fold, comma_joined, has_tag, is_before, page_tags, tag_text, tags_of}
+use Rattle.pl_base.specs.Tags.{by_fold, comma_joined, has_tag, is_before, page_tags, tag_text}
+use Rattle.pl_base.specs.Tags.{tags_of}
 use Rattle.pl_base.proofs.ListLaws.{list_any-alike, list_any-map}
 use Rattle.pl_base.proofs.LookUps.{where_passes}
 use Rattle.pl_base.proofs.SortLaws.{all_sorted}
@@ -22,7 +23,8 @@ use Rattle.pl_query.specs.Decides.{comma_split, is_tag_in}
 -- ---- lists in order
 
 module _ {A : Type 0} (p : A → Bool) (before : A → A → Bool) where
-  any_placed : (x : A) (ys : List A) → list_any p (put_in_place before x ys) ≡ (p x || list_any p ys)
+  any_placed : (x : A) (ys : List A)
+      → list_any p (put_in_place before x ys) ≡ (p x || list_any p ys)
   any_placed x [] = refl
   any_placed x (y ∷ ys) = choose (before x y) (any_placed x ys)
     where
@@ -32,14 +34,16 @@ module _ {A : Type 0} (p : A → Bool) (before : A → A → Bool) where
       turned false b c = refl
 
       choose : (b : Bool) → list_any p (put_in_place before x ys) ≡ (p x || list_any p ys)
-          → list_any p (if b then x ∷ y ∷ ys else y ∷ put_in_place before x ys) ≡ (p x || (p y || list_any p ys))
+          → list_any p (if b then x ∷ y ∷ ys else y ∷ put_in_place before x ys)
+          ≡ (p x || (p y || list_any p ys))
       choose true rest = refl
       choose false rest = ap (λ (b : Bool). p y || b) rest ∙ turned (p x) (p y) (list_any p ys)
 
   -- what passes among members passes among them in order
   any_sorted : (xs : List A) → list_any p (sorted_by before xs) ≡ list_any p xs
   any_sorted [] = refl
-  any_sorted (x ∷ xs) = any_placed x (sorted_by before xs) ∙ ap (λ (b : Bool). p x || b) (any_sorted xs)
+  any_sorted (x ∷ xs) =
+      any_placed x (sorted_by before xs) ∙ ap (λ (b : Bool). p x || b) (any_sorted xs)
 
 -- ---- names that are joined
 
@@ -64,8 +68,8 @@ in_joined : (names : List (List ℕ)) (name : List ℕ) → AllByRecursion IsTag
     → is_tag_in (comma_joined names) name ≡ list_any (is_same_tag name) names
 in_joined [] name all = refl
 in_joined (first ∷ names) name all =
-    ap (λ (b : Bool). not b && list_any (is_same_tag name) (comma_split (comma_joined (first ∷ names))))
-    (some_joined first names all.0)
+    let cut : List (List ℕ) = comma_split (comma_joined (first ∷ names)) in
+    ap (λ (b : Bool). not b && list_any (is_same_tag name) cut) (some_joined first names all.0)
     ∙ ap (list_any (is_same_tag name)) (cut_again first names all)
 
 -- ---- the tags of a page
@@ -85,14 +89,16 @@ always : (P : Item → Type 0) (test : Item → Bool) (items : List Item) → Al
 always P test [] all = tt
 always P test (t ∷ items) all = ((λ _. all.0), always P test items all.1)
 
-names_are : (store : Store) (page : PageId) → HasTags store → AllByRecursion IsTagName (page_tags store page)
+names_are : (store : Store) (page : PageId) → HasTags store
+    → AllByRecursion IsTagName (page_tags store page)
 names_are store page good =
     let named = names_of (tags_of store) store
     (recursion_from_All (IsTagFolder store) (tags_of store) good.folders) in
     let P : Item → Type 0 = λ t. IsTagName t.title in
     titles IsTagName (by_fold (filter (has_tag store page) (tags_of store)))
     (all_sorted is_before P (filter (has_tag store page) (tags_of store))
-    (where_passes P (has_tag store page) (tags_of store) (always P (has_tag store page) (tags_of store) named)))
+    (where_passes P (has_tag store page) (tags_of store)
+    (always P (has_tag store page) (tags_of store) named)))
 
 -- a page of a good store has a tag where that is in the text of its tags
 pub tag_told : (store : Store) (page : PageId) → HasTags store → (name : List ℕ)
@@ -104,5 +110,6 @@ tag_told store page good name =
     ∙ list_any-map (is_same_tag name) (λ (t : Item). t.title) (by_fold of_page)
     ∙ any_sorted own is_before of_page
     ∙ sym (any_filter (has_tag store page) own own (tags_of store) (λ t. refl))
-    ∙ list_any-alike (λ t. has_tag store page t && own t) (λ t. own t && has_tag store page t) (tags_of store)
+    ∙ list_any-alike (λ t. has_tag store page t && own t) (λ t. own t && has_tag store page t)
+    (tags_of store)
     (λ t. and_comm (has_tag store page t) (own t))

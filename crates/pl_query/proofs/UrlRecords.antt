@@ -1,7 +1,8 @@
 -- What a URL tells of its record: the host without its port, and whether it holds a query.
-use Rattle.std.proofs.Common.{◌≡◌, ◌∙◌, ◌+◌, ◌-◌, ◌<◌, ◌^◌, ◌==◌, ◌&&◌, ◌||◌, ◌++◌, not, ℕ, Bool, true, false, cond, List, [], ◌∷◌}
-use Rattle.std.proofs.Common.{All, None, Option, Some, Ok, Err, ap, append-nil, arith, decimal, drop, get_or, inl, inr}
-use Rattle.std.proofs.Common.{length, nat_lt, refl, subst, suc, sym, take, unwrap_or, zero, if◌then◌else◌, ⊎_elim, lit<, is_some, drop_at, take_at, length-append, append_assoc}
+use Rattle.std.proofs.Common.{◌≡◌, ◌∙◌, ◌+◌, ◌-◌, ◌<◌, ◌^◌, ◌==◌, ◌&&◌, ◌||◌, ◌++◌, not, ℕ, Bool}
+use Rattle.std.proofs.Common.{true, false, cond, List, [], ◌∷◌, All, None, Option, Some, Ok, Err}
+use Rattle.std.proofs.Common.{ap, append-nil, arith, decimal, drop, get_or, length, nat_lt, refl}
+use Rattle.std.proofs.Common.{subst, suc, sym, take, unwrap_or, zero, if◌then◌else◌, lit<, is_some}
 use Rattle.std.specs.Char.{is_ascii_digit}
 use Rattle.std.specs.Int.{to_be_bytes, w32}
 use Rattle.std.specs.List.{concat, list_all, list_any, starts_with}
@@ -9,7 +10,6 @@ use Rattle.std.specs.Prelude.{IfSome, bytes_eq, codes, nat_eq}
 use Rattle.std.proofs.lemmas.List.{take-append-drop}
 use Rattle.std.proofs.Math.Seq.{take-append_seam}
 use Rattle.std.proofs.lemmas.Slice.Eq.{bytes_eq-Decides}
-use Rattle.std.specs.Net.Addr.{ipv6_segments}
 use Rattle.std.specs.Net.Text.{hex_groups_text, ipv4_text}
 use Rattle.std.specs.Option.{option_map}
 use Rattle.std.specs.Result.{result_map_both}
@@ -25,16 +25,18 @@ use Rattle.url.specs.declared.host.Host.TheVariants.{Domain, Ipv4, Ipv6}
 use Rattle.url.specs.declared.scheme.SchemeType.{SchemeType}
 use Rattle.url.specs.declared.scheme.SchemeType.TheVariants.{File, NotSpecial, SpecialNotFile}
 use Rattle.url.specs.declared.sets.TheConstants.{FORBIDDEN_DOMAIN, FORBIDDEN_HOST}
-use Rattle.url.specs.Host.{ascii_domain, host_of_ascii, host_text, ipv4_host, ipv6_host, is_forbidden_in_domain, is_forbidden_in_host}
-use Rattle.url.specs.Host.{parse_bracketed, parse_file_host, parse_host, parse_opaque_host}
-use Rattle.url.specs.Host.{parse_special_host, without_localhost}
+use Rattle.url.specs.Host.{ascii_domain, host_of_ascii, host_text, ipv4_host, ipv6_host}
+use Rattle.url.specs.Host.{is_forbidden_in_domain, is_forbidden_in_host, parse_bracketed}
+use Rattle.url.specs.Host.{parse_file_host, parse_host, parse_opaque_host, parse_special_host}
+use Rattle.url.specs.Host.{without_localhost}
 use Rattle.url.specs.Input.{is_empty, lowercase, rsplit_once, rsplit_step, split_once}
 use Rattle.url.specs.Input.{strip_tabs_and_new_lines, trim_c0_control_and_space}
 use Rattle.url.specs.Ipv4.{ends_in_a_number, parse_ipv4}
-use Rattle.url.specs.Parser.{Parsed, after_double_slash, after_file_double_slash, and_then, before_tail}
-use Rattle.url.specs.Parser.{file_with_host, lacks_host, leading_slashes, parse_authority, parse_body}
-use Rattle.url.specs.Parser.{parse_by_scheme, parse_file, parse_non_special, parse_parts, parse_port, parse_url}
-use Rattle.url.specs.Parser.{split_port, split_scheme, with_path, with_tail, without_default_port}
+use Rattle.url.specs.Parser.{Parsed, after_double_slash, after_file_double_slash, and_then}
+use Rattle.url.specs.Parser.{before_tail, file_with_host, lacks_host, leading_slashes}
+use Rattle.url.specs.Parser.{parse_authority, parse_body, parse_by_scheme, parse_file}
+use Rattle.url.specs.Parser.{parse_non_special, parse_parts, parse_port, parse_url, split_port}
+use Rattle.url.specs.Parser.{split_scheme, with_path, with_tail, without_default_port}
 use Rattle.url.specs.Parts.{Parts, has_authority, host_or_empty, kind_of, pieces, serialize}
 use Rattle.url.specs.Path.{escape_end, is_windows_drive_letter, segment_len}
 use Rattle.url.specs.Scheme.{IsScheme, is_file, is_special, scheme_len, scheme_type}
@@ -59,16 +61,20 @@ IsPlain host = host_alone host ≡ host
 no_colon : (host : List ℕ) → All (IsNot 58) host → IsPlain host
 no_colon host none = ap (λ r. before_port host r.0 r.1) (rsplit_once_none 58 host none)
 
-bracket_step : (b : ℕ) (front : Option (List ℕ)) (back : List ℕ) → list_all is_ascii_digit back ≡ false
+bracket_step : (b : ℕ) (front : Option (List ℕ)) (back : List ℕ)
+    → list_all is_ascii_digit back ≡ false
     → list_all is_ascii_digit (rsplit_step 58 b front back).1 ≡ false
 bracket_step b (Some front) back other = other
 bracket_step b None back other = choose (b == 58)
   where
-    choose : (t : Bool) → list_all is_ascii_digit (cond {A = Option (List ℕ) × List ℕ} t (Some [], back) (None, b ∷ back)).1 ≡ false
+    choose : (t : Bool)
+        → list_all is_ascii_digit
+        (cond {A = Option (List ℕ) × List ℕ} t (Some [], back) (None, b ∷ back)).1 ≡ false
     choose true = other
     choose false = and_right (is_ascii_digit b) (list_all is_ascii_digit back) other
 
-behind_bracket : (front : List ℕ) → list_all is_ascii_digit (rsplit_once 58 (front ++ 93 ∷ [])).1 ≡ false
+behind_bracket : (front : List ℕ)
+    → list_all is_ascii_digit (rsplit_once 58 (front ++ 93 ∷ [])).1 ≡ false
 unfolding rsplit_once
 behind_bracket [] = refl
 behind_bracket (b ∷ front) =
@@ -89,11 +95,14 @@ digits_lack : (digits : List ℕ) → list_all is_ascii_digit digits ≡ true �
 digits_lack [] all = All-nil (IsNot 58)
 digits_lack (d ∷ digits) all =
     let both = and_parts (is_ascii_digit d) (list_all is_ascii_digit digits) all in
-    All-cons (IsNot 58) d digits (λ is. absurd (true≢false (grind (arith, nat_tests)))) (digits_lack digits both.1)
+    All-cons (IsNot 58) d digits (λ is. absurd (true≢false (grind (arith, nat_tests))))
+    (digits_lack digits both.1)
 
-port_off : (host digits : List ℕ) → list_all is_ascii_digit digits ≡ true → host_alone (host ++ 58 ∷ digits) ≡ host
+port_off : (host digits : List ℕ) → list_all is_ascii_digit digits ≡ true
+    → host_alone (host ++ 58 ∷ digits) ≡ host
 port_off host digits all =
-    ap (λ r. before_port (host ++ 58 ∷ digits) r.0 r.1) (rsplit_once_at 58 host digits (digits_lack digits all))
+    ap (λ r. before_port (host ++ 58 ∷ digits) r.0 r.1)
+    (rsplit_once_at 58 host digits (digits_lack digits all))
     ∙ cond-true (list_all is_ascii_digit digits) host (host ++ 58 ∷ digits) all
 
 -- ---- steps of the parser
@@ -103,7 +112,8 @@ ok_then : {A B P : Type 0} (r : Parsed A) (next : A → Parsed B) (y : B) → an
 ok_then (Ok x) next y is go_on = go_on x refl is
 ok_then (Err d) next y is go_on = cc
 
-past_error : {A : Type 0} (test : Bool) (d : ParseError) (r : Parsed A) (y : A) → cond test (Err d) r ≡ Ok y
+past_error : {A : Type 0} (test : Bool) (d : ParseError) (r : Parsed A) (y : A)
+    → cond test (Err d) r ≡ Ok y
     → (test ≡ false) × (r ≡ Ok y)
 past_error true d r y is = cc
 past_error false d r y is = (refl, is)
@@ -127,10 +137,12 @@ plain_ipv6 (Some segments) h is =
     subst IsPlainHost (same_ok (Ipv6 (record { segments = segments })) h is)
     (bracketed (91 ∷ hex_groups_text segments))
 
-plain_bracketed : (bytes : List ℕ) (h : Host (List ℕ)) → parse_bracketed bytes ≡ Ok h → IsPlainHost h
+plain_bracketed : (bytes : List ℕ) (h : Host (List ℕ)) → parse_bracketed bytes ≡ Ok h
+    → IsPlainHost h
 unfolding parse_bracketed
 plain_bracketed bytes h is =
-    by_test (get_or bytes (length bytes - 1) 0 == 93) _ _ h is (λ read. plain_ipv6 _ h read) (λ other. cc)
+    by_test (get_or bytes (length bytes - 1) 0 == 93) _ _ h is (λ read. plain_ipv6 _ h read)
+    (λ other. cc)
 
 octets_small : (bits k : ℕ) → get_or (to_be_bytes w32 bits) k 0 < 2 ^ 8
 octets_small bits zero = omega arith
@@ -153,12 +165,14 @@ plain_named None h is = cc
 plain_named (Some domain) h is =
     let some = past_error (is_empty domain) _ _ h is in
     let allowed = past_error (list_any is_forbidden_in_domain domain) _ _ h some.1 in
-    by_test (ends_in_a_number domain) _ _ h allowed.1 (λ number. plain_ipv4 (parse_ipv4 domain) h number)
+    by_test (ends_in_a_number domain) _ _ h allowed.1
+    (λ number. plain_ipv4 (parse_ipv4 domain) h number)
     (λ name. subst IsPlainHost (same_ok (Domain domain) h name)
     (no_colon domain (All_kept_differs FORBIDDEN_DOMAIN 58 refl domain
     (none_from_list_any is_forbidden_in_domain domain allowed.0))))
 
-plain_special : (bytes : List ℕ) (h : Host (List ℕ)) → parse_special_host bytes ≡ Ok h → IsPlainHost h
+plain_special : (bytes : List ℕ) (h : Host (List ℕ)) → parse_special_host bytes ≡ Ok h
+    → IsPlainHost h
 unfolding parse_special_host
 plain_special bytes h is =
     by_test (get_or bytes 0 0 == 91) _ _ h is (λ read. plain_bracketed bytes h read)
@@ -171,7 +185,8 @@ plain_opaque bytes h is =
     (λ read.
     let allowed = past_error (list_any is_forbidden_in_host bytes) _ _ h read in
     subst IsPlainHost (same_ok (Domain _) h allowed.1)
-    (no_colon _ (All_kept_differs FORBIDDEN_HOST 58 refl _ (opaque_host_encoded bytes allowed.0).0)))
+    (no_colon _ (All_kept_differs FORBIDDEN_HOST 58 refl _
+    (opaque_host_encoded bytes allowed.0).0)))
 
 plain_elsewhere : (h : Host (List ℕ)) → IsPlainHost h → IsPlainHost (without_localhost h)
 plain_elsewhere (Domain domain) plain =
@@ -179,20 +194,23 @@ plain_elsewhere (Domain domain) plain =
 plain_elsewhere (Ipv4 address) plain = plain
 plain_elsewhere (Ipv6 address) plain = plain
 
-plain_mapped : (r : Parsed (Host (List ℕ))) (h : Host (List ℕ)) → ((x : Host (List ℕ)) → r ≡ Ok x → IsPlainHost x)
+plain_mapped : (r : Parsed (Host (List ℕ))) (h : Host (List ℕ))
+    → ((x : Host (List ℕ)) → r ≡ Ok x → IsPlainHost x)
     → result_map_both without_localhost (λ e. e) r ≡ Ok h → IsPlainHost h
 plain_mapped (Ok x) h plain is =
     subst IsPlainHost (same_ok (without_localhost x) h is) (plain_elsewhere x (plain x refl))
 plain_mapped (Err d) h plain is = cc
 
-plain_file_host : (bytes : List ℕ) (h : Host (List ℕ)) → parse_file_host bytes ≡ Ok h → IsPlainHost h
+plain_file_host : (bytes : List ℕ) (h : Host (List ℕ)) → parse_file_host bytes ≡ Ok h
+    → IsPlainHost h
 unfolding parse_file_host
 plain_file_host bytes h is =
     by_test (is_empty bytes) _ _ h is
     (λ none. subst IsPlainHost (same_ok (Domain []) h none) (no_colon [] (All-nil (IsNot 58))))
     (λ read. plain_mapped (parse_special_host bytes) h (plain_special bytes) read)
 
-plain_host : (kind : SchemeType) (bytes : List ℕ) (h : Host (List ℕ)) → parse_host kind bytes ≡ Ok h → IsPlainHost h
+plain_host : (kind : SchemeType) (bytes : List ℕ) (h : Host (List ℕ))
+    → parse_host kind bytes ≡ Ok h → IsPlainHost h
 plain_host File bytes h is = plain_file_host bytes h is
 plain_host SpecialNotFile bytes h is = plain_special bytes h is
 plain_host NotSpecial bytes h is = plain_opaque bytes h is
@@ -203,18 +221,23 @@ plain_host NotSpecial bytes h is = plain_opaque bytes h is
 abbrev HasDigits : Option ℕ → Type 0
 HasDigits port = list_all is_ascii_digit (unwrap_or (option_map decimal port) []) ≡ true
 
-digits_port : (scheme digits : List ℕ) (port : Option ℕ) → parse_port scheme digits ≡ Ok port → HasDigits port
+digits_port : (scheme digits : List ℕ) (port : Option ℕ) → parse_port scheme digits ≡ Ok port
+    → HasDigits port
 unfolding parse_port
 digits_port scheme digits port is =
     by_test (is_empty digits) _ _ port is
     (λ none. subst HasDigits (same_ok None port none) refl)
-    (λ some. choose (list_all is_ascii_digit digits && nat_lt (digits_value 10 digits) (2 ^ 16)) refl some)
+    (λ some. choose (list_all is_ascii_digit digits && nat_lt (digits_value 10 digits) (2 ^ 16))
+    refl some)
   where
-    choose : (t : Bool) → (list_all is_ascii_digit digits && nat_lt (digits_value 10 digits) (2 ^ 16)) ≡ t
-        → cond t (Ok (without_default_port scheme (Some (digits_value 10 digits)))) (Err InvalidPort) ≡ Ok port
+    choose : (t : Bool)
+        → (list_all is_ascii_digit digits && nat_lt (digits_value 10 digits) (2 ^ 16)) ≡ t
+        → cond t (Ok (without_default_port scheme (Some (digits_value 10 digits))))
+        (Err InvalidPort) ≡ Ok port
         → HasDigits port
     choose true small read =
-        subst HasDigits (same_ok (without_default_port scheme (Some (digits_value 10 digits))) port read)
+        subst HasDigits
+        (same_ok (without_default_port scheme (Some (digits_value 10 digits))) port read)
         (cond_both _ None (Some (digits_value 10 digits)) HasDigits (λ _. refl)
         (λ _. (digits_from_numeral (decimal (digits_value 10 digits))
         (decimal_numeral (digits_value 10 digits)
@@ -229,7 +252,8 @@ pub record IsRead (url : Parts) : Type 0 where
   pub host : host_alone (host_and_port url) ≡ host_text (host_or_empty url)
   pub scheme : IsScheme url.scheme
 
-with_host : (url : Parts) (h : Host (List ℕ)) (port : Option ℕ) → url.host ≡ Some h → url.port ≡ port → IsPlainHost h
+with_host : (url : Parts) (h : Host (List ℕ)) (port : Option ℕ) → url.host ≡ Some h
+    → url.port ≡ port → IsPlainHost h
     → HasDigits port → IsScheme url.scheme → IsRead url
 with_host url h None host none plain digits scheme =
     record { host = rw (host, none, append-nil (host_text h)) plain; scheme = scheme }
@@ -246,7 +270,8 @@ with_none scheme path url named is =
 other_path : (url : Parts) (path : List ℕ) → IsRead url → IsRead (with_path url path)
 other_path url path read = record { host = read.host; scheme = read.scheme }
 
-read_authority : (scheme bytes : List ℕ) (head : Parts) → IsScheme scheme → parse_authority scheme bytes ≡ Ok head
+read_authority : (scheme bytes : List ℕ) (head : Parts) → IsScheme scheme
+    → parse_authority scheme bytes ≡ Ok head
     → IsRead head
 unfolding parse_authority
 read_authority scheme bytes head named is =
@@ -258,19 +283,22 @@ read_authority scheme bytes head named is =
     λ host read more.
     ok_then (parse_port scheme (unwrap_or host_port.1 [])) _ head more λ port got end.
     subst IsRead (same_ok _ head end)
-    (with_host (with_authority scheme userinfo.0 (unwrap_or userinfo.1 []) host port) host port refl refl
-    (plain_host (scheme_type scheme) host_port.0 host read)
+    (with_host (with_authority scheme userinfo.0 (unwrap_or userinfo.1 []) host port) host port
+    refl refl (plain_host (scheme_type scheme) host_port.0 host read)
     (digits_port scheme (unwrap_or host_port.1 []) port got) named)
 
-read_slashes : (scheme bytes : List ℕ) (url : Parts) → IsScheme scheme → after_double_slash scheme bytes ≡ Ok url
+read_slashes : (scheme bytes : List ℕ) (url : Parts) → IsScheme scheme
+    → after_double_slash scheme bytes ≡ Ok url
     → IsRead url
 unfolding after_double_slash
 read_slashes scheme bytes url named is =
-    ok_then (parse_authority scheme (take (segment_len (scheme_type scheme) bytes) bytes)) _ url is λ head read end.
+    let front = take (segment_len (scheme_type scheme) bytes) bytes in
+    ok_then (parse_authority scheme front) _ url is λ head read end.
     subst IsRead (same_ok (with_path head _) url end)
     (other_path head _ (read_authority scheme _ head named read))
 
-read_non_special : (scheme body : List ℕ) (url : Parts) → IsScheme scheme → parse_non_special scheme body ≡ Ok url
+read_non_special : (scheme body : List ℕ) (url : Parts) → IsScheme scheme
+    → parse_non_special scheme body ≡ Ok url
     → IsRead url
 unfolding parse_non_special
 read_non_special scheme body url named is =
@@ -288,7 +316,8 @@ read_file host path url plain is =
 no_file_host : IsPlainHost (Domain [])
 no_file_host = no_colon [] (All-nil (IsNot 58))
 
-read_file_slashes : (bytes : List ℕ) (url : Parts) → after_file_double_slash bytes ≡ Ok url → IsRead url
+read_file_slashes : (bytes : List ℕ) (url : Parts) → after_file_double_slash bytes ≡ Ok url
+    → IsRead url
 unfolding after_file_double_slash
 read_file_slashes bytes url is =
     let len = segment_len File bytes in
@@ -303,22 +332,28 @@ read_file_body body url is =
     by_test (leading_slashes File body == 2) _ _ url is (λ two. read_file_slashes _ url two)
     (λ other. read_file (Domain []) _ url no_file_host other)
 
-read_body : (scheme body : List ℕ) (url : Parts) → IsScheme scheme → parse_body scheme None body ≡ Ok url → IsRead url
+read_body : (scheme body : List ℕ) (url : Parts) → IsScheme scheme
+    → parse_body scheme None body ≡ Ok url → IsRead url
 unfolding parse_body
 read_body scheme body url named is =
     by_test (is_file (scheme_type scheme)) _ _ url is (λ file. read_file_body body url file)
     (λ other. by_test (is_special (scheme_type scheme)) _ _ url other
-    (λ special. read_slashes scheme _ url named special) (λ plain. read_non_special scheme body url named plain))
+    (λ special. read_slashes scheme _ url named special)
+    (λ plain. read_non_special scheme body url named plain))
 
-read_before : (url : Parts) (query fragment : Option (List ℕ)) → IsRead url → IsRead (before_tail url query fragment)
+read_before : (url : Parts) (query fragment : Option (List ℕ)) → IsRead url
+    → IsRead (before_tail url query fragment)
 read_before url query fragment read =
     cond_both (not (is_special (kind_of url)) && (is_some query || is_some fragment))
-    (with_path url (escape_end url.path)) url IsRead (λ _. other_path url (escape_end url.path) read) (λ _. read)
+    (with_path url (escape_end url.path)) url IsRead
+    (λ _. other_path url (escape_end url.path) read) (λ _. read)
 
-read_tail : (url : Parts) (query fragment : Option (List ℕ)) → IsRead url → IsRead (with_tail url query fragment)
+read_tail : (url : Parts) (query fragment : Option (List ℕ)) → IsRead url
+    → IsRead (with_tail url query fragment)
 read_tail url query fragment read = record { host = read.host; scheme = read.scheme }
 
-read_parts : (scheme body : List ℕ) (query fragment : Option (List ℕ)) (url : Parts) → IsScheme scheme
+read_parts : (scheme body : List ℕ) (query fragment : Option (List ℕ)) (url : Parts)
+    → IsScheme scheme
     → parse_parts scheme None body query fragment ≡ Ok url → IsRead url
 unfolding parse_parts
 read_parts scheme body query fragment url named is =
@@ -334,10 +369,12 @@ scheme_split : (bytes : List ℕ) → HasScheme (split_scheme bytes)
 unfolding split_scheme
 scheme_split bytes =
     let len = scheme_len bytes in
-    cond_both (nat_lt 0 len && (get_or bytes len 0 == 58)) (Some (take len bytes, drop (len + 1) bytes)) None HasScheme
+    cond_both (nat_lt 0 len && (get_or bytes len 0 == 58))
+    (Some (take len bytes, drop (len + 1) bytes)) None HasScheme
     (λ some. (scheme_at_front bytes len refl (ltb-true 0 len (and_parts _ _ some).0)).1) (λ _. tt)
 
-read_by_scheme : (split : Option (List ℕ × List ℕ)) (body : List ℕ) (query fragment : Option (List ℕ)) (url : Parts)
+read_by_scheme : (split : Option (List ℕ × List ℕ)) (body : List ℕ)
+    (query fragment : Option (List ℕ)) (url : Parts)
     → HasScheme split → parse_by_scheme split None body query fragment ≡ Ok url → IsRead url
 read_by_scheme None body query fragment url named is = cc
 read_by_scheme (Some split) body query fragment url named is =
@@ -349,7 +386,8 @@ unfolding parse_url
 record_read text url is =
     let hash = split_once 35 (strip_tabs_and_new_lines (trim_c0_control_and_space text)) in
     let question = split_once 63 hash.0 in
-    read_by_scheme (split_scheme question.0) question.0 question.1 hash.1 url (scheme_split question.0) is
+    read_by_scheme (split_scheme question.0) question.0 question.1 hash.1 url
+    (scheme_split question.0) is
 
 -- ---- addresses of queries
 
@@ -369,12 +407,14 @@ whole_begins scheme rest text same named =
     subst (λ t. starts_with nat_eq t (codes "place:") ≡ true)
     (ap (λ (s : List ℕ). s ++ 58 ∷ rest) (sym scheme_is) ∙ same) (begins (codes "place:") rest))
     (λ is.
+    let place = codes "place" in
     let front = (bytes_eq-Decides (codes "place:") (take 6 text)).0 is in
     let more : text ≡ codes "place" ++ 58 ∷ drop 6 text =
     sym (take-append-drop 6 text) ∙ ap (λ (s : List ℕ). s ++ drop 6 text) (sym front) in
-    let both : ◌≡◌ {A = Option (List ℕ × List ℕ)} (Some (scheme, rest)) (Some (codes "place", drop 6 text)) =
+    let both :
+    ◌≡◌ {A = Option (List ℕ × List ℕ)} (Some (scheme, rest)) (Some (place, drop 6 text)) =
     sym (split_own_scheme scheme rest named) ∙ ap split_scheme (same ∙ more)
-    ∙ split_own_scheme (codes "place") (drop 6 text) place_scheme in
+    ∙ split_own_scheme place (drop 6 text) place_scheme in
     (bytes_eq-Decides scheme (codes "place")).1
     (ap (λ (split : Option (List ℕ × List ℕ)). (unwrap_or split ([], [])).0) both))
 
@@ -388,4 +428,5 @@ place_at false scheme rest text own named = whole_begins scheme rest text own na
 pub place_told : (text : List ℕ) (url : Parts) → record_of text ≡ Ok url → serialize url ≡ text
     → is_place url ≡ starts_with nat_eq text place_prefix
 place_told text url is own =
-    place_at (has_authority url) url.scheme (concat (drop 2 (pieces url))) text own (record_read text url is).scheme
+    place_at (has_authority url) url.scheme (concat (drop 2 (pieces url))) text own
+    (record_read text url is).scheme

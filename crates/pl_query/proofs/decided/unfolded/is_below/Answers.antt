@@ -6,4 +6,5 @@ pub returns-then-host-front-eq46 : goal.returns-then-host-front-eq46
 returns-then-host-front-eq46 c =
     let front = c.in-Some.ensures in
     c.eq.ensures
-    ∙ behind_stop c.args.host.now c.args.domain.now c.in-Some.front front.1 (omega arith) c.if-host-front-eq46.true
+    ∙ behind_stop c.args.host.now c.args.domain.now c.in-Some.front front.1
+    (omega arith) c.if-host-front-eq46.true
