@@ -1,4 +1,6 @@
 pub mod Candidates
+pub mod DecidedParts
+pub mod Decides
 pub mod MarkDates
 pub mod Order
 pub mod QueryAnswer

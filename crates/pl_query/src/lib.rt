@@ -3,10 +3,12 @@
 
 mod answered;
 mod candidates;
+mod decided;
 mod mark_dates;
 mod ordering;
 mod result_row;
 mod shown;
 
 pub use answered::answer;
+pub use decided::{decides, has_tags_in, holds_unfolded, is_watchable, tags_asked, words_asked};
 pub use result_row::ResultRow;
