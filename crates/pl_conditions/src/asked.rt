@@ -9,7 +9,7 @@ ghost use Rattle.pl_conditions.specs.Conditions.{words_asked};
 
 use pl_base::{Day, MICROS_PER_DAY, Micros, NoMemory, Rows, Steps, Txt};
 use pl_place::{Query, TimeRef};
-use pl_words::{TagName, fold, pieces};
+use pl_words::{fold, pieces};
 use std::alloc::Global;
 use std::sync::ledger::Ledger;
 
@@ -41,8 +41,8 @@ impl<'a> Asked<'a> {
         let day = rows.day(steps);
         let begin = moment(day, query.begin_time, query.begin_ref);
         let end = moment(day, query.end_time, query.end_ref);
-        let words = words(alloc, &query.terms)?;
-        let tags = folds(alloc, query.tags.as_slice())?;
+        let words = words_asked(alloc, query)?;
+        let tags = tags_asked(alloc, query)?;
         Ok(Asked {
             query,
             begin,
@@ -75,22 +75,22 @@ fn moment(day: Day, time: Option<i64>, reference: TimeRef) -> Option<i128>
     Some(from + i128::from(time?))
 }
 
-// The words of the terms, folded.
-fn words(alloc: Global, terms: &Option<Txt>) -> Result<Vec<Txt>, NoMemory>
-    ensures { IfOk result (λ words. words.items ≡ words_asked terms.now) }
+/// The words that the query looks for, folded.
+pub fn words_asked(alloc: Global, query: &Query) -> Result<Vec<Txt>, NoMemory>
+    ensures { IfOk result (λ words. words.items ≡ words_asked query.now.terms) }
 {
-    match terms {
+    match &query.terms {
         Some(text) => pieces(alloc, &fold(alloc, text.as_str())?),
         None => Ok(Vec::new(alloc)),
     }
 }
 
-// The folds of the tags.
-fn folds(alloc: Global, tags: &[TagName]) -> Result<Vec<Txt>, NoMemory>
-    ensures { IfOk result (λ folds. folds.items ≡ map folded tags.now) }
+/// The folds of the tags that the query asks for.
+pub fn tags_asked(alloc: Global, query: &Query) -> Result<Vec<Txt>, NoMemory>
+    ensures { IfOk result (λ folds. folds.items ≡ map folded query.now.tags) }
 {
     let mut folds = Vec::new(alloc);
-    for tag in tags {
+    for tag in query.tags.as_slice() {
         folds.push(fold(alloc, tag.text())?)?;
     }
     Ok(folds)

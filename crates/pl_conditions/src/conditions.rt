@@ -15,7 +15,8 @@ mod visits;
 mod words;
 
 use crate::asked::Asked;
-use address::{is_uri, is_url_asked};
+use address::is_url_asked;
+pub use address::{is_host_in, is_uri};
 pub use parents::is_in_parents;
 use parents::{has_mark_asked, has_mark_in};
 use pl_base::{NoMemory, PageId, Rows, Steps};
@@ -23,6 +24,7 @@ use pl_marks::canon_of;
 use std::alloc::Global;
 use std::sync::ledger::Ledger;
 use tags::has_tags_asked;
+pub use visits::is_count_asked;
 use visits::{has_count_asked, has_transitions, is_listed};
 use words::has_words;
 

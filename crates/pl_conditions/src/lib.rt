@@ -5,5 +5,7 @@
 mod asked;
 mod conditions;
 
-pub use asked::Asked;
-pub use conditions::{history_holds, is_in_parents, page_holds};
+pub use asked::{Asked, tags_asked, words_asked};
+pub use conditions::{
+    history_holds, is_count_asked, is_host_in, is_in_parents, is_uri, page_holds,
+};

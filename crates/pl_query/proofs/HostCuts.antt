@@ -48,20 +48,3 @@ cut_is host (Some x) h =
     let second : x.1.now ≡ drop (i + 1) host = h.4 ∙ ap (λ n. drop n host) next in
     (λ t. before_port host (Some (h.3 t)) (second t))
     ∙ sym (ap (λ r. before_port host r.0 r.1) whole)
-
--- ---- domains
-
--- a host with a full stop at a place ends with that and a domain where the domain stands behind it
-pub behind_stop : (host domain : List ℕ) (front : ℕ) → front ≡ length host - length domain
-    → 0 < front
-    → get_or host (front - 1) 0 ≡ 46
-    → pointwise nat_eq domain (take (length host - front) (drop front host))
-    ≡ ends_with nat_eq host (46 ∷ domain)
-behind_stop host domain front is some stop =
-    let here : length host - length (46 ∷ domain) ≡ front - 1 = omega arith in
-    let next : suc (front - 1) ≡ front = omega arith in
-    let split : drop (front - 1) host ≡ 46 ∷ drop front host =
-    drop-cons host (front - 1) 0 (omega arith) ∙ (λ i. stop i ∷ drop (next i) host) in
-    ap (pointwise nat_eq domain) (take_rest host front)
-    ∙ sym (ap (λ n. pointwise nat_eq (46 ∷ domain) (drop n host)) here
-    ∙ ap (pointwise nat_eq (46 ∷ domain)) split)

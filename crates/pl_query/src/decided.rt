@@ -11,10 +11,9 @@ use pl_base::{NoMemory, View};
 use pl_place::{Query, QueryType, ResultType, Sort, SortKey};
 use std::alloc::Global;
 use tags::has_tags_asked;
-pub use tags::{has_tags_in, tags_asked};
+pub use tags::has_tags_in;
 pub use unfolded::holds_unfolded;
 use words::has_words_asked;
-pub use words::words_asked;
 
 /// Whether the views of pages decide the query: it asks for pages of history, has no condition on
 /// the dates of visits, on their transitions or on folders, and no order by dates of bookmarks.

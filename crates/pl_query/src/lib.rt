@@ -10,5 +10,5 @@ mod result_row;
 mod shown;
 
 pub use answered::answer;
-pub use decided::{decides, has_tags_in, holds_unfolded, is_watchable, tags_asked, words_asked};
+pub use decided::{decides, has_tags_in, holds_unfolded, is_watchable};
 pub use result_row::ResultRow;

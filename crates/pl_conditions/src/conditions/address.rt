@@ -36,8 +36,8 @@ fn is_in_domain(domain: &Option<Txt>, is_host: bool, url: &Canon) -> bool
     }
 }
 
-// Whether the host is the domain, or lies below it where that is not ruled out.
-fn is_host_in(domain: &str, is_host: bool, host: &str) -> bool
+/// Whether the host is the domain, or lies below it where that is not ruled out.
+pub fn is_host_in(domain: &str, is_host: bool, host: &str) -> bool
     ensures { result ≡ spec.is_host_in domain.now is_host host.now }
 {
     host == domain || !is_host && is_below(domain, host)

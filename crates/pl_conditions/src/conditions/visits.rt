@@ -12,8 +12,8 @@ use pl_base::{PageId, Rows, Steps, Transition, VisitId};
 use pl_place::Query;
 use std::sync::ledger::Ledger;
 
-// Whether the number of visits lies within the bounds.
-fn is_count_asked(query: &Query, count: u32) -> bool
+/// Whether the number of visits lies within the bounds.
+pub fn is_count_asked(query: &Query, count: u32) -> bool
     ensures { result ≡ parts.is_count_asked query.now count }
 {
     query.min_visits.is_none_or(|least| least <= count)

@@ -1,26 +1,15 @@
 // The tags that a query asks for, compared by their folds.
-ghost use Rattle.std.specs.Prelude.{◌≡◌, IfOk, bytes_eq, map};
+ghost use Rattle.std.specs.Prelude.{◌≡◌, IfOk, bytes_eq};
 ghost use Rattle.std.specs.List.{list_all, list_any};
-ghost use Rattle.pl_base.specs.Fold.{folded};
 ghost use Rattle.pl_query.specs.DecidedParts as parts;
 ghost use Rattle.pl_query.specs.Decides as spec;
 ghost use Rattle.pl_query.specs.Decides.{comma_split};
 
 use pl_base::{NoMemory, Txt, View};
+use pl_conditions::tags_asked;
 use pl_place::Query;
 use pl_words::fold;
 use std::alloc::Global;
-
-/// The folds of the tags that the query asks for.
-pub fn tags_asked(alloc: Global, query: &Query) -> Result<Vec<Txt>, NoMemory>
-    ensures { IfOk result (λ folds. folds.items ≡ map folded query.now.tags) }
-{
-    let mut folds = Vec::new(alloc);
-    for tag in query.tags.as_slice() {
-        folds.push(fold(alloc, tag.text())?)?;
-    }
-    Ok(folds)
-}
 
 // Whether the fold of a tag is a part of the text, which is cut at its commas.
 fn is_part(fold: &Txt, text: &str) -> bool

@@ -1,13 +1,11 @@
 // The conditions for which nothing is folded.
-ghost use Rattle.std.specs.Prelude.{◌≡◌, ◌∷◌, nat_eq};
-ghost use Rattle.std.specs.List.{ends_with, starts_with};
+ghost use Rattle.std.specs.Prelude.{◌≡◌, nat_eq};
+ghost use Rattle.std.specs.List.{starts_with};
 ghost use Rattle.pl_place.specs.PlaceText.{place_prefix};
-ghost use Rattle.pl_conditions.specs.AskedParts as conditions;
-ghost use Rattle.pl_conditions.specs.Conditions.{is_host_in, is_uri};
 ghost use Rattle.pl_query.specs.Decides as spec;
 
 use pl_base::{View, all_digits};
-use pl_link::Canon;
+use pl_conditions::{is_count_asked, is_host_in, is_uri};
 use pl_place::Query;
 
 /// Whether the page was visited, and its `visit_count`, its marks and its URL are as the query
@@ -28,14 +26,6 @@ fn has_marks_asked(query: &Query, view: &View) -> bool
         && (query.include_hidden || !view.hidden)
 }
 
-// Whether the number of visits lies within the bounds.
-fn is_count_asked(query: &Query, count: u32) -> bool
-    ensures { result ≡ conditions.is_count_asked query.now count }
-{
-    query.min_visits.is_none_or(|least| least <= count)
-        && query.max_visits.is_none_or(|most| count <= most)
-}
-
 // Whether the page's URL is as the query asks.
 fn has_url_asked(query: &Query, view: &View) -> bool
     ensures { result ≡ spec.has_url_asked query.now view.now }
@@ -43,16 +33,6 @@ fn has_url_asked(query: &Query, view: &View) -> bool
     is_uri(&query.uri, view.url.as_str())
         && is_host_asked(query, view.host.as_str())
         && !(query.exclude_queries && is_place(view.url.as_str()))
-}
-
-// Whether the URL is the one that is asked for, if any.
-fn is_uri(uri: &Option<Canon>, url: &str) -> bool
-    ensures { result ≡ is_uri uri.now url.now }
-{
-    match uri {
-        Some(uri) => url == uri.text(),
-        None => true,
-    }
 }
 
 // Whether the URL begins as that of a query.
@@ -83,22 +63,5 @@ fn host_alone(host: &str) -> &str
         name
     } else {
         host
-    }
-}
-
-// Whether the host is the domain, or lies below it where that is not ruled out.
-fn is_host_in(domain: &str, is_host: bool, host: &str) -> bool
-    ensures { result ≡ is_host_in domain.now is_host host.now }
-{
-    host == domain || !is_host && is_below(domain.as_bytes(), host.as_bytes())
-}
-
-// Whether the host ends with a full stop and the domain.
-fn is_below(domain: &[u8], host: &[u8]) -> bool
-    ensures { result ≡ ends_with nat_eq host.now (46 ∷ domain.now) }
-{
-    match host.len().checked_sub(domain.len()) {
-        None | Some(0) => false,
-        Some(front) => host[front - 1] == b'.' && domain == &host[front..],
     }
 }

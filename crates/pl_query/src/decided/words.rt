@@ -6,8 +6,9 @@ ghost use Rattle.pl_query.specs.DecidedParts as parts;
 ghost use Rattle.pl_query.specs.Decides.{has_word_in};
 
 use pl_base::{NoMemory, Txt, View};
+use pl_conditions::words_asked;
 use pl_place::Query;
-use pl_words::{fold, matches, pieces, searched};
+use pl_words::{fold, matches, searched};
 use std::alloc::Global;
 
 // The texts of a view in which words are looked for, folded.
@@ -16,16 +17,6 @@ pub struct ViewTexts {
     title: Txt,
     address: Txt,
     tags: Txt,
-}
-
-/// The words that the query looks for, folded.
-pub fn words_asked(alloc: Global, query: &Query) -> Result<Vec<Txt>, NoMemory>
-    ensures { IfOk result (λ words. words.items ≡ conditions.words_asked query.now.terms) }
-{
-    match &query.terms {
-        Some(text) => pieces(alloc, &fold(alloc, text.as_str())?),
-        None => Ok(Vec::new(alloc)),
-    }
 }
 
 // The texts of the view.
