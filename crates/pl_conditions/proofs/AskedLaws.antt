@@ -94,7 +94,8 @@ history_by store q p id same lists visited marks held =
 
 -- ---- tags by their folds
 
-none_among : (p q : List ℕ → Bool) (names : List (List ℕ)) → ((name : List ℕ) → p (folded name) ≡ q name)
+-- no fold of the names passes where none of the names does
+pub none_among : (p q : List ℕ → Bool) (names : List (List ℕ)) → ((name : List ℕ) → p (folded name) ≡ q name)
     → not (list_any p (map folded names)) ≡ list_all (λ name. not (q name)) names
 none_among p q [] alike = refl
 none_among p q (name ∷ names) alike = choose (p (folded name)) (q name) (alike name) (none_among p q names alike)

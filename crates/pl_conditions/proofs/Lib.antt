@@ -1,4 +1,4 @@
-mod AskedLaws
+pub mod AskedLaws
 mod ConditionRows
 mod HostEnds
 mod ItemSearch

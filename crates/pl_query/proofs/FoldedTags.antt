@@ -18,6 +18,7 @@ use Rattle.caseless.specs.Caseless.{default_case_fold}
 use Rattle.caseless.proofs.CaselessLemmas.{default_case_fold-cons, default_case_fold-nil}
 use Rattle.pl_base.specs.Fold.{folded}
 use Rattle.pl_base.proofs.ListLaws.{list_all-alike, list_any-map}
+use Rattle.pl_conditions.proofs.AskedLaws.{none_among}
 use Rattle.pl_query.specs.DecidedParts.{are_folds_in, is_fold_in}
 use Rattle.pl_query.specs.Decides.{are_tags_in, is_tag_in}
 use Rattle.pl_query.proofs.CutTexts.{Cuts, Fails, cut_alike}
@@ -193,21 +194,6 @@ fold_in text utf8 name =
     ∙ ap (λ (b : Bool). not (length text == 0) && b)
     (list_any-map (bytes_eq (folded name)) folded (slice_split is_comma text))
 
-none_in : (p q : List ℕ → Bool) (names : List (List ℕ))
-    → ((name : List ℕ) → p (folded name) ≡ q name)
-    → not (list_any p (map folded names)) ≡ list_all (λ name. not (q name)) names
-none_in p q [] alike = refl
-none_in p q (name ∷ names) alike =
-    choose (p (folded name)) (q name) (alike name) (none_in p q names alike)
-  where
-    choose : (a b : Bool) → a ≡ b
-        → not (list_any p (map folded names)) ≡ list_all (λ n. not (q n)) names
-        → not (a || list_any p (map folded names)) ≡ (not b && list_all (λ n. not (q n)) names)
-    choose true true same rest = refl
-    choose true false same rest = absurd (cc)
-    choose false true same rest = absurd (cc)
-    choose false false same rest = rest
-
 -- the folds of tags tell of the fold of a text what the tags tell of the text
 pub folds_tell : (tags : List (List ℕ)) (not_tags : Bool) (text : List ℕ) → IsUtf8 text
     → are_folds_in (map folded tags) not_tags (folded text) ≡ are_tags_in tags not_tags text
@@ -216,4 +202,4 @@ folds_tell tags false text utf8 =
     ∙ list_all-alike (λ name. is_fold_in (folded text) (folded name)) (is_tag_in text) tags
     (fold_in text utf8)
 folds_tell tags true text utf8 =
-    none_in (is_fold_in (folded text)) (is_tag_in text) tags (fold_in text utf8)
+    none_among (is_fold_in (folded text)) (is_tag_in text) tags (fold_in text utf8)
