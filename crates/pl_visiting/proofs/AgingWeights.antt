@@ -1,6 +1,6 @@
 -- A page that is due by a day has a sampled visit with another weight then, since no weight ever rises.
 use Rattle.std.proofs.Common.{◌≡◌, ◌==◌, ◌∙◌, ◌-◌, ◌<◌, ◌≤◌, Bool, true, false, ℕ, ℤ, pos, negsuc, List, Option, Some, None}
-use Rattle.std.proofs.Common.{IsSome, ap, arith, find, map, nat_le, not, sym}
+use Rattle.std.proofs.Common.{IsSome, ap, arith, find, map, nat_le, not, refl, sym}
 use Rattle.std.specs.List.{list_any}
 use Rattle.std.specs.Option.{option_map_or}
 use Rattle.std.specs.Prelude.{◌-ℤ◌, ◌≤ℤ◌}

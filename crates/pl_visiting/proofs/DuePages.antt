@@ -20,6 +20,7 @@ use Rattle.pl_base.specs.Days.{on_day}
 use Rattle.pl_base.specs.Store.{Page, Store}
 use Rattle.pl_base.specs.View.{AreViews, AreViewsOf, IsViewOf}
 use Rattle.pl_base.proofs.Among.{In, from_filter, from_map, in_filter, in_map}
+use Rattle.pl_base.proofs.KeyCounts.{tick}
 use Rattle.pl_base.proofs.ListLaws.{map-map}
 use Rattle.pl_base.proofs.Truths.{no_test}
 use Rattle.pl_calendar.specs.Days.{due_pages, is_due_by}
@@ -125,8 +126,8 @@ module _ (day : Day) (store : Store) (views : List View) (are : AreViewsOf store
               omega (
                 arith,
                 rest,
-                sum_by-cons (λ (q : Page). if has_aged day store q then 1 else 0) p ps,
-                ap (λ (b : Bool). if b then 1 else 0) (aged_by_due day store p v.due are.0.due is),
+                sum_by-cons (λ (q : Page). tick (has_aged day store q)) p ps,
+                ap tick (aged_by_due day store p v.due are.0.due is),
               )
           choose false is rest =
-              omega (arith, rest, sum_by-cons (λ (q : Page). if has_aged day store q then 1 else 0) p ps)
+              omega (arith, rest, sum_by-cons (λ (q : Page). tick (has_aged day store q)) p ps)
