@@ -134,7 +134,7 @@ pub(crate) fn sample<R: Rows, L: Ledger>(
     Ok(sample)
 }
 
-/// What a new day changes of a page: its frecency, and the day on which that is to be computed again.
+/// What a new day changes of a page: its frecency, and the day on which that is computed again.
 #[derive(Clone, Copy, Debug, PartialEq, Eq)]
 pub struct Aged {
     pub frecency: i64,

@@ -1,6 +1,7 @@
 -- The rows on a new day, and the changes of views, once some of the pages that are due have the frecency of the day.
-use Rattle.std.proofs.Common.{◌≡◌, ◌+◌, ◌<◌, ◌≤◌, ◌++◌, ◌∙◌, false, true, ℕ, List, [], ◌∷◌, Option, Some, None, add-one, ap}
-use Rattle.std.proofs.Common.{Bor, arith, count_by, drop, drop-cons, get_or, length, map, nat_le, refl, subst, sym, take}
+use Rattle.std.proofs.Common.{◌≡◌, ◌+◌, ◌<◌, ◌≤◌, ◌++◌, ◌∙◌, false, true, ℕ, List, [], ◌∷◌, Option, Some}
+use Rattle.std.proofs.Common.{None, add-one, ap, Bor, arith, count_by, drop, drop-cons, get_or, length, map}
+use Rattle.std.proofs.Common.{nat_le, refl, subst, sym, take}
 use Rattle.std.proofs.Math.ListN.{drop_of_length-le}
 use Rattle.std.specs.List.Sorted.{IsStrictlyIncreasing}
 use Rattle.std.specs.Option.{IsSome, option_copied, option_map_or}

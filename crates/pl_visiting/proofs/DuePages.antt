@@ -1,8 +1,7 @@
 -- The pages that are due by a day: each has a view, no other is, and the definition counts as many.
-use Rattle.std.proofs.Common.{◌≡◌, ◌==◌, ◌∙◌, ◌||◌, ◌+◌, ◌<◌, ◌≤◌, All, Bool, true, false, ℕ, List, [], ◌∷◌}
+use Rattle.std.proofs.Common.{◌≡◌, ◌==◌, ◌∙◌, ◌<◌, ◌≤◌, Bool, true, false, ℕ, List, [], ◌∷◌}
 use Rattle.std.proofs.Common.{Option, Some, None, IfSome, ap, arith, eq-eqb, filter, get_or, if◌then◌else◌, length, map}
 use Rattle.std.proofs.Common.{count_by, nat_le, refl, subst, sym}
-use Rattle.std.specs.List.{AllPairs}
 use Rattle.std.specs.List.Sorted.{IsStrictlyIncreasing}
 use Rattle.std.specs.Option.{option_map_or}
 use Rattle.std.proofs.lemmas.Bool.{false≢true}

@@ -2,11 +2,8 @@
 use Rattle.std.proofs.Common.{◌≡◌, ◌≤◌, ◌∙◌, ◌+◌, ◌⊎◌, inl, inr, Bool, true, false, ℕ, ℤ, List, [], ◌∷◌}
 use Rattle.std.proofs.Common.{Option, Some, None, ap, arith, count_by, filter, if◌then◌else◌, int_eq, map, not}
 use Rattle.std.proofs.Common.{refl, subst, sym}
-use Rattle.std.specs.List.{Contains}
-use Rattle.std.proofs.lemmas.Bool.{false≢true}
 use Rattle.std.proofs.lemmas.Bool.Decides.{Decides-int_eq}
 use Rattle.std.proofs.lemmas.List.Sums.{sum_by-cons}
-use Rattle.std.proofs.lemmas.Option.{same_Some}
 use Rattle.pl_base.specs.declared.change.Change.{Change}
 use Rattle.pl_base.specs.declared.date.Day.{Day}
 use Rattle.pl_base.specs.declared.id.PageId.{PageId}
@@ -89,7 +86,8 @@ module _ (day : Day) (store : Store) (views : List View) (within : IsDay day) (l
     where
       choose : (new : Option View) → IsViewAt (on_day day store) view.id new → change.old ≡ Some view
           → is_moved (record { old = change.old; new = new }) ≡ moves p
-      choose None none was = absurd (no_page (on_day day store) view.id none p h (ap (λ (id : PageId). id.0) (sym is.id)))
+      choose None none was =
+          absurd (no_page (on_day day store) view.id none p h (ap (λ (id : PageId). id.0) (sym is.id)))
       choose (Some new) has was =
           ap (λ (o : Option View). is_moved (record { old = o; new = Some new })) was
           ∙ ap (λ (z : ℤ). not (int_eq z new.frecency)) is.frecency

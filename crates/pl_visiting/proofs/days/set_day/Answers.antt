@@ -1,10 +1,8 @@
-use Rattle.std.proofs.Common.{◌≡◌, ◌∙◌, ◌≤◌, Some, ap, arith, length, sym}
+use Rattle.std.proofs.Common.{◌≡◌, ◌∙◌, ap, arith, sym}
 use Rattle.std.specs.Option.{option_copied}
-use Rattle.pl_base.specs.Rows.{Kept, store_of}
 use Rattle.pl_calendar.specs.Days.{due_pages}
 use Rattle.pl_visiting.proofs.DayChanges.{due_here, ends_counted, ends_leading, ends_sound, few, goes_on, had_here}
 use Rattle.pl_visiting.proofs.DayChanges.{is_known, starts}
-use Rattle.pl_visiting.proofs.days.set_day.Given.{Over}
 use Rattle.pl_visiting.proofs.days.set_day.Goals as goal
 
 pub loop-page-init : goal.loop-page-init
