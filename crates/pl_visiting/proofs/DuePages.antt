@@ -60,8 +60,8 @@ pub record IsDueView (day : Day) (store : Store) (views : List View) (page : Pag
   pub due : is_due_by day view ≡ true
   pub had : HadPageOf (on_day day store) view
 
-module _ (day : Day) (store : Store) (views : List View) (are : AreViewsOf store views) (ordered : AreInOrder views)
-  where
+module _ (day : Day) (store : Store) (views : List View) (are : AreViewsOf store views)
+    (ordered : AreInOrder views) where
   had_page : (view : View) → In view views → HadPageOf (on_day day store) view
   had_page view h =
       let p = page_of store store.pages views are view h in
