@@ -1,7 +1,7 @@
 //! History, changed over any rows: pages are made for URLs, visits are added, and
 //! go one by one or because they are old, pages get bookmarks and tags, pages go that nothing
-//! keeps any longer, and the day goes on. What is computed of each page that a change bears on is
-//! right behind it, and visits that come or go tell which pages these are.
+//! keeps any longer, and pages get the frecency of a new day. What is computed of each page that a
+//! change bears on is right behind it, and visits that come or go tell which pages these are.
 #![tactic(auto)]
 
 mod bookmarks;

@@ -1,15 +1,13 @@
 -- A page that is due by a day has a sampled visit with another weight then, since no weight ever rises.
-use Rattle.std.proofs.Common.{◌≡◌, ◌==◌, ◌∙◌, ◌-◌, ◌<◌, ◌≤◌, Bool, true, false, ℕ, ℤ, pos, negsuc, List, Option, Some, None}
-use Rattle.std.proofs.Common.{IsSome, ap, arith, find, map, nat_le, not, sym}
-use Rattle.std.specs.List.{list_any}
+use Rattle.std.proofs.Common.{◌≡◌, ◌==◌, ◌∙◌, ◌-◌, ◌<◌, ◌≤◌, Bool, true, false, ℕ, ℤ, pos, negsuc, Option, Some, None}
+use Rattle.std.proofs.Common.{IsSome, ap, arith, find, nat_le, not, refl, sym}
 use Rattle.std.specs.Option.{option_map_or}
 use Rattle.std.specs.Prelude.{◌-ℤ◌, ◌≤ℤ◌}
-use Rattle.std.proofs.lemmas.Bool.{eq-eqb, eqb-true, false≢true, ne_eqb}
+use Rattle.std.proofs.lemmas.Bool.{eq-eqb, false≢true, ne_eqb}
 use Rattle.std.proofs.lemmas.Bool.Decides.{nat_tests}
 use Rattle.std.proofs.lemmas.Int.{ints}
 use Rattle.pl_base.specs.declared.date.Day.{Day}
 use Rattle.pl_base.specs.declared.date.Micros.{Micros}
-use Rattle.pl_base.specs.declared.id.PageId.{PageId}
 use Rattle.pl_base.specs.Date.{day_number}
 use Rattle.pl_base.specs.Due.{IsDue, weighs_anew, weight_on}
 use Rattle.pl_base.specs.Store.{Page, Store, Visit}

@@ -1,8 +1,7 @@
 -- The pages that are due by a day: each has a view, no other is, and the definition counts as many.
-use Rattle.std.proofs.Common.{◌≡◌, ◌==◌, ◌∙◌, ◌||◌, ◌+◌, ◌<◌, ◌≤◌, All, Bool, true, false, ℕ, List, [], ◌∷◌}
+use Rattle.std.proofs.Common.{◌≡◌, ◌==◌, ◌∙◌, ◌<◌, ◌≤◌, Bool, true, false, ℕ, List, [], ◌∷◌}
 use Rattle.std.proofs.Common.{Option, Some, None, IfSome, ap, arith, eq-eqb, filter, get_or, if◌then◌else◌, length, map}
 use Rattle.std.proofs.Common.{count_by, nat_le, refl, subst, sym}
-use Rattle.std.specs.List.{AllPairs}
 use Rattle.std.specs.List.Sorted.{IsStrictlyIncreasing}
 use Rattle.std.specs.Option.{option_map_or}
 use Rattle.std.proofs.lemmas.Bool.{false≢true}
@@ -20,6 +19,7 @@ use Rattle.pl_base.specs.Days.{on_day}
 use Rattle.pl_base.specs.Store.{Page, Store}
 use Rattle.pl_base.specs.View.{AreViews, AreViewsOf, IsViewOf}
 use Rattle.pl_base.proofs.Among.{In, from_filter, from_map, in_filter, in_map}
+use Rattle.pl_base.proofs.KeyCounts.{tick}
 use Rattle.pl_base.proofs.ListLaws.{map-map}
 use Rattle.pl_base.proofs.Truths.{no_test}
 use Rattle.pl_calendar.specs.Days.{due_pages, is_due_by}
@@ -60,8 +60,8 @@ pub record IsDueView (day : Day) (store : Store) (views : List View) (page : Pag
   pub due : is_due_by day view ≡ true
   pub had : HadPageOf (on_day day store) view
 
-module _ (day : Day) (store : Store) (views : List View) (are : AreViewsOf store views) (ordered : AreInOrder views)
-  where
+module _ (day : Day) (store : Store) (views : List View) (are : AreViewsOf store views)
+    (ordered : AreInOrder views) where
   had_page : (view : View) → In view views → HadPageOf (on_day day store) view
   had_page view h =
       let p = page_of store store.pages views are view h in
@@ -125,8 +125,8 @@ module _ (day : Day) (store : Store) (views : List View) (are : AreViewsOf store
               omega (
                 arith,
                 rest,
-                sum_by-cons (λ (q : Page). if has_aged day store q then 1 else 0) p ps,
-                ap (λ (b : Bool). if b then 1 else 0) (aged_by_due day store p v.due are.0.due is),
+                sum_by-cons (λ (q : Page). tick (has_aged day store q)) p ps,
+                ap tick (aged_by_due day store p v.due are.0.due is),
               )
           choose false is rest =
-              omega (arith, rest, sum_by-cons (λ (q : Page). if has_aged day store q then 1 else 0) p ps)
+              omega (arith, rest, sum_by-cons (λ (q : Page). tick (has_aged day store q)) p ps)

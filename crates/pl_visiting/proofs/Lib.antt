@@ -1,4 +1,5 @@
 mod AgingWeights
+mod DayChanges
 mod DuePages
 mod FewPages
 mod FoundViews

@@ -1,11 +1,9 @@
 -- As many changes lead to another frecency as pages have one on the day.
-use Rattle.std.proofs.Common.{◌≡◌, ◌∙◌, ◌+◌, ◌⊎◌, inl, inr, Bool, true, false, ℕ, ℤ, List, [], ◌∷◌, Option, Some, None}
-use Rattle.std.proofs.Common.{ap, arith, count_by, filter, if◌then◌else◌, int_eq, map, not, refl, subst, sym}
-use Rattle.std.specs.List.{Contains}
-use Rattle.std.proofs.lemmas.Bool.{false≢true}
+use Rattle.std.proofs.Common.{◌≡◌, ◌≤◌, ◌∙◌, ◌+◌, ◌⊎◌, inl, inr, Bool, true, false, ℕ, ℤ, List, [], ◌∷◌}
+use Rattle.std.proofs.Common.{Option, Some, None, ap, arith, count_by, filter, if◌then◌else◌, int_eq, map, not}
+use Rattle.std.proofs.Common.{refl, subst, sym}
 use Rattle.std.proofs.lemmas.Bool.Decides.{Decides-int_eq}
 use Rattle.std.proofs.lemmas.List.Sums.{sum_by-cons}
-use Rattle.std.proofs.lemmas.Option.{same_Some}
 use Rattle.pl_base.specs.declared.change.Change.{Change}
 use Rattle.pl_base.specs.declared.date.Day.{Day}
 use Rattle.pl_base.specs.declared.id.PageId.{PageId}
@@ -16,6 +14,7 @@ use Rattle.pl_base.specs.Frecency.{frecency_of}
 use Rattle.pl_base.specs.Store.{Page, Store}
 use Rattle.pl_base.specs.View.{AreViews, AreViewsOf, IsViewOf}
 use Rattle.pl_base.proofs.Among.{In}
+use Rattle.pl_base.proofs.KeyCounts.{tick}
 use Rattle.pl_calendar.specs.Days.{due_pages, is_due_by}
 use Rattle.pl_follow.specs.Changes.{AreInOrder}
 use Rattle.pl_follow.proofs.Parted.{ascend}
@@ -29,9 +28,6 @@ use Rattle.pl_changes.proofs.NewViews.{no_page}
 use Rattle.pl_changes.proofs.Seen.{in_seen}
 use Rattle.pl_visiting.specs.NewDay.{is_moved}
 use Rattle.pl_visiting.proofs.DuePages.{still_by_view}
-
-abbrev tick : Bool → ℕ
-tick b = if b then 1 else 0
 
 -- a frecency is not another than itself
 same_not : (z : ℤ) → not (int_eq z z) ≡ false
@@ -90,7 +86,8 @@ module _ (day : Day) (store : Store) (views : List View) (within : IsDay day) (l
     where
       choose : (new : Option View) → IsViewAt (on_day day store) view.id new → change.old ≡ Some view
           → is_moved (record { old = change.old; new = new }) ≡ moves p
-      choose None none was = absurd (no_page (on_day day store) view.id none p h (ap (λ (id : PageId). id.0) (sym is.id)))
+      choose None none was =
+          absurd (no_page (on_day day store) view.id none p h (ap (λ (id : PageId). id.0) (sym is.id)))
       choose (Some new) has was =
           ap (λ (o : Option View). is_moved (record { old = o; new = Some new })) was
           ∙ ap (λ (z : ℤ). not (int_eq z new.frecency)) is.frecency
@@ -113,26 +110,23 @@ module _ (day : Day) (store : Store) (views : List View) (within : IsDay day) (l
       known : view_of v.id views ≡ Some v
       known = in_seen views (ascend views ordered) v (seen v (inl refl))
 
-      abbrev Rest : Type 0
-      Rest =
-          (cs : List Change) → Brought (on_day day store) views (due_pages day vs) cs
-          → count_by is_moved cs ≡ count_by moves ps
-
-      more : (n : ℕ) (cs : List Change) → n ≡ tick (moves p) → count_by is_moved cs ≡ count_by moves ps
-          → n + count_by is_moved cs ≡ count_by moves (p ∷ ps)
-      more n cs one rest = omega (arith, one, rest, sum_by-cons (λ (q : Page). tick (moves q)) p ps)
+      more : (total n : ℕ) (cs : List Change) → total ≡ n + count_by is_moved cs → n ≡ tick (moves p)
+          → count_by is_moved cs ≡ count_by moves ps → total ≡ count_by moves (p ∷ ps)
+      more total n cs whole one rest =
+          omega (arith, whole, one, rest, sum_by-cons (λ (q : Page). tick (moves q)) p ps)
 
       either : Kept (on_day day store) views v.id (due_pages day vs) changes
-          ⊎ Moved (on_day day store) views v.id (due_pages day vs) changes → Rest
+          ⊎ Moved (on_day day store) views v.id (due_pages day vs) changes
+          → ((cs : List Change) → Brought (on_day day store) views (due_pages day vs) cs
+          → count_by is_moved cs ≡ count_by moves ps)
           → count_by is_moved changes ≡ count_by moves (p ∷ ps)
       either (inl k) rest =
-          more 0 changes
+          more (count_by is_moved changes) 0 changes (omega arith)
           (sym (ap tick (still p v here are.0 (subst (IsViewAt (on_day day store) v.id) known k.is))))
           (rest changes k.rest)
       either (inr m) rest =
-          ap (count_by is_moved) m.whole
-          ∙ sum_by-cons (λ (c : Change). tick (is_moved c)) m.first m.others
-          ∙ more (tick (is_moved m.first)) m.others
+          more (count_by is_moved changes) (tick (is_moved m.first)) m.others
+          (ap (count_by is_moved) m.whole ∙ sum_by-cons (λ (c : Change). tick (is_moved c)) m.first m.others)
           (ap tick (turned p v m.first here are.0
           (subst (λ (o : Option View). IsChangeTo (on_day day store) v.id o m.first) known m.is)))
           (rest m.others m.rest)
@@ -140,11 +134,13 @@ module _ (day : Day) (store : Store) (views : List View) (within : IsDay day) (l
       choose : (b : Bool) → is_due_by day v ≡ b
           → Brought (on_day day store) views
           (map (λ (w : View). w.id) (if b then v ∷ filter (is_due_by day) vs else filter (is_due_by day) vs)) changes
-          → Rest → count_by is_moved changes ≡ count_by moves (p ∷ ps)
+          → ((cs : List Change) → Brought (on_day day store) views (due_pages day vs) cs
+          → count_by is_moved cs ≡ count_by moves ps)
+          → count_by is_moved changes ≡ count_by moves (p ∷ ps)
       choose true is all rest =
           either (parts (on_day day store) views (v.id ∷ due_pages day vs) changes all) rest
       choose false is all rest =
-          more 0 changes
+          more (count_by is_moved changes) 0 changes (omega arith)
           (sym (ap tick
           (ap (λ (z : ℤ). not (int_eq (frecency_of store p) z))
           (frecency_still day store later p (still_by_view day store p v within are.0 is))

@@ -14,7 +14,7 @@ ghost use Rattle.pl_known.specs.Changes.{LeadTo};
 ghost use Rattle.pl_known.specs.Known.{Knows};
 ghost use Rattle.pl_marks.specs.Refreshed.{AreRightBut};
 ghost use Rattle.pl_step.specs.Step as spec;
-ghost use Rattle.pl_visiting.specs.NewDay as newday;
+ghost use Rattle.pl_visiting.specs.NewDay as new_day;
 ghost use Rattle.pl_visiting.specs.NewDay.{day_reads, pages_due};
 
 use pl_base::{Change, Day, NoMemory, Refusal, Rows, Steps, View};
@@ -39,6 +39,7 @@ fn aged<R: Rows, L: Ledger>(
     ensures change { IfOk result (IsChangeTo (store_of (R.kept rows.old)) old.now.id
         (Some old.now)) }
     ensures store { OnOk result (store_of (R.kept rows.new) ≡ store_of (R.kept rows.old)) }
+    // One page fewer may be wrong.
     ensures right { OnOk result ((ids : List PageId) → AreRightBut (old.now.id ∷ ids)
         (R.kept rows.old) → AreRightBut ids (R.kept rows.new)) }
     ensures sums { OnOk result (HaveSums (R.kept rows.new)) }
@@ -56,8 +57,8 @@ fn aged<R: Rows, L: Ledger>(
     })
 }
 
-// The store is at this day, and each page has the frecency of that day. Only those are read that
-// are due by it. The answer is the changes of views.
+// The store is at this day, and each page that is due by it has the frecency of that day, as all
+// others have already. The answer is the changes of views.
 fn set_day<R: Rows, L: Ledger>(
     alloc: Global,
     rows: &mut R,
@@ -74,7 +75,7 @@ fn set_day<R: Rows, L: Ledger>(
     ensures sound { OnOk result (IsSound (R.kept rows.new)) }
     ensures leads { IfOk result (λ changes. LeadTo (store_of (R.kept rows.new))
         known.now.views.items changes.items) }
-    ensures moved { IfOk result (λ changes. count_by newday.is_moved changes.items
+    ensures moved { IfOk result (λ changes. count_by new_day.is_moved changes.items
         ≡ pages_moved day (store_of (R.kept rows.old))) }
     ensures base { OnOk result ((bytes : List ℕ) → R.base rows.old bytes → R.base rows.new bytes) }
     ensures cost { steps.new ≤ steps.old + most_reads
@@ -92,7 +93,7 @@ fn set_day<R: Rows, L: Ledger>(
 
 // Whether a change leads to another frecency.
 fn is_moved(change: &Change) -> bool
-    ensures { result ≡ newday.is_moved change.now }
+    ensures { result ≡ new_day.is_moved change.now }
 {
     match (&change.old, &change.new) {
         (Some(old), Some(new)) => old.frecency != new.frecency,
@@ -102,15 +103,15 @@ fn is_moved(change: &Change) -> bool
 
 // How many of the changes do.
 fn moved(changes: &[Change]) -> u32
-    requires { count_by newday.is_moved changes.now < 2 ^ 32 }
-    ensures { result ≡ count_by newday.is_moved changes.now }
+    requires { count_by new_day.is_moved changes.now < 2 ^ 32 }
+    ensures { result ≡ count_by new_day.is_moved changes.now }
 {
     changes.iter().filter(|change| is_moved(change)).count() as u32
 }
 
 /// The store is at this day from then on.
 ///
-/// Where no page is due by the day, two records are read at the most, and no memory is taken.
+/// Only the pages that are due by the day are read. Where none is, no memory is taken.
 pub fn day<R: Rows, L: Ledger>(
     alloc: Global,
     rows: &mut R,

@@ -22,6 +22,9 @@ use Rattle.pl_engine.proofs.perform.perform.Goals as goal
 pub returns-in-Day-clause-performs : goal.returns-in-Day-clause-performs
 returns-in-Day-clause-performs g c = rw c.in-Day.is (c.day.ensures.performs c.args.limit)
 
+pub returns-in-Day-clause-reads : goal.returns-in-Day-clause-reads
+returns-in-Day-clause-reads g c = rw c.in-Day.is c.day.ensures.cost
+
 pub returns-in-Visit-clause-performs : goal.returns-in-Visit-clause-performs
 returns-in-Visit-clause-performs g c = rw c.in-Visit.is c.visit.ensures.performs
 

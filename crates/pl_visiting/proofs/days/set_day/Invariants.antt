@@ -1,20 +1,17 @@
-use Rattle.std.proofs.Common.{◌≡◌, ◌+◌, ◌*◌, ◌≤◌, ℕ, List, drop, take}
-use Rattle.pl_base.specs.Days.{on_day}
-use Rattle.pl_base.specs.Rows.{HaveSums, most_reads, store_of}
-use Rattle.pl_marks.specs.Refreshed.{AreRightBut}
+use Rattle.std.proofs.Common.{◌≡◌, ◌+◌, ◌*◌, ◌≤◌, ℕ, List}
+use Rattle.pl_base.specs.Rows.{most_reads}
+use Rattle.pl_calendar.specs.Days.{due_pages}
 use Rattle.pl_history.specs.Aging.{page_reads}
-use Rattle.pl_changes.proofs.Brought.{Brought}
+use Rattle.pl_visiting.proofs.DayChanges.{AreAged}
 use Rattle.pl_visiting.proofs.days.set_day.Given as goal
 
 abbrev pub invariant-loop-page : goal.invariant-loop-page
 invariant-loop-page g l =
     record {
-      store : store_of (g.R.Rows.kept l.rows) ≡ on_day l.fn.day (store_of (g.R.Rows.kept l.fn.rows));
-      right : AreRightBut (drop l.page-index l.due.items) (g.R.Rows.kept l.rows);
-      sums : HaveSums (g.R.Rows.kept l.rows);
+      due : l.page-items ≡ due_pages l.fn.day l.known.views.items;
+      aged :
+          AreAged l.fn.day l.page-items l.known.views.items (g.R.Rows.kept l.fn.rows) (g.R.Rows.kept l.rows)
+          l.page-index l.changes.items;
       base : (bytes : List ℕ) → g.R.Rows.base l.fn.rows bytes → g.R.Rows.base l.rows bytes;
-      brought :
-          Brought (on_day l.fn.day (store_of (g.R.Rows.kept l.fn.rows))) l.known.views.items
-          (take l.page-index l.due.items) l.changes.items;
       cost : l.steps ≤ l.fn.steps + most_reads + page_reads * l.page-index;
     }
