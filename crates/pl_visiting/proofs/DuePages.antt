@@ -34,8 +34,8 @@ use Rattle.pl_history.proofs.NotDue.{IsStill, still_by_due}
 use Rattle.pl_changes.proofs.Elements.{contained, is_in}
 use Rattle.pl_changes.proofs.NewViews.{page_of, view_of_page}
 use Rattle.pl_changes.proofs.Seen.{in_seen}
-use Rattle.pl_visiting.specs.NewDay.{has_aged, pages_due}
-use Rattle.pl_visiting.proofs.AgingWeights.{aged_by_due}
+use Rattle.pl_visiting.specs.NewDay.{is_page_due, pages_due}
+use Rattle.pl_visiting.proofs.DueByDay.{due_by_day}
 
 later_day : (day : Day) (due : Option Day) → option_map_or (λ (d : Day). nat_le d.0 day.0) due false ≡ false
     → IfSome due (λ d. day.0 < d.0)
@@ -111,22 +111,22 @@ module _ (day : Day) (store : Store) (views : List View) (are : AreViewsOf store
       omega (arith, length-map (filter (is_due_by day) views) (λ (v : View). v.id), few store.pages views are)
     where
       few : (ps : List Page) (vs : List View) → AreViews store ps vs
-          → length (filter (is_due_by day) vs) ≤ count_by (has_aged day store) ps
+          → length (filter (is_due_by day) vs) ≤ count_by (is_page_due day store) ps
       few [] [] are = omega arith
       few [] (v ∷ vs) are = absurd are
       few (p ∷ ps) [] are = absurd are
       few (p ∷ ps) (v ∷ vs) are = choose (is_due_by day v) refl (few ps vs are.1)
         where
           choose : (b : Bool) → is_due_by day v ≡ b
-              → length (filter (is_due_by day) vs) ≤ count_by (has_aged day store) ps
+              → length (filter (is_due_by day) vs) ≤ count_by (is_page_due day store) ps
               → length (if b then v ∷ filter (is_due_by day) vs else filter (is_due_by day) vs)
-              ≤ count_by (has_aged day store) (p ∷ ps)
+              ≤ count_by (is_page_due day store) (p ∷ ps)
           choose true is rest =
               omega (
                 arith,
                 rest,
-                sum_by-cons (λ (q : Page). tick (has_aged day store q)) p ps,
-                ap tick (aged_by_due day store p v.due are.0.due is),
+                sum_by-cons (λ (q : Page). tick (is_page_due day store q)) p ps,
+                ap tick (due_by_day day store p v.due are.0.due is),
               )
           choose false is rest =
-              omega (arith, rest, sum_by-cons (λ (q : Page). tick (has_aged day store q)) p ps)
+              omega (arith, rest, sum_by-cons (λ (q : Page). tick (is_page_due day store q)) p ps)

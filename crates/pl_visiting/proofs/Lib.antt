@@ -1,5 +1,5 @@
-mod AgingWeights
 mod DayChanges
+mod DueByDay
 mod DuePages
 mod FewPages
 mod FoundViews
