@@ -11,4 +11,4 @@ pub mod SeenVisits
 pub mod TagEntries
 pub mod TagNames
 pub mod TagTree
-mod TaggedPage
+pub mod TaggedPage
