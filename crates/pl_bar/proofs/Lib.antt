@@ -1,2 +1,4 @@
-mod OfferRows
+pub mod ItemsWanted
+pub mod PageTiers
+pub mod PagesKept
 pub mod WordStandings
