@@ -1,13 +1,13 @@
 -- Lists that are filled up to a number, and the front of a list in which so many pass a test.
-use Rattle.std.proofs.Common.{◌≡◌, ◌≢◌, ◌∙◌, ◌==◌, ◌+◌, ◌-◌, ◌<◌, ◌≤◌, ◌++◌, ◌||◌, ℕ, Bool, true, false, List, [], ◌∷◌}
-use Rattle.std.proofs.Common.{ap, ap₂, append_assoc, arith, eqb-true, filter, if◌then◌else◌, length, map, min, not, refl}
+use Rattle.std.proofs.Common.{◌≡◌, ◌∙◌, ◌==◌, ◌+◌, ◌-◌, ◌<◌, ◌≤◌, ◌++◌, ◌||◌, ℕ, Bool, true, false, List, [], ◌∷◌}
+use Rattle.std.proofs.Common.{ap, append_assoc, arith, eqb-true, filter, if◌then◌else◌, length, map, min, not, refl}
 use Rattle.std.proofs.Common.{subst, suc, sym, take, zero}
 use Rattle.std.specs.List.{AllByRecursion, list_any, sum_by}
 use Rattle.std.proofs.Math.Seq.{take-nil}
-use Rattle.std.proofs.lemmas.Bool.{eq-eqb, ne_eqb, or_right, true≢false}
-use Rattle.std.proofs.lemmas.List.{append-nil, length-append, length-take, take_all}
-use Rattle.std.proofs.lemmas.List.Sums.{sum_by-append, sum_by-cons}
-use Rattle.pl_base.proofs.ListLaws.{weaker}
+use Rattle.std.proofs.lemmas.Bool.{ne_eqb, or_right}
+use Rattle.std.proofs.lemmas.List.{append-nil, length-append, length-take, take-take, take_all}
+use Rattle.std.proofs.lemmas.List.Sums.{sum_by-cons}
+use Rattle.pl_base.proofs.ListLaws.{all-filter, weaker}
 use Rattle.pl_base.proofs.SortLaws.{Ascends}
 use Rattle.pl_bar.specs.Offers.{filled_up, up_to}
 
@@ -52,6 +52,10 @@ module _ {A : Type 0} where
   filled_take most xs ys =
       let all : most - 0 ≡ most = omega arith in
       filled_more most [] xs ys ∙ ap (λ m. take m (xs ++ ys)) all
+
+  -- of the others no more are taken than make so many, so it does not matter if they are cut before
+  pub filled_cut : (most : ℕ) (xs ys : List A) → filled_up most xs (filled_up most [] ys) ≡ filled_up most xs ys
+  filled_cut most xs ys = ap (λ zs. xs ++ zs) (take-take (most - length xs) (most - 0) ys (omega arith))
 
   pub filled_length : (most : ℕ) (xs : List A) → length (filled_up most [] xs) ≡ min most (length xs)
   filled_length most xs =
@@ -157,8 +161,15 @@ up_to_alike one other count (x ∷ xs) alike =
 
 -- ---- in a list that ascends, no member of the front comes behind the last one that passes
 
-module _ {A : Type 0} (before : A → A → Bool) (test : A → Bool) (itself : (x : A) → before x x ≡ false)
+module _ {A : Type 0} (before : A → A → Bool) (test : A → Bool)
     (one_way : (x y : A) → before x y ≡ true → before y x ≡ false) where
+  itself : (x : A) → before x x ≡ false
+  itself x = choose (before x x) refl (one_way x x)
+    where
+      choose : (b : Bool) → before x x ≡ b → (before x x ≡ true → before x x ≡ false) → before x x ≡ false
+      choose true is turned = turned is
+      choose false is turned = is
+
   -- it does not come behind all of these
   abbrev reached : List A → A → Bool
   reached found x = list_any (λ q. not (before q x)) found
@@ -205,3 +216,13 @@ module _ {A : Type 0} (before : A → A → Bool) (test : A → Bool) (itself : 
             (rw less (passed (omega arith))),
       )
       choose false enough passed failed behind = (behind enough, failed enough)
+
+-- some of a list that ascends
+pub ascends_kept : {A : Type 0} (before : A → A → Bool) (test : A → Bool) (xs : List A) → Ascends before xs
+    → Ascends before (filter test xs)
+ascends_kept before test [] up = tt
+ascends_kept before test (x ∷ xs) up = choose (test x) (ascends_kept before test xs up.1)
+  where
+    choose : (b : Bool) → Ascends before (filter test xs) → Ascends before (if b then x ∷ filter test xs else filter test xs)
+    choose true rest = (all-filter (λ y. before x y ≡ true) test xs up.0, rest)
+    choose false rest = rest

@@ -1,20 +1,20 @@
 -- A walk over the items of a page, until what is wanted among them is met.
 use Rattle.std.proofs.Common.{◌≡◌, ◌≢◌, ◌∙◌, ◌≤◌, ◌+◌, ◌*◌, ◌++◌, ◌&&◌, ◌||◌, ℕ, Bool, true, false, List, [], ◌∷◌}
-use Rattle.std.proofs.Common.{Option, Some, None, ap, ap₂, arith, is_some, length, map, not, refl, sym}
+use Rattle.std.proofs.Common.{Option, Some, None, ap, ap₂, arith, is_some, length, not, refl, sym}
 use Rattle.std.specs.Option.{is_none}
 use Rattle.std.proofs.lemmas.Bool.{true≢false}
 use Rattle.std.proofs.lemmas.List.{length-append, length-map}
 use Rattle.pl_base.specs.declared.id.ItemId.{ItemId}
 use Rattle.pl_base.specs.declared.id.PageId.{PageId}
 use Rattle.pl_base.specs.Rows.{IsWellKept, Kept, most_reads, store_of}
-use Rattle.pl_base.specs.Store.{Item, Store}
+use Rattle.pl_base.specs.Store.{Item}
 use Rattle.pl_base.specs.Tags.{is_bookmarked, is_tagged}
 use Rattle.pl_base.specs.Tree.{first_item, reference_behind, references}
 use Rattle.pl_base.proofs.ReferencesRun.{having, item_names, references_run}
-use Rattle.pl_base.proofs.Walk.{StandsAt, Walk, ends, goes_on, stands, starts}
+use Rattle.pl_base.proofs.Walk.{StandsAt, Walk, ends, goes_on, starts}
 use Rattle.pl_marks.specs.TagFolders.{folder_reads, tag_folder}
-use Rattle.pl_marks.proofs.PageTags.{NoneOutside, is_outside, none_more, none_outside, outside_here}
-use Rattle.pl_marks.proofs.TaggedPage.{NoneInside, inside_here, is_inside, none_inside, none_inside_more}
+use Rattle.pl_marks.proofs.PageTags.{NoneOutside, none_more, none_outside, outside_here}
+use Rattle.pl_marks.proofs.TaggedPage.{NoneInside, inside_here, none_inside, none_inside_more}
 use Rattle.pl_bar.specs.declared.items.Wanted.{Wanted}
 use Rattle.pl_bar.specs.Cost.{items_cost}
 
@@ -145,8 +145,13 @@ module _ (kept : Kept) (page : PageId) where
 
     pub met_cost : (later : ℕ) → later ≤ now + folder_reads → later ≤ before + items_cost (store_of kept) page
     met_cost later cost =
-        omega (arith, w.so_far.cost, length-map (having kept.items page) (λ (i : Item). i.id), ap length w.whole,
-        length-append w.front (w.element ∷ w.rest))
+        omega (
+          arith,
+          w.so_far.cost,
+          length-map (having kept.items page) (λ (i : Item). i.id),
+          ap length w.whole,
+          length-append w.front (w.element ∷ w.rest),
+        )
 
   -- not all of it is there
   pub not_met : (first wanted : Wanted) (before now : ℕ) (next : Option ItemId)

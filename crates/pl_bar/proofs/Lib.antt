@@ -1,6 +1,9 @@
-pub mod FilledLists
-pub mod ItemsWanted
-pub mod OfferSteps
-pub mod PageTiers
-pub mod PagesKept
-pub mod WordStandings
+mod FilledLists
+mod ItemsWanted
+mod OfferRows
+mod OfferSteps
+mod OffersFound
+mod PageTiers
+mod PagesKept
+mod WalkedPages
+mod WordStandings

@@ -1,6 +1,6 @@
 -- The two lists of offers while pages are gone through.
 use Rattle.std.proofs.Common.{◌≡◌, ◌∙◌, ◌+◌, ◌-◌, ◌<◌, ◌≤◌, ◌++◌, ℕ, ℤ, Bool, true, false, List, [], ◌∷◌, ap, arith, filter}
-use Rattle.std.proofs.Common.{if◌then◌else◌, length, map, nat_le, refl, reverse, subst, sym}
+use Rattle.std.proofs.Common.{if◌then◌else◌, length, map, nat_le, refl, sym}
 use Rattle.std.specs.List.{AllByRecursion, sum_by}
 use Rattle.std.proofs.lemmas.Bool.Decides.{nat_tests}
 use Rattle.std.proofs.lemmas.List.{length-append, reverse-append}
@@ -95,8 +95,12 @@ module _ (store : Store) (asked : BarText) where
     firsts : new.first.items ≡ filled_up old.max now.first.items (filter first (id ∷ []))
     firsts =
         is_first ∙ ap (λ ys. now.first.items ++ ys) one_first
-        ∙ sym (filled_all old.max now.first.items (filter first (id ∷ [])) (omega (arith, has_room, same_max,
-        one_kept first id)))
+        ∙ sym (filled_all old.max now.first.items (filter first (id ∷ [])) (omega (
+          arith,
+          has_room,
+          same_max,
+          one_kept first id,
+        )))
 
     seconds : new.second.items ≡ filled_up old.max now.second.items (filter second (id ∷ []))
     seconds =

@@ -1,9 +1,8 @@
 -- In which tier a page is, by what is found in its texts and what the marks keep.
 use Rattle.std.proofs.Common.{◌≡◌, ◌≢◌, ◌∙◌, ◌==◌, ◌&&◌, ◌||◌, ℕ, Bool, true, false, List, [], ◌∷◌, Option, Some, None}
-use Rattle.std.proofs.Common.{Ok, Err, ap, ap₂, filter, find, if◌then◌else◌, is_some, length, map, nat_lt, not, pos, refl, subst, sym}
-use Rattle.std.specs.List.{AllByRecursion, list_all, list_any}
+use Rattle.std.proofs.Common.{Ok, Err, ap, ap₂, filter, find, if◌then◌else◌, length, map, nat_lt, not, refl, subst, sym}
+use Rattle.std.specs.List.{AllByRecursion, list_any}
 use Rattle.std.specs.Option.{IsSome, option_map}
-use Rattle.std.specs.Ordering.{int_eq}
 use Rattle.std.proofs.lemmas.Bool.{true≢false}
 use Rattle.url.specs.Parser.{Parsed}
 use Rattle.url.specs.Parts as url
@@ -11,12 +10,11 @@ use Rattle.pl_base.specs.declared.id.PageId.{PageId}
 use Rattle.pl_base.specs.declared.view.View.{View}
 use Rattle.pl_base.specs.Address.{origin_of_record, record_of}
 use Rattle.pl_base.specs.Fold.{folded}
-use Rattle.pl_base.specs.Frecency.{frecency_of}
 use Rattle.pl_base.specs.Marks.{visit_count}
 use Rattle.pl_base.specs.Rows.{IsWellKept, Kept, KeptPage, has_page, store_of}
 use Rattle.pl_base.specs.Store.{Page, Store}
-use Rattle.pl_base.specs.Tags.{is_bookmarked, is_tagged, tag_text}
-use Rattle.pl_base.specs.View.{AreViews, AreViewsOf, IsViewOf, mark_title}
+use Rattle.pl_base.specs.Tags.{is_bookmarked, is_tagged}
+use Rattle.pl_base.specs.View.{AreViews, IsViewOf}
 use Rattle.pl_base.proofs.IdsLaws.{same_page}
 use Rattle.pl_base.proofs.ListLaws.{found_in, list_all-alike, list_any-map}
 use Rattle.pl_base.proofs.LookUps.{Apart, found_one, found_passes, found_some}

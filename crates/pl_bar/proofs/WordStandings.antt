@@ -1,7 +1,6 @@
 -- How well words stand, of what is known of each of them.
-use Rattle.std.proofs.Common.{◌≡◌, ◌∙◌, ◌&&◌, ◌||◌, ◌+◌, ◌<◌, ◌≤◌, ℕ, Bool, true, false, List, [], ◌∷◌, ap, ap₂}
+use Rattle.std.proofs.Common.{◌≡◌, ◌∙◌, ◌&&◌, ◌||◌, ◌+◌, ◌<◌, ℕ, Bool, true, false, List, [], ◌∷◌, ap, ap₂}
 use Rattle.std.proofs.Common.{drop, get_or, if◌then◌else◌, length, refl, sym, take}
-use Rattle.std.specs.List.{list_all}
 use Rattle.std.specs.Ordering.{ord_min}
 use Rattle.std.proofs.lemmas.Bool.{true≢false}
 use Rattle.std.proofs.lemmas.List.{take-append-drop}

@@ -29,9 +29,9 @@ returns-clause-kept g c =
     && (not c.args.marks.tag || is_tagged (store_of kept) c.args.page) in
     c.has_wanted.ensures.found
     ∙ elim c.else-marks.branch [
-        else-marks-via-then-marks+else-unwrap-eq0 w ↦
-            visited c.args.marks.history w.unwrap.result.count visits rest
-            (count_told kept c.args.page w.unwrap.result c.requires.right
-            (sym w.unwrap.ensures ∙ w.page_at.ensures.mark)) w.if-unwrap-eq0.false
+      | else-marks-via-then-marks+else-unwrap-eq0 w ↦
+          visited c.args.marks.history w.unwrap.result.count visits rest
+          (count_told kept c.args.page w.unwrap.result c.requires.right
+          (sym w.unwrap.ensures ∙ w.page_at.ensures.mark)) w.if-unwrap-eq0.false
       | else-marks-via-else-marks w ↦ not_asked c.args.marks.history visits rest w.if-marks.false
     ]

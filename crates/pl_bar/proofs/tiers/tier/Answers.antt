@@ -28,6 +28,6 @@ returns-clause-tier g c =
     tier_told (g.R.Rows.kept c.args.rows.now) (g.met.R.Rows.well_kept c.args.rows.now) c.args.asked.now c.args.page
     c.words_stand-standing.result (is_walked g (goal.at.returns-clause-tier g c).After-words_stand-standing)
     (λ some. elim c.else-ne.branch [
-      else-ne-via-then-ne+else-not-is_kept w ↦ sym w.is_kept.ensures.kept ∙ w.if-not-is_kept.false
-    | else-ne-via-else-ne w ↦ absurd (some (search rules))
+      | else-ne-via-then-ne+else-not-is_kept w ↦ sym w.is_kept.ensures.kept ∙ w.if-not-is_kept.false
+      | else-ne-via-else-ne w ↦ absurd (some (search rules))
     ])
