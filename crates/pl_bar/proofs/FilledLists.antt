@@ -183,7 +183,8 @@ module _ {A : Type 0} (before : A → A → Bool) (test : A → Bool)
       choose (test y) enough (λ more. first_behind (suc n) x ys some more behind.1)
     where
       choose : (b : Bool) → suc n ≤ length (if b then y ∷ filter test ys else filter test ys)
-          → (suc n ≤ length (filter test ys) → reached (take (suc n) (filter test ys)) x ≡ true) → reached (take (suc n) (if b then y ∷ filter test ys else filter test ys)) x ≡ true
+          → (suc n ≤ length (filter test ys) → reached (take (suc n) (filter test ys)) x ≡ true)
+          → reached (take (suc n) (if b then y ∷ filter test ys else filter test ys)) x ≡ true
       choose true enough rest = ap (λ b. not b || reached (take n (filter test ys)) x) (one_way x y behind.0)
       choose false enough rest = rest enough
 
@@ -223,6 +224,7 @@ pub ascends_kept : {A : Type 0} (before : A → A → Bool) (test : A → Bool) 
 ascends_kept before test [] up = tt
 ascends_kept before test (x ∷ xs) up = choose (test x) (ascends_kept before test xs up.1)
   where
-    choose : (b : Bool) → Ascends before (filter test xs) → Ascends before (if b then x ∷ filter test xs else filter test xs)
+    choose : (b : Bool) → Ascends before (filter test xs)
+        → Ascends before (if b then x ∷ filter test xs else filter test xs)
     choose true rest = (all-filter (λ y. before x y ≡ true) test xs up.0, rest)
     choose false rest = rest

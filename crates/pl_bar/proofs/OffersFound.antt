@@ -1,7 +1,8 @@
 -- What the two lists of offers are in the end, and what finding them costs.
-use Rattle.std.proofs.Common.{◌≡◌, ◌≢◌, ◌∙◌, ◌+◌, ◌-◌, ◌<◌, ◌≤◌, ◌++◌, ◌&&◌, ◌||◌, ℕ, ℤ, Bool, true, false, List, [], ◌∷◌}
-use Rattle.std.proofs.Common.{All, Some, ap, ap₂, arith, filter, if◌then◌else◌, length, map, min, nat_lt, not, pos, refl}
-use Rattle.std.proofs.Common.{reverse, subst, sym, take}
+use Rattle.std.proofs.Common.{◌≡◌, ◌≢◌, ◌∙◌, ◌+◌, ◌-◌, ◌<◌, ◌≤◌, ◌++◌, ◌&&◌, ◌||◌, ℕ, ℤ, Bool, true, false}
+use Rattle.std.proofs.Common.{List, [], ◌∷◌}
+use Rattle.std.proofs.Common.{All, Some, ap, ap₂, arith, filter, if◌then◌else◌, length, map, min, nat_lt, not, pos}
+use Rattle.std.proofs.Common.{refl, reverse, subst, sym, take}
 use Rattle.std.specs.List.{AllByRecursion, AllPairs, list_any, sum_by}
 use Rattle.std.proofs.lemmas.Bool.{or_right}
 use Rattle.std.proofs.lemmas.Bool.Decides.{nat_tests}
@@ -213,13 +214,15 @@ module _ (kept : Kept) (well : IsWellKept kept) (asked : BarText) where
       → others ≡ map id_of (filter (is_negative store) (in_order store)) → ones ++ others ≡ map id_of (walk store)
   ids_joined ones others is are =
       ap₂ (λ (xs ys : List PageId). xs ++ ys) is are
-      ∙ sym (map-append id_of (filter (is_positive store) (in_order store)) (filter (is_negative store) (in_order store)))
+      ∙ sym (map-append id_of (filter (is_positive store) (in_order store))
+      (filter (is_negative store) (in_order store)))
       ∙ ap (map id_of) (walk_joined store pairs)
 
   -- ---- what is answered
 
   module _ (most : ℕ) (start middle end : Offers) (ones others : List PageId) (max_is : start.max ≡ most)
-      (no_first : start.first.items ≡ []) (no_second : start.second.items ≡ []) (one : GoOn store asked ones start middle)
+      (no_first : start.first.items ≡ []) (no_second : start.second.items ≡ [])
+      (one : GoOn store asked ones start middle)
       (two : GoOn store asked others middle end) (joined : ones ++ others ≡ map id_of (walk store)) where
     middle_max : middle.max ≡ most
     middle_max = one.most ∙ max_is
@@ -292,8 +295,9 @@ module _ (kept : Kept) (well : IsWellKept kept) (asked : BarText) where
         + cost_of (up_to (in_first store asked) (middle.max - length middle.first.items) others)
         ≡ page_costs (up_to first_test most (walk store))
     costs =
-        ap₂ (λ (m n : ℕ). cost_of (up_to (in_first store asked) m ones) + cost_of (up_to (in_first store asked) n others))
-        start_room middle_room
+        ap₂ (λ (m n : ℕ).
+        cost_of (up_to (in_first store asked) m ones) + cost_of (up_to (in_first store asked) n others)) start_room
+        middle_room
         ∙ sym (sum_by-append (page_cost store) (up_to (in_first store asked) most ones)
         (up_to (in_first store asked) (most - length (filter (in_first store asked) ones)) others))
         ∙ ap cost_of (sym (up_to_more (in_first store asked) most ones others)

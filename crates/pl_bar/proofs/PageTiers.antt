@@ -149,7 +149,8 @@ module _ (store : Store) (p : Page) (view : View) (of : IsViewOf store p view) w
   titles_are boundary word =
       ap₂ (λ (marked own : List ℕ). found boundary word (folded (if length marked == 0 then own else marked))
       || found boundary word (folded view.tags)) of.mark_title of.title
-      ∙ ap (λ (tags : List ℕ). found boundary word (folded (searched_title store p)) || found boundary word (folded tags))
+      ∙ ap (λ (tags : List ℕ).
+      found boundary word (folded (searched_title store p)) || found boundary word (folded tags))
       of.tags
 
   address_is : (boundary : Bool) (word : List ℕ)
@@ -241,7 +242,8 @@ module _ (kept : Kept) (well : IsWellKept kept) (asked : BarText) (id : PageId) 
           let never = some None at in
           absurd (cc)
       choose (Some p) at =
-          let w : HasView (store_of kept) id p have.views = view_with (store_of kept) id p pages have.views have.told at in
+          let w : HasView (store_of kept) id p have.views =
+          view_with (store_of kept) id p pages have.views have.told at in
           record {
             page = p;
             is = at;
@@ -278,7 +280,8 @@ module _ (kept : Kept) (well : IsWellKept kept) (asked : BarText) (id : PageId) 
     in_tier : (test : Page → Bool) → has_id (filter test (candidates (store_of kept) asked.marks)) id
         ≡ (candidate && test w.page)
     in_tier test =
-        ap (λ pages. has_id pages id) (both_filters test (is_candidate (store_of kept) asked.marks) (store_of kept).pages)
+        ap (λ pages. has_id pages id)
+        (both_filters test (is_candidate (store_of kept) asked.marks) (store_of kept).pages)
         ∙ has_filtered (λ p. is_candidate (store_of kept) asked.marks p && test p) (store_of kept).pages id w.page
         (ids_apart kept well) w.is
 

@@ -1,6 +1,7 @@
 -- The pages in the order in which they are gone through: by frecency and then id, the greatest first.
 use Rattle.std.proofs.Common.{◌≡◌, ◌≢◌, ◌∙◌, ◌<◌, ◌++◌, ◌&&◌, ◌||◌, ℕ, ℤ, Bool, true, false, List, [], ◌∷◌}
-use Rattle.std.proofs.Common.{Ordering, ap, ap₂, arith, filter, if◌then◌else◌, int_lt, map, nat_lt, negsuc, not, pos, refl}
+use Rattle.std.proofs.Common.{Ordering}
+use Rattle.std.proofs.Common.{ap, ap₂, arith, filter, if◌then◌else◌, int_lt, map, nat_lt, negsuc, not, pos, refl}
 use Rattle.std.proofs.Common.{reverse, sym}
 use Rattle.std.specs.List.{AllPairs, IsDistinct}
 use Rattle.std.specs.List.Sorted.{ties}

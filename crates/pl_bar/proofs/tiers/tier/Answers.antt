@@ -20,7 +20,8 @@ is_walked g c =
 pub returns-then-not-is_kept-clause-tier : goal.returns-then-not-is_kept-clause-tier
 returns-then-not-is_kept-clause-tier g c =
     no_tier (g.R.Rows.kept c.args.rows.now) (g.met.R.Rows.well_kept c.args.rows.now) c.args.asked.now c.args.page
-    c.words_stand-standing.result (is_walked g (goal.at.returns-then-not-is_kept-clause-tier g c).After-words_stand-standing)
+    c.words_stand-standing.result
+    (is_walked g (goal.at.returns-then-not-is_kept-clause-tier g c).After-words_stand-standing)
     (sym c.is_kept.ensures.kept ∙ c.if-not-is_kept.true)
 
 pub returns-clause-tier : goal.returns-clause-tier

@@ -14,7 +14,8 @@ pub loop-page-init : goal.loop-page-init
 loop-page-init g c =
     let store : Store = store_of (g.R.Rows.kept c.args.rows.now) in
     subst (λ ranks. Comes store c.args.asked.now (ids_of (rev_source c.args.ranks)) c.args.self.now c.args.self.now
-    c.args.steps.now c.args.steps.now (ids_of (rev_source ranks))) (sym c.into_iter-page-iterator.ensures.into_iter_gives)
+    c.args.steps.now c.args.steps.now (ids_of (rev_source ranks)))
+    (sym c.into_iter-page-iterator.ensures.into_iter_gives)
     (comes_all store c.args.asked.now (ids_of (rev_source c.args.ranks)) c.args.self.now c.args.steps.now
     (recursion_from_All (λ (id : PageId). has_counted store id ≡ true) (ids_of (rev_source c.args.ranks))
     c.requires.counted))
