@@ -1,2 +1,9 @@
+mod FilledLists
+mod ItemsWanted
 mod OfferRows
-pub mod WordStandings
+mod OfferSteps
+mod OffersFound
+mod PageTiers
+mod PagesKept
+mod WalkedPages
+mod WordStandings

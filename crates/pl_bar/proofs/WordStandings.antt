@@ -1,10 +1,10 @@
 -- How well words stand, of what is known of each of them.
-use Rattle.std.proofs.Common.{◌≡◌, ◌∙◌, ◌&&◌, ◌||◌, ◌+◌, ◌<◌, ◌≤◌, ℕ, Bool, true, false, List, [], ◌∷◌, ap, ap₂}
-use Rattle.std.proofs.Common.{get_or, if◌then◌else◌, length, refl, sym, take}
-use Rattle.std.specs.List.{list_all}
+use Rattle.std.proofs.Common.{◌≡◌, ◌∙◌, ◌&&◌, ◌||◌, ◌+◌, ◌<◌, ℕ, Bool, true, false, List, [], ◌∷◌, ap, ap₂}
+use Rattle.std.proofs.Common.{drop, get_or, if◌then◌else◌, length, refl, sym, take}
 use Rattle.std.specs.Ordering.{ord_min}
 use Rattle.std.proofs.lemmas.Bool.{true≢false}
-use Rattle.std.proofs.lemmas.List.Folds.{list_all_kept, list_all_more}
+use Rattle.std.proofs.lemmas.List.{take-append-drop}
+use Rattle.std.proofs.lemmas.List.Folds.{list_all-append, list_all_more}
 use Rattle.pl_follow.specs.declared.texts.Folded.{Folded}
 use Rattle.pl_words.specs.contracts.stands.StandingOrd.TheImpl.{ghosts}
 use Rattle.pl_words.specs.declared.bar_text.Marks.{Marks}
@@ -109,3 +109,24 @@ module _ (texts : Folded) (marks : Marks) (words : List (List ℕ)) (place : ℕ
       more boundary =
           ap (λ w. all_in texts marks (take place words) boundary && word_in texts marks boundary w) at
           ∙ sym (list_all_more (word_in texts marks boundary) words place word within)
+
+-- where one of the words so far does not stand, it does not matter how the others do
+pub none_stands : (texts : Folded) (marks : Marks) (words : List (List ℕ)) (count : ℕ) (worst : Standing)
+    → worst ≡ standing_by (all_in texts marks (take count words)) → worst ≡ Nowhere
+    → worst ≡ standing_by (all_in texts marks words)
+none_stands texts marks words count worst is none =
+    none
+    ∙ later (all_in texts marks (take count words) true) (all_in texts marks (drop count words) true)
+    (all_in texts marks (take count words) false) (all_in texts marks (drop count words) false) (sym is ∙ none)
+    ∙ ap₂ by (sym (parted true)) (sym (parted false))
+  where
+    parted : (boundary : Bool) → all_in texts marks words boundary
+        ≡ (all_in texts marks (take count words) boundary && all_in texts marks (drop count words) boundary)
+    parted boundary =
+        ap (λ ws. all_in texts marks ws boundary) (sym (take-append-drop count words))
+        ∙ list_all-append (word_in texts marks boundary) (take count words) (drop count words)
+
+    later : (t u a b : Bool) → by t a ≡ Nowhere → Nowhere ≡ by (t && u) (a && b)
+    later true u a b is = absurd (cc)
+    later false u true b is = absurd (cc)
+    later false u false b is = refl

@@ -1,4 +1,4 @@
--- What the address bar looks pages up in: the order of the pages by frecency, and their folded texts.
+-- What the address bar looks pages up in: their order by frecency, and their folded texts.
 use Rattle.std.specs.Prelude.{List}
 use Rattle.pl_base.specs.declared.view.View.{View}
 use Rattle.pl_base.specs.Store.{Store}

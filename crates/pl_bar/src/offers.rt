@@ -4,7 +4,6 @@ ghost use Rattle.std.specs.Prelude.{IfOk, OnOk, length};
 ghost use Rattle.std.specs.Iterator.Adapters.{rev_source};
 ghost use Rattle.std.specs.List.{All, filter, sum_by};
 ghost use Rattle.pl_base.specs.declared.id.PageId.{PageId};
-ghost use Rattle.pl_base.specs.Good.{IsGood};
 ghost use Rattle.pl_base.specs.Rows.{IsRight, store_of};
 ghost use Rattle.pl_base.specs.Store.{Page};
 ghost use Rattle.pl_words.specs.declared.stands.Standing.{Standing};
@@ -59,8 +58,8 @@ impl Offers {
         ensures max { OnOk result (self.new.max ≡ self.old.max) }
         ensures first { OnOk result (self.new.first.items
             ≡ self.old.first.items ++ filter (λ _. is_boundary tier) (page ∷ [])) }
-        ensures second { OnOk result (self.new.second.items
-            ≡ filled_up self.old.max self.old.second.items (filter (λ _. is_inside tier) (page ∷ []))) }
+        ensures second { OnOk result (self.new.second.items ≡ filled_up self.old.max
+            self.old.second.items (filter (λ _. is_inside tier) (page ∷ []))) }
     {
         match tier {
             Standing::Boundary => self.first.push(page)?,
@@ -132,7 +131,6 @@ pub fn answer<R: Rows, L: Ledger>(
     max: u32,
     steps: &mut Steps<L>,
 ) -> Result<Vec<PageId>, NoMemory>
-    requires good { IsGood (store_of (R.kept rows.now)) }
     requires right { IsRight (R.kept rows.now) }
     requires following { AreFollowing (store_of (R.kept rows.now)) order.now texts.now }
     ensures offered { IfOk result (λ pages. pages.items

@@ -175,7 +175,7 @@ module _ {R : Type 0} (cmp : R → R → Ordering) (total : IsTotalOrder cmp) wh
   pub above_alike : (x y : R) → is_above cmp x y ≡ is_below cmp y x
   above_alike x y = ap is_gt (total.antisymm x y) ∙ reversed (cmp y x)
 
-  above_ranks : IsStrictWeakOrder (is_above cmp)
+  pub above_ranks : IsStrictWeakOrder (is_above cmp)
   above_ranks =
       ranks_alike (is_above cmp) (λ x y. is_below cmp y x) above_alike
       (IsStrictWeakOrder-flip (is_below cmp) below_ranks)
@@ -279,7 +279,7 @@ module _ {R : Type 0} (cmp : R → R → Ordering) (total : IsTotalOrder cmp) wh
         choose false is rest = past is (test x) (test y) rest
 
     -- some of the sorted ranks are some of the ranks, sorted
-    kept_sorted : (xs : List R) → IsDistinct (ties (is_above cmp)) xs
+    pub kept_sorted : (xs : List R) → IsDistinct (ties (is_above cmp)) xs
         → filter test (sorted_by (is_above cmp) xs) ≡ sorted_by (is_above cmp) (filter test xs)
     kept_sorted [] apart = refl
     kept_sorted (x ∷ xs) apart =

@@ -13,4 +13,4 @@ pub mod SeenVisits
 pub mod TagEntries
 pub mod TagNames
 pub mod TagTree
-mod TaggedPage
+pub mod TaggedPage
