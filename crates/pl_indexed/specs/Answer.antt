@@ -1,6 +1,6 @@
 -- The answer to a query by the views of pages.
-use Rattle.std.specs.Prelude.{◌≡◌, ◌≢◌, List}
-use Rattle.std.specs.List.{AllPairs, filter}
+use Rattle.std.specs.Prelude.{◌≡◌, ◌≢◌, ◌≤◌, ◌-◌, ◌<ℤ◌, ℕ, ℤ, List, length, IfSome}
+use Rattle.std.specs.List.{AllPairs, filter, slice_get}
 use Rattle.pl_base.specs.declared.view.View.{View}
 use Rattle.pl_base.specs.Sorting.{sorted_by}
 use Rattle.pl_place.specs.declared.query.Query.{Query}
@@ -30,6 +30,12 @@ first_asked q views = limited q.max_results (sorted_by (view_before q.sort) view
 -- the views that a query takes
 abbrev pub taken : Query → List View → List View
 taken q views = filter (decides q) views
+
+-- so many pages are found, and the last of them has a frecency above this one
+abbrev pub AreEnough : ℕ → ℤ → List Found → Type 0
+AreEnough most frecency found =
+    (most ≤ length found)
+    × IfSome (slice_get found (length found - 1)) (λ last. frecency <ℤ last.view.now.frecency)
 
 -- the pages that are found have views, each once, and the first of them are the first of all that
 -- the query takes

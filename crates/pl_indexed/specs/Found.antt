@@ -1,5 +1,5 @@
 -- Pages that are found, what they are sorted by, and their order.
-use Rattle.std.specs.Prelude.{◌≡◌, ◌×◌, ℕ, Bool, List, map}
+use Rattle.std.specs.Prelude.{◌≡◌, ℕ, Bool, List, map}
 use Rattle.std.specs.Ordering.{int_cmp, is_lt, nat_cmp, ordering_then}
 use Rattle.std.specs.declared.cmp.Ordering.{Ordering}
 use Rattle.pl_base.specs.declared.view.View.{View}

@@ -57,55 +57,50 @@ fn has_own_title(view: &View) -> bool
 }
 
 /// The fold of the title of the page itself.
-pub fn folded_title(alloc: Global, view: &View, folded: &Folded) -> Result<Txt, NoMemory>
-    requires { folded.now ≡ folded_of view.now }
+pub fn folded_title(alloc: Global, view: &View, texts: &Folded) -> Result<Txt, NoMemory>
+    requires { texts.now ≡ folded_of view.now }
     ensures { IfOk result (λ title. title ≡ folded view.now.title) }
 {
     if has_own_title(view) {
-        return Txt::copied(alloc, folded.title.as_str());
+        return Txt::copied(alloc, texts.title.as_str());
     }
     fold(alloc, view.title.as_str())
 }
 
 // Whether the word stands in the title of the page itself.
-fn is_in_title(
-    alloc: Global,
-    view: &View,
-    folded: &Folded,
-    word: &Txt,
-) -> Result<bool, NoMemory>
-    requires { folded.now ≡ folded_of view.now }
+fn is_in_title(alloc: Global, view: &View, texts: &Folded, word: &Txt) -> Result<bool, NoMemory>
+    requires { texts.now ≡ folded_of view.now }
     ensures { IfOk result (λ is_in. is_in ≡ occurs word.now (folded view.now.title)) }
 {
     if has_own_title(view) {
-        return Ok(matches(&folded.title, word, false));
+        return Ok(matches(&texts.title, word, false));
     }
     let title = fold(alloc, view.title.as_str())?;
     Ok(matches(&title, word, false))
 }
 
 // Whether the word stands in the page's address, its tags or its title.
-fn has_word(alloc: Global, view: &View, folded: &Folded, word: &Txt) -> Result<bool, NoMemory>
-    requires { folded.now ≡ folded_of view.now }
+fn has_word(alloc: Global, view: &View, texts: &Folded, word: &Txt) -> Result<bool, NoMemory>
+    requires { texts.now ≡ folded_of view.now }
     ensures { IfOk result (λ has. has ≡ has_word_in view.now word.now) }
 {
-    if matches(&folded.address, word, false) || matches(&folded.tags, word, false) {
+    if matches(&texts.address, word, false) || matches(&texts.tags, word, false) {
         return Ok(true);
     }
-    is_in_title(alloc, view, folded, word)
+    is_in_title(alloc, view, texts, word)
 }
 
 fn has_words(
     alloc: Global,
     view: &View,
-    folded: &Folded,
+    texts: &Folded,
     words: &[Txt],
 ) -> Result<bool, NoMemory>
-    requires { folded.now ≡ folded_of view.now }
+    requires { texts.now ≡ folded_of view.now }
     ensures { IfOk result (λ has. has ≡ list_all (has_word_in view.now) words.now) }
 {
     for word in words {
-        if !has_word(alloc, view, folded, word)? {
+        if !has_word(alloc, view, texts, word)? {
             return Ok(false);
         }
     }
@@ -117,19 +112,19 @@ fn decides_by_texts(
     alloc: Global,
     asked: &Asked<'_>,
     view: &View,
-    folded: &Folded,
+    texts: &Folded,
 ) -> Result<bool, NoMemory>
     requires asked { IsAsked asked.now.query.now asked.now }
-    requires texts { folded.now ≡ folded_of view.now }
+    requires texts { texts.now ≡ folded_of view.now }
     ensures { IfOk result (λ taken. taken ≡ spec.decides asked.now.query.now view.now) }
 {
     if !holds_unfolded(asked.query, view) {
         return Ok(false);
     }
-    if !has_tags_in(&asked.tags, asked.query.not_tags, folded.tags.as_str()) {
+    if !has_tags_in(&asked.tags, asked.query.not_tags, texts.tags.as_str()) {
         return Ok(false);
     }
-    has_words(alloc, view, folded, &asked.words)
+    has_words(alloc, view, texts, &asked.words)
 }
 
 /// The folded texts of a view, which is one of those that are known.

@@ -50,8 +50,7 @@ fn tags_key(alloc: Global, known: &Known, view: &View) -> Result<Key, NoMemory>
     requires view { view_of view.now.id known.now.views.items ≡ Some view.now }
     ensures { IfOk result (λ key. key ≡ Text (folded view.now.tags)) }
 {
-    let folded = texts_of(known, view);
-    let tags = Txt::copied(alloc, folded.tags.as_str())?;
+    let tags = Txt::copied(alloc, texts_of(known, view).tags.as_str())?;
     Ok(Key::Text(tags))
 }
 

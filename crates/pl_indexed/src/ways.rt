@@ -1,7 +1,11 @@
 // The ways to the pages that answer a query.
-ghost use Rattle.std.specs.Prelude.{◌≡◌, ◌++◌, ◌∷◌, [], Some, map, IfOk, IfSome, OnOk};
+ghost use Rattle.std.specs.Prelude.{◌≡◌, ◌<◌, ◌++◌, ◌∷◌, [], Some, map, true};
+ghost use Rattle.std.specs.Prelude.{IfOk, IfSome, OnOk};
 ghost use Rattle.pl_known.specs.Known.{AreFollowed, view_of};
-ghost use Rattle.pl_indexed.specs.Answer.{Suffice, taken};
+ghost use Rattle.pl_place.specs.declared.sort.Direction.TheVariants.{Descending};
+ghost use Rattle.pl_place.specs.declared.sort.Sort.TheVariants.{By};
+ghost use Rattle.pl_place.specs.declared.sort.SortKey.TheVariants.{Frecency};
+ghost use Rattle.pl_indexed.specs.Answer.{AreEnough, Suffice, taken};
 ghost use Rattle.pl_indexed.specs.Asked.{IsAsked};
 ghost use Rattle.pl_indexed.specs.Found.{AreFound, seen, seen_of};
 
