@@ -1,0 +1,4 @@
+pub mod AlikeLists
+pub mod FoundOrder
+pub mod KeyOrder
+pub mod ViewRows

@@ -1,5 +1,5 @@
 -- Pages that are found, what they are sorted by, and their order.
-use Rattle.std.specs.Prelude.{◌≡◌, ℕ, Bool, List, map}
+use Rattle.std.specs.Prelude.{◌≡◌, ℕ, Bool, List, map, pos}
 use Rattle.std.specs.Ordering.{int_cmp, is_lt, nat_cmp, ordering_then}
 use Rattle.std.specs.declared.cmp.Ordering.{Ordering}
 use Rattle.pl_base.specs.declared.view.View.{View}
@@ -13,7 +13,7 @@ use Rattle.pl_place.specs.declared.sort.SortKey.TheVariants.{Added, Modified, Ta
 use Rattle.pl_query.specs.Order.{date_cmp, text_cmp}
 use Rattle.pl_indexed.specs.declared.found.Found.{Found}
 use Rattle.pl_indexed.specs.declared.found.Key.{Key}
-use Rattle.pl_indexed.specs.declared.found.Key.TheVariants.{Nothing, Text, Moment, Count, Score}
+use Rattle.pl_indexed.specs.declared.found.Key.TheVariants.{Nothing, Text, Moment, Number}
 
 -- ---- what pages are sorted by
 
@@ -22,11 +22,11 @@ abbrev pub key_value : SortKey → View → Key
 key_value Title view = Text (folded view.title)
 key_value Date view = Moment view.last
 key_value Url view = Text view.url
-key_value VisitCount view = Count view.count
+key_value VisitCount view = Number (pos view.count)
 key_value Added view = Nothing
 key_value Modified view = Nothing
 key_value Tags view = Text (folded view.tags)
-key_value Frecency view = Score view.frecency
+key_value Frecency view = Number view.frecency
 
 -- what a view is sorted by
 abbrev pub key_of : Sort → View → Key
@@ -38,15 +38,13 @@ abbrev kind_of : Key → ℕ
 kind_of Nothing = 0
 kind_of (Text text) = 1
 kind_of (Moment date) = 2
-kind_of (Count n) = 3
-kind_of (Score z) = 4
+kind_of (Number n) = 3
 
 -- the order of keys; those of one sort are of one kind
 abbrev pub key_cmp : Key → Key → Ordering
 key_cmp (Text a) (Text b) = text_cmp a b
 key_cmp (Moment a) (Moment b) = date_cmp a b
-key_cmp (Count a) (Count b) = nat_cmp a b
-key_cmp (Score a) (Score b) = int_cmp a b
+key_cmp (Number a) (Number b) = int_cmp a b
 key_cmp a b = nat_cmp (kind_of a) (kind_of b)
 
 -- ---- the order

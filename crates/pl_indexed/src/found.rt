@@ -23,8 +23,7 @@ pub enum Key {
     Nothing,
     Text(Txt),
     Moment(Option<Micros>),
-    Count(u32),
-    Score(i64),
+    Number(i64),
 }
 
 /// A page that is found, and what it is sorted by.
@@ -64,9 +63,9 @@ fn key_value(alloc: Global, known: &Known, key: SortKey, view: &View) -> Result<
         SortKey::Title => title_key(alloc, known, view),
         SortKey::Date => Ok(Key::Moment(view.last)),
         SortKey::Url => Ok(Key::Text(Txt::copied(alloc, view.url.as_str())?)),
-        SortKey::VisitCount => Ok(Key::Count(view.count)),
+        SortKey::VisitCount => Ok(Key::Number(i64::from(view.count))),
         SortKey::Tags => tags_key(alloc, known, view),
-        SortKey::Frecency => Ok(Key::Score(view.frecency)),
+        SortKey::Frecency => Ok(Key::Number(view.frecency)),
         SortKey::Added => Ok(Key::Nothing),
         SortKey::Modified => Ok(Key::Nothing),
     }
