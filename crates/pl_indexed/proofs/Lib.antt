@@ -1,4 +1,5 @@
 pub mod AlikeLists
 pub mod FoundOrder
 pub mod KeyOrder
+pub mod TakenViews
 pub mod ViewRows
