@@ -67,6 +67,19 @@ not_greater v w first =
     choose Equal same above = omega (arith, ints, same)
     choose Greater more above = omega (arith, ints, more)
 
+-- ---- ranks as names
+
+abbrev first_rank : List View → Option (ℤ × PageId)
+first_rank [] = None
+first_rank (v ∷ vs) = Some (rank_of v)
+
+abbrev pub rank_names : Names View (ℤ × PageId)
+rank_names = record { name = rank_of; first = first_rank; of_none = refl; of_some = λ v vs. refl }
+
+first_is : (vs : List View) → slice_get (map rank_of vs) 0 ≡ first_rank vs
+first_is [] = refl
+first_is (v ∷ vs) = refl
+
 -- ---- the views
 
 pub ids_differ : (views : List View) → AreInOrder views → AllPairs (λ (v w : View). v.id.0 ≢ w.id.0) views
@@ -86,17 +99,6 @@ module _ (views : List View) (ordered : AreInOrder views) where
       (none_tie falls (λ (v : View). v.id.0) tied_ids views (ids_differ views ordered))
 
   -- ---- the walk
-
-  abbrev first_rank : List View → Option (ℤ × PageId)
-  first_rank [] = None
-  first_rank (v ∷ vs) = Some (rank_of v)
-
-  abbrev pub rank_names : Names View (ℤ × PageId)
-  rank_names = record { name = rank_of; first = first_rank; of_none = refl; of_some = λ v vs. refl }
-
-  first_is : (vs : List View) → slice_get (map rank_of vs) 0 ≡ first_rank vs
-  first_is [] = refl
-  first_is (v ∷ vs) = refl
 
   -- the first behind a place, of the views that stand behind it
   next_is : (place : Option (ℤ × PageId))

@@ -1,5 +1,8 @@
 pub mod AlikeLists
+pub mod AnswerOfViews
+pub mod AskedTexts
 pub mod ByFrecency
+pub mod FirstPages
 pub mod FoundOrder
 pub mod KeyOrder
 pub mod SortedParts

@@ -1,6 +1,7 @@
 -- The rows that answer a query, told by the views of pages.
 use Rattle.std.proofs.Common.{◌≡◌, ◌∙◌, ◌&&◌, ℕ, Bool, true, false, List, [], ◌∷◌, Ordering, ap, arith, filter}
 use Rattle.std.proofs.Common.{if◌then◌else◌, is_lt, map, nat_cmp, pos, refl, sym}
+use Rattle.std.specs.List.{AllByRecursion, Contains}
 use Rattle.std.specs.Ordering.{int_cmp, ordering_reverse, ordering_then}
 use Rattle.std.proofs.lemmas.Bool.Decides.{nat_tests}
 use Rattle.pl_base.specs.declared.view.View.{View}
@@ -8,6 +9,7 @@ use Rattle.pl_base.specs.Marks.{last_date_of, visit_count}
 use Rattle.pl_base.specs.Sorting.{sorted_by}
 use Rattle.pl_base.specs.Store.{Page, Store}
 use Rattle.pl_base.specs.View.{AreViews, IsViewOf}
+use Rattle.pl_base.proofs.SortLaws.{members}
 use Rattle.pl_conditions.specs.Conditions.{history_holds}
 use Rattle.pl_place.specs.declared.query.Query.{Query}
 use Rattle.pl_place.specs.declared.sort.Direction.TheVariants.{Ascending, Descending}
@@ -29,10 +31,6 @@ counts_alike : (m n : ℕ) → nat_cmp m n ≡ int_cmp (pos m) (pos n)
 counts_alike m n = grind (arith, nat_tests)
 
 module _ (store : Store) where
-  -- the row of a page
-  row_of : Page → Row
-  row_of p = history_row store p.id.0 p (last_date_of store p.id)
-
   -- a row is that of a page, and the view is that of the same page
   record Tells (row : Row) (view : View) : Type 0 where
     pub page : Page
@@ -92,22 +90,20 @@ module _ (store : Store) where
   -- ---- the rows of a query whose conditions the views tell
 
   module _ (q : Query)
-      (told : (p : Page) (v : View) → IsViewOf store p v
+      (told : (p : Page) (v : View) → Contains store.pages p → IsViewOf store p v
       → decides q v ≡ (has_visit_in_times store q p.id && history_holds store q p)) where
-    holds : Page → Bool
-    holds p = has_visit_in_times store q p.id && history_holds store q p
-
-    rows_told : (pages : List Page) (views : List View) → AreViews store pages views
+    rows_told : (pages : List Page) (views : List View) → AllByRecursion (Contains store.pages) pages
+        → AreViews store pages views
         → AreAlike Tells
         (map (λ (p : Page). history_row store p.id.0 p (last_date_of store p.id))
         (filter (λ (p : Page). has_visit_in_times store q p.id && history_holds store q p) pages))
         (taken q views)
-    rows_told [] [] of = tt
-    rows_told [] (v ∷ vs) of = absurd of
-    rows_told (p ∷ ps) [] of = absurd of
-    rows_told (p ∷ ps) (v ∷ vs) of =
-        choose (has_visit_in_times store q p.id && history_holds store q p) (decides q v) (told p v of.0)
-        (rows_told ps vs of.1)
+    rows_told [] [] among of = tt
+    rows_told [] (v ∷ vs) among of = absurd of
+    rows_told (p ∷ ps) [] among of = absurd of
+    rows_told (p ∷ ps) (v ∷ vs) among of =
+        choose (has_visit_in_times store q p.id && history_holds store q p) (decides q v) (told p v among.0 of.0)
+        (rows_told ps vs among.1 of.1)
       where
         row : Page → Row
         row p = history_row store p.id.0 p (last_date_of store p.id)
@@ -134,4 +130,4 @@ module _ (store : Store) where
         (sorted_by (view_before q.sort) (taken q views))
         (alike_sorted Tells (comes_before store q.sort) (view_before q.sort)
         (λ r s v w one two. stand_alike q.sort undated r s v w one two) (page_rows store q) (taken q views)
-        (rows_told store.pages views of))))
+        (rows_told store.pages views (members store.pages) of))))

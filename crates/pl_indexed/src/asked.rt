@@ -107,6 +107,22 @@ fn has_words(
     Ok(true)
 }
 
+// Whether the page has all tags that are asked for, or none of them where that is asked.
+fn has_tags(asked: &Asked<'_>, view: &View, texts: &Folded) -> bool
+    requires asked { IsAsked asked.now.query.now asked.now }
+    requires texts { texts.now ≡ folded_of view.now }
+    ensures { result ≡ spec.are_tags_in asked.now.query.now.tags asked.now.query.now.not_tags
+        view.now.tags }
+{
+    if asked.tags.is_empty() {
+        return true;
+    }
+    if view.tags.as_str().is_empty() {
+        return asked.query.not_tags;
+    }
+    has_tags_in(&asked.tags, asked.query.not_tags, texts.tags.as_str())
+}
+
 // Whether the query takes the view with these folded texts.
 fn decides_by_texts(
     alloc: Global,
@@ -121,7 +137,7 @@ fn decides_by_texts(
     if !holds_unfolded(asked.query, view) {
         return Ok(false);
     }
-    if !has_tags_in(&asked.tags, asked.query.not_tags, texts.tags.as_str()) {
+    if !has_tags(asked, view, texts) {
         return Ok(false);
     }
     has_words(alloc, view, texts, &asked.words)

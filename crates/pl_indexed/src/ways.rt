@@ -73,9 +73,10 @@ fn page_with_url<'a>(
         (taken asked.now.query.now known.now.views.items) found.items) }
 {
     let mut found = Vec::new(alloc);
-    if let Some(view) = known.find(url) {
-        add(alloc, known, asked, view, &mut found)?;
-    }
+    let Some(view) = known.find(url) else {
+        return Ok(found);
+    };
+    add(alloc, known, asked, view, &mut found)?;
     Ok(found)
 }
 
