@@ -5,6 +5,7 @@ pub mod ByFrecency
 pub mod FirstPages
 pub mod FoundOrder
 pub mod KeyOrder
+pub mod RanksWalk
 pub mod SortedParts
 pub mod TakenViews
 pub mod ViewRows

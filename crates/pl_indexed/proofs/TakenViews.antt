@@ -1,16 +1,17 @@
 -- The views that a query takes: of all, of one more, and of the one that has the URL that it asks for.
-use Rattle.std.proofs.Common.{◌≡◌, ◌≢◌, ◌∙◌, ◌+◌, ◌<◌, ◌++◌, ◌&&◌, ℕ, Bool, true, false, List, [], ◌∷◌}
+use Rattle.std.proofs.Common.{◌≡◌, ◌≢◌, ◌∙◌, ◌<◌, ◌++◌, ◌&&◌, ℕ, Bool, true, false, List, [], ◌∷◌}
 use Rattle.std.proofs.Common.{Option, Some, ap, arith, bytes_eq, find, get_or, if◌then◌else◌}
-use Rattle.std.proofs.Common.{length, map, refl, subst, sym, take}
+use Rattle.std.proofs.Common.{None, length, map, refl, subst, sym}
 use Rattle.std.specs.List.{AllByRecursion, AllPairs}
-use Rattle.std.specs.Option.{option_to_list}
+use Rattle.std.specs.Option.{option_copied, option_to_list}
+use denote.Ref.{Bor}
 use Rattle.std.proofs.lemmas.Bool.{and_parts, false_from_ne_true, false≢true}
-use Rattle.std.proofs.lemmas.List.{map-append, take_more}
+use Rattle.std.proofs.lemmas.List.{map-append}
 use Rattle.std.proofs.lemmas.List.Elements.{All-from_recursion, filter-append}
 use Rattle.std.proofs.lemmas.Slice.Eq.{bytes_eq-Decides}
 use Rattle.pl_base.specs.declared.view.View.{View}
 use Rattle.pl_base.proofs.ListLaws.{weaker}
-use Rattle.pl_base.proofs.LookUps.{Apart, found_self, none_kept}
+use Rattle.pl_base.proofs.LookUps.{Apart, found_holds, found_self, none_kept}
 use Rattle.pl_conditions.specs.Conditions.{is_uri}
 use Rattle.pl_follow.specs.Changes.{AreInOrder}
 use Rattle.pl_follow.proofs.ChangedLists.{Pairs, pairs}
@@ -37,11 +38,13 @@ pub known_views : (views : List View) → AreInOrder views
     → AllByRecursion (λ (v : View). view_of v.id views ≡ Some v) views
 known_views views ordered = found_self (λ (v : View). v.id.0) views (ids_apart views (ascend views ordered))
 
-pub known_view : (views : List View) (k : ℕ) (v : View) → AreInOrder views → k < length views → v ≡ get_or views k v
-    → view_of v.id views ≡ Some v
-known_view views k v ordered within is =
+pub known_view : (views gone_over : List View) (k : ℕ) (v : View) → AreInOrder views → gone_over ≡ views
+    → k < length gone_over → v ≡ get_or gone_over k v → view_of v.id views ≡ Some v
+known_view views gone_over k v ordered same within is =
     subst (λ (w : View). view_of w.id views ≡ Some w) (sym is)
-    (All-from_recursion (λ (w : View). view_of w.id views ≡ Some w) views (known_views views ordered) k v within)
+    (All-from_recursion (λ (w : View). view_of w.id views ≡ Some w) gone_over
+    (subst (AllByRecursion (λ (w : View). view_of w.id views ≡ Some w)) (sym same) (known_views views ordered)) k v
+    within)
 
 -- ---- one more
 
@@ -54,15 +57,6 @@ joined q front v old new are more =
     ∙ ap (λ (s : List (View × Key)). s ++ map (seen_of q.sort) (taken q (v ∷ []))) are
     ∙ sym (map-append (seen_of q.sort) (taken q front) (taken q (v ∷ [])))
     ∙ ap (map (seen_of q.sort)) (sym (filter-append (decides q) front (v ∷ [])))
-
-pub joined_next : (q : Query) (views : List View) (k : ℕ) (v : View) (old new : List Found)
-    → AreFound q.sort (taken q (take k views)) old → k < length views → v ≡ get_or views k v
-    → map seen new ≡ map seen old ++ map (seen_of q.sort) (taken q (v ∷ []))
-    → AreFound q.sort (taken q (take (k + 1) views)) new
-joined_next q views k v old new are within is more =
-    subst (λ (vs : List View). AreFound q.sort (taken q vs) new)
-    (ap (λ (w : View). take k views ++ w ∷ []) is ∙ sym (take_more views k v within))
-    (joined q (take k views) v old new are more)
 
 -- ---- the one with a URL
 
@@ -108,11 +102,37 @@ module _ (q : Query) (url : List ℕ) (asked : q.uri ≡ Some url) where
           absurd (false≢true (sym is ∙ (bytes_eq-Decides v.url url).1 (has_url v takes)))
       choose false is false takes rest = rest
 
-  -- the page with the URL is found, and the query takes no other one
-  pub found_taken : (views : List View) → AllPairs (λ (v w : View). v.url ≢ w.url) views → (found : List Found)
-      → map seen found
-      ≡ map (seen_of q.sort) (taken q (option_to_list (find (λ (v : View). bytes_eq v.url url) views)))
-      → AreFound q.sort (taken q views) found
-  found_taken views apart found are =
-      are
-      ∙ ap (map (seen_of q.sort)) (sym (one_taken views (pairs (λ (v w : View). v.url ≢ w.url) views apart)))
+  module _ (views : List View) (apart : AllPairs (λ (v w : View). v.url ≢ w.url) views) (result : Option (Bor View))
+      (told : option_copied result ≡ find (λ (v : View). bytes_eq v.url url) views) where
+    -- of all views the query takes at most the one that is found by the URL
+    taken_is : taken q views ≡ taken q (option_to_list (option_copied result))
+    taken_is =
+        one_taken views (pairs (λ (v w : View). v.url ≢ w.url) views apart)
+        ∙ ap (λ (o : Option View). taken q (option_to_list o)) (sym told)
+
+    pub none_with_url : ((v : Bor View) → result ≢ Some v) → (found : List Found) → found ≡ []
+        → AreFound q.sort (taken q views) found
+    none_with_url none found empty =
+        ap (map seen) empty
+        ∙ sym (ap (map (seen_of q.sort)) (taken_is ∙ ap (λ (o : Option View). taken q (option_to_list o)) (nothing result none)))
+      where
+        nothing : (o : Option (Bor View)) → ((v : Bor View) → o ≢ Some v) → option_copied o ≡ None
+        nothing None no_one = refl
+        nothing (Some v) no_one = absurd (no_one v refl)
+
+    pub one_with_url : (view : Bor View) → result ≡ Some view → (old new : List Found) → old ≡ []
+        → map seen new ≡ map seen old ++ map (seen_of q.sort) (taken q (view.now ∷ []))
+        → AreFound q.sort (taken q views) new
+    one_with_url view is old new empty more =
+        more
+        ∙ ap (λ (fs : List Found). map seen fs ++ map (seen_of q.sort) (taken q (view.now ∷ []))) empty
+        ∙ sym (ap (map (seen_of q.sort))
+        (taken_is ∙ ap (λ (o : Option (Bor View)). taken q (option_to_list (option_copied o))) is))
+
+-- the view that is found by a URL is found by its id
+pub known_by_url : (url : List ℕ) (views : List View) → AreInOrder views → (result : Option (Bor View))
+    → option_copied result ≡ find (λ (v : View). bytes_eq v.url url) views → (view : Bor View) → result ≡ Some view
+    → view_of view.now.id views ≡ Some view.now
+known_by_url url views ordered result told view is =
+    found_holds (λ (v : View). view_of v.id views ≡ Some v) (λ (v : View). bytes_eq v.url url) views view.now
+    (known_views views ordered) (sym told ∙ ap option_copied is)

@@ -112,7 +112,7 @@ fn first_pages<'a>(
         }
         let view = known.view(page).unwrap();
         add(alloc, known, asked, view, &mut found)?;
-        next = known.order.after(Some((frecency, page)));
+        next = known.order.after(next);
     }
     Ok(None)
 }
