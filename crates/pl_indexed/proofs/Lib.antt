@@ -9,3 +9,4 @@ pub mod RanksWalk
 pub mod SortedParts
 pub mod TakenViews
 pub mod ViewRows
+pub mod WatchableRows
