@@ -11,10 +11,11 @@ ghost use Rattle.pl_query.specs.Decides.{has_word_in};
 ghost use Rattle.pl_indexed.specs.Asked.{IsAsked};
 
 use pl_base::{NoMemory, Txt, View};
+use pl_conditions::{tags_asked, words_asked};
 use pl_follow::Folded;
 use pl_known::Known;
 use pl_place::Query;
-use pl_query::{has_tags_in, holds_unfolded, tags_asked, words_asked};
+use pl_query::{has_tags_in, holds_unfolded};
 use pl_words::{fold, matches};
 use std::alloc::Global;
 

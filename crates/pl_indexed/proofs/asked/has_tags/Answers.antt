@@ -1,4 +1,4 @@
-use Rattle.std.proofs.Common.{◌∙◌, ◌==◌, List, ap, sym, ℕ}
+use Rattle.std.proofs.Common.{◌∙◌, ◌==◌, IsUtf8, List, ap, subst, sym, ℕ}
 use Rattle.pl_base.proofs.Truths.{no_length}
 use Rattle.pl_query.specs.DecidedParts.{are_folds_in}
 use Rattle.pl_query.specs.Decides.{are_tags_in}
@@ -23,5 +23,4 @@ returns c =
     ∙ ap (λ (folds : List (List ℕ)). are_folds_in folds q.not_tags c.as_str-2.result.now)
     (c.deref.ensures.value ∙ c.requires.asked.tags)
     ∙ ap (are_folds_in _ q.not_tags) (c.as_str-2.ensures ∙ ap (λ t. t.tags) c.requires.texts)
-    ∙ folds_tell q.tags q.not_tags c.as_str.result.now c.as_str.utf8
-    ∙ ap (are_tags_in q.tags q.not_tags) c.as_str.ensures
+    ∙ folds_tell q.tags q.not_tags c.args.view.now.tags (subst IsUtf8 c.as_str.ensures c.as_str.utf8)
