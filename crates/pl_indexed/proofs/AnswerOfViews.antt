@@ -1,6 +1,5 @@
 -- What is told of the pages that are found is told of the views that answer.
 use Rattle.std.proofs.Common.{◌≡◌, ◌≢◌, ◌∙◌, List, ap, map, refl, sym}
-use Rattle.std.specs.List.{AllPairs}
 use Rattle.std.proofs.lemmas.List.Kept.{AllPairs-filter}
 use Rattle.pl_base.specs.declared.view.View.{View}
 use Rattle.pl_base.specs.Sorting.{sorted_by}

@@ -1,9 +1,9 @@
 -- The views by frecency, as a walk along the order of their ranks finds them.
-use Rattle.std.proofs.Common.{◌≡◌, ◌≢◌, ◌∙◌, ◌<◌, ◌<ℤ◌, ◌≤ℤ◌, ◌++◌, ◌&&◌, ℕ, ℤ, Bool, true, false, List, [], ◌∷◌, Option}
+use Rattle.std.proofs.Common.{◌≡◌, ◌≢◌, ◌∙◌, ◌<ℤ◌, ◌≤ℤ◌, ◌++◌, ◌&&◌, ℤ, Bool, true, false, List, [], ◌∷◌, Option}
 use Rattle.std.proofs.Common.{Some, None, Ordering, ap, arith, filter, if◌then◌else◌, is_gt, map, nat_cmp, not, refl, subst, sym}
 use Rattle.std.specs.Cmp.{IsStrictWeakOrder}
 use Rattle.std.specs.declared.cmp.Ordering.TheVariants.{Less, Equal, Greater}
-use Rattle.std.specs.List.{AllByRecursion, AllPairs, IsDistinct, slice_get}
+use Rattle.std.specs.List.{AllPairs, IsDistinct, slice_get}
 use Rattle.std.specs.List.Sorted.{IsPermutation, ties}
 use Rattle.std.specs.Ordering.{MatchOrdering, int_cmp, ordering_reverse, ordering_then}
 use Rattle.std.proofs.lemmas.Bool.{false≢true, false_from_ne_true}

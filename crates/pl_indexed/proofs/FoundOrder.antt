@@ -9,7 +9,7 @@ use Rattle.pl_base.proofs.SortLaws.{none_tie, sorted_map, weak_sorted_is}
 use Rattle.pl_place.specs.declared.sort.Sort.{Sort}
 use Rattle.pl_indexed.specs.declared.found.Found.{Found}
 use Rattle.pl_indexed.specs.declared.found.Key.{Key}
-use Rattle.pl_indexed.specs.Found.{AreFound, place_found, place_of, seen, seen_of, view_before}
+use Rattle.pl_indexed.specs.Found.{AreFound, place_found, seen, seen_of, view_before}
 use Rattle.pl_indexed.proofs.KeyOrder.{before_by, places_rank, tied_ids}
 
 -- by what a view with a key stands

@@ -1,12 +1,12 @@
-pub mod AlikeLists
-pub mod AnswerOfViews
-pub mod AskedTexts
-pub mod ByFrecency
-pub mod FirstPages
-pub mod FoundOrder
-pub mod KeyOrder
-pub mod RanksWalk
-pub mod SortedParts
-pub mod TakenViews
-pub mod ViewRows
-pub mod WatchableRows
+mod AlikeLists
+mod AnswerOfViews
+mod AskedTexts
+mod ByFrecency
+mod FirstPages
+mod FoundOrder
+mod KeyOrder
+mod RanksWalk
+mod SortedParts
+mod TakenViews
+mod ViewRows
+mod WatchableRows

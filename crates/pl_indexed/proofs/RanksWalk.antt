@@ -1,6 +1,5 @@
 -- The walk along the ranks of views, with the pages that are found on it.
 use Rattle.std.proofs.Common.{◌≡◌, ◌∙◌, ◌++◌, ℤ, List, [], ◌∷◌, Option, Some, None, ap, map, refl, subst, sym}
-use Rattle.std.specs.List.{AllByRecursion}
 use Rattle.std.specs.Option.{IsSome, option_copied}
 use denote.Ref.{Bor}
 use Rattle.pl_base.specs.declared.id.PageId.{PageId}
@@ -8,7 +7,7 @@ use Rattle.pl_base.specs.declared.view.View.{View}
 use Rattle.pl_base.proofs.SortLaws.{all_sorted}
 use Rattle.pl_base.proofs.Walk.{StandsAt, Walk, goes_on, holds_here, stands, starts}
 use Rattle.pl_follow.specs.Changes.{AreInOrder}
-use Rattle.pl_follow.specs.Order.{frecency_ranks, is_ahead, next_rank, rank_of}
+use Rattle.pl_follow.specs.Order.{frecency_ranks, is_ahead, next_rank}
 use Rattle.pl_known.specs.Known.{view_of}
 use Rattle.pl_place.specs.declared.query.Query.{Query}
 use Rattle.pl_indexed.specs.declared.found.Found.{Found}

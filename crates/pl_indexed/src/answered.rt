@@ -55,11 +55,7 @@ fn result_rows(alloc: Global, found: &[Found<'_>]) -> Result<Vec<ResultRow>, NoM
 }
 
 // The rows of the views that the query takes, in its order, so many as it asks for.
-fn answer_by_views(
-    alloc: Global,
-    known: &Known,
-    query: &Query,
-) -> Result<Vec<ResultRow>, NoMemory>
+fn answer_by_views(alloc: Global, known: &Known, query: &Query) -> Result<Vec<ResultRow>, NoMemory>
     requires { AreFollowed known.now }
     ensures { IfOk result (λ rows. rows.items ≡ map row_of_view
         (first_asked query.now (taken query.now known.now.views.items))) }

@@ -91,12 +91,7 @@ fn has_word(alloc: Global, view: &View, texts: &Folded, word: &Txt) -> Result<bo
     is_in_title(alloc, view, texts, word)
 }
 
-fn has_words(
-    alloc: Global,
-    view: &View,
-    texts: &Folded,
-    words: &[Txt],
-) -> Result<bool, NoMemory>
+fn has_words(alloc: Global, view: &View, texts: &Folded, words: &[Txt]) -> Result<bool, NoMemory>
     requires { texts.now ≡ folded_of view.now }
     ensures { IfOk result (λ has. has ≡ list_all (has_word_in view.now) words.now) }
 {
@@ -165,8 +160,11 @@ pub fn decides(
     requires view { view_of view.now.id known.now.views.items ≡ Some view.now }
     ensures { IfOk result (λ taken. taken ≡ spec.decides asked.now.query.now view.now) }
 {
+    if !holds_unfolded(asked.query, view) {
+        return Ok(false);
+    }
     if asked.asks_for_no_texts() {
-        return Ok(holds_unfolded(asked.query, view));
+        return Ok(true);
     }
     decides_by_texts(alloc, asked, view, texts_of(known, view))
 }

@@ -84,7 +84,10 @@ fn page_with_url<'a>(
 fn are_enough(found: &[Found<'_>], most: u32, frecency: i64) -> bool
     ensures { result ≡ true → AreEnough most frecency found.now }
 {
-    found.len() >= most as usize && found.last().is_some_and(|last| last.view.frecency > frecency)
+    found.len() >= most as usize
+        && found
+            .last()
+            .is_some_and(|last| last.view.frecency > frecency)
 }
 
 // The first pages by frecency that the query takes, so many that those of the answer are among

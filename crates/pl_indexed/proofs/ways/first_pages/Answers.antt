@@ -1,9 +1,8 @@
-use Rattle.std.proofs.Common.{◌∙◌, List, Option, ap, rules, subst, sym, w64, ℤ}
+use Rattle.std.proofs.Common.{◌∙◌, Option, ap, rules, subst, sym, w64, ℤ}
 use Rattle.std.proofs.lemmas.Int.{to_z-of_z}
 use Rattle.pl_base.specs.declared.id.PageId.{PageId}
 use Rattle.pl_base.proofs.Walk.{ends}
 use Rattle.pl_follow.specs.Order.{frecency_ranks, is_ahead, next_rank}
-use Rattle.pl_indexed.specs.declared.found.Found.{Found}
 use Rattle.pl_indexed.specs.Answer.{AreEnough}
 use Rattle.pl_indexed.proofs.ByFrecency.{by_frecency, rank_names}
 use Rattle.pl_indexed.proofs.FirstPages.{all_suffice, enough_suffice}
