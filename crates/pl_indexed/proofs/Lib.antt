@@ -1,0 +1,12 @@
+mod AlikeLists
+mod AnswerOfViews
+mod AskedTexts
+mod ByFrecency
+mod FirstPages
+mod FoundOrder
+mod KeyOrder
+mod RanksWalk
+mod SortedParts
+mod TakenViews
+mod ViewRows
+mod WatchableRows

@@ -1,0 +1,10 @@
+//! The answers to queries of history by what is known of the pages: their views, and what follows
+//! these.
+#![tactic(auto)]
+
+mod answered;
+mod asked;
+mod found;
+mod ways;
+
+pub use answered::answer;
