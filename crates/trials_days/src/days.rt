@@ -2,10 +2,13 @@
 ghost use Rattle.std.specs.Prelude.{◌≡◌, ◌<◌};
 
 use crate::cases::{CASES, Case, FIRST_DAY, Told, lines_of};
-use crate::engines::{answered, expect_as_new, expect_as_over, filled, on_day, put_together};
+use crate::engines::{
+    answered, expect_as_over, expect_kept, filled, known_on, on_day, put_together,
+};
 use pl_base::{SLOT_LIMIT, Steps};
 use pl_engine::Engine;
 use pl_linked::Linked;
+use pl_plain::Flat;
 use pl_step::Reply;
 use std::alloc::Global;
 use std::marker::Brand;
@@ -77,7 +80,8 @@ fn check_case<L: Ledger>(
     let mut engine = opened(alloc, &log, &lines, steps)?;
     for told in case.days {
         engine = expect_day(rt, alloc, engine, *told, &log, steps)?;
-        engine = expect_as_new(rt, alloc, engine, told.0, &lines, steps)?;
+        let made = known_on(alloc, Flat::opening(alloc)?, told.0, &lines, steps)?;
+        engine = expect_kept(rt, alloc, engine, &made)?;
     }
     expect_as_over(rt, alloc, engine, steps)
 }

@@ -1,11 +1,11 @@
-// Engines that lines are given to, and a new one beside each.
+// Engines that lines are given to, and what they keep of their pages.
 ghost use Rattle.std.specs.Prelude.{IfOk};
+ghost use Rattle.pl_base.specs.Rows.{IsSound};
 ghost use Rattle.pl_step.specs.Commands.{HasDates};
 
 use pl_base::{NoMemory, Rows, SLOT_LIMIT, Steps};
 use pl_engine::{Engine, Parts};
 use pl_known::Known;
-use pl_plain::Flat;
 use pl_script::{LineError, line};
 use pl_step::{Command, Reply};
 use std::alloc::Global;
@@ -128,33 +128,33 @@ fn known_in<R: Rows + Drop>(engine: Engine<R>) -> Known {
     }
 }
 
-// What a new engine keeps, over vectors, that was at this day when it got the lines.
-fn known_on<L: Ledger>(
+/// What a new engine keeps, over the rows of an opening store, that was at this day when it got the
+/// lines.
+pub fn known_on<R: Rows + Drop, L: Ledger>(
     alloc: Global,
+    rows: R,
     day: u32,
     lines: &[String],
     steps: &mut Steps<L>,
-) -> Result<Known, Fail> {
-    let rows = Flat::opening(alloc)?;
+) -> Result<Known, Fail>
+    requires { IsSound (R.kept rows) }
+{
     let engine = Engine::over(alloc, rows, SLOT_LIMIT, steps)?;
     let engine = on_day(alloc, engine, day, steps)?;
     let engine = filled(alloc, engine, lines, steps)?;
     Ok(known_in(engine))
 }
 
-/// The engine keeps of its pages what a new one does that was at its day when it got the lines.
-pub fn expect_as_new<R: Rows + Drop, L: Ledger>(
+/// The engine keeps the same of its pages as another one does.
+pub fn expect_kept<R: Rows + Drop>(
     rt: &impl Abort,
     alloc: Global,
     engine: Engine<R>,
-    day: u32,
-    lines: &[String],
-    steps: &mut Steps<L>,
+    made: &Known,
 ) -> Result<Engine<R>, Fail> {
-    let made = known_on(alloc, day, lines, steps)?;
     let parts = engine.parts();
-    let alike = are_alike(alloc, &parts, &made)?;
-    assert!(rt; alike, "{day}");
+    let alike = are_alike(alloc, &parts, made)?;
+    assert!(rt; alike);
     Ok(Engine::of(alloc, parts))
 }
 

@@ -2,7 +2,7 @@
 ghost use Rattle.std.specs.Prelude.{◌≡◌, ◌<◌};
 
 use crate::cases::{FIRST_DAY, visit_line};
-use crate::engines::{expect_as_new, filled, on_day};
+use crate::engines::{expect_kept, filled, known_on, on_day};
 use pl_base::{SLOT_LIMIT, Steps};
 use pl_engine::Engine;
 use pl_linked::Linked;
@@ -64,7 +64,8 @@ fn check<L: Ledger>(rt: &impl Abort, alloc: Global, blank: Blank) -> Result<(), 
     let mut engine = filled(alloc, engine, &lines, &mut steps)?;
     for day in FIRST_DAY..FIRST_DAY + DAYS {
         engine = on_day(alloc, engine, day, &mut steps)?;
-        engine = expect_as_new(rt, alloc, engine, day, &lines, &mut steps)?;
+        let made = known_on(alloc, Linked::opening(alloc)?, day, &lines, &mut steps)?;
+        engine = expect_kept(rt, alloc, engine, &made)?;
     }
     Ok(())
 }
