@@ -74,9 +74,7 @@ class Answerer:
     def line_time(self, line):
         """What a line takes, without its way there and back: as often at a time as a span has room for."""
         size = len(self.reply(line))
-        times = MOST_AT_A_TIME
-        while times > 1 and times * self.wait(line, size, 1) > SPAN:
-            times //= 2
+        times = min(MOST_AT_A_TIME, max(1, int(SPAN / self.wait(line, size, 1))))
         return max(self.wait(line, size, times) - self.passage(times), 0) / times
 
     def end(self):
