@@ -122,7 +122,8 @@ def base_days(base, urls):
         base.commit()
         waits.append(time.perf_counter() - start)
         sums.append(base.execute("SELECT sum(frecency) FROM pages WHERE frecency > 0").fetchone()[0])
-    frecencies = [base.execute("SELECT frecency FROM pages WHERE url = ?", (url.decode(),)).fetchone()[0] for url in urls]
+    select = "SELECT frecency FROM pages WHERE url = ?"
+    frecencies = [base.execute(select, (url.decode(),)).fetchone()[0] for url in urls]
     return (changed, sums, frecencies), waits
 
 
@@ -150,7 +151,8 @@ def measure_days(places, room):
     if any(other != told for other, _ in others):
         sys.exit("the days differ: how many pages change, the sums of frecencies, or those of pages")
     due = [count for count in told[0] if count]
-    print(f"{PAGES} pages, {VISITS} visits; {len(due)} days with {min(due)} to {max(due)} due pages, {DAYS - len(due)} with none")
+    print(f"{PAGES} pages, {VISITS} visits; {len(due)} days with {min(due)} to {max(due)} due pages, "
+          f"{DAYS - len(due)} with none")
     print(f"\n| A day | {DUE} due, ms | due: p50, ms | most | none due: p50, µs | most |\n|---|---|---|---|---|---|")
     for name, (said, waits) in found.items():
         tell(name, said[0], waits)
