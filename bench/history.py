@@ -45,15 +45,21 @@ class History:
         for page in range(1, pages + 1):
             self.add_page(page, chance, folder, tags)
 
+    def word(self, chance):
+        return chance.choice(WORDS)
+
+    def host(self, chance):
+        return f"{self.word(chance)}.{self.word(chance)}.example"
+
     def add_page(self, page, chance, folder, tags):
-        host = f"{chance.choice(WORDS)}.{chance.choice(WORDS)}.example"
-        url = f"https://{host}/{chance.choice(WORDS)}/{page}"
-        title = " ".join(chance.choice(WORDS).capitalize() for _ in range(4)) if page % 9 else ""
+        host = self.host(chance)
+        url = f"https://{host}/{self.word(chance)}/{page}"
+        title = " ".join(self.word(chance).capitalize() for _ in range(4)) if page % 9 else ""
         for _ in range(chance.randint(1, 5)):
             transition = TYPED if chance.random() < 0.1 else LINK
             self.visits.append((len(self.visits) + 1, page, chance.randrange(DATES), transition))
         if page % 5 == 0:
-            kept = chance.choice(WORDS).capitalize() if page % 10 else ""
+            kept = self.word(chance).capitalize() if page % 10 else ""
             self.add_item(folder, page, kept, chance.randrange(DATES))
         if page % 7 == 0:
             self.add_item(chance.choice(tags), page, "", 0)

@@ -1,5 +1,4 @@
-// Whether what an engine keeps answers as what is made afresh from its rows.
-use crate::script::URLS;
+// Whether what an engine keeps of its pages answers as what another one keeps.
 use pl_base::{NoMemory, Rows, View};
 use pl_engine::Parts;
 use pl_known::Known;
@@ -8,13 +7,7 @@ use trials_views::have_same_order;
 
 /// Whether both have the same views, and each follower answers alike.
 pub fn are_alike<R: Rows>(alloc: Global, parts: &Parts<R>, made: &Known) -> Result<bool, NoMemory> {
-    if parts.views != made.views {
-        return Ok(false);
-    }
-    let same_urls = URLS
-        .iter()
-        .all(|url| parts.urls.find(url) == made.urls.find(url));
-    if !same_urls || parts.totals.sums() != made.totals.sums() {
+    if parts.views != made.views || parts.totals.sums() != made.totals.sums() {
         return Ok(false);
     }
     Ok(have_same_order(&parts.order, &made.order) && tell_alike(alloc, parts, made)?)
@@ -33,7 +26,9 @@ fn tell_alike<R: Rows>(alloc: Global, parts: &Parts<R>, made: &Known) -> Result<
 fn is_told_alike<R: Rows>(parts: &Parts<R>, made: &Known, view: &View) -> bool {
     let prefix = view.prefix.as_str();
     let host = view.host.as_str();
-    parts.texts.of(view.id) == made.texts.of(view.id)
+    let url = view.url.as_str();
+    parts.urls.find(url) == made.urls.find(url)
+        && parts.texts.of(view.id) == made.texts.of(view.id)
         && parts.totals.total(prefix, host) == made.totals.total(prefix, host)
         && parts.totals.pages(prefix, host) == made.totals.pages(prefix, host)
         && parts.totals.first_page(prefix, host) == made.totals.first_page(prefix, host)

@@ -4,11 +4,12 @@ ghost use Rattle.std.specs.Prelude.{◌≡◌, ◌<◌, IfOk};
 ghost use Rattle.pl_base.specs.Rows.{IsSound};
 ghost use Rattle.pl_step.specs.Commands.{HasDates};
 
-use crate::alike::are_alike;
-use crate::script::{FILE, Last, line_of};
+use crate::are_alike;
+use crate::script::{FILE, Last, URLS, line_of};
 use pl_base::{NoMemory, Rows, SLOT_LIMIT, Steps};
 use pl_changes::known_of;
-use pl_engine::Engine;
+use pl_engine::{Engine, Parts};
+use pl_known::Known;
 use pl_linked::Linked;
 use pl_nbread::{FILE_LIMIT, read};
 use pl_plain::Flat;
@@ -25,6 +26,12 @@ const TURNS: u32 = 600;
 
 const TURNS_TO_AN_IMPORT: u32 = 100;
 
+// Whether the same pages are found, or none, by each URL of the script.
+fn find_alike<R: Rows>(parts: &Parts<R>, made: &Known) -> bool {
+    URLS.iter()
+        .all(|url| parts.urls.find(url) == made.urls.find(url))
+}
+
 fn expect_followed<R: Rows + Drop, L: Ledger>(
     rt: &impl Abort,
     alloc: Global,
@@ -33,7 +40,7 @@ fn expect_followed<R: Rows + Drop, L: Ledger>(
 ) -> Result<Engine<R>, Fail> {
     let parts = engine.parts();
     let made = known_of(alloc, &parts.rows, steps)?;
-    let alike = are_alike(alloc, &parts, &made)?;
+    let alike = are_alike(alloc, &parts, &made)? && find_alike(&parts, &made);
     assert!(rt; alike);
     Ok(Engine::of(alloc, parts))
 }

@@ -1,10 +1,12 @@
-//! Tests of what an engine keeps of its store's pages, by public names. There is nothing else here,
-//! since a crate with tests of its own is proved twice.
+//! Tests of what an engine keeps of its store's pages, by public names, and whether two keep the
+//! same, which other tests ask too. There is nothing else here, since a crate with tests of its own
+//! is proved twice.
 #![tactic(auto)]
 
-#[cfg(test)]
 mod alike;
 #[cfg(test)]
 mod followed;
 #[cfg(test)]
 mod script;
+
+pub use alike::are_alike;

@@ -1,4 +1,4 @@
-//! Which totals a command sets, seen by rows that take note of it.
+//! Which totals a command sets, seen by rows that take note of it, and of what is read of them.
 #![tactic(auto)]
 
 #[cfg(test)]
