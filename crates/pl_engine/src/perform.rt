@@ -123,9 +123,12 @@ pub fn perform<R: Rows, L: Ledger>(
         }
         Command::Untag { url, name } => untag(alloc, rows, known, url, name, steps),
         Command::List { item } => Ok(told(alloc, list(alloc, rows, *item, steps)?)),
-        Command::Query { query: asked } => Ok(told(alloc, query(alloc, rows, asked, steps)?)),
+        Command::Query { query: asked } => Ok(told(
+            alloc,
+            query(alloc, rows, known, asked, steps)?,
+        )),
         Command::Place { query } => Ok(told(alloc, place(alloc, query)?)),
-        Command::Bar { max, text } => Ok(told(alloc, bar(alloc, rows, *max, text, steps)?)),
+        Command::Bar { max, text } => Ok(told(alloc, bar(alloc, rows, known, *max, text, steps)?)),
         Command::Fill { text } => Ok(told(alloc, fill(alloc, known, text)?)),
         Command::Import(tree) => import(alloc, rows, known, limit, tree, steps),
     }

@@ -37,16 +37,19 @@ fn bar_row<R: Rows, L: Ledger>(
 pub fn bar<R: Rows, L: Ledger>(
     alloc: Global,
     rows: &R,
+    known: &Known,
     max: u32,
     text: &Txt,
     steps: &mut Steps<L>,
 ) -> Result<Reply, NoMemory>
     requires sound { IsSound (R.kept rows.now) }
+    requires knows { Knows (store_of (R.kept rows.now)) known.now }
     ensures { IfOk result (λ reply. reply
         ≡ spec.bar_reply (store_of (R.kept rows.now)) max text.now) }
 {
     let mut offered = Vec::new(alloc);
-    for page in pl_bar::answer(alloc, rows, text.as_str(), max, steps)? {
+    let (order, texts) = (&known.order, &known.texts);
+    for page in pl_bar::answer(alloc, rows, order, texts, text.as_str(), max, steps)? {
         offered.push(bar_row(rows, page, steps)?)?;
     }
     Ok(Reply::Bar(Seq::from(offered)))

@@ -10,13 +10,22 @@ use Rattle.pl_step.specs.Step.{bar_reply}
 use Rattle.pl_told.proofs.Offered.{IsThere, offered_there, row_at, row_more, rows_offered}
 use Rattle.pl_told.proofs.address_bar.bar.Goals as goal
 
+pub answer-requires-clause-following : goal.answer-requires-clause-following
+answer-requires-clause-following g c =
+    record {
+      views = c.args.known.now.views.items;
+      told = c.requires.knows.views;
+      ordered = c.requires.knows.followed.ranks;
+      kept = c.requires.knows.followed.texts;
+    }
+
 pub loop-page-init : goal.loop-page-init
 loop-page-init g c =
     let kept : Kept = g.R.Rows.kept c.args.rows.now in
     record {
       there = subst (AllByRecursion (IsThere kept)) (sym c.into_iter-page-iterator.ensures.into_iter_gives.0)
           (offered_there kept c.as_str.result.now c.args.max c.in_ok-page-items.page-items.items
-          (g.met.R.Rows.well_kept c.args.rows.now) c.in_ok-page-items.ensures);
+          (g.met.R.Rows.well_kept c.args.rows.now) c.in_ok-page-items.ensures.offered);
       told = c.new-offered.ensures.items;
     }
 
@@ -48,5 +57,5 @@ returns g c =
     ∙ c.loop-page.invariant.told
     ∙ ap (filter_map (row_at kept)) (sym (map-id c.loop-page.yielded) ∙ all.0)
     ∙ rows_offered kept c.as_str.result.now c.args.max ids (g.met.R.Rows.well_kept c.args.rows.now)
-    c.in_ok-page-items.ensures)
+    c.in_ok-page-items.ensures.offered)
     ∙ ap (bar_reply (store_of kept) c.args.max) c.as_str.ensures
