@@ -129,7 +129,7 @@ pub fn perform<R: Rows, L: Ledger>(
         )),
         Command::Place { query } => Ok(told(alloc, place(alloc, query)?)),
         Command::Bar { max, text } => Ok(told(alloc, bar(alloc, rows, known, *max, text, steps)?)),
-        Command::Fill { text } => Ok(told(alloc, fill(alloc, known, text)?)),
+        Command::Fill { text } => Ok(told(alloc, fill(alloc, known, text, steps)?)),
         Command::Import(tree) => import(alloc, rows, known, limit, tree, steps),
     }
 }

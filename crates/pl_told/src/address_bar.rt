@@ -56,13 +56,20 @@ pub fn bar<R: Rows, L: Ledger>(
 }
 
 /// The group of hosts that is filled in behind a text.
-pub fn fill(alloc: Global, known: &Known, text: &Txt) -> Result<Reply, NoMemory>
+pub fn fill<L: Ledger>(
+    alloc: Global,
+    known: &Known,
+    text: &Txt,
+    steps: &mut Steps<L>,
+) -> Result<Reply, NoMemory>
     requires followed { AreFollowed known.now }
     ensures { IfOk result (λ reply. (store : Store) → Knows store known.now
         → reply ≡ spec.group_reply (filled (scored_pages store) text.now)) }
 {
-    Ok(match pl_bar::fill(alloc, &known.totals, text.as_str())? {
-        Some((group, total)) => Reply::Fill { group, total },
-        None => Reply::NoFill,
-    })
+    Ok(
+        match pl_bar::fill(alloc, &known.totals, text.as_str(), steps)? {
+            Some((group, total)) => Reply::Fill { group, total },
+            None => Reply::NoFill,
+        },
+    )
 }
