@@ -48,8 +48,16 @@ pub fn bar<R: Rows, L: Ledger>(
         ≡ spec.bar_reply (store_of (R.kept rows.now)) max text.now) }
 {
     let mut offered = Vec::new(alloc);
-    let (order, texts) = (&known.order, &known.texts);
-    for page in pl_bar::answer(alloc, rows, order, texts, text.as_str(), max, steps)? {
+    let pages = pl_bar::answer(
+        alloc,
+        rows,
+        &known.order,
+        &known.texts,
+        text.as_str(),
+        max,
+        steps,
+    )?;
+    for page in pages {
         offered.push(bar_row(rows, page, steps)?)?;
     }
     Ok(Reply::Bar(Seq::from(offered)))

@@ -10,8 +10,8 @@ use Rattle.pl_step.specs.Step.{bar_reply}
 use Rattle.pl_told.proofs.Offered.{IsThere, offered_there, row_at, row_more, rows_offered}
 use Rattle.pl_told.proofs.address_bar.bar.Goals as goal
 
-pub answer-requires-clause-following : goal.answer-requires-clause-following
-answer-requires-clause-following g c =
+pub answer-pages-requires-clause-following : goal.answer-pages-requires-clause-following
+answer-pages-requires-clause-following g c =
     record {
       views = c.args.known.now.views.items;
       told = c.requires.knows.views;
@@ -24,8 +24,8 @@ loop-page-init g c =
     let kept : Kept = g.R.Rows.kept c.args.rows.now in
     record {
       there = subst (AllByRecursion (IsThere kept)) (sym c.into_iter-page-iterator.ensures.into_iter_gives.0)
-          (offered_there kept c.as_str.result.now c.args.max c.in_ok-page-items.page-items.items
-          (g.met.R.Rows.well_kept c.args.rows.now) c.in_ok-page-items.ensures.offered);
+          (offered_there kept c.as_str.result.now c.args.max c.in_ok-pages.pages.items
+          (g.met.R.Rows.well_kept c.args.rows.now) c.in_ok-pages.ensures.offered);
       told = c.new-offered.ensures.items;
     }
 
@@ -48,14 +48,14 @@ loop-page-preserved g c =
 pub returns : goal.returns
 returns g c =
     let kept : Kept = g.R.Rows.kept c.args.rows.now in
-    let ids : List PageId = c.in_ok-page-items.page-items.items in
+    let ids : List PageId = c.in_ok-pages.pages.items in
     let gives = c.into_iter-page-iterator.ensures.into_iter_gives in
     let all =
-    YieldsList-end (YieldsList-from_vec ids gives.0 (gives.1 ∙ c.in_ok-page-items.page-items.ok.0)) c.loop-page.yielded
+    YieldsList-end (YieldsList-from_vec ids gives.0 (gives.1 ∙ c.in_ok-pages.pages.ok.0)) c.loop-page.yielded
     c.loop-page.page-iterator c.loop-page.yielded_by c.next.result c.next.new.self c.in-None.is c.next.ensures.steps in
     ap Bar (c.from.ensures
     ∙ c.loop-page.invariant.told
     ∙ ap (filter_map (row_at kept)) (sym (map-id c.loop-page.yielded) ∙ all.0)
     ∙ rows_offered kept c.as_str.result.now c.args.max ids (g.met.R.Rows.well_kept c.args.rows.now)
-    c.in_ok-page-items.ensures.offered)
+    c.in_ok-pages.ensures.offered)
     ∙ ap (bar_reply (store_of kept) c.args.max) c.as_str.ensures
