@@ -10,8 +10,8 @@ use Rattle.pl_step.specs.Step.{bar_reply}
 use Rattle.pl_told.proofs.Offered.{IsThere, offered_there, row_at, row_more, rows_offered}
 use Rattle.pl_told.proofs.address_bar.bar.Goals as goal
 
-pub answer-pages-requires-clause-following : goal.answer-pages-requires-clause-following
-answer-pages-requires-clause-following g c =
+pub answer-requires-clause-following : goal.answer-requires-clause-following
+answer-requires-clause-following g c =
     record {
       views = c.args.known.now.views.items;
       told = c.requires.knows.views;
