@@ -74,10 +74,9 @@ pub fn fill<L: Ledger>(
     ensures { IfOk result (λ reply. (store : Store) → Knows store known.now
         → reply ≡ spec.group_reply (filled (scored_pages store) text.now)) }
 {
-    Ok(
-        match pl_bar::fill(alloc, &known.totals, text.as_str(), steps)? {
-            Some((group, total)) => Reply::Fill { group, total },
-            None => Reply::NoFill,
-        },
-    )
+    let group = pl_bar::fill(alloc, &known.totals, text.as_str(), steps)?;
+    Ok(match group {
+        Some((group, total)) => Reply::Fill { group, total },
+        None => Reply::NoFill,
+    })
 }

@@ -10,11 +10,11 @@ use Rattle.pl_told.proofs.address_bar.fill.Goals as goal
 pub returns : goal.returns
 returns g c = λ store knows.
     let views : List View = c.args.known.now.views.items in
-    let told : group_reply c.in_ok-group.field-0 ≡ group_reply (filled (scored_pages store) c.args.text.now) =
+    let told : group_reply c.in_ok-group.group ≡ group_reply (filled (scored_pages store) c.args.text.now) =
     ap group_reply (c.in_ok-group.ensures.filled views c.requires.followed.totals
     ∙ ap (λ (ss : List Scored). filled ss c.as_str.result.now) (scored_same store views knows.views)
     ∙ ap (filled (scored_pages store)) c.as_str.ensures) in
-    elim c.match-branch-2.branch [
+    elim c.branch-group.branch [
       | in-Some w ↦ w.result-is ∙ ap group_reply (sym w.in-Some.is) ∙ told
       | in-None w ↦ w.result-is ∙ ap group_reply (sym w.in-None.is) ∙ told
     ]
