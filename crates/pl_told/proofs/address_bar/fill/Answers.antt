@@ -14,7 +14,7 @@ returns g c = λ store knows.
     ap group_reply (c.in_ok-group.ensures.filled views c.requires.followed.totals
     ∙ ap (λ (ss : List Scored). filled ss c.as_str.result.now) (scored_same store views knows.views)
     ∙ ap (filled (scored_pages store)) c.as_str.ensures) in
-    elim c.branch-group.branch [
+    elim c.match-group.branch [
       | in-Some w ↦ w.result-is ∙ ap group_reply (sym w.in-Some.is) ∙ told
       | in-None w ↦ w.result-is ∙ ap group_reply (sym w.in-None.is) ∙ told
     ]
