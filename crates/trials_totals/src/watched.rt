@@ -30,7 +30,8 @@ impl Log {
     }
 
     fn read(&self) {
-        self.records.set(self.records.get().saturating_add(MOST_READS));
+        self.records
+            .set(self.records.get().saturating_add(MOST_READS));
     }
 
     // A call read any number of records.
