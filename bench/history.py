@@ -1,11 +1,7 @@
 """A store of history, bookmarks and tags, as a file by the form of `docs/FORMAT.md` and as tables of sqlite3, with the same rows."""
 import math
-import pathlib
 import random
 import sqlite3
-import subprocess
-import sys
-import tempfile
 import time
 
 import linked_file
@@ -109,49 +105,9 @@ class History:
         return base
 
 
-# ---- the runs
-
-def said(places, store, lines):
-    """What a run of the lines says."""
-    run = subprocess.run([places, "run", store], input="".join(lines).encode(), capture_output=True)
-    if run.returncode:
-        sys.exit(f"status {run.returncode}: {run.stderr!r}")
-    return run.stdout.decode()
-
+# ---- times
 
 def wall(task):
     start = time.monotonic()
     task()
     return time.monotonic() - start
-
-
-def line_time(places, store, line, times):
-    """The wall time of a line in seconds, without that of the run around it: the least of three."""
-    bare = min(wall(lambda: said(places, store, [])) for _ in range(3))
-    return (min(wall(lambda: said(places, store, [line] * times)) for _ in range(3)) - bare) / times
-
-
-def select_time(base, select, values, times):
-    """The same of a statement, which is prepared once."""
-    def selected():
-        for _ in range(times):
-            base.execute(select, values).fetchall()
-    return min(wall(selected) for _ in range(3)) / times
-
-
-def compare(places, kinds, rows_of, pages=3000, times=20):
-    """For each kind (a name, a line, a statement and its values) the replies, and then the times, beside sqlite3's."""
-    history = History(pages)
-    base = history.database()
-    with tempfile.TemporaryDirectory() as folder:
-        store = str(pathlib.Path(folder) / "store")
-        pathlib.Path(store).write_bytes(history.file_bytes())
-        print(f"{pages} pages, {len(history.visits)} visits, {len(history.rows)} items; sqlite3 {sqlite3.sqlite_version}")
-        print("| What is asked | Rows | `places run`, ms | sqlite3, ms |\n|---|---|---|---|")
-        for name, line, select, values in kinds:
-            rows = rows_of(said(places, store, [line]))
-            wanted = [tuple("-" if value is None else str(value) for value in row) for row in base.execute(select, values)]
-            if rows != wanted:
-                sys.exit(f"{name}: {len(rows)} rows and {len(wanted)}; {rows[:3]} and {wanted[:3]}")
-            ours, theirs = line_time(places, store, line, times), select_time(base, select, values, times)
-            print(f"| {name} | {len(rows)} | {ours * 1000:.2f} | {theirs * 1000:.2f} |", flush=True)
