@@ -2,7 +2,7 @@
 ghost use Rattle.std.specs.Prelude.{◌≡◌, ℤ, [], List, OnOk, reverse};
 ghost use Rattle.std.specs.List.{filter};
 ghost use Rattle.std.specs.Iterator.Adapters.{rev_source};
-ghost use Rattle.std.specs.Map.Iter.{ShowsInReverse, deref};
+ghost use Rattle.std.specs.Map.Iter.{ShowsInOrder, ShowsInReverse, deref};
 ghost use Rattle.std.specs.Option.{option_and_then, option_copied, option_map};
 ghost use Rattle.pl_base.specs.declared.date.Micros.{Micros};
 ghost use Rattle.pl_base.specs.declared.id.PageId.{PageId};
@@ -71,6 +71,15 @@ impl OrderIndex {
         ensures runs { ShowsInReverse (deref {X = ℤ × PageId}) }
     {
         self.frecencies.iter().rev()
+    }
+
+    /// The frecencies and ids of all views, from the last by frecency to the first.
+    pub fn upward(&self) -> btree_set::Iter<'_, (i64, PageId)>
+        ensures order { (views : List View) → Orders self.now views
+            → result ≡ sorted_by (λ x y. is_ahead y x) (frecency_ranks views) }
+        ensures runs { ShowsInOrder (deref {X = ℤ × PageId}) }
+    {
+        self.frecencies.iter()
     }
 
     /// The frecencies and ids of the views that come before a place by frecency, from the first of
