@@ -11,7 +11,7 @@ use Rattle.pl_base.specs.declared.id.Slot.{Slot}
 use Rattle.pl_base.specs.Good.{child_ids}
 use Rattle.pl_base.specs.Store.{Item as TreeItem}
 use Rattle.pl_base.specs.Tree.{has_child, has_item, parent_of}
-use Rattle.pl_base.proofs.Among.{In, all_from_in, at_in, from_filter, from_map, in_filter, in_map}
+use Rattle.pl_base.proofs.Among.{In, all_from_in, at_in, from_any, from_filter, from_map, in_filter, in_map}
 use Rattle.pl_base.proofs.ItemLookUps.{same_item}
 use Rattle.pl_base.proofs.ListLaws.{everyone, map-map}
 use Rattle.pl_base.proofs.OneParent.{Once, once_behind}
@@ -21,7 +21,7 @@ use Rattle.pl_load.proofs.ItemSlots as given
 use Rattle.pl_load.proofs.ItemSlots.{HaveSlots, child_in, in_child, members_paired, pair_member}
 use Rattle.pl_load.proofs.Lists.{kept_alike, owned_map}
 use Rattle.pl_load.proofs.PairLists.{zip_made, zip_map}
-use Rattle.pl_load.proofs.SameMembers.{EachOnce, in_any, once_kept, once_keyed, same_members}
+use Rattle.pl_load.proofs.SameMembers.{EachOnce, once_kept, once_keyed, same_members}
 use Rattle.pl_owned.specs.declared.owned.Member.{Member}
 use Rattle.pl_owned.specs.Owned.{IsListed, owned_by}
 use Rattle.pl_rail.specs.declared.owner.Owner.TheVariants.{At}
@@ -101,7 +101,7 @@ module _ (pages : Pages) (items : List TreeItem) (slot_of : ItemId → Slot) (sl
       (at_in (λ (j : TreeItem). All (λ (d : ItemId). has_item items d ≡ true) j.children) items i
       (recursion_from_All (λ (j : TreeItem). All (λ (d : ItemId). has_item items d ≡ true) j.children) items known)
       within)) child in
-      let r = in_any (λ (j : TreeItem). j.id.0 == c.0) items there in
+      let r = from_any (λ (j : TreeItem). j.id.0 == c.0) items there in
       let j : TreeItem = r.0 in
       let same : j.id ≡ c = same_item j.id c r.2 in
       subst (λ (d : ItemId). In d (ids_below i)) same
