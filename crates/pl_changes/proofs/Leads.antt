@@ -4,7 +4,6 @@ use Rattle.std.proofs.Common.{List, [], ◌∷◌, Option, Some, None, ap, arith
 use Rattle.std.specs.List.{Contains, list_any}
 use Rattle.std.specs.List.Sorted.{IsStrictlyIncreasing}
 use Rattle.std.proofs.lemmas.Bool.{eqb-true, false≢true, or_cases}
-use Rattle.std.proofs.lemmas.List.Kept.{AllPairs-from_increasing}
 use Rattle.std.proofs.lemmas.Option.{none-some}
 use Rattle.pl_base.specs.declared.change.Change.{Change}
 use Rattle.pl_base.specs.declared.id.PageId.{PageId}
@@ -14,7 +13,7 @@ use Rattle.pl_base.specs.Rows.{IsWellKept, Kept, store_of}
 use Rattle.pl_base.specs.Store.{Page, Store}
 use Rattle.pl_base.specs.View.{AreViewsOf, IsViewOf}
 use Rattle.pl_base.proofs.Among.{In, at_in, contains_from_in, in_from_contains}
-use Rattle.pl_base.proofs.LookUps.{Apart, apart_ascending, found_some}
+use Rattle.pl_base.proofs.LookUps.{Apart, apart_increasing, found_some}
 use Rattle.pl_base.proofs.Truths.{no_test}
 use Rattle.pl_follow.specs.Changes.{AreInOrder, FitStore, has_view}
 use Rattle.pl_follow.proofs.Parted.{ascend}
@@ -61,8 +60,7 @@ same_element (x ∷ ps) apart p q (inr g) (inr h) same = same_element ps apart.1
 one_page : (store : Store) → IsGood store → (p q : Page) → In p store.pages → In q store.pages → p.id ≡ q.id → p ≡ q
 one_page store good p q g h same =
     same_element store.pages
-    (apart_ascending (λ (x : Page). x.id.0) store.pages
-    (AllPairs-from_increasing (map (λ (x : Page). x.id.0) store.pages) good.page_ids.ascending)) p q g h
+    (apart_increasing (λ (x : Page). x.id.0) store.pages good.page_ids.ascending) p q g h
     (ap (λ (id : PageId). id.0) same)
 
 -- a page with an id is found

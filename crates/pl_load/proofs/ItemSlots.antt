@@ -6,7 +6,6 @@ use Rattle.std.specs.List.Sorted.{IsPermutation, IsStrictlyIncreasing}
 use Rattle.std.specs.Option.{option_and_then, option_map}
 use Rattle.std.proofs.lemmas.Bool.{true≢false}
 use Rattle.std.proofs.lemmas.List.Elements.{recursion_from_All}
-use Rattle.std.proofs.lemmas.List.Kept.{AllPairs-from_increasing}
 use Rattle.std.proofs.lemmas.List.Sorted.{list_any-IsPermutation}
 use Rattle.std.proofs.lemmas.Option.{same_Some}
 use Rattle.pl_base.specs.declared.id.ItemId.{ItemId}
@@ -17,7 +16,7 @@ use Rattle.pl_base.specs.Tree.{has_child, parent_of}
 use Rattle.pl_base.proofs.Among.{In, any_from_in, at_in, from_any, from_found, from_map}
 use Rattle.pl_base.proofs.IdsLaws.{same_slot}
 use Rattle.pl_base.proofs.ItemLookUps.{same_item, same_item_number}
-use Rattle.pl_base.proofs.LookUps.{Apart, apart_ascending, found_passes}
+use Rattle.pl_base.proofs.LookUps.{Apart, apart_increasing, found_passes}
 use Rattle.pl_base.proofs.OneParent.{IsParent, parents_found}
 use Rattle.pl_base.proofs.OneParent as parents
 use Rattle.pl_base.proofs.Truths.{no_test, same_tests}
@@ -107,8 +106,7 @@ module _ (pages : Pages) (items : List TreeItem) (slot_of : ItemId → Slot) (sl
 
   pub items_apart : Apart (λ (i : TreeItem). i.id.0) items
   items_apart =
-      apart_ascending (λ (i : TreeItem). i.id.0) items
-      (AllPairs-from_increasing (map (λ (i : TreeItem). i.id.0) items) in_slots.ascending)
+      apart_increasing (λ (i : TreeItem). i.id.0) items in_slots.ascending
 
   pub one_item : (i j : TreeItem) → In i items → In j items → i.id.0 ≡ j.id.0 → i ≡ j
   one_item i j first second same = same_key (λ (k : TreeItem). k.id.0) items i j items_apart first second same

@@ -10,7 +10,6 @@ use Rattle.std.proofs.lemmas.Bool.{eqb-true, false_from_ne_true, ne_eqb, true≢
 use Rattle.std.proofs.lemmas.List.{map_push}
 use Rattle.std.proofs.lemmas.List.Elements.{All-from_recursion, All-map, All-push, All-weaker, recursion_from_All}
 use Rattle.std.proofs.lemmas.List.Folds.{find-append}
-use Rattle.std.proofs.lemmas.List.Kept.{AllPairs-from_increasing}
 use Rattle.std.proofs.lemmas.List.Quantifiers.{all_pairs_push}
 use Rattle.std.proofs.lemmas.Option.{none-some, same_Some}
 use Rattle.std.proofs.lemmas.Slice.Eq.{bytes_eq-Decides}
@@ -23,7 +22,8 @@ use Rattle.pl_base.specs.Tree.{child_items, children_of, is_page, item_at}
 use Rattle.pl_base.specs.Visiting.{find_page, new_page, page_for, with_page_for}
 use Rattle.pl_base.proofs.IdsLaws.{same_page}
 use Rattle.pl_base.proofs.ListLaws.{list_any-map, weaker}
-use Rattle.pl_base.proofs.LookUps.{Apart, any_none, apart_ascending, both, found_holds, found_passes, none_found}
+use Rattle.pl_base.proofs.LookUps.{Apart, any_none, both, found_holds, found_passes, none_found}
+use Rattle.pl_base.proofs.LookUps.{apart_increasing}
 use Rattle.pl_base.proofs.Truths.{same_tests}
 use Rattle.pl_tree.proofs.GoodStores.{ascends_push}
 use Rattle.pl_graft.specs.Ready.{IsReady}
@@ -54,8 +54,7 @@ one_found {X} key p q (x ∷ xs) a b apart first second same =
 module _ (store : Store) (h : HasPages store) where
   pub page_ids : Apart (λ (p : Page). p.id.0) store.pages
   page_ids =
-      apart_ascending (λ (p : Page). p.id.0) store.pages
-      (AllPairs-from_increasing (map (λ (p : Page). p.id.0) store.pages) h.ascending)
+      apart_increasing (λ (p : Page). p.id.0) store.pages h.ascending
 
   below : AllByRecursion (λ (p : Page). p.id.0 < store.ids.page) store.pages
   below = recursion_from_All (λ (p : Page). p.id.0 < store.ids.page) store.pages h.below
