@@ -1,7 +1,7 @@
 -- What is found in lists: in front of others, among those that stay, and by ids.
 use Rattle.std.proofs.Common.{◌≡◌, ◌∙◌, ◌||◌, ◌++◌, inl, inr, Bool, true, false, List, [], ◌∷◌}
 use Rattle.std.proofs.Common.{Option, Some, None, ap, filter, find, if◌then◌else◌, refl, sym}
-use Rattle.std.specs.List.{AllByRecursion, filter_map, list_any}
+use Rattle.std.specs.List.{AllByRecursion, list_any}
 use Rattle.std.specs.Option.{option_map}
 use Rattle.std.proofs.lemmas.Bool.{both_ways, false≢true, or_left, or_right}
 use Rattle.std.proofs.lemmas.List.{append-nil}
@@ -85,43 +85,6 @@ module _ {X : Type 0} (stays test : X → Bool) where
           rw pass (ap (λ (ys : List X). if c then x ∷ ys else ys) rest)
       choose false true gone pass rest = absurd (both_ways (stays x) gone (all.0 pass))
       choose false false gone pass rest = rest
-
--- ---- items that were looked up
-
-pub in_looked : (at : ItemId → Option Item) (ids : List ItemId) (c : ItemId) (i : Item) → In c ids → at c ≡ Some i
-    → In i (filter_map at ids)
-in_looked at [] c i there is = absurd there
-in_looked at (d ∷ ds) c i (inl same) is =
-    let here : at d ≡ Some i = ap at (sym same) ∙ is in
-    rw here (inl refl)
-in_looked at (d ∷ ds) c i (inr there) is = choose (at d) refl (in_looked at ds c i there is)
-  where
-    choose : (o : Option Item) → at d ≡ o → In i (filter_map at ds) → In i (filter_map at (d ∷ ds))
-    choose None here rest = rw here rest
-    choose (Some j) here rest = rw here (inr rest)
-
--- an id at which the item was looked up
-abbrev pub LookedUp : (ItemId → Option Item) → List ItemId → Item → Type 0
-LookedUp at ids i = (c : ItemId) × In c ids × (at c ≡ Some i)
-
-pub looked_in : (at : ItemId → Option Item) (ids : List ItemId) (i : Item) → In i (filter_map at ids) → LookedUp at ids i
-looked_in at [] i there = absurd there
-looked_in at (d ∷ ds) i there = choose (at d) refl (looked_in at ds i)
-  where
-    first : (j : Item) → at d ≡ Some j → In i (j ∷ filter_map at ds)
-        → (In i (filter_map at ds) → LookedUp at ds i) → LookedUp at (d ∷ ds) i
-    first j here (inl same) rest = (d, inl refl, here ∙ ap (λ (k : Item). Some k) (sym same))
-    first j here (inr behind) rest = let r = rest behind in (r.0, inr r.1, r.2)
-
-    choose : (o : Option Item) → at d ≡ o → (In i (filter_map at ds) → LookedUp at ds i) → LookedUp at (d ∷ ds) i
-    choose None here rest =
-        let r = rest (rw here at there) in (r.0, inr r.1, r.2)
-    choose (Some j) here rest = first j here (rw here at there) rest
-
--- as `children_of` has it
-abbrev pub children_in : Option Item → List ItemId
-children_in None = []
-children_in (Some i) = i.children
 
 -- ---- items by their ids
 

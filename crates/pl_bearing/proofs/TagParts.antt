@@ -21,13 +21,14 @@ use Rattle.pl_base.proofs.ItemLookUps.{id_of_item, same_item}
 use Rattle.pl_base.proofs.LookUps.{apart_ascending, found_self}
 use Rattle.pl_base.proofs.OneParent.{IsParent, is_among, parents}
 use Rattle.pl_base.proofs.ReferencesRun.{having}
+use Rattle.pl_tree.proofs.LookedUp.{children_in, from_filter_map, in_filter_map}
 use Rattle.pl_marks.specs.TagFolders.{tag_title, where_tag, with_tag}
 use Rattle.pl_marks.proofs.PageTags.{ascending_with}
 use Rattle.pl_marks.proofs.TagEntries.{AreOfTags, Ascending, Differ, differ_filter, differ_named, entries_are, look}
 use Rattle.pl_marks.proofs.TagEntries.{of_tags_insert, tag_entry, tags_found, there_insert, there_new, titles_are}
 use Rattle.pl_bearing.specs.References.{Reference, reference, references_of}
-use Rattle.pl_bearing.proofs.FoundItems.{AreFound, any_in, at_its_id, children_in, found_in, in_any, in_looked}
-use Rattle.pl_bearing.proofs.FoundItems.{looked_in, parent_there}
+use Rattle.pl_bearing.proofs.FoundItems.{AreFound, any_in, at_its_id, found_in, in_any}
+use Rattle.pl_bearing.proofs.FoundItems.{parent_there}
 
 -- ---- parents and children
 
@@ -53,13 +54,13 @@ child_in : (items : List Item) (parent : ItemId) (i : Item) → AreFound items �
     → parent_of items i.id ≡ Some parent → In i (child_items items parent)
 child_in items parent i found there is =
     let q = above items i.id parent found is in
-    in_looked (item_at items) (children_of items parent) i.id i
+    in_filter_map (item_at items) (children_of items parent) i.id i
     (subst (In i.id) (sym (ap children_in q.1)) (among_in i.id q.0.children q.2)) (at_its_id items i found there)
 
 in_child : (items : List Item) (parent : ItemId) (i : Item) → IsTree items → In i (child_items items parent)
     → (In i items) × (parent_of items i.id ≡ Some parent)
 in_child items parent i tree there =
-    let c = looked_in (item_at items) (children_of items parent) i there in
+    let c = from_filter_map (item_at items) (children_of items parent) i there in
     choose c.0 c.2 (item_at items parent) refl c.1
   where
     choose : (c : ItemId) → item_at items c ≡ Some i → (o : Option Item) → item_at items parent ≡ o

@@ -131,7 +131,7 @@ module _ (pages : Pages) (reads : Reads) (from : AreReadFrom pages reads)
       said (item_there pages reads from)
       (made_alike (λ (i : Item) (s : TreeItem). (slots : List Slot) × IsItemRead pages i slots s) (λ (r : Item). r.id)
       (λ (i : TreeItem). i.id) reads.items reads.stored.items (λ r s read. sym read.1.id)
-      (items_read pages reads from good)) parents_named children_once
+      (items_read pages reads from)) parents_named children_once
 
   -- what was read are the rows of a store
   pub rows_read : AreRead at kept reads

@@ -13,25 +13,22 @@ use Rattle.pl_base.proofs.ItemLaws.{bare}
 use Rattle.pl_base.proofs.Among.{In, in_map}
 use Rattle.pl_base.proofs.ItemLookUps.{same_item_number}
 use Rattle.pl_base.proofs.KeyCounts.{Ascends}
+use Rattle.pl_tree.specs.Tagged.{if_none_left}
 use Rattle.pl_tree.proofs.ChildLists.{left_other, without_other}
 use Rattle.pl_tree.proofs.GoodEntered.{no_tags_root}
 use Rattle.pl_tree.proofs.GoodRows.{HasGoodRows, good_rows, with_tags}
 use Rattle.pl_tree.proofs.Insides.{LiesLaws}
 use Rattle.pl_tree.proofs.KeptItems.{good_item}
 use Rattle.pl_tree.proofs.LookedUp.{at_id, child_of, children_in, found_at, has_parent, id_key}
-use Rattle.pl_tree.proofs.LookedUp.{in_child_ids, item_key, one_parent, parent_of_child}
+use Rattle.pl_tree.proofs.LookedUp.{in_child_ids, item_key, no_ids, one_parent, parent_of_child}
+use Rattle.pl_tree.proofs.LookedUp.{some_ids}
 use Rattle.pl_tree.proofs.RemovedChildren.{ascends_left, children_left, from_left}
 use Rattle.pl_tree.proofs.RemovedRows.{removed_rows}
 use Rattle.pl_tree.proofs.RootItems.{IsNoRoot, no_root_below, no_tags}
-use Rattle.pl_tree.proofs.TagItems.{Bookmark≢Folder, not_empty}
+use Rattle.pl_tree.proofs.TagItems.{Bookmark≢Folder}
 use Rattle.pl_tree.proofs.TagRows.{AreUsed, HasTagRows, are_used, child_at, has_tags, tag_rows}
 use Rattle.pl_tree.proofs.TreeLaws.{child_known, child_once}
 use Rattle.pl_tree.proofs.UntaggedRows.{rows_without}
-
--- as `without_unused` has it
-abbrev pub if_none_left : List ItemId → List Item → List Item → List Item
-if_none_left [] without with_it = without
-if_none_left (c ∷ cs) without with_it = with_it
 
 -- a removal of an item without children
 pub leaf_removed : (old : Store) (item : ItemId) → Ascends item_key old.items → HasGoodRows old
@@ -54,10 +51,6 @@ leaf_removed old item up good there no_root leaf =
               absurd (subst (In c) none r.3);
           parent = λ c within other. absurd (both_ways (c.0 == item.0) other within);
         }
-
-no_ids : (ids : List ItemId) → (ids ≢ [] → ⊥) → ids ≡ []
-no_ids [] none = refl
-no_ids (c ∷ ids) none = absurd (none (λ same. absurd (cc)))
 
 module _ (old : Store) (up : Ascends item_key old.items) (good : HasGoodItems old) (tag entry : Item)
     (tagged : In tag (child_items old.items tags_root)) (entered : In entry (child_items old.items tag.id)) where
@@ -136,7 +129,7 @@ module _ (old : Store) (up : Ascends item_key old.items) (good : HasGoodItems ol
             ap (item_at mid.items) (sym (same_item_number j.id tag.id e)) ∙ (child_at mid.items tags_root j h).1
             in
             let all : c ∷ cs ≡ j.children = sym is ∙ ap children_in at in
-            not_empty j.children c (subst (In c) all (inl refl))
+            some_ids j.children c (subst (In c) all (inl refl))
         | inr other ↦ mid_used j h other
       ]
 

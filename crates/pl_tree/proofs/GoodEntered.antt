@@ -23,11 +23,10 @@ use Rattle.pl_tree.proofs.ChildLists.{grown, grown_new}
 use Rattle.pl_tree.proofs.GoodRows.{HasGoodRows, with_tags}
 use Rattle.pl_tree.proofs.InsertedChildren.{from_children}
 use Rattle.pl_tree.proofs.InsertedRows.{IsFolderAt, inserted_rows}
-use Rattle.pl_tree.proofs.LookedUp.{item_key}
+use Rattle.pl_tree.proofs.LookedUp.{item_key, some_ids}
 use Rattle.pl_tree.proofs.MappedItems.{changed_other}
 use Rattle.pl_tree.proofs.PutPlaces.{row_of_new}
 use Rattle.pl_tree.proofs.RootItems.{no_root_below, no_tags, top_folder}
-use Rattle.pl_tree.proofs.TagItems.{not_empty}
 use Rattle.pl_tree.proofs.TaggedRows.{rows_with_entry}
 use Rattle.pl_tree.proofs.TagRows.{AreUsed, HasTagRows, child_at, child_rows, has_tags}
 use Rattle.pl_tree.proofs.TreeLaws.{child_below}
@@ -87,7 +86,7 @@ module _ (old : Store) (ids : Ids) (id : ItemId) (page : PageId) (date : Micros)
       some i g =
           elim (cases_eq i.id.0 tag.id.0) as (λ _. (grown tag.id End id i).children ≢ []) [
             | inl e ↦
-                not_empty (grown tag.id End id i).children id
+                some_ids (grown tag.id End id i).children id
                 (grown_new tag.id End id i (same_item_number i.id tag.id e))
             | inr other ↦
                 subst (λ (k : Item). k.children ≢ [])

@@ -18,7 +18,7 @@ use Rattle.pl_base.specs.Good.{HasGoodItems, IsTagName, IsTitle, child_ids, end_
 use Rattle.pl_base.specs.Rows.{IsWellKept, Kept, has_page, store_of, with_items}
 use Rattle.pl_base.specs.Store.{Item, Store, item_id}
 use Rattle.pl_base.specs.Tags.{tags_root}
-use Rattle.pl_base.specs.Tree.{child_items, children_of, is_page, item_at, removed}
+use Rattle.pl_base.specs.Tree.{child_items, is_page, item_at}
 use Rattle.pl_base.proofs.ItemLaws.{bare}
 use Rattle.pl_base.proofs.Among.{In, from_map, in_back, in_either, in_front, in_map}
 use Rattle.pl_base.proofs.Truths.{is_none_at}
@@ -26,11 +26,11 @@ use Rattle.pl_tree.specs.declared.place.Place.TheVariants.{End}
 use Rattle.pl_tree.specs.Changes.{item_of, put, with_new}
 use Rattle.pl_tree.specs.Refused.{tag_refusal, untag_refusal}
 use Rattle.pl_tree.specs.Tagged.{entry_in, new_entry, new_items, new_tag, tag_entry, tag_named, untagged_items}
-use Rattle.pl_tree.specs.Tagged.{with_tagged}
+use Rattle.pl_tree.specs.Tagged.{with_tagged, without_entry}
 use Rattle.pl_base.proofs.KeyCounts.{Ascends}
 use Rattle.pl_tree.proofs.Causes.{if_none}
 use Rattle.pl_tree.proofs.ChildLists.{grown, grown_id, grown_new}
-use Rattle.pl_tree.proofs.EntryRemoved.{if_none_left, unused_good}
+use Rattle.pl_tree.proofs.EntryRemoved.{unused_good}
 use Rattle.pl_tree.proofs.GoodChanges.{below_next, page_there}
 use Rattle.pl_tree.proofs.GoodEntered.{entered_good, no_tags_root}
 use Rattle.pl_tree.proofs.GoodRows.{HasGoodRows, good_rows}
@@ -197,14 +197,6 @@ good_tagged kept page name date h good named dated has none =
     (if nat_lt end_of_ids (kept.ids.item + new_items name items) then Some (NoIds ItemIds) else None) none)
 
 -- ---- a page loses a tag
-
--- as `untagged_items` has it
-abbrev without_entry : Option Item → Option Item → List Item → List Item
-without_entry None entry items = items
-without_entry (Some tag) None items = items
-without_entry (Some tag) (Some entry) items =
-    if_none_left (children_of (removed entry.id items) tag.id) (removed tag.id (removed entry.id items))
-    (removed entry.id items)
 
 pub good_untagged : (kept : Kept) (page : PageId) (name : List ℕ) → IsWellKept kept → HasGoodItems (store_of kept)
     → untag_refusal page name kept.items ≡ None

@@ -1,5 +1,5 @@
 -- Items that are looked up by their ids, which ascend, and by their children, each of which has one parent.
-use Rattle.std.proofs.Common.{◌≡◌, ◌<◌, ◌||◌, ◌==◌, ◌∙◌, inl, inr, ℕ, Bool, true, false}
+use Rattle.std.proofs.Common.{◌≡◌, ◌≢◌, ◌<◌, ◌||◌, ◌==◌, ◌∙◌, inl, inr, ℕ, Bool, true, false}
 use Rattle.std.proofs.Common.{List, [], ◌∷◌, Option, Some, None, ap, sym, subst, arith, refl, find}
 use Rattle.std.proofs.Common.{if◌then◌else◌, eq-eqb}
 use Rattle.std.specs.List.{filter_map, list_any}
@@ -38,6 +38,14 @@ among_in (c ∷ cs) id some = choose (c.0 == id.0) refl some (among_in cs id)
         → (list_any (λ (d : ItemId). d.0 == id.0) cs ≡ true → In id cs) → In id (c ∷ cs)
     choose true is some rest = inl (sym (same_item_number c id (eqb-true c.0 id.0 is)))
     choose false is some rest = inr (rest some)
+
+pub no_ids : (ids : List ItemId) → (ids ≢ [] → ⊥) → ids ≡ []
+no_ids [] none = refl
+no_ids (c ∷ ids) none = absurd (none (λ same. absurd (cc)))
+
+pub some_ids : (ids : List ItemId) (c : ItemId) → In c ids → ids ≢ []
+some_ids [] c h same = absurd h
+some_ids (d ∷ ds) c h same = absurd (cc)
 
 -- ---- what is found
 
@@ -189,6 +197,18 @@ from_filter_map at (c ∷ cs) i h =
     choose : (o : Option Item) → at c ≡ o → (In i (filter_map at cs) → IsMade at (c ∷ cs) i) → IsMade at (c ∷ cs) i
     choose None is later = later (rw is at h)
     choose (Some j) is later = first j is (rw is at h) later
+
+pub in_filter_map : (at : ItemId → Option Item) (ids : List ItemId) (c : ItemId) (i : Item) → In c ids
+    → at c ≡ Some i → In i (filter_map at ids)
+in_filter_map at [] c i h is = absurd h
+in_filter_map at (d ∷ ds) c i (inl e) is =
+    let here : at d ≡ Some i = ap at (sym e) ∙ is in
+    rw here (inl refl)
+in_filter_map at (d ∷ ds) c i (inr h) is = choose (at d) refl (in_filter_map at ds c i h is)
+  where
+    choose : (o : Option Item) → at d ≡ o → In i (filter_map at ds) → In i (filter_map at (d ∷ ds))
+    choose None here rest = rw here rest
+    choose (Some j) here rest = rw here (inr rest)
 
 pub filter_map-alike : (f g : ItemId → Option Item) (ids : List ItemId) → ((c : ItemId) → In c ids → f c ≡ g c)
     → filter_map f ids ≡ filter_map g ids

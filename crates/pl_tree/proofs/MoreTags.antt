@@ -120,7 +120,7 @@ module _ (old : Store) (next : ℕ) (page : PageId) (name : List ℕ) (date : Mi
     known_ids = ids_more items (item_id next) tag.id (entry_at next page date) refl refl up fresh known
 
     pub known_fresh : (i : Item) → In i known_now → i.id.0 < next + 1
-    known_fresh = fresh_more items (item_id next) tag.id (entry_at next page date) refl refl up fresh known
+    known_fresh = fresh_more items (item_id next) tag.id (entry_at next page date) refl fresh
 
   -- ---- the tag is new
 
@@ -143,7 +143,7 @@ module _ (old : Store) (next : ℕ) (page : PageId) (name : List ℕ) (date : Mi
   mid_up = ascends_new items folder_id tags_root new_folder refl refl up fresh known
 
   mid_fresh : (i : Item) → In i mid → i.id.0 < next + 1
-  mid_fresh = fresh_more items folder_id tags_root new_folder refl refl up fresh known
+  mid_fresh = fresh_more items folder_id tags_root new_folder refl fresh
 
   mid_known : (c : ItemId) → In c (child_ids mid) → c.0 < next + 1
   mid_known = known_more items folder_id tags_root new_folder refl refl up fresh known
@@ -214,7 +214,7 @@ module _ (old : Store) (next : ℕ) (page : PageId) (name : List ℕ) (date : Mi
       (ids_more items folder_id tags_root new_folder refl refl up fresh known)
 
   pub new_fresh : (i : Item) → In i new_now → i.id.0 < next + 1 + 1
-  new_fresh = fresh_more mid last folder_id (entry_at (next + 1) page date) refl refl mid_up mid_fresh mid_known
+  new_fresh = fresh_more mid last folder_id (entry_at (next + 1) page date) refl mid_fresh
 
 -- ---- either
 

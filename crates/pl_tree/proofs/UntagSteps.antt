@@ -15,9 +15,10 @@ use Rattle.pl_base.specs.Tags.{tags_root}
 use Rattle.pl_base.specs.Tree.{child_items, children_of, first_item, has_item, is_page, item_at, removed}
 use Rattle.pl_base.proofs.Among.{In}
 use Rattle.pl_tree.specs.Refused.{untag_refusal}
-use Rattle.pl_tree.specs.Tagged.{entry_in, tag_entry, tag_named, untagged_items}
+use Rattle.pl_tree.specs.Tagged.{entry_in, if_none_left, tag_entry, tag_named, untagged_items}
+use Rattle.pl_tree.specs.Tagged.{without_entry}
 use Rattle.pl_base.proofs.KeyCounts.{Ascends}
-use Rattle.pl_tree.proofs.EntryRemoved.{entry_child, has_child, if_none_left, mid_child, mid_good, no_children}
+use Rattle.pl_tree.proofs.EntryRemoved.{entry_child, has_child, mid_child, mid_good, no_children}
 use Rattle.pl_tree.proofs.GoodRows.{good_rows}
 use Rattle.pl_tree.proofs.GoodTagged.{good_untagged}
 use Rattle.pl_tree.proofs.LookedUp.{children_in, found_at, found_in, item_key}
@@ -106,14 +107,6 @@ module _ (kept : Kept) (page : PageId) (name : List ℕ) (folder entry : ItemId)
       (record (store_of kept) { items = removed e.item.id kept.items }) tags_root e.tag.id
       (mid_good (store_of kept) up good e.tag e.item tagged entered)
       (mid_child (store_of kept) up good e.tag e.item tagged entered)
-
-  -- as `untagged_items` has it
-  abbrev without_entry : Option Item → Option Item → List Item → List Item
-  without_entry None entry items = items
-  without_entry (Some tag) None items = items
-  without_entry (Some tag) (Some entry) items =
-      if_none_left (children_of (removed entry.id items) tag.id) (removed tag.id (removed entry.id items))
-      (removed entry.id items)
 
   unused : untagged_items page name kept.items
       ≡ if_none_left (children_of (removed entry kept.items) folder) (removed folder (removed entry kept.items))

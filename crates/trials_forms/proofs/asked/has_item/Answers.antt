@@ -1,7 +1,7 @@
 use Rattle.std.proofs.Common.{◌==◌}
 use Rattle.pl_base.specs.Store.{Item}
 use Rattle.pl_base.specs.Tree.{item_row}
-use Rattle.trials_forms.proofs.Found.{there}
+use Rattle.trials_trees.proofs.Asked.{there}
 use Rattle.trials_forms.proofs.asked.has_item.Goals as goal
 
 pub returns : goal.returns

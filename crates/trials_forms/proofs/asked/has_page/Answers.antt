@@ -1,6 +1,6 @@
 use Rattle.std.proofs.Common.{◌==◌}
 use Rattle.pl_base.specs.Rows.{KeptPage, mark_of}
-use Rattle.trials_forms.proofs.Found.{there}
+use Rattle.trials_trees.proofs.Asked.{there}
 use Rattle.trials_forms.proofs.asked.has_page.Goals as goal
 
 pub returns : goal.returns

@@ -1,7 +1,7 @@
 use Rattle.std.proofs.Common.{◌==◌}
 use Rattle.pl_base.specs.Rows.{row_of}
 use Rattle.pl_base.specs.Store.{Visit}
-use Rattle.trials_forms.proofs.Found.{there}
+use Rattle.trials_trees.proofs.Asked.{there}
 use Rattle.trials_forms.proofs.asked.has_visit.Goals as goal
 
 pub returns : goal.returns
