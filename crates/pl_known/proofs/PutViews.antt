@@ -80,7 +80,8 @@ module _ (new : View) where
         λ j d low high. parts.1 (suc j) d (omega (arith, low)) (omega (arith, high)),
       ))
 
--- where a search by halves ends in vain, lesser ids stand in front of the place, and greater ones behind it
+-- where a search by halves ends in vain, lesser ids stand in front of the place, and greater ones
+-- behind it
 pub between_ids : (views : List View) (id place : ℕ)
     → IsPartitionPoint (λ (w : View). nat_cmp w.id.0 id ≡ Less) (λ (w : View). nat_cmp w.id.0 id ≡ Greater) views place
     → IsPartitionPoint (λ (w : View). w.id.0 < id) (λ (w : View). id < w.id.0) views place

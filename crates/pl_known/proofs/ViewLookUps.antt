@@ -1,4 +1,5 @@
--- What look-ups by id tell of views in order: that they tell the list, and what a change makes of them.
+-- What look-ups by id tell of views in order: that they tell the list, and what a change makes of
+-- them.
 use Rattle.std.proofs.Common.{◌≡◌, ◌<◌, ◌==◌, ◌∙◌, ℕ, Bool, true, false, List, [], ◌∷◌, All, Some, None}
 use Rattle.std.proofs.Common.{ap, arith, eq-eqb, eqb-true, filter, if◌then◌else◌, nat_lt, not, refl, subst, sym}
 use Rattle.std.specs.List.{AllByRecursion}

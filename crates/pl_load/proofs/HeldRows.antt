@@ -1,4 +1,5 @@
--- The pages hold the rows that were read, with their texts, in slots of their own, and list them by their kinds.
+-- The pages hold the rows that were read, with their texts, in slots of their own, and list them by
+-- their kinds.
 use Rattle.std.proofs.Common.{◌≡◌, ◌∙◌, ◌∷◌, ◌++◌, [], ℕ, List, ap, append_assoc, map, refl, subst, sym, true}
 use Rattle.std.proofs.Common.{eqb}
 use Rattle.std.proofs.lemmas.Grind.{flat_map-append}

@@ -1,5 +1,5 @@
--- How many slots are live, where what was read are the rows of a store: as many as the definition counts, and no more
--- than an arena has.
+-- How many slots are live, where what was read are the rows of a store: as many as the definition
+-- counts, and no more than an arena has.
 use Rattle.std.proofs.Common.{◌≡◌, ◌≤◌, ◌∙◌, ◌∷◌, ◌++◌, ◌+◌, [], ℕ, List, Some, ap, arith, length, map, refl, sym}
 use Rattle.std.proofs.Common.{true}
 use Rattle.std.specs.List.{AllByRecursion, AllZip, flat_map, sum_by}

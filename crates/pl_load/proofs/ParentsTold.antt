@@ -1,5 +1,5 @@
--- What was read tells of its items: each stands in the slot that says its id, each row names the slot of its item's
--- parent, and chains link the slots of the children.
+-- What was read tells of its items: each stands in the slot that says its id, each row names the
+-- slot of its item's parent, and chains link the slots of the children.
 use Rattle.std.proofs.Common.{◌≡◌, ◌≢◌, ◌∙◌, ◌∷◌, ◌==◌, [], List, Some, arith, eqb-true}
 use Rattle.std.proofs.Common.{inl, inr, length, map, suc, sym, true}
 use Rattle.std.specs.List.{All, AllPairs, AllZip, zip}
