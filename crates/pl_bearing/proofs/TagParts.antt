@@ -7,7 +7,6 @@ use Rattle.std.specs.List.Sorted.{IsStrictlySortedBy}
 use Rattle.std.specs.Map.{values_of}
 use Rattle.std.specs.Option.{option_and_then, option_map}
 use Rattle.std.proofs.lemmas.Bool.{false≢true}
-use Rattle.std.proofs.lemmas.List.Kept.{AllPairs-from_increasing}
 use Rattle.std.proofs.lemmas.Option.{same_Some}
 use Rattle.pl_base.specs.declared.id.ItemId.{ItemId}
 use Rattle.pl_base.specs.declared.id.PageId.{PageId}
@@ -18,7 +17,7 @@ use Rattle.pl_base.specs.Tags.{has_tag, is_tags_root, page_tags, tags_of, tags_r
 use Rattle.pl_base.specs.Tree.{child_items, children_of, has_child, is_page, item_at, item_title, parent_of}
 use Rattle.pl_base.proofs.Among.{In, all_from_in, at_in, from_filter, in_filter}
 use Rattle.pl_base.proofs.ItemLookUps.{id_of_item, same_item}
-use Rattle.pl_base.proofs.LookUps.{apart_ascending, found_self}
+use Rattle.pl_base.proofs.LookUps.{apart_increasing, found_self}
 use Rattle.pl_base.proofs.OneParent.{IsParent, is_among, parents}
 use Rattle.pl_base.proofs.ReferencesRun.{having}
 use Rattle.pl_tree.proofs.LookedUp.{children_in, from_filter_map, in_filter_map}
@@ -35,8 +34,7 @@ use Rattle.pl_bearing.proofs.FoundItems.{parent_there}
 pub are_found : (store : Store) → IsGood store → AreFound store.items
 are_found store good =
     found_self (λ (i : Item). i.id.0) store.items
-    (apart_ascending (λ (i : Item). i.id.0) store.items
-    (AllPairs-from_increasing (map (λ (i : Item). i.id.0) store.items) good.item_ids.ascending))
+    (apart_increasing (λ (i : Item). i.id.0) store.items good.item_ids.ascending)
 
 -- a parent is an item that has the child
 pub above : (items : List Item) (id parent : ItemId) → AreFound items → parent_of items id ≡ Some parent

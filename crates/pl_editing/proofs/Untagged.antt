@@ -6,7 +6,6 @@ use Rattle.std.specs.List.{AllByRecursion}
 use Rattle.std.specs.Option.{IsSome, option_and_then}
 use Rattle.std.proofs.lemmas.Bool.{eqb-true, or_parts}
 use Rattle.std.proofs.lemmas.List.Elements.{All-from_recursion, recursion_from_All}
-use Rattle.std.proofs.lemmas.List.Kept.{AllPairs-from_increasing}
 use Rattle.pl_base.specs.declared.id.ItemId.{ItemId}
 use Rattle.pl_base.specs.declared.id.PageId.{PageId}
 use Rattle.pl_base.specs.declared.item.ItemKind.TheVariants.{Folder}
@@ -17,7 +16,7 @@ use Rattle.pl_base.specs.Store.{Item, Store}
 use Rattle.pl_base.specs.Tags.{tags_of, tags_root}
 use Rattle.pl_base.specs.Tree.{child_items, children_of, is_page, item_at, leaving, removed}
 use Rattle.pl_base.proofs.ListLaws.{all-filter, list_any-map, weaker}
-use Rattle.pl_base.proofs.LookUps.{Apart, apart_ascending, found_holds, found_one, found_passes}
+use Rattle.pl_base.proofs.LookUps.{Apart, apart_increasing, found_holds, found_one, found_passes}
 use Rattle.pl_tree.specs.Tagged.{entry_in, tag_named, untagged_items, without_entry, without_unused}
 use Rattle.pl_tree.proofs.TagItems.{Bookmark≢Folder}
 use Rattle.pl_base.specs.Rows.{IsSound}
@@ -141,7 +140,6 @@ untagged_settled old new page name h sound there is good =
     (λ i j d before within. absurd (omega arith))
     (λ id other.
     reference_untagged (store_of old) page id name
-    (apart_ascending (λ (i : Item). i.id.0) old.items
-    (AllPairs-from_increasing (map (λ (i : Item). i.id.0) old.items) h.item_ids.ascending))
+    (apart_increasing (λ (i : Item). i.id.0) old.items h.item_ids.ascending)
     (items_of (store_of old) sound.good) (or_parts (id.0 == page.0) false other).0)
     (subst (λ (k : Kept). HasGoodItems (store_of k)) is good))

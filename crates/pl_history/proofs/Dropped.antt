@@ -8,7 +8,6 @@ use Rattle.std.specs.Option.{option_map}
 use Rattle.std.proofs.lemmas.Bool.{eqb-false, eqb-true, false_from_ne_true, false≢true, ne_eqb, not-true, or_from}
 use Rattle.std.proofs.lemmas.Bool.{or_parts}
 use Rattle.std.proofs.lemmas.List.{length-map}
-use Rattle.std.proofs.lemmas.List.Kept.{AllPairs-from_increasing}
 use Rattle.std.proofs.lemmas.List.Elements.{All-from_recursion, All-map, recursion_from_All}
 use Rattle.pl_base.specs.declared.date.Day.{Day}
 use Rattle.pl_base.specs.declared.id.Ids.{Ids}
@@ -27,7 +26,7 @@ use Rattle.pl_history.specs.Sound.{IsTypedRight}
 use Rattle.pl_base.specs.Removal.{is_standing}
 use Rattle.pl_history.specs.Settled.{AreSettledBut, Drops}
 use Rattle.pl_base.specs.Removal.{without_idle_pages}
-use Rattle.pl_base.proofs.LookUps.{Apart, apart_ascending, both, none_pass, where_passes}
+use Rattle.pl_base.proofs.LookUps.{Apart, apart_increasing, both, none_pass, where_passes}
 use Rattle.pl_history.proofs.GoodRows.{items_with}
 
 -- ---- lists
@@ -313,8 +312,7 @@ dropped_fewer page old new h there w =
     omega (
       arith,
       one_fewer page old.pages
-          (apart_ascending (λ (p : KeptPage). p.page.id.0) old.pages
-          (AllPairs-from_increasing (map (λ (p : KeptPage). p.page.id.0) old.pages) h.page_ids.ascending))
+          (apart_increasing (λ (p : KeptPage). p.page.id.0) old.pages h.page_ids.ascending)
           there,
       sym (length-map new.pages unnamed) ∙ ap length w.pages ∙ length-map (other_pages page old.pages) unnamed,
     )

@@ -1,9 +1,10 @@
 -- What is read from pages is read in one way.
-use Rattle.std.proofs.Common.{◌≡◌, ◌∙◌, ◌∷◌, [], ℕ, List, Option, Some, None, ap, map, refl, subst, sym}
+use Rattle.std.proofs.Common.{◌≡◌, ◌∙◌, ◌∷◌, [], ℕ, List, Option, Some, None, ap, refl, subst, sym}
 use Rattle.std.specs.List.{AllZip, zip}
 use Rattle.std.specs.Option.{option_and_then, option_map}
 use Rattle.pl_base.specs.declared.id.Slot.{Slot}
 use Rattle.pl_base.specs.Store.{Item as TreeItem}
+use Rattle.pl_base.proofs.ListLaws.{same_somes}
 use Rattle.pl_load.specs.Members.{parent_members}
 use Rattle.pl_load.specs.Reads.{AreReadFrom, Reads}
 use Rattle.pl_load.proofs.OwnedLists.{no_page}
@@ -46,16 +47,6 @@ one_right {X} {Y} R S one xs ws ys zs same first second =
         let head = one x y z first.0 second.0 in
         let tail = go xs ys zs first.1 second.1 in
         λ i. head i ∷ tail i
-
-pub one_somes : {X : Type 0} (xs ys : List X) → map Some xs ≡ map Some ys → xs ≡ ys
-one_somes [] [] same = refl
-one_somes [] (y ∷ ys) same = absurd (cc)
-one_somes (x ∷ xs) [] same = absurd (cc)
-one_somes (x ∷ xs) (y ∷ ys) same =
-    let head : x ≡ y = cc in
-    let tail : map Some xs ≡ map Some ys = cc in
-    let rest : xs ≡ ys = one_somes xs ys tail in
-    λ i. head i ∷ rest i
 
 -- ---- what numbers name
 
@@ -176,7 +167,7 @@ module _ (pages : Pages) where
       let added : s.added ≡ t.added = first.added ∙ sym second.added in
       let modified : s.modified ≡ t.modified = first.modified ∙ sym second.modified in
       let children : s.children ≡ t.children =
-      one_somes s.children t.children (sym first.children ∙ second.children) in
+      same_somes s.children t.children (sym first.children ∙ second.children) in
       λ i.
       record {
         id = id i;

@@ -17,9 +17,10 @@ use Rattle.pl_base.specs.Rows.{AreTargets, Kept, has_visit, store_of}
 use Rattle.pl_base.specs.Store.{Visit}
 use Rattle.pl_base.proofs.ListLaws.{all-filter, to_map, weaker}
 use Rattle.pl_base.proofs.LookUps.{any_none, both}
+use Rattle.pl_base.proofs.SortLaws.{all_moved}
 use Rattle.pl_load.specs.Members.{source_members}
 use Rattle.pl_load.specs.Reads.{visit_at}
-use Rattle.pl_load.proofs.ListParts.{all_moved, kept_of_kept, pass_all, zip_made}
+use Rattle.pl_load.proofs.ListParts.{kept_of_kept, pass_all, zip_made}
 use Rattle.pl_load.proofs.SourceSlots.{all_there, came_from, redirects_told, sources_owned}
 use Rattle.pl_owned.specs.Owned.{IsListed}
 use Rattle.pl_owned.specs.Redirects.{HasRedirectsFirst, holds_redirect}

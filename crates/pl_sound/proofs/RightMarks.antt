@@ -1,7 +1,7 @@
 -- The marks of pages, computed from their visits by page.
 use Rattle.std.proofs.Common.{◌≡◌, ◌≤◌, ◌<◌, ◌^◌, ◌+◌, ◌∙◌, ◌&&◌, ◌||◌, ◌==◌, ℕ, Bool, true, false, List, [], ◌∷◌, ap}
-use Rattle.std.proofs.Common.{arith, filter, if◌then◌else◌, length, map, not, refl, suc, sym, take, zero}
-use Rattle.std.specs.List.{AllByRecursion, count_by, list_all, list_any}
+use Rattle.std.proofs.Common.{arith, filter, if◌then◌else◌, length, map, not, refl, sym, take}
+use Rattle.std.specs.List.{AllByRecursion, count_by, list_all}
 use Rattle.std.proofs.lemmas.Bool.{ne_eqb}
 use Rattle.std.proofs.lemmas.List.{length-map, take-map}
 use Rattle.std.proofs.lemmas.List.Folds.{list_all-map}
@@ -13,10 +13,10 @@ use Rattle.pl_base.specs.Live.{slot_limit}
 use Rattle.pl_base.specs.Marks.{is_counted, is_framed, is_hidden, is_referenced, visit_count}
 use Rattle.pl_base.specs.Redirects.{is_redirect_source}
 use Rattle.pl_base.specs.Store.{Store, Visit}
-use Rattle.pl_base.specs.Visits.{latest_first, sample_of, sample_size, visits_of}
+use Rattle.pl_base.specs.Visits.{sample_of, sample_size, visits_of}
 use Rattle.pl_base.proofs.IdsLaws.{same_page}
-use Rattle.pl_base.proofs.ListLaws.{map-map, sum_by-map}
-use Rattle.pl_base.proofs.VisitLists.{any-latest_first}
+use Rattle.pl_base.proofs.ListLaws.{all_take, map-map, sum_by-map}
+use Rattle.pl_base.proofs.VisitLists.{list_all-latest_first}
 use Rattle.pl_base.proofs.VisitsLaws.{latest_first-same, length-latest_first}
 use Rattle.pl_score.specs.declared.sample.Sampled.{Sampled}
 use Rattle.pl_score.specs.Sample.{points_of, sampled_of}
@@ -43,24 +43,6 @@ all_kept {X} p (x ∷ xs) = choose (p x) refl (all_kept p xs)
         → AllByRecursion (Passes p) (if b then x ∷ filter p xs else filter p xs)
     choose true is rest = (is, rest)
     choose false is rest = rest
-
-all_first : {X : Type 0} (P : X → Type 0) (n : ℕ) (xs : List X) → AllByRecursion P xs → AllByRecursion P (take n xs)
-all_first P zero xs all = tt
-all_first P (suc n) [] all = tt
-all_first P (suc n) (x ∷ xs) all = (all.0, all_first P n xs all.1)
-
--- all pass where none fails
-all_by_any : {X : Type 0} (p : X → Bool) (xs : List X) → list_all p xs ≡ not (list_any (λ x. not (p x)) xs)
-all_by_any p [] = refl
-all_by_any p (x ∷ xs) = ap (λ b. p x && b) (all_by_any p xs) ∙ both (p x) (list_any (λ y. not (p y)) xs)
-  where
-    both : (a b : Bool) → (a && not b) ≡ not (not a || b)
-    both true b = refl
-    both false b = refl
-
-all_latest : (p : Visit → Bool) (vs : List Visit) → list_all p (latest_first vs) ≡ list_all p vs
-all_latest p vs =
-    all_by_any p (latest_first vs) ∙ ap not (any-latest_first (λ v. not (p v)) vs) ∙ sym (all_by_any p vs)
 
 counted_part : (p : Visit → Bool) (vs : List Visit)
     → count_by counts (filter p vs) ≡ count_by (λ v. p v && counts v) vs
@@ -117,7 +99,7 @@ module _ (rows : Stored) (sorted : List StoredVisit) (by : AreByPage rows.visits
       → map (told_sample rows referenced) sampled ≡ map (sampled_of store) (sample_of store page)
   sample_is referenced told =
       ap (λ (b : Bool). map (told_sample rows b) sampled) told
-      ∙ told_right sampled (all_first (Passes (of_page page)) sample_size own (all_kept (of_page page) sorted))
+      ∙ told_right sampled (all_take (Passes (of_page page)) sample_size own (all_kept (of_page page) sorted))
       ∙ sym (map-map (sampled_of store) visit_of sampled)
       ∙ ap (map (sampled_of store)) (sym (take-map visit_of sample_size own) ∙ ap (take sample_size) (by page))
 
@@ -142,7 +124,7 @@ module _ (rows : Stored) (sorted : List StoredVisit) (by : AreByPage rows.visits
       ap (λ (b : Bool). not (length own == 0) && b)
       (sym (list_all-map unseen visit_of own)
       ∙ ap (list_all unseen) (by page)
-      ∙ all_latest unseen (visits_of store page))
+      ∙ list_all-latest_first unseen (visits_of store page))
       ∙ ap (λ (n : ℕ). not (n == 0)
       && list_all unseen (visits_of store page))
       (sym (length-map own visit_of) ∙ ap length (by page) ∙ length-latest_first (visits_of store page))

@@ -3,7 +3,6 @@ use Rattle.std.proofs.Common.{◌≡◌, ◌∙◌, ◌==◌, Bool, true, false,
 use Rattle.std.proofs.Common.{Some, None, ap, if◌then◌else◌, map, refl, subst, sym}
 use Rattle.std.specs.List.{AllByRecursion}
 use Rattle.std.proofs.lemmas.List.Elements.{All-from_recursion, recursion_from_All}
-use Rattle.std.proofs.lemmas.List.Kept.{AllPairs-from_increasing}
 use Rattle.pl_base.specs.declared.date.Micros.{Micros}
 use Rattle.pl_base.specs.declared.id.ItemId.{ItemId}
 use Rattle.pl_base.specs.declared.id.PageId.{PageId}
@@ -15,7 +14,7 @@ use Rattle.pl_base.specs.Rows.{titled, with_items, with_new_page, with_origin, w
 use Rattle.pl_base.specs.Store.{Item}
 use Rattle.pl_base.specs.Tree.{has_item, is_page, redated, retitled}
 use Rattle.pl_base.proofs.ListLaws.{list_any-alike, list_any-map, list_any_push}
-use Rattle.pl_base.proofs.LookUps.{apart_ascending, both, found_holds, found_one, none_pass}
+use Rattle.pl_base.proofs.LookUps.{apart_increasing, both, found_holds, found_one, none_pass}
 use Rattle.pl_tree.specs.declared.tree_change.TreeChange.TheVariants.{Retitle}
 use Rattle.pl_tree.specs.Refused.{refusal}
 use Rattle.pl_tree.proofs.GoodChanges.{good_retitled}
@@ -114,5 +113,5 @@ good_redated kept item date h there none dated good =
     subst (λ (items : List Item). HasGoodItems (store_of (with_items items kept)))
     (sym (same_title item date one.0 kept.items
     (found_one number item.0 kept.items one.0
-    (apart_ascending number kept.items (AllPairs-from_increasing (map number kept.items) h.item_ids.ascending)) one.1)))
+    (apart_increasing number kept.items h.item_ids.ascending) one.1)))
     (good_retitled kept item one.0.title date h good fine.title dated none)
