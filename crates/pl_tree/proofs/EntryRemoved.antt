@@ -10,9 +10,10 @@ use Rattle.pl_base.specs.Store.{Item, Store}
 use Rattle.pl_base.specs.Tags.{tags_root}
 use Rattle.pl_base.specs.Tree.{child_items, children_of, has_item, item_at, parent_of, removed}
 use Rattle.pl_base.proofs.ItemLaws.{bare}
-use Rattle.pl_base.proofs.Among.{In, in_map}
+use Rattle.pl_base.proofs.Among.{In, in_map, not_empty}
 use Rattle.pl_base.proofs.ItemLookUps.{same_item_number}
 use Rattle.pl_base.proofs.KeyCounts.{Ascends}
+use Rattle.pl_base.proofs.Truths.{no_elements}
 use Rattle.pl_tree.specs.Tagged.{if_none_left}
 use Rattle.pl_tree.proofs.ChildLists.{left_other, without_other}
 use Rattle.pl_tree.proofs.GoodEntered.{no_tags_root}
@@ -20,8 +21,7 @@ use Rattle.pl_tree.proofs.GoodRows.{HasGoodRows, good_rows, with_tags}
 use Rattle.pl_tree.proofs.Insides.{LiesLaws}
 use Rattle.pl_tree.proofs.KeptItems.{good_item}
 use Rattle.pl_tree.proofs.LookedUp.{at_id, child_of, children_in, found_at, has_parent, id_key}
-use Rattle.pl_tree.proofs.LookedUp.{in_child_ids, item_key, no_ids, one_parent, parent_of_child}
-use Rattle.pl_tree.proofs.LookedUp.{some_ids}
+use Rattle.pl_tree.proofs.LookedUp.{in_child_ids, item_key, one_parent, parent_of_child}
 use Rattle.pl_tree.proofs.RemovedChildren.{ascends_left, children_left, from_left}
 use Rattle.pl_tree.proofs.RemovedRows.{removed_rows}
 use Rattle.pl_tree.proofs.RootItems.{IsNoRoot, no_root_below, no_tags}
@@ -87,7 +87,7 @@ module _ (old : Store) (up : Ascends item_key old.items) (good : HasGoodItems ol
       let same : i ≡ entry =
       same_Some i entry (sym (at_id items i entry.id up h e) ∙ (child_at items tag.id entry entered).1)
       in
-      no_ids i.children (λ some.
+      no_elements i.children (λ some.
       Bookmark≢Folder
       (sym (ap (λ (k : Item). k.kind) same ∙ entry_kind) ∙ (good_item old i good.items h).children some))
 
@@ -129,7 +129,7 @@ module _ (old : Store) (up : Ascends item_key old.items) (good : HasGoodItems ol
             ap (item_at mid.items) (sym (same_item_number j.id tag.id e)) ∙ (child_at mid.items tags_root j h).1
             in
             let all : c ∷ cs ≡ j.children = sym is ∙ ap children_in at in
-            some_ids j.children c (subst (In c) all (inl refl))
+            not_empty j.children c (subst (In c) all (inl refl))
         | inr other ↦ mid_used j h other
       ]
 

@@ -13,7 +13,7 @@ use Rattle.pl_base.specs.Store.{Item, Store}
 use Rattle.pl_base.specs.Tags.{tags_root}
 use Rattle.pl_base.specs.Tree.{child_items, children_of, item_at}
 use Rattle.pl_base.proofs.ItemLaws.{bare}
-use Rattle.pl_base.proofs.Among.{In, in_map}
+use Rattle.pl_base.proofs.Among.{In, in_map, not_empty}
 use Rattle.pl_base.proofs.ItemLookUps.{same_item_number}
 use Rattle.pl_tree.specs.declared.place.Place.TheVariants.{End}
 use Rattle.pl_tree.specs.Changes.{item_of, put, with_new}
@@ -23,7 +23,7 @@ use Rattle.pl_tree.proofs.ChildLists.{grown, grown_new}
 use Rattle.pl_tree.proofs.GoodRows.{HasGoodRows, with_tags}
 use Rattle.pl_tree.proofs.InsertedChildren.{from_children}
 use Rattle.pl_tree.proofs.InsertedRows.{IsFolderAt, inserted_rows}
-use Rattle.pl_tree.proofs.LookedUp.{item_key, some_ids}
+use Rattle.pl_tree.proofs.LookedUp.{item_key}
 use Rattle.pl_tree.proofs.MappedItems.{changed_other}
 use Rattle.pl_tree.proofs.PutPlaces.{row_of_new}
 use Rattle.pl_tree.proofs.RootItems.{no_root_below, no_tags, top_folder}
@@ -86,7 +86,7 @@ module _ (old : Store) (ids : Ids) (id : ItemId) (page : PageId) (date : Micros)
       some i g =
           elim (cases_eq i.id.0 tag.id.0) as (λ _. (grown tag.id End id i).children ≢ []) [
             | inl e ↦
-                some_ids (grown tag.id End id i).children id
+                not_empty (grown tag.id End id i).children id
                 (grown_new tag.id End id i (same_item_number i.id tag.id e))
             | inr other ↦
                 subst (λ (k : Item). k.children ≢ [])

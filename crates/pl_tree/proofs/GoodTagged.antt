@@ -20,7 +20,7 @@ use Rattle.pl_base.specs.Store.{Item, Store, item_id}
 use Rattle.pl_base.specs.Tags.{tags_root}
 use Rattle.pl_base.specs.Tree.{child_items, is_page, item_at}
 use Rattle.pl_base.proofs.ItemLaws.{bare}
-use Rattle.pl_base.proofs.Among.{In, from_map, in_back, in_either, in_front, in_map}
+use Rattle.pl_base.proofs.Among.{In, from_found, from_map, in_back, in_either, in_front, in_map}
 use Rattle.pl_base.proofs.Truths.{is_none_at}
 use Rattle.pl_tree.specs.declared.place.Place.TheVariants.{End}
 use Rattle.pl_tree.specs.Changes.{item_of, put, with_new}
@@ -36,7 +36,7 @@ use Rattle.pl_tree.proofs.GoodEntered.{entered_good, no_tags_root}
 use Rattle.pl_tree.proofs.GoodRows.{HasGoodRows, good_rows}
 use Rattle.pl_tree.proofs.InsertedChildren.{ascends_new, from_children, rows_new}
 use Rattle.pl_tree.proofs.InsertedRows.{inserted_rows}
-use Rattle.pl_tree.proofs.LookedUp.{found_at, found_in, id_key, item_key, none_found}
+use Rattle.pl_tree.proofs.LookedUp.{found_at, id_key, item_key, none_found}
 use Rattle.pl_tree.proofs.MappedItems.{changed_other}
 use Rattle.pl_tree.proofs.PutPlaces.{row_of_new}
 use Rattle.pl_tree.proofs.RootItems.{top_folder}
@@ -89,7 +89,7 @@ module _ (old : Store) (ids : Ids) (next : ℕ) (page : PageId) (name : List ℕ
   entered tag is none id above =
       entered_good old ids id page date tag up (good_rows old good) (tag_rows old good.tags)
       (λ i h. let below = fresh i h in omega arith) (omega arith)
-      (found_in (λ (t : Item). bytes_eq (folded t.title) (folded name)) (child_items items tags_root) tag is).0
+      (from_found (λ (t : Item). bytes_eq (folded t.title) (folded name)) (child_items items tags_root) tag is).0
       (no_page items page tag none) (λ t h _. are_used old good.tags t h) dated has
 
   -- ---- the tag is new
@@ -213,8 +213,8 @@ good_untagged kept page name h good none =
     found tag is None at some = absurd (both_ways true some refl)
     found tag is (Some entry) at some =
         unused_good (store_of kept) (ids_ascend items h.item_ids.ascending) good tag entry
-        (found_in (λ (t : Item). bytes_eq (folded t.title) (folded name)) (child_items items tags_root) tag is).0
-        (found_in (λ (i : Item). is_page page i.page) (child_items items tag.id) entry at).0
+        (from_found (λ (t : Item). bytes_eq (folded t.title) (folded name)) (child_items items tags_root) tag is).0
+        (from_found (λ (i : Item). is_page page i.page) (child_items items tag.id) entry at).0
 
     choose : (o : Option Item) → tag_named name items ≡ o
         → is_none (option_and_then (entry_in items page) o) ≡ false

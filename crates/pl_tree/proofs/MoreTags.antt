@@ -14,7 +14,7 @@ use Rattle.pl_base.specs.Good.{HasGoodItems, child_ids}
 use Rattle.pl_base.specs.Store.{Item, Store, item_id}
 use Rattle.pl_base.specs.Tags.{tags_root}
 use Rattle.pl_base.specs.Tree.{child_items, children_of, item_at}
-use Rattle.pl_base.proofs.Among.{In, in_either}
+use Rattle.pl_base.proofs.Among.{In, from_found, in_either}
 use Rattle.pl_base.proofs.ItemLookUps.{same_item_number}
 use Rattle.pl_tree.specs.declared.place.Place.TheVariants.{End}
 use Rattle.pl_tree.specs.Changes.{item_of, with_new}
@@ -27,7 +27,7 @@ use Rattle.pl_tree.proofs.GoodEntered.{no_tags_root}
 use Rattle.pl_tree.proofs.GoodRows.{good_rows}
 use Rattle.pl_tree.proofs.InsertedChildren.{ascends_new, at_new, ids_other, ids_parent}
 use Rattle.pl_tree.proofs.KeptTags.{tag_is}
-use Rattle.pl_tree.proofs.LookedUp.{children_in, found_at, found_in, id_key, in_child_ids, item_key}
+use Rattle.pl_tree.proofs.LookedUp.{children_in, found_at, id_key, in_child_ids, item_key}
 use Rattle.pl_tree.proofs.MoreItems.{found_more, fresh_more, ids_more, kind_more, known_more, lists_apart, lists_entry}
 use Rattle.pl_tree.proofs.MoreItems.{lists_folder, still_takes, tag_lists, takes_below, with_entry}
 use Rattle.pl_tree.proofs.RootItems.{top_folder}
@@ -228,7 +228,7 @@ known_is next page name date tag items =
 pub tag_among : (name : List ℕ) (items : List Item) (tag : Item) → tag_named name items ≡ Some tag
     → In tag (child_items items tags_root)
 tag_among name items tag is =
-    (found_in (λ (i : Item). bytes_eq (folded i.title) (folded name)) (child_items items tags_root) tag is).0
+    (from_found (λ (i : Item). bytes_eq (folded i.title) (folded name)) (child_items items tags_root) tag is).0
 
 -- what holds where the tag is there and where it is new
 pub each_tag : (next : ℕ) (page : PageId) (name : List ℕ) (date : Micros) (items : List Item)

@@ -10,7 +10,7 @@ use Rattle.pl_base.specs.Good.{HasGoodItems, HasTags, IsTagFolder, child_ids}
 use Rattle.pl_base.specs.Store.{Item, Store}
 use Rattle.pl_base.specs.Tags.{is_tags_root, tags_of, tags_root}
 use Rattle.pl_base.specs.Tree.{child_items, children_of, item_at, parent_of}
-use Rattle.pl_base.proofs.Among.{In, at_in}
+use Rattle.pl_base.proofs.Among.{In, at_in, in_filter_map, not_empty}
 use Rattle.pl_base.proofs.ItemLookUps.{same_item_number}
 use Rattle.pl_tree.specs.Refused.{is_entry, is_tag}
 use Rattle.pl_base.proofs.KeyCounts.{Ascends}
@@ -18,7 +18,7 @@ use Rattle.pl_tree.proofs.Causes.{MayChange, Takes}
 use Rattle.pl_tree.proofs.KeptItems.{good_item}
 use Rattle.pl_tree.proofs.KeptTags.{is_of_tags}
 use Rattle.pl_tree.proofs.LookedUp.{at_its_id, children_in, found_at, has_parent, in_child_ids}
-use Rattle.pl_tree.proofs.LookedUp.{in_filter_map, item_key, parent_is}
+use Rattle.pl_tree.proofs.LookedUp.{item_key, parent_is}
 use Rattle.pl_tree.proofs.TreeLaws.{child_once}
 
 -- a child that was looked up
