@@ -13,7 +13,8 @@ use Rattle.pl_changes.proofs.Seen.{seen_in}
 module _ (page : PageId) (views : List View) (old : View) (known : Some old ≡ view_of page views) where
   -- what holds of all that is known holds of it
   pub holds_of : (P : View → Type 0) → All P views → P old
-  holds_of P all = All-contains P views old all (contains_from_in views old (seen_in page.0 views old (sym known)).0)
+  holds_of P all =
+      All-contains P views old all (contains_from_in views old (seen_in page.0 views old (sym known)).0)
 
   -- the change of the view is that of the page
   pub of_page : {E : Type 0} (store : Store) (r : Result (Option Change) E)

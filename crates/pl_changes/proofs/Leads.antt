@@ -105,7 +105,8 @@ module _ (kept : Kept) (well : IsWellKept kept) (good : IsGood (store_of kept)) 
       from_there page named None none = absurd (no_page (store_of kept) page none p h named)
       from_there page named (Some v) has =
           let same : has.element ≡ p =
-          one_page (store_of kept) good has.element p (in_from_contains (store_of kept).pages has.element has.there) h
+          one_page (store_of kept) good has.element p
+          (in_from_contains (store_of kept).pages has.element has.there) h
           (has.named ∙ sym (ap (λ (n : ℕ). record { 0 = n }) named)) in
           (v, subst (λ (q : Page). IsViewOf (store_of kept) q v) same has.seen)
 
@@ -118,7 +119,8 @@ module _ (kept : Kept) (well : IsWellKept kept) (good : IsGood (store_of kept)) 
           let before : Contains came.old.pages p =
           came.differ.others.stood p (contains_from_in (store_of kept).pages p h) is in
           let w =
-          view_of_page came.old came.old.pages known.views.items came.knows.views p (in_from_contains came.old.pages p before) in
+          view_of_page came.old came.old.pages known.views.items came.knows.views p
+          (in_from_contains came.old.pages p before) in
           (w.0, came.differ.others.views p before is w.0 w.2)
 
   all_views : (vs : List View) × AreViewsOf (store_of kept) vs
@@ -192,7 +194,8 @@ module _ (kept : Kept) (well : IsWellKept kept) (good : IsGood (store_of kept)) 
         same_url v w q p g h one two same =
             let named : q.id ≡ p.id = sym one.id ∙ ap (λ (n : ℕ). record { 0 = n }) same ∙ two.id in
             let texts : (q.url ≡ p.url) × (q.title ≡ p.title) =
-            came.differ.pages p q (contains_from_in came.old.pages p h) (contains_from_in (store_of kept).pages q g) named in
+            came.differ.pages p q (contains_from_in came.old.pages p h)
+            (contains_from_in (store_of kept).pages q g) named in
             one.url ∙ texts.0 ∙ sym two.url
 
         seen_there : (v : View) (q : Page) → IsViewOf (store_of kept) q v → has_page_at came.old q.id ≡ true

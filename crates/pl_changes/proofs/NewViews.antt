@@ -117,7 +117,9 @@ told store views are ordered page None none =
     no_other : (p : Page) (v : View) → In p store.pages → IsViewOf store p v → v.id.0 ≢ page.0
     no_other p v h is same = no_page store page none p h (ap (λ (id : PageId). id.0) (sym is.id) ∙ same)
 told store views are ordered page (Some v) has =
-    let there = view_of_page store store.pages views are has.element (in_from_contains store.pages has.element has.there) in
+    let there =
+    view_of_page store store.pages views are has.element
+    (in_from_contains store.pages has.element has.there) in
     found there.0 there.1 there.2
   where
     found : (w : View) → In w views → IsViewOf store has.element w → Some v ≡ seen page.0 views

@@ -90,7 +90,8 @@ are_ids-to first next ids low last h =
     let parts = and_parts (ascends_above 0 ids) (list_all (λ id. nat_lt id next) ids) h in
     record {
       ascending = increases 0 ids parts.0;
-      given = ids_given next ids (ascends_all 0 ids parts.0) (AllPass-from_list_all (λ id. nat_lt id next) ids parts.1);
+      given =
+          ids_given next ids (ascends_all 0 ids parts.0) (AllPass-from_list_all (λ id. nat_lt id next) ids parts.1);
       next_first = low;
       next_last = last;
     }
@@ -99,7 +100,8 @@ pub are_ids-from : (first next : ℕ) (ids : List ℕ) → AreIds first next ids
 are_ids-from first next ids h =
     and_from (ascends_above 0 ids) (list_all (λ id. nat_lt id next) ids)
     (ascends 0 ids h.ascending (λ some. (h.given 0 0 some).0))
-    (list_all-from_AllPass (λ id. nat_lt id next) ids (λ k d within. lt-ltb (get_or ids k d) next (h.given k d within).1))
+    (list_all-from_AllPass (λ id. nat_lt id next) ids
+    (λ k d within. lt-ltb (get_or ids k d) next (h.given k d within).1))
 
 -- ---- pages
 

@@ -32,7 +32,8 @@ plain i n id h =
     let second = and_parts (is_folder i.kind) (length i.title == 0) third.0 in
     alike i.id i.kind i.title i.page i.added i.modified (id_is i.id n id)
     (folder_kind is_folder refl refl i.kind second.0)
-    (no_length i.title second.1) (none_there i.page third.1) (first_moment i.added fourth.1) (first_moment i.modified last.1)
+    (no_length i.title second.1) (none_there i.page third.1) (first_moment i.added fourth.1)
+    (first_moment i.modified last.1)
   where
     alike : (id : ItemId) (kind : ItemKind) (title : List ℕ) (page : Option PageId) (added modified : Micros)
         → id ≡ item_id n → kind ≡ Folder → title ≡ [] → page ≡ None → added ≡ record { 0 = 0 }

@@ -20,7 +20,8 @@ use Rattle.pl_base.proofs.ItemLookUps.{has_in, same_item_number}
 use Rattle.pl_base.proofs.KeyCounts.{Ascends, Once, ascends_from_pairs, count, count-cons, counted, tick}
 use Rattle.pl_base.proofs.KeyCounts.{once_from_pairs, pairs_from_once, tick_same}
 use Rattle.pl_base.proofs.ListLaws.{AllPairs-from_map, AllPairs-map, list_any-map, map-map, sum_by-map}
-use Rattle.pl_base.proofs.Among.{In, all_from_in, at_in, from_flat_map, from_map, in_flat_map, in_map, in_permutation}
+use Rattle.pl_base.proofs.Among.{In, all_from_in, at_in, from_flat_map, from_map, in_flat_map, in_map}
+use Rattle.pl_base.proofs.Among.{in_permutation}
 use Rattle.pl_base.proofs.ListLaws.{to_map}
 use Rattle.pl_base.proofs.Truths.{is_none_at}
 use Rattle.pl_items.specs.Nodes.{AreNodes, by_id, child_nodes, has_node, ids_under, item_of, items_of}

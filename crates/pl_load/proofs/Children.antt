@@ -88,7 +88,8 @@ module _ (pages : Pages) (items : List TreeItem) (slot_of : ItemId → Slot) (sl
       ap (λ (ms : List Member). owned_by ms (slot_of i.id)) members_are
       ∙ owned_map parent_slot (λ (j : TreeItem). slot_of j.id) items (slot_of i.id)
       ∙ ap (map (λ (j : TreeItem). slot_of j.id))
-      (filter-where (λ (j : TreeItem). (parent_slot j).0 == (slot_of i.id).0) (λ (j : TreeItem). has_child j.id i) items
+      (filter-where (λ (j : TreeItem). (parent_slot j).0 == (slot_of i.id).0)
+      (λ (j : TreeItem). has_child j.id i) items
       (everyone (λ (j : TreeItem). ((parent_slot j).0 == (slot_of i.id).0) ≡ has_child j.id i) items
       (λ j. given.owner_alike pages items slot_of slots in_slots once i within j.id)))
       ∙ sym (map-map slot_of (λ (j : TreeItem). j.id) (filter (λ (j : TreeItem). has_child j.id i) items))

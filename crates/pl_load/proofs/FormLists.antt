@@ -83,7 +83,8 @@ module _ (at : Layout) (kept : Kept) (targets : VisitId → List StoreVisit) (pa
 
   page_there : (p : KeptPage) → In p kept.pages → has_page kept p.page.id ≡ true
   page_there p here =
-      any_from_in (λ (q : KeptPage). q.page.id.0 == p.page.id.0) kept.pages p here (eq-eqb p.page.id.0 p.page.id.0 refl)
+      any_from_in (λ (q : KeptPage). q.page.id.0 == p.page.id.0) kept.pages p here
+      (eq-eqb p.page.id.0 p.page.id.0 refl)
 
   -- visits and items have pages that are there
   visits_own : AllByRecursion (λ (v : StoreVisit). has_page kept v.page ≡ true) kept.visits

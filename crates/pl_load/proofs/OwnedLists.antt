@@ -115,7 +115,8 @@ module _ (at : Layout) (kept : Kept) (reads : Reads) (are : AreRead at kept read
         ap (λ (ms : List Member). owned_by ms (at.page id)) members
         ∙ owned_map (λ (i : Item). slot_or_none at.page i.page) (λ (i : Item). at.item i.id) kept.items (at.page id)
         ∙ ap (map (λ (i : Item). at.item i.id))
-        (filter-where (λ (i : Item). (slot_or_none at.page i.page).0 == (at.page id).0) (λ (i : Item). is_page id i.page)
+        (filter-where (λ (i : Item). (slot_or_none at.page i.page).0 == (at.page id).0)
+        (λ (i : Item). is_page id i.page)
         kept.items
         (weaker (λ (i : Item). IfSome i.page (λ p. has_page kept p ≡ true))
         (λ (i : Item). ((slot_or_none at.page i.page).0 == (at.page id).0) ≡ is_page id i.page) kept.items
