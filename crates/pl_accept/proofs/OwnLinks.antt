@@ -1,5 +1,5 @@
--- What the lists of origins and of pages tell: the owners of their members are below a number where rows name such, and
--- an origin whose list has a page names a first one.
+-- What the lists of origins and of pages tell: the owners of their members are below a number where
+-- rows name such, and an origin whose list has a page names a first one.
 use Rattle.std.proofs.Common.{◌≡◌, ◌≢◌, ◌≤◌, ◌∙◌, ◌==◌, ◌∷◌, [], List, Some, ap, map, not, refl, sym, true, ℕ}
 use Rattle.std.proofs.lemmas.Bool.{and_parts, ne_eqb, true≢false}
 use Rattle.std.proofs.lemmas.List.Elements.{All-from_recursion, All-map, recursion_from_All}

@@ -31,9 +31,10 @@ use Rattle.pl_bar.specs.declared.offers.Offers.{Offers}
 use Rattle.pl_bar.specs.AddressBar.{all_match, first_tier, is_candidate, offered, ranks_before, second_tier, tiers}
 use Rattle.pl_bar.specs.Cost.{gone_through, is_counted, is_reached, page_cost}
 use Rattle.pl_bar.specs.Offers.{GoOn, filled_up, has_counted, has_id, ids_of, in_first, in_second, up_to}
+use Rattle.pl_marks.proofs.PageRows.{ids_apart}
 use Rattle.pl_bar.proofs.FilledLists.{ascends_kept, filled_cut, filled_full, filled_length, filled_more, filled_take}
 use Rattle.pl_bar.proofs.FilledLists.{up_to_alike, up_to_cost, up_to_map, up_to_more, up_to_reached}
-use Rattle.pl_bar.proofs.PageTiers.{both_filters, has_filtered, ids_apart, page_with}
+use Rattle.pl_bar.proofs.PageTiers.{both_filters, has_filtered, page_with}
 use Rattle.pl_bar.proofs.WalkedPages.{ascends, comes_before, ids_walked, in_order, is_negative, is_positive}
 use Rattle.pl_bar.proofs.WalkedPages.{negative_is, one_or_other, order_is, page_pairs, page_ranks, positive_is, rank}
 use Rattle.pl_bar.proofs.WalkedPages.{some_in_order, walk, walk_joined}

@@ -1,4 +1,5 @@
--- A store whose items changed differs on those pages alone of which they tell something else, or that came.
+-- A store whose items changed differs on those pages alone of which they tell something else, or
+-- that came.
 use Rattle.std.proofs.Common.{◌≡◌, ◌∙◌, ◌+◌, ◌<◌, ◌≤◌, ◌++◌, ◌==◌, ◌||◌, ◌⊎◌, inl, inr, Bool, true, false, List, ℕ}
 use Rattle.std.proofs.Common.{Some, ap, arith, eq-eqb, find, get_or, length, map, refl, subst, sym}
 use Rattle.std.specs.List.{All, AllPairs, Contains}
@@ -119,8 +120,8 @@ module _ (ids : List PageId) (old : Store) (next : Ids) (items : List Item) (add
         behind = behind;
       }
 
--- old and new are good stores. New is old with other items and next ids, with pages more behind, whose
--- ids are the next ones or later, and then without the pages that nothing keeps
+-- old and new are good stores. New is old with other items and next ids, with pages more behind,
+-- whose ids are the next ones or later, and then without the pages that nothing keeps
 pub differ_by_items : (ids : List PageId) (old new : Store) (next : Ids) (items : List Item) (added : List Page)
     → IsGood old → IsGood new
     → new ≡ without_idle_pages (record old { ids = next; items = items; pages = old.pages ++ added })

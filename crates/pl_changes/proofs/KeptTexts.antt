@@ -1,4 +1,5 @@
--- What is known of the pages that stay: their addresses and titles, and their other texts where no item changed.
+-- What is known of the pages that stay: their addresses and titles, and their other texts where no
+-- item changed.
 use Rattle.std.proofs.Common.{◌≡◌, ◌∙◌, List, ap, sym}
 use Rattle.std.specs.List.{All}
 use Rattle.std.proofs.lemmas.List.Elements.{All-from_recursion}

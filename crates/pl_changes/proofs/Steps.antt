@@ -103,7 +103,8 @@ beyond n m over other = omega arith
 abbrev pub Agree : List View → List View → ℕ → ℕ → Type 0
 Agree old new from end = (n : ℕ) → from ≤ n → n < end → seen n old ≡ seen n new
 
--- the changes go through the ids from a bound on, and the lists tell the same of all that they leave out
+-- the changes go through the ids from a bound on, and the lists tell the same of all that they
+-- leave out
 abbrev pub Walk : List View → List View → ℕ → List Change → Type 0
 Walk old new k [] = (n : ℕ) → k ≤ n → seen n old ≡ seen n new
 Walk old new k (c ∷ cs) =

@@ -70,7 +70,7 @@ not_both true b apart = apart refl
 not_both false b apart = refl
 
 -- each other page is still there
-page_left : (page id : PageId) (old new : List KeptPage) → map unnamed new ≡ map unnamed (other_pages page old)
+pub page_left : (page id : PageId) (old new : List KeptPage) → map unnamed new ≡ map unnamed (other_pages page old)
     → page.0 ≢ id.0
     → list_any (λ (p : KeptPage). p.page.id.0 == id.0) new ≡ list_any (λ (p : KeptPage). p.page.id.0 == id.0) old
 page_left page id old new same other =
@@ -179,7 +179,7 @@ rebuilt page old new w =
     ∙ ap (λ (i : List Item). record new { day = old.day; ids = old.ids; visits = old.visits; items = i }) w.items
 
 -- the page of an item is not the one that goes
-item_page_left : (page : PageId) (old new : Store) (of : Option PageId) → is_page page of ≡ false
+pub item_page_left : (page : PageId) (old new : Store) (of : Option PageId) → is_page page of ≡ false
     → ((id : PageId) → page.0 ≢ id.0 → IsTrue (has_page_at old id) → IsTrue (has_page_at new id))
     → IfSome of (λ id. IsTrue (has_page_at old id)) → IfSome of (λ id. IsTrue (has_page_at new id))
 item_page_left page old new None other stays there = tt

@@ -1,5 +1,5 @@
--- The visits of some pages that pass a test, one page behind the other: each is there, none stands twice, and they are
--- those that a filter over all visits gives.
+-- The visits of some pages that pass a test, one page behind the other: each is there, none stands
+-- twice, and they are those that a filter over all visits gives.
 use Rattle.std.proofs.Common.{◌≡◌, ◌≢◌, ◌∙◌, ◌++◌, ◌&&◌, ◌||◌, ◌==◌, ℕ, Bool, true, false, List, [], ◌∷◌, Some, ap}
 use Rattle.std.proofs.Common.{append_assoc, arith, eqb, filter, IsTrue, if◌then◌else◌, map, refl, subst, sym}
 use Rattle.std.specs.List.{AllByRecursion, AllPairs, flat_map, list_any}

@@ -1,5 +1,5 @@
--- Where the links of a file's slots make the lists that the rows read from it demand, its slots are linked as those of
--- the store.
+-- Where the links of a file's slots make the lists that the rows read from it demand, its slots are
+-- linked as those of the store.
 use Rattle.std.proofs.Common.{◌≡◌, ◌∙◌, ◌==◌, List, All, Option, Some, None, ap, eq-eqb, map, refl, subst, true}
 use Rattle.std.specs.List.{AllByRecursion, list_any, zip}
 use Rattle.std.specs.Option.{IfSome}

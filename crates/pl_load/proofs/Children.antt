@@ -1,5 +1,5 @@
--- The children of items as lists of the slots that name them: where chains link the slots of the children, and each row
--- names its parent's slot, they are exactly the slots that name the item.
+-- The children of items as lists of the slots that name them: where chains link the slots of the
+-- children, and each row names its parent's slot, they are exactly the slots that name the item.
 use Rattle.std.proofs.Common.{◌≡◌, ◌≢◌, ◌∙◌, ◌==◌, ◌∷◌, ◌++◌, [], List, ap, filter, map}
 use Rattle.std.proofs.Common.{inl, inr, subst, sym, true}
 use Rattle.std.specs.List.{All, AllByRecursion, AllPairs, AllZip, zip}

@@ -1,4 +1,5 @@
--- Pages that are the form of a store link the lists that its rows demand, and leave alone the slots that are in none.
+-- Pages that are the form of a store link the lists that its rows demand, and leave alone the slots
+-- that are in none.
 use Rattle.std.proofs.Common.{◌≡◌, ◌≢◌, ◌∙◌, ◌==◌, [], Bool, List, Option, Some, None, ap, eq-eqb, filter, find, map}
 use Rattle.std.proofs.Common.{refl, subst, sym, true}
 use Rattle.std.specs.List.{All, AllByRecursion, Contains, zip}

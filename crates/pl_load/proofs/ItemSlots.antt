@@ -1,4 +1,5 @@
--- Items in slots that say their ids: which item a slot is that of, and which slots name an item as their parent.
+-- Items in slots that say their ids: which item a slot is that of, and which slots name an item as
+-- their parent.
 use Rattle.std.proofs.Common.{◌≡◌, ◌≢◌, ◌∙◌, ◌==◌, ◌∷◌, [], List, Option, Some, None, ap, eq-eqb, eqb-true}
 use Rattle.std.proofs.Common.{false, find, map, refl, subst, sym, true}
 use Rattle.std.specs.List.{All, AllPairs, zip}

@@ -1,5 +1,5 @@
--- The parents of items, where the list of each item has the slots that name it: the lists are those of its children's
--- slots, and each row names the slot of its parent.
+-- The parents of items, where the list of each item has the slots that name it: the lists are those
+-- of its children's slots, and each row names the slot of its parent.
 use Rattle.std.proofs.Common.{◌≡◌, ◌≢◌, ◌∙◌, ◌⊎◌, ◌==◌, ◌∷◌, [], Bool, List, Option, Some, None, ap, eq-eqb}
 use Rattle.std.proofs.Common.{filter, find, inl, inr, length, map, refl, subst, sym, true}
 use Rattle.std.specs.List.{All, AllByRecursion, AllPairs, AllZip, list_all, zip}

@@ -1,5 +1,5 @@
--- What is an element of a list: by a number that stands once, and of lists without repeats. Two such lists that
--- have the same elements are one another in another order.
+-- What is an element of a list: by a number that stands once, and of lists without repeats. Two
+-- such lists that have the same elements are one another in another order.
 use Rattle.std.proofs.Common.{◌≡◌, ◌≢◌, ◌∙◌, ◌∷◌, ◌++◌, [], ℕ, Bool, List, ap, false, filter}
 use Rattle.std.proofs.Common.{if◌then◌else◌, inl, inr, map, refl, subst, sym, true}
 use Rattle.std.specs.List.Sorted.{IsPermutation}

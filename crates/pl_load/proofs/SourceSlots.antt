@@ -1,5 +1,5 @@
--- The visits that came from one, in the slots of a layout: which slots name its slot as their source, and which hold
--- redirects.
+-- The visits that came from one, in the slots of a layout: which slots name its slot as their
+-- source, and which hold redirects.
 use Rattle.std.proofs.Common.{◌≡◌, ◌≢◌, ◌<◌, ◌∙◌, ◌∷◌, ◌==◌, [], ℕ, List, Option, Some, None, ap, filter, map}
 use Rattle.std.proofs.Common.{All, eq-eqb, refl, sym, true}
 use Rattle.std.specs.Prelude.{IsTrue}

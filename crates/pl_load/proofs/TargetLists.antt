@@ -1,5 +1,5 @@
--- Lists of the slots that name each visit as their source, redirects first: the visits in them are those that came
--- from each, in the order of the lists.
+-- Lists of the slots that name each visit as their source, redirects first: the visits in them are
+-- those that came from each, in the order of the lists.
 use Rattle.std.proofs.Common.{◌≡◌, ◌∙◌, ◌∷◌, ◌++◌, ◌==◌, ◌||◌, [], Bool, List, Option, Some, None, All, ap, false}
 use Rattle.std.proofs.Common.{◌&&◌, filter, find, if◌then◌else◌, map, not, refl, subst, sym, true}
 use Rattle.std.specs.List.{AllByRecursion, AllZip, list_any}

@@ -1,5 +1,5 @@
--- The slots of the visits that came from each visit, redirects first: they are lists of the slots that name each visit
--- as their source.
+-- The slots of the visits that came from each visit, redirects first: they are lists of the slots
+-- that name each visit as their source.
 use Rattle.std.proofs.Common.{◌≡◌, ◌∙◌, ◌++◌, ◌&&◌, Bool, List, All, ap, false, filter, map, not, refl, subst, sym}
 use Rattle.std.proofs.Common.{true}
 use Rattle.std.specs.List.{AllByRecursion, AllZip}
@@ -71,7 +71,8 @@ module _ (pages : Pages) (at : Layout) (kept : Kept)
 
   -- ---- redirects stand in front
 
-  -- where a test of visits tells whether a redirect made them, the slots of those that it keeps tell so too
+  -- where a test of visits tells whether a redirect made them, the slots of those that it keeps
+  -- tell so too
   told_moved : (test : Visit → Bool) (is : Bool) (vs : List Visit) → IsPermutation vs (filter test kept.visits)
       → ((v : Visit) → test v ≡ true → is_made v ≡ is)
       → AllByRecursion (λ v. holds_redirect pages (put v) ≡ is) vs

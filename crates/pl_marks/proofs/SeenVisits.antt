@@ -1,4 +1,5 @@
--- What a walk over the visits of a page has seen, the latest first: the sample, and whether a visit shows the page.
+-- What a walk over the visits of a page has seen, the latest first: the sample, and whether a visit
+-- shows the page.
 use Rattle.std.proofs.Common.{◌≡◌, ◌≢◌, ◌+◌, ◌≤◌, ◌++◌, ◌&&◌, ◌||◌, ◌∙◌, ℕ, Bool, true}
 use Rattle.std.proofs.Common.{false, List, [], ◌∷◌, Option, Some, ap, arith}
 use Rattle.std.proofs.Common.{is_some, length, map, refl, sym, take}

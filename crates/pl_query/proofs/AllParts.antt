@@ -1,4 +1,5 @@
--- The rows of all pages, one page behind the other: they are those of the definition in another order.
+-- The rows of all pages, one page behind the other: they are those of the definition in another
+-- order.
 use Rattle.std.proofs.Common.{◌≡◌, ◌≢◌, ◌∙◌, ◌++◌, ◌&&◌, ◌||◌, ◌==◌, ℕ, Bool, true, false, List, [], ◌∷◌, Option}
 use Rattle.std.proofs.Common.{Some, None, ap, filter, find, if◌then◌else◌, map, not, refl, subst, sym}
 use Rattle.std.specs.List.{AllByRecursion, AllPairs, flat_map, list_any}

@@ -1,4 +1,5 @@
--- Lists of slots that are linked in a ring, from the slot 0 along others and back to it, whatever the links are.
+-- Lists of slots that are linked in a ring, from the slot 0 along others and back to it, whatever
+-- the links are.
 use Rattle.std.proofs.Common.{◌≡◌, ◌≢◌, ◌∙◌, ◌≤◌, ◌∷◌, [], ◌++◌, ℕ, List, Option, Some, ap, arith}
 use Rattle.std.proofs.Common.{length, refl, subst, suc, sym}
 use Rattle.std.proofs.lemmas.Option.{same_Some}

@@ -1,5 +1,5 @@
--- Rows without an item that has no children stay rows of a store: it is no child, and none of the items of its page.
--- Nothing else changes.
+-- Rows without an item that has no children stay rows of a store: it is no child, and none of the
+-- items of its page. Nothing else changes.
 use Rattle.std.proofs.Common.{◌≡◌, ◌≢◌, ◌+◌, ◌<◌, ◌==◌, ◌++◌, ◌∙◌, ℕ, All, Bool, true, false, IfSome}
 use Rattle.std.proofs.Common.{List, [], ◌∷◌, Option, None, Some, ap, arith, eq-eqb, eqb-true, filter, find}
 use Rattle.std.proofs.Common.{if◌then◌else◌, map, not, refl, subst, sym}

@@ -1,4 +1,5 @@
--- Visits sorted by page, and those of one page the latest first, are those of each page as it is defined.
+-- Visits sorted by page, and those of one page the latest first, are those of each page as it is
+-- defined.
 use Rattle.std.proofs.Common.{◌≡◌, ◌≢◌, ◌∙◌, ◌==◌, ◌&&◌, ℕ, Bool, List, ap, arith, filter, map, nat_lt, not, refl}
 use Rattle.std.proofs.Common.{None, subst, sym, true, ◌<◌}
 use Rattle.std.specs.Cmp.{IsStrictWeakOrder}

@@ -1,20 +1,18 @@
 -- The marks of pages, computed from their visits by page.
-use Rattle.std.proofs.Common.{◌≡◌, ◌≤◌, ◌<◌, ◌^◌, ◌+◌, ◌∙◌, ◌&&◌, ◌||◌, ◌==◌, ℕ, Bool, true, false, List, [], ◌∷◌, All, ap}
-use Rattle.std.proofs.Common.{Err, Ok, Result, arith, filter, if◌then◌else◌, length, map, not, refl, sym, take}
+use Rattle.std.proofs.Common.{◌≡◌, ◌≤◌, ◌<◌, ◌^◌, ◌+◌, ◌∙◌, ◌&&◌, ◌||◌, ◌==◌, ℕ, Bool, true, false, List, [], ◌∷◌, ap}
+use Rattle.std.proofs.Common.{arith, filter, if◌then◌else◌, length, map, not, refl, sym, take}
 use Rattle.std.specs.List.{AllByRecursion, count_by, list_all}
-use Rattle.std.specs.Result.{IsOkAnd}
 use Rattle.std.proofs.lemmas.Bool.{ne_eqb}
 use Rattle.std.proofs.lemmas.List.{length-map, take-map}
 use Rattle.std.proofs.lemmas.List.Folds.{list_all-map}
 use Rattle.std.proofs.lemmas.List.Sums.{count_by-le-length, length-filter, sum_by-cons}
 use Rattle.pl_base.specs.declared.id.PageId.{PageId}
-use Rattle.pl_base.specs.Address.{is_place, is_place_url, record_of}
+use Rattle.pl_base.specs.Address.{is_place_url}
 use Rattle.pl_base.specs.Frecency.{frecency_from, frecency_of}
 use Rattle.pl_base.specs.Live.{slot_limit}
 use Rattle.pl_base.specs.Marks.{is_counted, is_framed, is_hidden, is_referenced, visit_count}
 use Rattle.pl_base.specs.Redirects.{is_redirect_source}
 use Rattle.pl_base.specs.Store.{Store, Visit}
-use Rattle.pl_base.specs.Tables.{greatest_bonus}
 use Rattle.pl_base.specs.Visits.{sample_of, sample_size, visits_of}
 use Rattle.pl_base.proofs.IdsLaws.{same_page}
 use Rattle.pl_base.proofs.ListLaws.{all_take, map-map, sum_by-map}
@@ -22,7 +20,7 @@ use Rattle.pl_base.proofs.VisitLists.{list_all-latest_first}
 use Rattle.pl_base.proofs.VisitsLaws.{latest_first-same, length-latest_first}
 use Rattle.pl_score.specs.declared.sample.Sampled.{Sampled}
 use Rattle.pl_score.specs.Sample.{points_of, sampled_of}
-use Rattle.pl_score.proofs.StoreSamples.{frecency-sampled, sampled-small}
+use Rattle.pl_score.proofs.StoreSamples.{frecency-sampled}
 use Rattle.pl_sound.specs.Marks.{are_unseen, told_sample}
 use Rattle.pl_sound.specs.Visits.{AreByPage, of_page}
 use Rattle.pl_stored.specs.declared.stored.StoredPage.{StoredPage}
@@ -140,10 +138,6 @@ module _ (rows : Stored) (sorted : List StoredVisit) (by : AreByPage rows.visits
 
 -- ---- the frecency
 
-pub small_bonuses : (store : Store) (vs : List Visit) (sampled : List Sampled) → sampled ≡ map (sampled_of store) vs
-    → All (λ (s : Sampled). s.bonus ≤ greatest_bonus) sampled
-small_bonuses store vs sampled is = rw is (sampled-small store vs)
-
 pub score_is : (rows : Stored) (p : StoredPage) (sampled : List Sampled) (count : ℕ) (referenced place : Bool)
     → sampled ≡ map (sampled_of (stored_store rows)) (sample_of (stored_store rows) p.id)
     → count ≡ visit_count (stored_store rows) p.id → referenced ≡ is_referenced (stored_store rows) p.id
@@ -152,19 +146,3 @@ pub score_is : (rows : Stored) (p : StoredPage) (sampled : List Sampled) (count 
     ≡ frecency_of (stored_store rows) (stored_page p)
 score_is rows p sampled count referenced place is counted refers places =
     rw (is, counted, refers, places) (frecency-sampled (stored_store rows) (stored_page p))
-
--- ---- queries
-
-abbrev passes : {T E : Type 0} → (T → Bool) → Result T E → Bool
-passes test (Ok found) = test found
-passes test (Err e) = false
-
-told_by : {T E : Type 0} (r : Result T E) (test : T → Bool) (b : Bool) → IsOkAnd r (λ found. b ≡ test found)
-    → b ≡ passes test r
-told_by (Ok found) test b is = is
-told_by (Err e) test b is = absurd is
-
--- a URL holds a query where its record says so
-pub place_is : (url : List ℕ) (b : Bool) → IsOkAnd (record_of url) (λ found. b ≡ is_place found)
-    → b ≡ is_place_url url
-place_is url b is = told_by (record_of url) is_place b is

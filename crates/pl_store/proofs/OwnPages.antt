@@ -1,4 +1,5 @@
--- Pages whose bytes may have been those of now alone when their changes were told last: none has changed since.
+-- Pages whose bytes may have been those of now alone when their changes were told last: none has
+-- changed since.
 use Rattle.std.proofs.Common.{◌≡◌, ◌≢◌, ◌↔◌, ◌∙◌, ◌+◌, ◌-◌, ◌*◌, ◌<◌, ◌≤◌, ◌∷◌, [], ℕ, Bool, List, ap, arith, false, inl, inr}
 use Rattle.std.proofs.Common.{length, refl, sym, true}
 use Rattle.std.proofs.Math.Logic.{∥∥₁_elim}

@@ -11,8 +11,8 @@ use Rattle.pl_base.specs.Tags.{tags_of, tags_root}
 use Rattle.pl_base.specs.Tree.{child_items, children_of, item_at}
 use Rattle.pl_base.proofs.ItemLaws.{bare}
 use Rattle.pl_base.proofs.ListLaws.{AllPairs-from_map, AllPairs-map}
-use Rattle.pl_base.proofs.Among.{In, all_from_in, at_in, from_map, in_map}
-use Rattle.pl_tree.proofs.LookedUp.{found_at, from_filter_map}
+use Rattle.pl_base.proofs.Among.{In, all_from_in, at_in, from_filter_map, from_map, in_map}
+use Rattle.pl_tree.proofs.LookedUp.{found_at}
 
 -- the children of an item, without their own
 abbrev pub child_rows : List Item → ItemId → List Item

@@ -11,3 +11,4 @@ pub mod TagListLaws
 pub mod TagNames
 mod TagRows
 pub mod TagTests
+pub mod WrittenBytes
