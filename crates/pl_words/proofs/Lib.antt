@@ -1,4 +1,4 @@
-mod AsciiFolds
+pub mod AsciiFolds
 mod BarRows
 mod FoldRows
 pub mod FoundLaws
