@@ -75,7 +75,13 @@ impl Linked {
             Some title ≡ item_title (kept_of self.now).items item) }
     {
         let title = self.row_of(item, steps).title;
-        load(self.alloc, &self.slots.arena, title.slot, title.length, steps)
+        load(
+            self.alloc,
+            &self.slots.arena,
+            title.slot,
+            title.length,
+            steps,
+        )
     }
 
     // The row of an item that is there.

@@ -68,7 +68,13 @@ impl Linked {
         ensures title { IfOk result (λ title. Some title ≡ title_of (kept_of self.now) page) }
     {
         let title = self.place_of(page, steps).title;
-        load(self.alloc, &self.slots.arena, title.slot, title.length, steps)
+        load(
+            self.alloc,
+            &self.slots.arena,
+            title.slot,
+            title.length,
+            steps,
+        )
     }
 
     pub fn origin_of<L: Ledger>(&self, page: PageId, steps: &mut Steps<L>) -> Slot
