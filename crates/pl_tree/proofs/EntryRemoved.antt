@@ -1,4 +1,5 @@
--- Without an entry, and without its tag folder where it was the last one, the items are those of a good store.
+-- Without an entry, and without its tag folder where it was the last one, the items are those of a
+-- good store.
 use Rattle.std.proofs.Common.{◌≡◌, ◌≢◌, ◌==◌, ◌∷◌, ◌∙◌, inl, inr, true, List, []}
 use Rattle.std.proofs.Common.{Some, ap, arith, eq-eqb, refl, subst, sym}
 use Rattle.std.proofs.lemmas.Bool.{both_ways, cases_eq, eqb-true}

@@ -1,4 +1,5 @@
--- A new entry in a tag folder keeps the items those of a good store, where the other tag folders have entries.
+-- A new entry in a tag folder keeps the items those of a good store, where the other tag folders
+-- have entries.
 use Rattle.std.proofs.Common.{◌≡◌, ◌≢◌, ◌<◌, ◌≤◌, inl, inr, List, [], Some, arith, refl, subst, sym}
 use Rattle.std.specs.Prelude.{IsTrue}
 use Rattle.std.proofs.lemmas.Bool.{cases_eq, ne_eqb}

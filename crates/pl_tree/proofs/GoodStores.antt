@@ -1,4 +1,5 @@
--- What an item at the end of a folder and a tag for a page keep of a good store, whatever id is next.
+-- What an item at the end of a folder and a tag for a page keep of a good store, whatever id is
+-- next.
 use Rattle.std.proofs.Common.{◌≡◌, ◌≢◌, ◌<◌, ◌+◌, ◌++◌, ◌==◌, ◌∙◌, ◌⊎◌, inl, inr, ℕ, All, true, false}
 use Rattle.std.proofs.Common.{List, [], ◌∷◌, Some, None, ap, arith, eq-eqb, if◌then◌else◌, is_some}
 use Rattle.std.proofs.Common.{length, map, refl, subst, sym}

@@ -1,4 +1,5 @@
--- Items that are looked up by their ids, which ascend, and by their children, each of which has one parent.
+-- Items that are looked up by their ids, which ascend, and by their children, each of which has one
+-- parent.
 use Rattle.std.proofs.Common.{◌≡◌, ◌<◌, ◌||◌, ◌==◌, ◌∙◌, inl, inr, ℕ, Bool, true, false}
 use Rattle.std.proofs.Common.{List, [], ◌∷◌, Option, Some, None, ap, sym, subst, arith, refl, find}
 use Rattle.std.proofs.Common.{if◌then◌else◌, eq-eqb}

@@ -1,4 +1,5 @@
--- What folders take items, and what the tags are, where there is one more item at the end of a folder.
+-- What folders take items, and what the tags are, where there is one more item at the end of a
+-- folder.
 use Rattle.std.proofs.Common.{◌≡◌, ◌≢◌, ◌<◌, ◌+◌, ◌++◌, ◌==◌, ◌∙◌, inl, inr, ℕ, false, List, [], ◌∷◌, Option, Some}
 use Rattle.std.proofs.Common.{ap, arith, eq-eqb, if◌then◌else◌, map, refl, subst, sym}
 use Rattle.std.specs.Option.{option_map}

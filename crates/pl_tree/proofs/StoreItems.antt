@@ -1,4 +1,5 @@
--- Each change of the tree, where it is not refused, keeps the items of any store those of a good one.
+-- Each change of the tree, where it is not refused, keeps the items of any store those of a good
+-- one.
 use Rattle.std.proofs.Common.{◌≡◌, ◌<◌, ◌≤◌, ℕ, All, List, Option, Some, None, length, map, refl}
 use Rattle.std.specs.Prelude.{◌↔◌, IsTrue, bytes_eq}
 use Rattle.std.specs.List.Sorted.{IsStrictlyIncreasing}

@@ -1,4 +1,5 @@
--- The tags by their rows alone, without the children of each row: that a tag folder is not empty is told apart.
+-- The tags by their rows alone, without the children of each row: that a tag folder is not empty is
+-- told apart.
 use Rattle.std.proofs.Common.{◌≡◌, ◌≢◌, List, [], Some, map, subst, sym}
 use Rattle.std.specs.List.{AllPairs}
 use Rattle.std.proofs.lemmas.List.Elements.{All-from_recursion, recursion_from_All}
