@@ -1,7 +1,8 @@
-mod AsciiFolds
+pub mod AsciiFolds
 mod BarRows
 mod FoldRows
 pub mod FoundLaws
+pub mod JoinedTags
 mod PieceRows
 mod PieceSteps
 mod PrefixSteps
@@ -10,3 +11,4 @@ pub mod TagListLaws
 pub mod TagNames
 mod TagRows
 pub mod TagTests
+pub mod WrittenBytes
