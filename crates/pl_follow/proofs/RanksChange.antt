@@ -22,11 +22,6 @@ pub all_ranked : {A : Type 0} (f : View → A) (views : List View)
 all_ranked f [] = refl
 all_ranked f (v ∷ vs) = ap (λ rs. f v ∷ rs) (all_ranked f vs)
 
-pub some_ranked : {A : Type 0} (f : View → A) (view : Option View)
-    → option_map f view ≡ option_and_then (λ (v : View). Some (f v)) view
-some_ranked f None = refl
-some_ranked f (Some v) = refl
-
 -- no view has the id of one that was taken out
 pub none_left : (id : PageId) (views : List View) → has_view id (without_id id views) ≡ false
 none_left id [] = refl
