@@ -9,5 +9,6 @@ pub mod RankParts
 pub mod RanksChange
 pub mod TextsFollow
 pub mod Told
+pub mod UrlMaps
 pub mod UrlsFollow
 pub mod ViewRanks

@@ -5,7 +5,7 @@ use Rattle.pl_sketch.specs.declared.sketch.Sketch.{Sketch}
 
 -- no place
 abbrev pub nothing : Sketch
-nothing = record { from_0 = 0; from_64 = 0; from_128 = 0; from_192 = 0; }
+nothing = record { from_0 = 0; from_64 = 0; from_128 = 0; from_192 = 0 }
 
 -- the places of both
 abbrev pub union : Sketch → Sketch → Sketch

@@ -1,6 +1,5 @@
 // Which pairs of neighbouring bytes texts have, as far as 256 bits tell.
-ghost use Rattle.std.specs.Prelude.{◌≡◌, ◌↔◌, IsTrue, map};
-ghost use Rattle.std.specs.Char.{to_ascii_lowercase};
+ghost use Rattle.std.specs.Prelude.{◌≡◌, ◌↔◌, IsTrue};
 ghost use Rattle.pl_sketch.specs.Pairs as spec;
 ghost use Rattle.pl_sketch.specs.Pairs.{Covers, at_place, nothing, place_of, sketch_of};
 
@@ -39,21 +38,6 @@ impl Sketch {
         let mut sketch = Sketch::new();
         for place in 1..bytes.len() {
             sketch = sketch.with(bytes[place - 1], bytes[place]);
-        }
-        sketch
-    }
-
-    /// That of a text with its letters of ASCII in lower case.
-    pub fn of_lowercase(text: &str) -> Sketch
-        ensures { result ≡ sketch_of (map to_ascii_lowercase text.now) }
-    {
-        let bytes = text.as_bytes();
-        let mut sketch = Sketch::new();
-        for place in 1..bytes.len() {
-            sketch = sketch.with(
-                bytes[place - 1].to_ascii_lowercase(),
-                bytes[place].to_ascii_lowercase(),
-            );
         }
         sketch
     }
