@@ -1,4 +1,6 @@
 pub mod ChangedLists
+pub mod EntriesFollow
+pub mod EntryLists
 pub mod LastKey
 pub mod OneByOne
 pub mod Parted

@@ -97,34 +97,32 @@ module _ {R : Type 0} (cmp : R → R → Ordering) (total : IsTotalOrder cmp) wh
 
   -- ---- the place of a rank in the list does not matter
 
+  turned : (o : Ordering) (x y : R) → cmp x y ≡ o → cmp y x ≡ ordering_reverse o
+  turned o x y is = total.antisymm y x ∙ ap ordering_reverse is
+
   -- two ranks that go before all others
-  pair : IsExact cmp → (x y : R) (ys : List R) → put_in_place (is_below cmp) x ys ≡ x ∷ ys
+  pair : (x y : R) (ys : List R) → cmp y x ≢ Equal → put_in_place (is_below cmp) x ys ≡ x ∷ ys
       → put_in_place (is_below cmp) y ys ≡ y ∷ ys
       → put_in_place (is_below cmp) x (y ∷ ys) ≡ put_in_place (is_below cmp) y (x ∷ ys)
-  pair exact x y ys first_x first_y = choose (cmp x y) refl
+  pair x y ys differ first_x first_y = choose (cmp x y) refl
     where
-      turned : (o : Ordering) → cmp x y ≡ o → cmp y x ≡ ordering_reverse o
-      turned o is = total.antisymm y x ∙ ap ordering_reverse is
-
       choose : (o : Ordering) → cmp x y ≡ o
           → put_in_place (is_below cmp) x (y ∷ ys) ≡ put_in_place (is_below cmp) y (x ∷ ys)
       choose Less is =
           put_front x y ys (ap is_lt is)
-          ∙ sym (put_past y x ys (ap is_lt (turned Less is)) ∙ ap (λ zs. x ∷ zs) first_y)
-      choose Equal is =
-          subst (λ w. put_in_place (is_below cmp) x (w ∷ ys) ≡ put_in_place (is_below cmp) w (x ∷ ys)) (exact x y is)
-          refl
+          ∙ sym (put_past y x ys (ap is_lt (turned Less x y is)) ∙ ap (λ zs. x ∷ zs) first_y)
+      choose Equal is = absurd (differ (turned Equal x y is))
       choose Greater is =
           put_past x y ys (ap is_lt is) ∙ ap (λ zs. y ∷ zs) first_x
-          ∙ sym (put_front y x ys (ap is_lt (turned Greater is)))
+          ∙ sym (put_front y x ys (ap is_lt (turned Greater x y is)))
 
   -- two ranks are put in, one first or the other
-  swapped : IsExact cmp → (x y : R) (ys : List R)
+  swapped : (x y : R) (ys : List R) → cmp y x ≢ Equal
       → put_in_place (is_below cmp) x (put_in_place (is_below cmp) y ys)
       ≡ put_in_place (is_below cmp) y (put_in_place (is_below cmp) x ys)
-  swapped exact x y [] = pair exact x y [] refl refl
-  swapped exact x y (z ∷ zs) =
-      choose (is_below cmp x z) (is_below cmp y z) refl refl (swapped exact x y zs)
+  swapped x y [] differ = pair x y [] differ refl refl
+  swapped x y (z ∷ zs) differ =
+      choose (is_below cmp x z) (is_below cmp y z) refl refl (swapped x y zs differ)
     where
       -- one goes before the first and the other does not
       mixed : (u v : R) → is_below cmp u z ≡ true → is_below cmp v z ≡ false
@@ -146,7 +144,7 @@ module _ {R : Type 0} (cmp : R → R → Ordering) (total : IsTotalOrder cmp) wh
           ≡ put_in_place (is_below cmp) y (put_in_place (is_below cmp) x (z ∷ zs))
       choose true true is_x is_y rest =
           ap (put_in_place (is_below cmp) x) (put_front y z zs is_y)
-          ∙ pair exact x y (z ∷ zs) (put_front x z zs is_x) (put_front y z zs is_y)
+          ∙ pair x y (z ∷ zs) differ (put_front x z zs is_x) (put_front y z zs is_y)
           ∙ ap (put_in_place (is_below cmp) y) (sym (put_front x z zs is_x))
       choose true false is_x is_y rest = mixed x y is_x is_y
       choose false true is_x is_y rest = sym (mixed y x is_y is_x)
@@ -157,13 +155,13 @@ module _ {R : Type 0} (cmp : R → R → Ordering) (total : IsTotalOrder cmp) wh
           ∙ sym (put_past y z (put_in_place (is_below cmp) x zs) is_y)
           ∙ ap (put_in_place (is_below cmp) y) (sym (put_past x z zs is_x))
 
-  -- a rank among others is sorted as in front of them
-  pub moved : IsExact cmp → (front : List R) (x : R) (back : List R)
+  -- a rank among others, which ties with none in front of it, is sorted as in front of them
+  pub moved : (front : List R) (x : R) (back : List R) → AllByRecursion (λ y. cmp x y ≢ Equal) front
       → sorted_by (is_below cmp) (front ++ x ∷ back) ≡ sorted_by (is_below cmp) (x ∷ front ++ back)
-  moved exact [] x back = refl
-  moved exact (y ∷ front) x back =
-      ap (put_in_place (is_below cmp) y) (moved exact front x back)
-      ∙ swapped exact y x (sorted_by (is_below cmp) (front ++ back))
+  moved [] x back apart = refl
+  moved (y ∷ front) x back apart =
+      ap (put_in_place (is_below cmp) y) (moved front x back apart.1)
+      ∙ swapped y x (sorted_by (is_below cmp) (front ++ back)) apart.0
 
   -- ---- the walk
 

@@ -1,5 +1,5 @@
 -- What a URL tells of its record: the host without its port, and whether it holds a query.
-use Rattle.std.proofs.Common.{◌≡◌, ◌∙◌, ◌+◌, ◌-◌, ◌<◌, ◌^◌, ◌==◌, ◌&&◌, ◌||◌, ◌++◌, not, ℕ, Bool}
+use Rattle.std.proofs.Common.{◌≡◌, ◌∙◌, ◌+◌, ◌^◌, ◌==◌, ◌&&◌, ◌||◌, ◌++◌, not, ℕ, Bool}
 use Rattle.std.proofs.Common.{true, false, cond, List, [], ◌∷◌, All, None, Option, Some, Ok, Err}
 use Rattle.std.proofs.Common.{ap, append-nil, arith, decimal, drop, get_or, nat_lt, refl}
 use Rattle.std.proofs.Common.{subst, sym, take, unwrap_or, if◌then◌else◌, lit<, is_some}

@@ -17,5 +17,6 @@ pub struct Slotted {
     pub visits: BTreeMap<u32, Slot>,
     /// The slots of items by the numbers of their ids.
     pub items: BTreeMap<u32, Slot>,
-    pub ghost rows: { Keeps arena pages.entries visits.entries items.entries } by { keeps_once arena pages.entries visits.entries items.entries },
+    pub ghost rows: { Keeps arena pages.entries visits.entries
+        items.entries } by { keeps_once arena pages.entries visits.entries items.entries },
 }

@@ -1,6 +1,6 @@
 -- A change of pages or visits leaves the items those of a good store.
 use Rattle.std.proofs.Common.{◌≡◌, ◌∙◌, ◌==◌, Bool, true, false, ℕ, IfSome, IsTrue, List, [], ◌∷◌}
-use Rattle.std.proofs.Common.{Some, None, ap, if◌then◌else◌, map, refl, subst, sym}
+use Rattle.std.proofs.Common.{Some, None, ap, if◌then◌else◌, refl, subst, sym}
 use Rattle.std.specs.List.{AllByRecursion}
 use Rattle.std.proofs.lemmas.List.Elements.{All-from_recursion, recursion_from_All}
 use Rattle.pl_base.specs.declared.date.Micros.{Micros}
