@@ -1,6 +1,5 @@
 -- What the look-up of views by their URLs stands for.
-use Rattle.std.specs.Prelude.{◌≡◌, ◌≢◌, ℕ, List, Option, None, Some, IsSome, bytes_eq}
-use Rattle.std.specs.Prelude.{if◌then◌else◌}
+use Rattle.std.specs.Prelude.{◌≡◌, ◌≢◌, ℕ, List, Option, None, Some, IsSome, bytes_eq, if◌then◌else◌}
 use Rattle.std.specs.BTreeMap.{get, get_by_text}
 use Rattle.std.specs.List.{AllPairs, find}
 use Rattle.std.specs.Option.{option_map, option_or}

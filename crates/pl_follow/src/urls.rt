@@ -28,9 +28,9 @@ struct UrlPage {
 /// A change under which a page keeps its URL and its id compares these alone.
 #[derive(Debug, Drop)]
 pub struct UrlIndex {
-    // By digests, for each one URL that has it.
+    // By the digest of a URL, the first one that came with it.
     hashed: BTreeMap<u64, UrlPage>,
-    // The URLs that came while another one of their digest stood there.
+    // The URLs that came when another one of their digest was there.
     others: BTreeMap<String, PageId>,
 }
 
@@ -50,15 +50,21 @@ impl UrlIndex {
         ensures { (views : List View) → IndexesUrls self.now views
             → result ≡ id_of_url url.now views }
     {
-        self.find_hashed(digest(url), url)
-            .or_else(|| self.others.get(url).copied())
+        let page = self.find_hashed(digest(url), url);
+        if page.is_some() {
+            return page;
+        }
+        self.others.get(url).copied()
     }
 
     fn find_hashed(&self, hash: u64, url: &str) -> Option<PageId>
         ensures { result ≡ page_of url.now (get nat_cmp self.now.hashed hash) }
     {
         let known = self.hashed.get(&hash)?;
-        (known.url.as_str() == url).then_some(known.page)
+        if known.url.as_str() == url {
+            return Some(known.page);
+        }
+        None
     }
 
     fn replace(&mut self, alloc: Global, old: &View, new: &View) -> Result<(), NoMemory>
