@@ -2,13 +2,16 @@
 use Rattle.std.proofs.Common.{Some, ◌==◌, append_assoc, eqb-true, find, replicate, suc, zero}
 use Rattle.std.proofs.Common.{◌≡◌, ◌+◌, ◌<◌, ◌≤◌, ◌++◌, ◌&&◌, ◌||◌, ◌∙◌, ℕ, All, Bool, true, false, List}
 use Rattle.std.proofs.Common.{[], ◌∷◌, ap, arith, count_by, filter, if◌then◌else◌, length, map, refl, subst}
-use Rattle.std.specs.List.{AllByRecursion, AllPairs, list_all, list_any, sum_by}
+use Rattle.std.proofs.Common.{nat_eq, not, sym, take}
+use Rattle.std.proofs.Math.Seq.{take-append_seam}
+use Rattle.std.specs.List.{AllByRecursion, AllPairs, list_all, list_any, starts_with, sum_by, zip}
 use Rattle.std.specs.Option.{IsSome, option_map}
 use Rattle.std.proofs.lemmas.Bool.{and_parts, or_left, or_right}
 use Rattle.std.proofs.lemmas.List.{get_or-map, length-map}
 use Rattle.std.proofs.lemmas.List.Elements.{All-head, All-tail}
 use Rattle.std.proofs.lemmas.List.Folds.{fold-map, list_any-append}
 use Rattle.std.proofs.lemmas.List.Sums.{sum_by-cons}
+use Rattle.std.proofs.lemmas.Slice.Eq.{bytes_eq-Decides}
 
 pub map-map : {X Y Z : Type 0} (g : Y → Z) (f : X → Y) (xs : List X) → map g (map f xs) ≡ map (λ x. g (f x)) xs
 map-map g f [] = refl
@@ -70,6 +73,15 @@ list_all-alike p q [] alike = refl
 list_all-alike p q (x ∷ xs) alike =
     ap (λ (b : Bool). b && list_all p xs) (alike x) ∙ ap (λ (b : Bool). q x && b) (list_all-alike p q xs alike)
 
+-- all pass where none fails
+pub list_all-by_any : {X : Type 0} (p : X → Bool) (xs : List X) → list_all p xs ≡ not (list_any (λ x. not (p x)) xs)
+list_all-by_any p [] = refl
+list_all-by_any p (x ∷ xs) = ap (λ b. p x && b) (list_all-by_any p xs) ∙ both (p x) (list_any (λ y. not (p y)) xs)
+  where
+    both : (a b : Bool) → (a && not b) ≡ not (not a || b)
+    both true b = refl
+    both false b = refl
+
 pub any-or : {X : Type 0} (p q : X → Bool) (xs : List X)
     → list_any (λ x. p x || q x) xs ≡ (list_any p xs || list_any q xs)
 any-or p q [] = refl
@@ -96,6 +108,11 @@ pub any-where : {X : Type 0} (p q : X → Bool) (xs : List X) → AllByRecursion
     → list_any p xs ≡ list_any q xs
 any-where p q [] alike = refl
 any-where p q (x ∷ xs) alike = rw (alike.0, any-where p q xs alike.1)
+
+pub filter-where : {X : Type 0} (p q : X → Bool) (xs : List X) → AllByRecursion (λ x. p x ≡ q x) xs
+    → filter p xs ≡ filter q xs
+filter-where p q [] alike = refl
+filter-where p q (x ∷ xs) alike = rw (alike.0, filter-where p q xs alike.1)
 
 pub list_any_push : {X : Type 0} (p : X → Bool) (xs : List X) (x : X) → list_any p xs ≡ true
     → list_any p (xs ++ x ∷ []) ≡ true
@@ -162,6 +179,18 @@ pub all_push : {X : Type 0} (P : X → Type 0) (xs : List X) (x : X) → AllByRe
 all_push P [] x all one = (one, tt)
 all_push P (y ∷ ys) x all one = (all.0, all_push P ys x all.1 one)
 
+pub all_take : {X : Type 0} (P : X → Type 0) (n : ℕ) (xs : List X) → AllByRecursion P xs → AllByRecursion P (take n xs)
+all_take P zero xs all = tt
+all_take P (suc n) [] all = tt
+all_take P (suc n) (x ∷ xs) all = (all.0, all_take P n xs all.1)
+
+-- of each on the right
+pub all_second : {X Y : Type 0} (P : Y → Type 0) (xs : List X) (ys : List Y) → AllByRecursion P ys
+    → AllByRecursion (λ (p : X × Y). P p.1) (zip xs ys)
+all_second P [] ys all = tt
+all_second P (x ∷ xs) [] all = tt
+all_second P (x ∷ xs) (y ∷ ys) all = (all.0, all_second P xs ys all.1)
+
 pub all_stay : {X : Type 0} (test : X → Bool) (xs : List X) → AllByRecursion (λ x. test x ≡ true) xs → filter test xs ≡ xs
 all_stay test [] all = refl
 all_stay test (x ∷ xs) all = rw (all.0, all_stay test xs all.1) refl
@@ -204,7 +233,23 @@ some_in p (x ∷ xs) found = choose (p x) found (some_in p xs)
     choose true here rest = refl
     choose false here rest = rest here
 
--- ---- joined lists, grouped from the back
+-- ---- equal lists
+
+pub same_somes : {X : Type 0} (xs ys : List X) → map Some xs ≡ map Some ys → xs ≡ ys
+same_somes [] [] same = refl
+same_somes [] (y ∷ ys) same = absurd (cc)
+same_somes (x ∷ xs) [] same = absurd (cc)
+same_somes (x ∷ xs) (y ∷ ys) same =
+    let head : x ≡ y = cc in
+    let tail : map Some xs ≡ map Some ys = cc in
+    rw (head, same_somes xs ys tail)
+
+-- ---- joined lists
+
+pub starts_with-append : (xs ys : List ℕ) → starts_with nat_eq (xs ++ ys) xs ≡ true
+starts_with-append xs ys = (bytes_eq-Decides xs (take (length xs) (xs ++ ys))).1 (sym (take-append_seam xs ys))
+
+-- grouped from the back
 
 pub regroup_four : {X : Type 0} (a b c d : List X) → ((a ++ b) ++ c) ++ d ≡ a ++ (b ++ (c ++ d))
 regroup_four a b c d = simp append_assoc

@@ -1,10 +1,15 @@
 -- Look-ups by a number that stands once.
 use Rattle.std.proofs.Common.{◌≡◌, ◌≢◌, ◌<◌, ◌++◌, ◌||◌, ◌==◌, ◌∙◌, ℕ, Bool, true, false, List, [], ◌∷◌}
+use Rattle.std.proofs.Common.{None, Ok, Err, Result, is_some}
 use Rattle.std.proofs.Common.{All, Option, Some, ap, arith, eq-eqb, filter, find, if◌then◌else◌, map, refl, subst, suc, sym}
 use Rattle.std.specs.List.{AllByRecursion, AllPairs, list_any}
+use Rattle.std.specs.List.Sorted.{IsStrictlyIncreasing}
 use Rattle.std.specs.Option.{IsSome, option_map}
+use Rattle.std.specs.Prelude.{IfOk}
+use Rattle.std.specs.Result.{result_ok}
 use Rattle.std.proofs.lemmas.Bool.{eqb-true, false≢true, ne_eqb, or_left, or_parts, or_right}
 use Rattle.std.proofs.lemmas.List.Elements.{All-from_recursion, recursion_from_All}
+use Rattle.std.proofs.lemmas.List.Kept.{AllPairs-from_increasing}
 use Rattle.pl_base.proofs.ListLaws.{from_map, weaker}
 
 -- ---- what holds of each
@@ -119,6 +124,28 @@ there_told test f (x ∷ xs) y told = choose (test x) told (there_told test f xs
     choose true here rest = refl
     choose false here rest = rest here
 
+pub there_some : {A B : Type 0} (test : A → Bool) (f : A → B) (xs : List A) (told : Option B) (some : Bool)
+    → told ≡ option_map f (find test xs) → some ≡ is_some told → some ≡ true → list_any test xs ≡ true
+there_some test f xs None some is of holds = absurd (false≢true (sym of ∙ holds))
+there_some test f xs (Some y) some is of holds = there_told test f xs y is
+
+pub there_ok : {A B E : Type 0} (test : A → Bool) (f : A → B) (xs : List A) (told : Option B) (result : Result B E)
+    → told ≡ option_map f (find test xs) → told ≡ result_ok result → IfOk result (λ _. list_any test xs ≡ true)
+there_ok test f xs told (Ok y) is ok = there_told test f xs y (sym ok ∙ is)
+there_ok test f xs told (Err e) is ok = tt
+
+-- where none is found, none passes
+pub none_found : {X : Type 0} (test : X → Bool) (xs : List X) → find test xs ≡ None
+    → AllByRecursion (λ x. test x ≡ false) xs
+none_found test [] none = tt
+none_found test (x ∷ xs) none = choose (test x) refl none (none_found test xs)
+  where
+    choose : (b : Bool) → test x ≡ b → (if b then Some x else find test xs) ≡ None
+        → (find test xs ≡ None → AllByRecursion (λ y. test y ≡ false) xs)
+        → AllByRecursion (λ y. test y ≡ false) (x ∷ xs)
+    choose true is here rest = absurd (cc)
+    choose false is here rest = (is, rest here)
+
 -- what is found passes another test
 pub found_any : {X : Type 0} (p q : X → Bool) (xs : List X) (x : X) → find p xs ≡ Some x → q x ≡ true
     → list_any q xs ≡ true
@@ -159,6 +186,9 @@ apart_ascending key (x ∷ xs) pairs = (
       (λ k d within. pairs 0 (suc k) d (omega arith) (omega arith)))),
   apart_ascending key xs (λ i j d before within. pairs (suc i) (suc j) d (omega arith) (omega arith)),
 )
+
+pub apart_increasing : {X : Type 0} (key : X → ℕ) (xs : List X) → IsStrictlyIncreasing (map key xs) → Apart key xs
+apart_increasing key xs up = apart_ascending key xs (AllPairs-from_increasing (map key xs) up)
 
 -- each is found by its own number
 pub found_self : {X : Type 0} (key : X → ℕ) (xs : List X) → Apart key xs

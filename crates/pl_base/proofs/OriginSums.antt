@@ -8,7 +8,6 @@ use Rattle.std.proofs.lemmas.Bool.{and_parts, eqb-false, eqb-true, false_from_ne
 use Rattle.std.proofs.lemmas.Bool.{or_right}
 use Rattle.std.proofs.lemmas.List.{length-map}
 use Rattle.std.proofs.lemmas.List.Elements.{All-from_recursion, All-push, recursion_from_All}
-use Rattle.std.proofs.lemmas.List.Kept.{AllPairs-from_increasing}
 use Rattle.std.proofs.lemmas.List.Sums.{get_or-le-sum_by, sum_by-le, sum_by_push}
 use Rattle.pl_base.specs.declared.id.PageId.{PageId}
 use Rattle.pl_base.specs.declared.id.Slot.{Slot}
@@ -21,7 +20,7 @@ use Rattle.pl_base.specs.Rows.{origin_names, origin_of, other_pages, page_at, to
 use Rattle.pl_base.specs.Rows.{with_new_page, with_origin, with_total}
 use Rattle.pl_base.specs.Totals.{Origin, Scored, most_share, share, total_of}
 use Rattle.pl_base.proofs.ListLaws.{all-filter, from_map, sum_by-map, to_map, weaker}
-use Rattle.pl_base.proofs.LookUps.{apart_ascending, both, find_push, found_holds, found_one}
+use Rattle.pl_base.proofs.LookUps.{apart_increasing, both, find_push, found_holds, found_one}
 use Rattle.pl_base.proofs.OneChanged.{once_by_number, sum_but, sum_changed}
 use Rattle.pl_base.proofs.OriginLaws.{origins_equal, same_origin-self}
 use Rattle.pl_base.proofs.PageSums.{AreSums, HasOrigin, HasSmall, HasSum, added, added-le, adds_by, closed}
@@ -438,7 +437,7 @@ module _ (old new : Kept) (page : PageId) (was : Mark) (well : IsWellKept old)
       let id_of : KeptPage → ℕ = λ (p : KeptPage). p.page.id.0 in
       let one : AllByRecursion (λ (p : KeptPage). (p.page.id.0 == page.0) ≡ true → p ≡ f.page) old.pages =
       found_one id_of page.0 old.pages f.page
-      (apart_ascending id_of old.pages (AllPairs-from_increasing (map id_of old.pages) well.page_ids.ascending)) f.at in
+      (apart_increasing id_of old.pages well.page_ids.ascending) f.at in
       let nothing : share f.page.frecency ≡ 0 = ap share (sym f.frecency) ∙ none in
       let but : sum_by (added o) others ≡ sum_by (added o) old.pages =
       sum_but (λ (p : KeptPage). p.page.id.0 == page.0) (added o) old.pages

@@ -1,8 +1,7 @@
 -- Pages among the rows: their ids, and what is told of the page with an id.
 use Rattle.std.proofs.Common.{◌≡◌, ◌∙◌, ◌<◌, ◌==◌, ℕ, All, true, IsTrue, List, IfSome, Option, Some, None}
-use Rattle.std.proofs.Common.{ap, map, sym}
+use Rattle.std.proofs.Common.{ap, sym}
 use Rattle.std.specs.Option.{option_map}
-use Rattle.std.proofs.lemmas.List.Kept.{AllPairs-from_increasing}
 use Rattle.std.proofs.lemmas.Option.{same_Some}
 use Rattle.pl_base.specs.declared.id.PageId.{PageId}
 use Rattle.pl_base.specs.declared.row.Mark.{Mark}
@@ -12,7 +11,7 @@ use Rattle.pl_base.specs.Store.{Store}
 use Rattle.pl_base.specs.Tree.{is_page}
 use Rattle.pl_base.proofs.IdsLaws.{same_page}
 use Rattle.pl_base.proofs.ListLaws.{All-from_map}
-use Rattle.pl_base.proofs.LookUps.{Apart, apart_ascending, found_passes, there_told}
+use Rattle.pl_base.proofs.LookUps.{Apart, apart_increasing, found_passes, there_told}
 
 -- ---- the ids of pages
 
@@ -23,8 +22,7 @@ ids_below kept h k d within =
 
 pub pages_apart : (kept : Kept) → IsWellKept kept → Apart (λ (p : KeptPage). p.page.id.0) kept.pages
 pages_apart kept h =
-    apart_ascending (λ (p : KeptPage). p.page.id.0) kept.pages
-    (AllPairs-from_increasing (map (λ (p : KeptPage). p.page.id.0) kept.pages) h.page_ids.ascending)
+    apart_increasing (λ (p : KeptPage). p.page.id.0) kept.pages h.page_ids.ascending
 
 -- a page that an item has is there
 pub page_of_item : (store : Store) (page : PageId) (own : Option PageId) → is_page page own ≡ true

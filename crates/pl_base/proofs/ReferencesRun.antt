@@ -4,7 +4,6 @@ use Rattle.std.proofs.Common.{Option, Some, None, ap, eq-eqb, filter, if◌then�
 use Rattle.std.specs.List.{AllByRecursion}
 use Rattle.std.specs.Option.{option_and_then}
 use Rattle.std.proofs.lemmas.Bool.{ne_eqb}
-use Rattle.std.proofs.lemmas.List.Kept.{AllPairs-from_increasing}
 use Rattle.pl_base.specs.declared.id.ItemId.{ItemId}
 use Rattle.pl_base.specs.declared.id.PageId.{PageId}
 use Rattle.pl_base.specs.Rows.{IsWellKept, Kept}
@@ -12,7 +11,7 @@ use Rattle.pl_base.specs.Store.{Item}
 use Rattle.pl_base.specs.Tree.{first_item, has_item, is_page, item_at, item_behind, reference_behind, references}
 use Rattle.pl_base.proofs.IdsLaws.{same_page}
 use Rattle.pl_base.proofs.ListLaws.{all-filter, weaker}
-use Rattle.pl_base.proofs.LookUps.{Apart, apart_ascending, found_self, found_some, part, where_passes}
+use Rattle.pl_base.proofs.LookUps.{Apart, apart_increasing, found_self, found_some, part, where_passes}
 use Rattle.pl_base.proofs.Walk.{Names, Runs, StandsAt, holds_here}
 
 abbrev pub item_names : Names Item ItemId
@@ -32,8 +31,7 @@ having items page = filter (λ (i : Item). is_page page i.page) items
 
 apart_ids : (kept : Kept) → IsWellKept kept → Apart (λ (i : Item). i.id.0) kept.items
 apart_ids kept h =
-    apart_ascending (λ (i : Item). i.id.0) kept.items
-    (AllPairs-from_increasing (map (λ (i : Item). i.id.0) kept.items) h.item_ids.ascending)
+    apart_increasing (λ (i : Item). i.id.0) kept.items h.item_ids.ascending
 
 Apart-filter : (test : Item → Bool) (items : List Item) → Apart (λ (i : Item). i.id.0) items
     → Apart (λ (i : Item). i.id.0) (filter test items)

@@ -5,55 +5,35 @@
 --     stable_is              what a stable sort gives of a list that is in order by another test
 --     sorted_map, sorted_alike, sorted_same      a mapped list, and two tests that agree on the members, or on all
 --     none_tie, apart_sorted      members whose numbers differ do not tie, and differ when sorted
-use Rattle.std.proofs.Common.{◌≡◌, ◌≢◌, ◌∙◌, ◌⊎◌, ◌+◌, ◌<◌, ◌==◌, ◌&&◌, ◌||◌, inl, inr, ℕ, Bool, true}
-use Rattle.std.proofs.Common.{false, List, [], ◌∷◌, ap, arith, get_or, if◌then◌else◌, length, map, not, refl}
-use Rattle.std.proofs.Common.{nat_lt, subst, suc, sym, zero}
+use Rattle.std.proofs.Common.{◌≡◌, ◌≢◌, ◌∙◌, ◌+◌, ◌==◌, ◌&&◌, ◌||◌, inl, inr, ℕ, Bool, true}
+use Rattle.std.proofs.Common.{false, List, [], ◌∷◌, ap, arith, get_or, if◌then◌else◌, map, not, refl}
+use Rattle.std.proofs.Common.{eqb, nat_lt, subst, suc, sym}
 use Rattle.std.specs.Cmp.{IsStrictWeakOrder, nat_eq_equiv}
 use Rattle.std.specs.List.{AllByRecursion, AllPairs, Contains, IsDistinct}
 use Rattle.std.specs.List.Sorted.{IsPermutation, IsSortedBy, IsStableBy, ties}
 use Rattle.std.proofs.lemmas.Bool.{cases_Bool, eqb-false, false≢true, false_from_ne_true, ne_eqb, or_parts}
 use Rattle.std.proofs.lemmas.Bool.Decides.{nat_tests}
 use Rattle.std.proofs.lemmas.List.Elements.{All-from_recursion, recursion_from_All}
-use Rattle.std.proofs.lemmas.List.Sorted.{All-permutation, Contains-permutation, IsPermutation-cons}
+use Rattle.std.proofs.lemmas.List.Sorted.{All-permutation, IsPermutation-cons}
 use Rattle.std.proofs.lemmas.List.Sorted.{IsPermutation-middle, IsPermutation-refl, IsPermutation-sym}
 use Rattle.std.proofs.lemmas.List.Sorted.{IsPermutation-trans, ties_stay_sorted}
 use Rattle.std.proofs.lemmas.Map.Keys.{IsDistinct-IsPermutation, IsDistinct-from_apart, apart_from_distinct}
 use Rattle.pl_base.specs.Sorting.{put_in_place, sorted_by}
+use Rattle.std.specs.Ordering.{is_lt, nat_cmp}
+use Rattle.pl_base.proofs.Among.{In, all_from_in, at_in, contains_from_in, in_permutation}
 use Rattle.pl_base.proofs.ListLaws.{weaker}
 
 -- ---- what is a member of a list
 
-module _ {A : Type 0} where
-  abbrev In : A → List A → Type 0
-  In z [] = ⊥
-  In z (y ∷ ys) = (z ≡ y) ⊎ In z ys
+-- each member of a list is one
+pub members : {A : Type 0} (xs : List A) → AllByRecursion (Contains xs) xs
+members xs = all_from_in (Contains xs) xs (contains_from_in xs)
 
-  in_contained : (xs : List A) (k : ℕ) (z : A) → k < length xs → get_or xs k z ≡ z → In z xs
-  in_contained [] k z within e = absurd (omega arith)
-  in_contained (x ∷ xs) zero z within e = inl (sym e)
-  in_contained (x ∷ xs) (suc k) z within e = inr (in_contained xs k z (omega arith) e)
-
-  contains_in : (xs : List A) (z : A) → In z xs → Contains xs z
-  contains_in [] z h = absurd h
-  contains_in (x ∷ xs) z (inl e) = (0, omega arith, sym e)
-  contains_in (x ∷ xs) z (inr h) = let r = contains_in xs z h in (suc r.0, omega arith, r.2)
-
-  in_permutation : (xs ys : List A) (z : A) → IsPermutation xs ys → In z xs → In z ys
-  in_permutation xs ys z moves h =
-      let r = Contains-permutation xs ys z moves (contains_in xs z h) in in_contained ys r.0 z r.1 r.2
-
-  at_in : (P : A → Type 0) (xs : List A) (z : A) → AllByRecursion P xs → In z xs → P z
-  at_in P [] z all h = absurd h
-  at_in P (x ∷ xs) z all (inl e) = subst P (sym e) all.0
-  at_in P (x ∷ xs) z all (inr h) = at_in P xs z all.1 h
-
-  -- each member of a list is one
-  pub members : (xs : List A) → AllByRecursion (Contains xs) xs
-  members [] = tt
-  members (x ∷ xs) = (
-    contains_in (x ∷ xs) x (inl refl),
-    weaker (Contains xs) (Contains (x ∷ xs)) xs (λ z h. (suc h.0, omega arith, h.2)) (members xs),
-  )
+-- what holds of each holds in another order
+pub all_moved : {A : Type 0} (P : A → Type 0) (xs ys : List A) → IsPermutation xs ys → AllByRecursion P xs
+    → AllByRecursion P ys
+all_moved P xs ys moves all =
+    recursion_from_All P ys (All-permutation P xs ys moves (All-from_recursion P xs all))
 
 -- ---- the same members
 
@@ -232,14 +212,10 @@ module _ {A : Type 0} {P : A → Type 0} {before : A → A → Bool} (order : Is
       in
       rw (first, rest)
 
-  moved_all : (xs ys : List A) → IsPermutation xs ys → AllByRecursion P xs → AllByRecursion P ys
-  moved_all xs ys moves all =
-      recursion_from_All P ys (All-permutation P xs ys moves (All-from_recursion P xs all))
-
   pub only_ascending : (xs ys : List A) → AllByRecursion P xs → Ascends before xs → Ascends before ys
       → IsPermutation xs ys → xs ≡ ys
   only_ascending xs ys all up_x up_y moves =
-      only xs ys all (moved_all xs ys moves all) up_x up_y
+      only xs ys all (all_moved P xs ys moves all) up_x up_y
       (λ z. in_permutation xs ys z moves)
       (λ z. in_permutation ys xs z (IsPermutation-sym xs ys moves))
 
@@ -247,8 +223,8 @@ module _ {A : Type 0} {P : A → Type 0} {before : A → A → Bool} (order : Is
   pub sorted_is : (xs ys : List A) → AllByRecursion P xs → IsDistinct (ties before) xs → IsPermutation xs ys
       → IsSortedBy before ys → ys ≡ sorted_by before xs
   sorted_is xs ys all apart moves sorted =
-      only_ascending ys (sorted_by before xs) (moved_all xs ys moves all)
-      (ascends_from_sorted ys (moved_all xs ys moves all) (distinct_moved before xs ys moves apart) sorted)
+      only_ascending ys (sorted_by before xs) (all_moved P xs ys moves all)
+      (ascends_from_sorted ys (all_moved P xs ys moves all) (distinct_moved before xs ys moves apart) sorted)
       (ascends_sorted_by xs all apart)
       (IsPermutation-trans _ _ _ (IsPermutation-sym xs ys moves) (sorted_moves before xs))
 
@@ -323,6 +299,10 @@ ranks_alike before other alike ranks =
       chain = λ x y z xy yz. alike x z ∙ ranks.chain x y z (sym (alike x y) ∙ xy) (sym (alike y z) ∙ yz);
     }
 
+-- two numbers tie where they are one
+pub numbers_tie : (m n : ℕ) → (not (is_lt (nat_cmp m n)) && not (is_lt (nat_cmp n m))) ≡ eqb n m
+numbers_tie m n = grind (arith, nat_tests)
+
 pub tied_numbers : (m n : ℕ) → ties nat_lt m n ≡ true → m ≡ n
 tied_numbers m n tie = grind (arith, nat_tests)
 
@@ -335,6 +315,10 @@ neither : (a b c : Bool) → a ≡ false → (b ≡ false → c ≡ false) → (
 neither true b c not_so rest = not_so
 neither false true c not_so rest = refl
 neither false false c not_so rest = rest refl
+
+-- the greater number first, and of equal ones by another test
+pub then_by_number : (m n : ℕ) (b : Bool) → (nat_lt n m || ((n == m) && b)) ≡ (nat_lt n m || (not (nat_lt m n) && b))
+then_by_number m n b = grind (arith, nat_tests)
 
 -- what ties in both ties by the second test
 pub then_ties : {A : Type 0} (first second : A → A → Bool) (x y : A) → ties (then_by first second) x y ≡ true

@@ -1,14 +1,14 @@
 -- Lists of visits: the latest first, looked up by their ids, and the one behind another.
 use Rattle.std.proofs.Common.{◌≡◌, ◌≢◌, ◌∙◌, ◌++◌, ◌||◌, ◌==◌, All, Bool, true, false, List, [], ◌∷◌, Some}
-use Rattle.std.proofs.Common.{ap, eq-eqb, if◌then◌else◌, is_some, map, refl, sym}
-use Rattle.std.specs.List.{AllByRecursion, list_any}
+use Rattle.std.proofs.Common.{ap, eq-eqb, if◌then◌else◌, is_some, not, refl, sym}
+use Rattle.std.specs.List.{AllByRecursion, list_all, list_any}
 use Rattle.std.proofs.lemmas.Bool.{eqb-true, ne_eqb}
 use Rattle.std.proofs.lemmas.List.Elements.{All-from_recursion}
-use Rattle.std.proofs.lemmas.List.Kept.{AllPairs-from_increasing}
 use Rattle.pl_base.specs.Rows.{first_id, has_visit, id_behind, IsWellKept, Kept, row_of, visit_at}
 use Rattle.pl_base.specs.Store.{Visit}
 use Rattle.pl_base.specs.Visits.{in_place, is_later, latest_first}
-use Rattle.pl_base.proofs.LookUps.{apart_ascending, found_self, part, there_told}
+use Rattle.pl_base.proofs.ListLaws.{list_all-by_any}
+use Rattle.pl_base.proofs.LookUps.{apart_increasing, found_self, part, there_told}
 use Rattle.pl_base.proofs.VisitsLaws.{Differ}
 use Rattle.std.proofs.Math.Bool.{or-false}
 use Rattle.pl_base.specs.declared.id.VisitId.{VisitId}
@@ -40,6 +40,10 @@ any-latest_first p [] = refl
 any-latest_first p (v ∷ vs) =
     any-in_place p v (latest_first vs) ∙ ap (λ (b : Bool). p v || b) (any-latest_first p vs)
 
+pub list_all-latest_first : (p : Visit → Bool) (vs : List Visit) → list_all p (latest_first vs) ≡ list_all p vs
+list_all-latest_first p vs =
+    list_all-by_any p (latest_first vs) ∙ ap not (any-latest_first (λ v. not (p v)) vs) ∙ sym (list_all-by_any p vs)
+
 pub one_in_place : (v : Visit) (ws : List Visit) → is_some (first_id (in_place v ws)) ≡ true
 one_in_place v [] = refl
 one_in_place v (w ∷ ws) = choose (is_later v w)
@@ -55,8 +59,7 @@ pub each_visit_found : (kept : Kept) → IsWellKept kept
     → AllByRecursion (λ (v : Visit). visit_at kept v.id ≡ Some v) kept.visits
 each_visit_found kept h =
     found_self (λ (v : Visit). v.id.0) kept.visits
-    (apart_ascending (λ (v : Visit). v.id.0) kept.visits
-    (AllPairs-from_increasing (map (λ (v : Visit). v.id.0) kept.visits) h.visit_ids.ascending))
+    (apart_increasing (λ (v : Visit). v.id.0) kept.visits h.visit_ids.ascending)
 
 pub visits_found : (kept : Kept) → IsWellKept kept → All (λ (v : Visit). visit_at kept v.id ≡ Some v) kept.visits
 visits_found kept h =

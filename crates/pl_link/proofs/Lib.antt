@@ -1,5 +1,6 @@
 pub mod CanonLemmas
 mod ConstantRows
+pub mod HostCases
 pub mod OriginParts
 pub mod PartsLemmas
 mod UrlHosts

@@ -7,8 +7,10 @@ use Rattle.std.specs.List.{starts_with, concat}
 use Rattle.pl_base.specs.Address.{prefix}
 use Rattle.url.specs.Parts.{Parts, has_authority, pieces, serialize}
 
-starts_with-append : (xs ys : List ℕ) → starts_with nat_eq (xs ++ ys) xs ≡ true
-starts_with-append xs ys = (bytes_eq-Decides xs (take (length xs) (xs ++ ys))).1 (sym (take-append_seam xs ys))
+-- a text begins with its front
+pub starts_with-append : (xs ys : List ℕ) → starts_with nat_eq (xs ++ ys) xs ≡ true
+starts_with-append xs ys =
+    (bytes_eq-Decides xs (take (length xs) (xs ++ ys))).1 (sym (take-append_seam xs ys))
 
 two_pieces : (xs ys rest : List ℕ) → starts_with nat_eq (xs ++ (ys ++ rest)) (xs ++ ys) ≡ true
 two_pieces xs ys rest = rw (← append_assoc xs ys rest) (starts_with-append (xs ++ ys) rest)

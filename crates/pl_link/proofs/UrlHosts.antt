@@ -1,202 +1,63 @@
 -- What the URL parser makes of a host is ASCII.
-use Rattle.std.proofs.Common.{◌≡◌, ◌-◌, ◌<◌, ◌^◌, ◌==◌, ℕ, Bool, true, false, cond}
-use Rattle.std.proofs.Common.{List, [], ◌∷◌, ◌++◌, IsAscii, None, Option, Some, Ok, Err, arith}
-use Rattle.std.proofs.Common.{get_or, inl, inr, length, lit<, refl, replicate, subst, sym, suc}
-use Rattle.std.proofs.Common.{zero}
+use Rattle.std.proofs.Common.{◌≡◌, ◌<◌, ℕ, false, List, [], ◌∷◌, ◌++◌, IsAscii, Ok, arith, lit<}
 use Rattle.std.specs.List.{list_any}
 use Rattle.std.specs.Int.{to_be_bytes, w32}
-use Rattle.std.specs.Result.{result_map_both}
-use Rattle.std.specs.Net.Addr.{segments_of}
-use Rattle.std.specs.Net.Grammar.{IsColonHex, IsDotted, IsGroup, IsGroupsAfter}
-use Rattle.std.specs.Net.Reader.{read_ipv6, whole_value}
 use Rattle.std.specs.Net.Text.{hex_groups_text, ipv4_text}
-use Rattle.std.proofs.NetLemmas.Alphabet.{All-hex_groups_text, All-ipv4_text, IsDigitOrDot, IsHexOrColon}
-use Rattle.std.proofs.NetLemmas.Ipv6.{read_ipv6_sound}
+use Rattle.std.proofs.NetLemmas.Alphabet.{All-hex_groups_text, All-ipv4_text, IsDigitOrDot}
+use Rattle.std.proofs.NetLemmas.Alphabet.{IsHexOrColon}
 use Rattle.std.proofs.NetLemmas.Texts.{AllSegments}
-use Rattle.std.proofs.lemmas.Bool.{cond_both}
-use Rattle.std.proofs.lemmas.Option.{cond_some, none-some}
 use Rattle.std.proofs.lemmas.List.Elements.{All-weaker}
 use Rattle.std.proofs.lemmas.Str.{IsAscii-append}
 use Rattle.std.proofs.lemmas.Str.Ascii.{IsAscii-cons, IsAscii-from_all, IsAscii-nil}
 use Rattle.percent_encoding.specs.declared.ascii_set.TheConstants.{CONTROLS}
-use Rattle.percent_encoding.specs.Percent.{percent_decode, percent_encode}
 use Rattle.percent_encoding.proofs.PercentLemmas.{IsAscii-percent_encode, IsAscii_from_kept}
-use Rattle.url.specs.declared.error.ParseError.{ParseError}
 use Rattle.url.specs.declared.host.Host.{Host}
-use Rattle.url.specs.declared.host.Host.TheVariants.{Domain, Ipv4, Ipv6}
 use Rattle.url.specs.declared.scheme.SchemeType.{SchemeType}
-use Rattle.url.specs.declared.scheme.SchemeType.TheVariants.{File, NotSpecial, SpecialNotFile}
 use Rattle.url.specs.declared.sets.TheConstants.{FORBIDDEN_DOMAIN}
-use Rattle.url.specs.Host.{ascii_domain, host_of_ascii, host_text, ipv4_host, ipv6_host, is_forbidden_in_domain}
-use Rattle.url.specs.Host.{parse_bracketed, parse_file_host, parse_host, parse_opaque_host}
-use Rattle.url.specs.Host.{parse_special_host, without_localhost}
-use Rattle.url.specs.Input.{is_empty}
-use Rattle.url.specs.Ipv4.{ends_in_a_number, parse_ipv4}
-use Rattle.url.specs.Parser.{Parsed, and_then}
+use Rattle.url.specs.Host.{host_text, is_forbidden_in_domain, parse_file_host, parse_host}
 use Rattle.url.proofs.HostLemmas.{none_from_list_any}
-
--- ---- steps of the parser
-
-pub ok_then : {A B P : Type 0} (r : Parsed A) (next : A → Parsed B) (y : B) → and_then r next ≡ Ok y
-    → ((x : A) → r ≡ Ok x → next x ≡ Ok y → P) → P
-ok_then (Ok x) next y is go_on = go_on x refl is
-ok_then (Err d) next y is go_on = cc
-
-pub past_error : {A : Type 0} (test : Bool) (d : ParseError) (r : Parsed A) (y : A) → cond test (Err d) r ≡ Ok y
-    → (test ≡ false) × (r ≡ Ok y)
-past_error true d r y is = cc
-past_error false d r y is = (refl, is)
-
-pub by_test : {A P : Type 0} (test : Bool) (r s : Parsed A) (y : A) → cond test r s ≡ Ok y
-    → (test ≡ true → r ≡ Ok y → P) → (test ≡ false → s ≡ Ok y → P) → P
-by_test true r s y is holds fails = holds refl is
-by_test false r s y is holds fails = fails refl is
-
-pub same_ok : {A : Type 0} (x y : A) → ◌≡◌ {A = Parsed A} (Ok x) (Ok y) → x ≡ y
-same_ok x y is = cc
-
--- ---- hosts
-
-segments_both : (xs ys : List ℕ) → AllSegments xs → AllSegments ys → AllSegments (xs ++ ys)
-segments_both [] ys first rest k = rest k
-segments_both (x ∷ xs) ys first rest zero = first 0
-segments_both (x ∷ xs) ys first rest (suc k) = segments_both xs ys (λ j. first (suc j)) rest k
-
-zero_segments : (n : ℕ) → AllSegments (replicate n 0)
-zero_segments zero k = lit< tt
-zero_segments (suc n) zero = lit< tt
-zero_segments (suc n) (suc k) = zero_segments n k
-
--- a number of at most four hexadecimal digits
-group_small : (text : List ℕ) (n : ℕ) → IsGroup text n → n < 2 ^ 16
-group_small [] n group = omega (arith, group.0.1)
-group_small (a ∷ []) n group = omega (arith, group.0.1, group.0.0.1.0)
-group_small (a ∷ b ∷ []) n group = omega (arith, group.0.1, group.0.0.1.0, group.0.0.1.1.0)
-group_small (a ∷ b ∷ c ∷ []) n group =
-    omega (arith, group.0.1, group.0.0.1.0, group.0.0.1.1.0, group.0.0.1.1.1.0)
-group_small (a ∷ b ∷ c ∷ d ∷ []) n group =
-    omega (arith, group.0.1, group.0.0.1.0, group.0.0.1.1.0, group.0.0.1.1.1.0, group.0.0.1.1.1.1.0)
-group_small (a ∷ b ∷ c ∷ d ∷ e ∷ text) n group = absurd (omega (arith, group.1))
-
-dotted_small : (text octets : List ℕ) → IsDotted text octets → AllSegments (segments_of octets)
-dotted_small text octets dotted =
-    subst (λ o. AllSegments (segments_of o)) (sym dotted.value) small
-  where
-    small : AllSegments (segments_of (dotted.a ∷ dotted.b ∷ dotted.c ∷ dotted.d ∷ []))
-    small zero = let fit = dotted.fit in omega arith
-    small (suc zero) = let fit = dotted.fit in omega arith
-    small (suc (suc k)) = lit< tt
-
-groups_small : (ipv4 : Bool) (segments before text : List ℕ) → IsGroupsAfter ipv4 before text segments
-    → AllSegments segments
-groups_small ipv4 [] before text groups k = lit< tt
-groups_small ipv4 (s ∷ segments) before text (inl h) zero = group_small h.0 s h.3
-groups_small ipv4 (s ∷ segments) before text (inl h) (suc k) = groups_small ipv4 segments (58 ∷ []) h.1 h.4 k
-groups_small ipv4 (s ∷ segments) before text (inr h) k =
-    subst AllSegments (sym h.5) (dotted_small h.0 h.1 h.4) k
-
-segments_small : (text segments : List ℕ) → IsColonHex text segments → AllSegments segments
-segments_small text segments (inl h) = groups_small true segments [] text h.0
-segments_small text segments (inr h) =
-    subst AllSegments (sym h.value)
-    (segments_both (h.head ++ replicate (8 - length h.head - length h.tail) 0) h.tail
-    (segments_both h.head _ (groups_small false h.head [] h.head_text h.head_groups) (zero_segments _))
-    (groups_small true h.tail [] h.tail_text h.tail_groups))
-
-whole_small : (r : Option (List ℕ × List ℕ)) (text segments : List ℕ) → read_ipv6 text ≡ r
-    → whole_value r ≡ Some segments → AllSegments segments
-whole_small None text segments read is = absurd (none-some segments is)
-whole_small (Some found) text segments read is =
-    let whole = cond_some (length found.1 == 0) found.0 segments is in
-    subst AllSegments whole.1
-    (let sound = read_ipv6_sound text found.0 found.1 read in segments_small sound.0 found.0 sound.2)
+use Rattle.pl_link.proofs.HostCases.{HoldsOfEach, file_host_holds, host_holds, octets_small}
 
 abbrev pub IsAsciiHost : Host (List ℕ) → Type 0
 IsAsciiHost h = IsAscii (host_text h)
 
-ascii_hex : (segments : List ℕ) → AllSegments segments → IsAscii (hex_groups_text segments)
-ascii_hex segments small =
-    IsAscii-from_all (hex_groups_text segments)
-    (All-weaker IsHexOrColon (λ b. b < 128) (λ b hex. grind arith) (hex_groups_text segments)
-    (All-hex_groups_text segments small))
-
-ascii_ipv6 : (r : Option (List ℕ)) (h : Host (List ℕ))
-    → ((segments : List ℕ) → r ≡ Some segments → AllSegments segments)
-    → ipv6_host r ≡ Ok h → IsAsciiHost h
-ascii_ipv6 None h small is = cc
-ascii_ipv6 (Some segments) h small is =
+ascii_ipv6 : (segments : List ℕ) → AllSegments segments
+    → IsAscii ((91 ∷ hex_groups_text segments) ++ 93 ∷ [])
+ascii_ipv6 segments small =
     let text = hex_groups_text segments in
-    subst IsAsciiHost (same_ok (Ipv6 (record { segments = segments })) h is)
-    (IsAscii-append (91 ∷ text) (93 ∷ [])
-    (IsAscii-cons 91 text (lit< tt) (ascii_hex segments (small segments refl)))
-    (IsAscii-cons 93 [] (lit< tt) IsAscii-nil))
-
-ascii_bracketed : (bytes : List ℕ) (h : Host (List ℕ)) → parse_bracketed bytes ≡ Ok h → IsAsciiHost h
-unfolding parse_bracketed
-ascii_bracketed bytes h is =
-    by_test (get_or bytes (length bytes - 1) 0 == 93) _ _ h is
-    (λ _ read. ascii_ipv6 _ h (λ segments whole. whole_small _ _ segments refl whole) read) (λ _ other. cc)
-
-octets_small : (bits k : ℕ) → get_or (to_be_bytes w32 bits) k 0 < 2 ^ 8
-octets_small bits zero = omega arith
-octets_small bits (suc zero) = omega arith
-octets_small bits (suc (suc zero)) = omega arith
-octets_small bits (suc (suc (suc zero))) = omega arith
-octets_small bits (suc (suc (suc (suc k)))) = lit< tt
-
-ascii_ipv4 : (r : Option ℕ) (h : Host (List ℕ)) → ipv4_host r ≡ Ok h → IsAsciiHost h
-ascii_ipv4 None h is = cc
-ascii_ipv4 (Some bits) h is =
-    let text = ipv4_text (to_be_bytes w32 bits) in
-    subst IsAsciiHost (same_ok (Ipv4 (record { octets = to_be_bytes w32 bits })) h is)
+    IsAscii-append (91 ∷ text) (93 ∷ [])
+    (IsAscii-cons 91 text (lit< tt)
     (IsAscii-from_all text
+    (All-weaker IsHexOrColon (λ b. b < 128) (λ b hex. grind arith) text
+    (All-hex_groups_text segments small))))
+    (IsAscii-cons 93 [] (lit< tt) IsAscii-nil)
+
+ascii_ipv4 : (bits : ℕ) → IsAscii (ipv4_text (to_be_bytes w32 bits))
+ascii_ipv4 bits =
+    let text = ipv4_text (to_be_bytes w32 bits) in
+    IsAscii-from_all text
     (All-weaker IsDigitOrDot (λ b. b < 128) (λ b digit. grind arith) text
-    (All-ipv4_text (to_be_bytes w32 bits) (octets_small bits))))
+    (All-ipv4_text (to_be_bytes w32 bits) (octets_small bits)))
 
-ascii_allowed : (domain : List ℕ) → list_any is_forbidden_in_domain domain ≡ false → IsAscii domain
-ascii_allowed domain none =
-    IsAscii_from_kept FORBIDDEN_DOMAIN domain (none_from_list_any is_forbidden_in_domain domain none)
+ascii_named : (domain : List ℕ) → list_any is_forbidden_in_domain domain ≡ false → IsAscii domain
+ascii_named domain none =
+    IsAscii_from_kept FORBIDDEN_DOMAIN domain
+    (none_from_list_any is_forbidden_in_domain domain none)
 
-ascii_named : (r : Option (List ℕ)) (h : Host (List ℕ)) → host_of_ascii r ≡ Ok h → IsAsciiHost h
-ascii_named None h is = cc
-ascii_named (Some domain) h is =
-    let some = past_error (is_empty domain) _ _ h is in
-    let allowed = past_error (list_any is_forbidden_in_domain domain) _ _ h some.1 in
-    by_test (ends_in_a_number domain) _ _ h allowed.1 (λ _ number. ascii_ipv4 (parse_ipv4 domain) h number)
-    (λ _ name. subst IsAsciiHost (same_ok (Domain domain) h name) (ascii_allowed domain allowed.0))
+ascii_each : HoldsOfEach IsAsciiHost
+ascii_each =
+    record {
+      none = IsAscii-nil;
+      named = ascii_named;
+      opaque = λ bytes allowed. IsAscii-percent_encode CONTROLS bytes;
+      ipv4 = ascii_ipv4;
+      ipv6 = ascii_ipv6;
+    }
 
-ascii_special : (bytes : List ℕ) (h : Host (List ℕ)) → parse_special_host bytes ≡ Ok h → IsAsciiHost h
-unfolding parse_special_host
-ascii_special bytes h is =
-    by_test (get_or bytes 0 0 == 91) _ _ h is (λ _ read. ascii_bracketed bytes h read)
-    (λ _ read. ascii_named (ascii_domain (percent_decode bytes)) h read)
+pub ascii_file_host : (bytes : List ℕ) (h : Host (List ℕ)) → parse_file_host bytes ≡ Ok h
+    → IsAsciiHost h
+ascii_file_host bytes h is = file_host_holds IsAsciiHost ascii_each bytes h is
 
-ascii_opaque : (bytes : List ℕ) (h : Host (List ℕ)) → parse_opaque_host bytes ≡ Ok h → IsAsciiHost h
-unfolding parse_opaque_host
-ascii_opaque bytes h is =
-    by_test (get_or bytes 0 0 == 91) _ _ h is (λ _ read. ascii_bracketed bytes h read)
-    (λ _ read. subst IsAsciiHost (same_ok (Domain (percent_encode CONTROLS bytes)) h (past_error _ _ _ h read).1)
-    (IsAscii-percent_encode CONTROLS bytes))
-
-ascii_elsewhere : (h : Host (List ℕ)) → IsAsciiHost h → IsAsciiHost (without_localhost h)
-ascii_elsewhere (Domain domain) ascii = cond_both _ [] domain IsAscii (λ _. IsAscii-nil) (λ _. ascii)
-ascii_elsewhere (Ipv4 address) ascii = ascii
-ascii_elsewhere (Ipv6 address) ascii = ascii
-
-ascii_mapped : (r : Parsed (Host (List ℕ))) (h : Host (List ℕ)) → ((x : Host (List ℕ)) → r ≡ Ok x → IsAsciiHost x)
-    → result_map_both without_localhost (λ e. e) r ≡ Ok h → IsAsciiHost h
-ascii_mapped (Ok x) h ascii is =
-    subst IsAsciiHost (same_ok (without_localhost x) h is) (ascii_elsewhere x (ascii x refl))
-ascii_mapped (Err d) h ascii is = cc
-
-pub ascii_file_host : (bytes : List ℕ) (h : Host (List ℕ)) → parse_file_host bytes ≡ Ok h → IsAsciiHost h
-unfolding parse_file_host
-ascii_file_host bytes h is =
-    by_test (is_empty bytes) _ _ h is
-    (λ _ none. subst IsAsciiHost (same_ok (Domain []) h none) IsAscii-nil)
-    (λ _ read. ascii_mapped (parse_special_host bytes) h (ascii_special bytes) read)
-
-pub ascii_host : (kind : SchemeType) (bytes : List ℕ) (h : Host (List ℕ)) → parse_host kind bytes ≡ Ok h → IsAsciiHost h
-ascii_host File bytes h is = ascii_file_host bytes h is
-ascii_host SpecialNotFile bytes h is = ascii_special bytes h is
-ascii_host NotSpecial bytes h is = ascii_opaque bytes h is
+pub ascii_host : (kind : SchemeType) (bytes : List ℕ) (h : Host (List ℕ))
+    → parse_host kind bytes ≡ Ok h → IsAsciiHost h
+ascii_host kind bytes h is = host_holds IsAsciiHost ascii_each kind bytes h is

@@ -33,7 +33,8 @@ use Rattle.url.specs.Path.{parse_path_start, segment_len}
 use Rattle.url.specs.Scheme.{is_file, is_special, scheme_len, scheme_type}
 use Rattle.url.proofs.SchemeLemmas.{scheme_at_front}
 use Rattle.pl_base.specs.Address.{is_store_url, is_text, longest_url, record_of, serialized}
-use Rattle.pl_link.proofs.UrlHosts.{IsAsciiHost, ascii_file_host, ascii_host, by_test, ok_then, past_error, same_ok}
+use Rattle.pl_link.proofs.HostCases.{by_test, ok_then, past_error, same_ok}
+use Rattle.pl_link.proofs.UrlHosts.{IsAsciiHost, ascii_file_host, ascii_host}
 use Rattle.pl_link.proofs.UrlPaths.{ascii_ended, ascii_segments, ascii_slash, ascii_start, ascii_when}
 
 -- ---- the parts

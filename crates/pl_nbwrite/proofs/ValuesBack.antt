@@ -1,16 +1,15 @@
 -- What attributes say, as they are written.
-use Rattle.std.proofs.Common.{◌≡◌, ◌∙◌, ◌*◌, ◌/◌, ◌<◌, ◌≤◌, ◌^◌, ◌==◌, ℕ, Bool, true}
-use Rattle.std.proofs.Common.{false, not, List, [], ◌∷◌, All, Some, Option, ap, arith, cond, decimal}
+use Rattle.std.proofs.Common.{◌≡◌, ◌∙◌, ◌*◌, ◌/◌, ◌<◌, ◌≤◌, ◌^◌, ℕ, Bool, true}
+use Rattle.std.proofs.Common.{false, not, List, [], ◌∷◌, Some, Option, ap, arith, cond, decimal}
 use Rattle.std.proofs.Common.{nat_eq, refl, sym}
 use Rattle.std.specs.Prelude.{codes, unwrap_or}
 use Rattle.std.specs.Char.{is_ascii_digit}
-use Rattle.std.specs.List.{filter, filter_map, list_all, list_any, slice_split, cons_option}
+use Rattle.std.specs.List.{AllByRecursion, filter, filter_map, list_all, list_any, cons_option}
 use Rattle.std.specs.Option.{option_and_then}
-use Rattle.std.proofs.lemmas.Bool.{and_from, and_parts, cond-true, eqb-true, leb-true, lt-ltb, ne_eqb, not-true}
+use Rattle.std.proofs.lemmas.Bool.{and_from, and_parts, cond-true, eqb-true, leb-true, lt-ltb, not-true}
 use Rattle.std.proofs.lemmas.Bool.{or_parts}
 use Rattle.std.proofs.lemmas.Bool.Decides.{nat_tests}
 use Rattle.std.proofs.lemmas.Fmt.{decimal_is_IsNumeral}
-use Rattle.std.proofs.lemmas.List.Splits.{slice_split_at, slice_split_none}
 use Rattle.std.proofs.lemmas.Str.{IsUtf8-nil, is_utf8-from_IsUtf8}
 use Rattle.pl_base.specs.declared.date.Micros.{Micros}
 use Rattle.pl_base.specs.Good.{IsTagName}
@@ -18,6 +17,7 @@ use Rattle.pl_base.specs.Tags.{comma_joined}
 use Rattle.pl_base.proofs.Numerals.{all_digits, number_back}
 use Rattle.pl_words.specs.TagLists.{each_once, firsts, is_same_tag}
 use Rattle.pl_words.specs.TagName.{is_tag_name, tag_named}
+use Rattle.pl_words.proofs.JoinedTags.{cut_again}
 use Rattle.pl_words.proofs.TagNames.{name_trimmed}
 use Rattle.pl_words.proofs.TagTests.{named_by_test, tag_is_named}
 use Rattle.pl_nbread.specs.BookmarkTree as read
@@ -86,17 +86,12 @@ module _ (date : Micros) (own : is_date date ≡ true) where
 
 -- ---- tags
 
-no_comma : (tag : List ℕ) → IsTagName tag → All (λ b. (b == 44) ≡ false) tag
-no_comma tag own = λ k d within. ne_eqb _ _ (own.no_comma k d within)
-
-split_back : (tag : List ℕ) (tags : List (List ℕ)) → list_all is_tag_name (tag ∷ tags) ≡ true
-    → slice_split (λ b. b == 44) (comma_joined (tag ∷ tags)) ≡ tag ∷ tags
-split_back tag [] own =
-    slice_split_none (λ b. b == 44) tag (no_comma tag (named_by_test tag (and_parts _ _ own).0))
-split_back tag (next ∷ tags) own =
-    let parts = and_parts (is_tag_name tag) (list_all is_tag_name (next ∷ tags)) own in
-    slice_split_at (λ b. b == 44) tag 44 (comma_joined (next ∷ tags)) (no_comma tag (named_by_test tag parts.0)) refl
-    ∙ ap (λ (more : List (List ℕ)). tag ∷ more) (split_back next tags parts.1)
+all_named : (tags : List (List ℕ)) → list_all is_tag_name tags ≡ true
+    → AllByRecursion IsTagName tags
+all_named [] own = tt
+all_named (tag ∷ tags) own =
+    let parts = and_parts (is_tag_name tag) (list_all is_tag_name tags) own in
+    (named_by_test tag parts.0, all_named tags parts.1)
 
 names_back : (tags : List (List ℕ)) → list_all is_tag_name tags ≡ true → filter_map tag_named tags ≡ tags
 names_back [] own = refl
@@ -137,6 +132,7 @@ pub tags_back : (tags : List (List ℕ)) → list_all is_tag_name tags ≡ true 
 tags_back [] own once = no_tags
 tags_back (tag ∷ tags) own once =
     ap tags_in (decoded-escaped (comma_joined (tag ∷ tags)))
-    ∙ ap (λ (parts : List (List ℕ)). firsts is_same_tag (filter_map tag_named parts)) (split_back tag tags own)
+    ∙ ap (λ (parts : List (List ℕ)). firsts is_same_tag (filter_map tag_named parts))
+    (cut_again tag tags (all_named (tag ∷ tags) own))
     ∙ ap (firsts is_same_tag) (names_back (tag ∷ tags) own)
     ∙ once_back (tag ∷ tags) once

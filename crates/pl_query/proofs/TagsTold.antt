@@ -1,11 +1,10 @@
 -- The tags of a page of a good store, told by the text that joins them.
 use Rattle.std.proofs.Common.{◌≡◌, ◌∙◌, ◌==◌, ◌&&◌, ◌||◌, not, ℕ, Bool, true, false, List, [], ◌∷◌}
-use Rattle.std.proofs.Common.{All, ap, arith, filter, if◌then◌else◌, length, map, refl, sym}
+use Rattle.std.proofs.Common.{ap, arith, filter, if◌then◌else◌, length, map, refl, sym}
 use Rattle.std.specs.List.{AllByRecursion, list_any}
 use Rattle.std.proofs.Math.Bool.{and_comm}
 use Rattle.std.proofs.lemmas.Bool.{ne_eqb}
 use Rattle.std.proofs.lemmas.List.Elements.{recursion_from_All}
-use Rattle.std.proofs.lemmas.List.Splits.{slice_split_at, slice_split_none}
 use Rattle.pl_base.specs.declared.id.PageId.{PageId}
 use Rattle.pl_base.specs.Good.{HasTags, IsTagFolder, IsTagName}
 use Rattle.pl_base.specs.Sorting.{put_in_place, sorted_by}
@@ -16,6 +15,7 @@ use Rattle.pl_base.proofs.ListLaws.{list_any-alike, list_any-map}
 use Rattle.pl_base.proofs.LookUps.{where_passes}
 use Rattle.pl_base.proofs.SortLaws.{all_sorted}
 use Rattle.pl_words.specs.TagLists.{is_same_tag}
+use Rattle.pl_words.proofs.JoinedTags.{cut_again}
 use Rattle.pl_marks.proofs.PageTags.{any_filter}
 use Rattle.pl_conditions.specs.Conditions.{has_tag_named}
 use Rattle.pl_query.specs.Decides.{comma_split, is_tag_in}
@@ -46,16 +46,6 @@ module _ {A : Type 0} (p : A → Bool) (before : A → A → Bool) where
       any_placed x (sorted_by before xs) ∙ ap (λ (b : Bool). p x || b) (any_sorted xs)
 
 -- ---- names that are joined
-
-no_comma : (name : List ℕ) → IsTagName name → All (λ b. (b == 44) ≡ false) name
-no_comma name is = λ k d within. ne_eqb _ _ (is.no_comma k d within)
-
-cut_again : (name : List ℕ) (names : List (List ℕ)) → AllByRecursion IsTagName (name ∷ names)
-    → comma_split (comma_joined (name ∷ names)) ≡ name ∷ names
-cut_again name [] all = slice_split_none (λ b. b == 44) name (no_comma name all.0)
-cut_again name (next ∷ names) all =
-    slice_split_at (λ b. b == 44) name 44 (comma_joined (next ∷ names)) (no_comma name all.0) refl
-    ∙ ap (λ (more : List (List ℕ)). name ∷ more) (cut_again next names all.1)
 
 some_joined : (name : List ℕ) (names : List (List ℕ)) → IsTagName name
     → (length (comma_joined (name ∷ names)) == 0) ≡ false

@@ -1,38 +1,33 @@
 -- What a URL tells of its record: the host without its port, and whether it holds a query.
 use Rattle.std.proofs.Common.{◌≡◌, ◌∙◌, ◌+◌, ◌-◌, ◌<◌, ◌^◌, ◌==◌, ◌&&◌, ◌||◌, ◌++◌, not, ℕ, Bool}
 use Rattle.std.proofs.Common.{true, false, cond, List, [], ◌∷◌, All, None, Option, Some, Ok, Err}
-use Rattle.std.proofs.Common.{ap, append-nil, arith, decimal, drop, get_or, length, nat_lt, refl}
-use Rattle.std.proofs.Common.{subst, suc, sym, take, unwrap_or, zero, if◌then◌else◌, lit<, is_some}
+use Rattle.std.proofs.Common.{ap, append-nil, arith, decimal, drop, get_or, nat_lt, refl}
+use Rattle.std.proofs.Common.{subst, sym, take, unwrap_or, if◌then◌else◌, lit<, is_some}
 use Rattle.std.specs.Char.{is_ascii_digit}
 use Rattle.std.specs.Int.{to_be_bytes, w32}
 use Rattle.std.specs.List.{concat, list_all, list_any, starts_with}
 use Rattle.std.specs.Prelude.{IfSome, bytes_eq, codes, nat_eq}
 use Rattle.std.proofs.lemmas.List.{take-append-drop}
-use Rattle.std.proofs.Math.Seq.{take-append_seam}
 use Rattle.std.proofs.lemmas.Slice.Eq.{bytes_eq-Decides}
 use Rattle.std.specs.Net.Text.{hex_groups_text, ipv4_text}
 use Rattle.std.specs.Option.{option_map}
-use Rattle.std.specs.Result.{result_map_both}
 use Rattle.std.specs.Str.Parse.{digits_value}
 use Rattle.std.proofs.NetLemmas.Alphabet.{All-ipv4_text, IsDigitOrDot}
+use Rattle.std.proofs.NetLemmas.Texts.{AllSegments}
 use Rattle.std.proofs.lemmas.Bool.{and_parts, and_right, cond-true, cond_both, ltb-true, true≢false}
 use Rattle.std.proofs.lemmas.Bool.Decides.{nat_tests}
 use Rattle.std.proofs.lemmas.List.Elements.{All-cons, All-nil, All-weaker}
-use Rattle.url.specs.declared.error.ParseError.{ParseError}
 use Rattle.url.specs.declared.error.ParseError.TheVariants.{InvalidPort}
 use Rattle.url.specs.declared.host.Host.{Host}
-use Rattle.url.specs.declared.host.Host.TheVariants.{Domain, Ipv4, Ipv6}
-use Rattle.url.specs.declared.scheme.SchemeType.{SchemeType}
-use Rattle.url.specs.declared.scheme.SchemeType.TheVariants.{File, NotSpecial, SpecialNotFile}
+use Rattle.url.specs.declared.host.Host.TheVariants.{Domain}
+use Rattle.url.specs.declared.scheme.SchemeType.TheVariants.{File, NotSpecial}
 use Rattle.url.specs.declared.sets.TheConstants.{FORBIDDEN_DOMAIN, FORBIDDEN_HOST}
-use Rattle.url.specs.Host.{ascii_domain, host_of_ascii, host_text, ipv4_host, ipv6_host}
-use Rattle.url.specs.Host.{is_forbidden_in_domain, is_forbidden_in_host, parse_bracketed}
-use Rattle.url.specs.Host.{parse_file_host, parse_host, parse_opaque_host, parse_special_host}
-use Rattle.url.specs.Host.{without_localhost}
+use Rattle.url.specs.Host.{host_text}
+use Rattle.url.specs.Host.{is_forbidden_in_domain}
+use Rattle.url.specs.Host.{parse_file_host, parse_host}
 use Rattle.url.specs.Input.{is_empty, lowercase, rsplit_once, rsplit_step, split_once}
 use Rattle.url.specs.Input.{strip_tabs_and_new_lines, trim_c0_control_and_space}
-use Rattle.url.specs.Ipv4.{ends_in_a_number, parse_ipv4}
-use Rattle.url.specs.Parser.{Parsed, after_double_slash, after_file_double_slash, and_then}
+use Rattle.url.specs.Parser.{Parsed, after_double_slash, after_file_double_slash}
 use Rattle.url.specs.Parser.{before_tail, file_with_host, lacks_host, leading_slashes}
 use Rattle.url.specs.Parser.{parse_authority, parse_body, parse_by_scheme, parse_file}
 use Rattle.url.specs.Parser.{parse_non_special, parse_parts, parse_port, parse_url, split_port}
@@ -49,6 +44,9 @@ use Rattle.url.proofs.RoundTrip.{split_own_scheme}
 use Rattle.pl_base.proofs.Truths.{same_tests}
 use Rattle.pl_base.specs.Address.{host_and_port, is_place, record_of}
 use Rattle.pl_base.proofs.Numerals.{decimal_numeral, digits_from_numeral}
+use Rattle.pl_link.proofs.HostCases.{HoldsOfEach, by_test, file_host_holds, host_holds}
+use Rattle.pl_link.proofs.HostCases.{octets_small, ok_then, past_error, same_ok}
+use Rattle.pl_link.proofs.PartsLemmas.{starts_with-append}
 use Rattle.pl_place.specs.PlaceText.{place_prefix}
 use Rattle.pl_query.specs.Decides.{before_port, host_alone}
 
@@ -105,115 +103,39 @@ port_off host digits all =
     (rsplit_once_at 58 host digits (digits_lack digits all))
     ∙ cond-true (list_all is_ascii_digit digits) host (host ++ 58 ∷ digits) all
 
--- ---- steps of the parser
-
-ok_then : {A B P : Type 0} (r : Parsed A) (next : A → Parsed B) (y : B) → and_then r next ≡ Ok y
-    → ((x : A) → r ≡ Ok x → next x ≡ Ok y → P) → P
-ok_then (Ok x) next y is go_on = go_on x refl is
-ok_then (Err d) next y is go_on = cc
-
-past_error : {A : Type 0} (test : Bool) (d : ParseError) (r : Parsed A) (y : A)
-    → cond test (Err d) r ≡ Ok y
-    → (test ≡ false) × (r ≡ Ok y)
-past_error true d r y is = cc
-past_error false d r y is = (refl, is)
-
-by_test : {A P : Type 0} (test : Bool) (r s : Parsed A) (y : A) → cond test r s ≡ Ok y
-    → (r ≡ Ok y → P) → (s ≡ Ok y → P) → P
-by_test true r s y is holds fails = holds is
-by_test false r s y is holds fails = fails is
-
-same_ok : {A : Type 0} (x y : A) → ◌≡◌ {A = Parsed A} (Ok x) (Ok y) → x ≡ y
-same_ok x y is = cc
-
 -- ---- hosts
 
 abbrev IsPlainHost : Host (List ℕ) → Type 0
 IsPlainHost h = IsPlain (host_text h)
 
-plain_ipv6 : (r : Option (List ℕ)) (h : Host (List ℕ)) → ipv6_host r ≡ Ok h → IsPlainHost h
-plain_ipv6 None h is = cc
-plain_ipv6 (Some segments) h is =
-    subst IsPlainHost (same_ok (Ipv6 (record { segments = segments })) h is)
-    (bracketed (91 ∷ hex_groups_text segments))
+plain_ipv6 : (segments : List ℕ) → AllSegments segments
+    → IsPlain ((91 ∷ hex_groups_text segments) ++ 93 ∷ [])
+plain_ipv6 segments small = bracketed (91 ∷ hex_groups_text segments)
 
-plain_bracketed : (bytes : List ℕ) (h : Host (List ℕ)) → parse_bracketed bytes ≡ Ok h
-    → IsPlainHost h
-unfolding parse_bracketed
-plain_bracketed bytes h is =
-    by_test (get_or bytes (length bytes - 1) 0 == 93) _ _ h is (λ read. plain_ipv6 _ h read)
-    (λ other. cc)
-
-octets_small : (bits k : ℕ) → get_or (to_be_bytes w32 bits) k 0 < 2 ^ 8
-octets_small bits zero = omega arith
-octets_small bits (suc zero) = omega arith
-octets_small bits (suc (suc zero)) = omega arith
-octets_small bits (suc (suc (suc zero))) = omega arith
-octets_small bits (suc (suc (suc (suc k)))) = lit< tt
-
-plain_ipv4 : (r : Option ℕ) (h : Host (List ℕ)) → ipv4_host r ≡ Ok h → IsPlainHost h
-plain_ipv4 None h is = cc
-plain_ipv4 (Some bits) h is =
+plain_ipv4 : (bits : ℕ) → IsPlain (ipv4_text (to_be_bytes w32 bits))
+plain_ipv4 bits =
     let text = ipv4_text (to_be_bytes w32 bits) in
-    subst IsPlainHost (same_ok (Ipv4 (record { octets = to_be_bytes w32 bits })) h is)
-    (no_colon text
+    no_colon text
     (All-weaker IsDigitOrDot (IsNot 58) (λ b digit is. grind arith) text
-    (All-ipv4_text (to_be_bytes w32 bits) (octets_small bits))))
+    (All-ipv4_text (to_be_bytes w32 bits) (octets_small bits)))
 
-plain_named : (r : Option (List ℕ)) (h : Host (List ℕ)) → host_of_ascii r ≡ Ok h → IsPlainHost h
-plain_named None h is = cc
-plain_named (Some domain) h is =
-    let some = past_error (is_empty domain) _ _ h is in
-    let allowed = past_error (list_any is_forbidden_in_domain domain) _ _ h some.1 in
-    by_test (ends_in_a_number domain) _ _ h allowed.1
-    (λ number. plain_ipv4 (parse_ipv4 domain) h number)
-    (λ name. subst IsPlainHost (same_ok (Domain domain) h name)
-    (no_colon domain (All_kept_differs FORBIDDEN_DOMAIN 58 refl domain
-    (none_from_list_any is_forbidden_in_domain domain allowed.0))))
+plain_named : (domain : List ℕ) → list_any is_forbidden_in_domain domain ≡ false → IsPlain domain
+plain_named domain none =
+    no_colon domain (All_kept_differs FORBIDDEN_DOMAIN 58 refl domain
+    (none_from_list_any is_forbidden_in_domain domain none))
 
-plain_special : (bytes : List ℕ) (h : Host (List ℕ)) → parse_special_host bytes ≡ Ok h
-    → IsPlainHost h
-unfolding parse_special_host
-plain_special bytes h is =
-    by_test (get_or bytes 0 0 == 91) _ _ h is (λ read. plain_bracketed bytes h read)
-    (λ read. plain_named (ascii_domain _) h read)
-
-plain_opaque : (bytes : List ℕ) (h : Host (List ℕ)) → parse_opaque_host bytes ≡ Ok h → IsPlainHost h
-unfolding parse_opaque_host
-plain_opaque bytes h is =
-    by_test (get_or bytes 0 0 == 91) _ _ h is (λ read. plain_bracketed bytes h read)
-    (λ read.
-    let allowed = past_error (list_any is_forbidden_in_host bytes) _ _ h read in
-    subst IsPlainHost (same_ok (Domain _) h allowed.1)
-    (no_colon _ (All_kept_differs FORBIDDEN_HOST 58 refl _
-    (opaque_host_encoded bytes allowed.0).0)))
-
-plain_elsewhere : (h : Host (List ℕ)) → IsPlainHost h → IsPlainHost (without_localhost h)
-plain_elsewhere (Domain domain) plain =
-    cond_both _ [] domain IsPlain (λ _. no_colon [] (All-nil (IsNot 58))) (λ _. plain)
-plain_elsewhere (Ipv4 address) plain = plain
-plain_elsewhere (Ipv6 address) plain = plain
-
-plain_mapped : (r : Parsed (Host (List ℕ))) (h : Host (List ℕ))
-    → ((x : Host (List ℕ)) → r ≡ Ok x → IsPlainHost x)
-    → result_map_both without_localhost (λ e. e) r ≡ Ok h → IsPlainHost h
-plain_mapped (Ok x) h plain is =
-    subst IsPlainHost (same_ok (without_localhost x) h is) (plain_elsewhere x (plain x refl))
-plain_mapped (Err d) h plain is = cc
-
-plain_file_host : (bytes : List ℕ) (h : Host (List ℕ)) → parse_file_host bytes ≡ Ok h
-    → IsPlainHost h
-unfolding parse_file_host
-plain_file_host bytes h is =
-    by_test (is_empty bytes) _ _ h is
-    (λ none. subst IsPlainHost (same_ok (Domain []) h none) (no_colon [] (All-nil (IsNot 58))))
-    (λ read. plain_mapped (parse_special_host bytes) h (plain_special bytes) read)
-
-plain_host : (kind : SchemeType) (bytes : List ℕ) (h : Host (List ℕ))
-    → parse_host kind bytes ≡ Ok h → IsPlainHost h
-plain_host File bytes h is = plain_file_host bytes h is
-plain_host SpecialNotFile bytes h is = plain_special bytes h is
-plain_host NotSpecial bytes h is = plain_opaque bytes h is
+plain_each : HoldsOfEach IsPlainHost
+plain_each =
+    record {
+      none = no_colon [] (All-nil (IsNot 58));
+      named = plain_named;
+      opaque =
+          λ bytes allowed.
+          no_colon _ (All_kept_differs FORBIDDEN_HOST 58 refl _
+          (opaque_host_encoded bytes allowed).0);
+      ipv4 = plain_ipv4;
+      ipv6 = plain_ipv6;
+    }
 
 -- ---- ports
 
@@ -226,8 +148,8 @@ digits_port : (scheme digits : List ℕ) (port : Option ℕ) → parse_port sche
 unfolding parse_port
 digits_port scheme digits port is =
     by_test (is_empty digits) _ _ port is
-    (λ none. subst HasDigits (same_ok None port none) refl)
-    (λ some. choose (list_all is_ascii_digit digits && nat_lt (digits_value 10 digits) (2 ^ 16))
+    (λ _ none. subst HasDigits (same_ok None port none) refl)
+    (λ _ some. choose (list_all is_ascii_digit digits && nat_lt (digits_value 10 digits) (2 ^ 16))
     refl some)
   where
     choose : (t : Bool)
@@ -284,7 +206,7 @@ read_authority scheme bytes head named is =
     ok_then (parse_port scheme (unwrap_or host_port.1 [])) _ head more λ port got end.
     subst IsRead (same_ok _ head end)
     (with_host (with_authority scheme userinfo.0 (unwrap_or userinfo.1 []) host port) host port
-    refl refl (plain_host (scheme_type scheme) host_port.0 host read)
+    refl refl (host_holds IsPlainHost plain_each (scheme_type scheme) host_port.0 host read)
     (digits_port scheme (unwrap_or host_port.1 []) port got) named)
 
 read_slashes : (scheme bytes : List ℕ) (url : Parts) → IsScheme scheme
@@ -303,9 +225,9 @@ read_non_special : (scheme body : List ℕ) (url : Parts) → IsScheme scheme
 unfolding parse_non_special
 read_non_special scheme body url named is =
     by_test (leading_slashes NotSpecial body == 2) _ _ url is
-    (λ two. read_slashes scheme (drop 2 body) url named two)
-    (λ other. by_test (leading_slashes NotSpecial body == 1) _ _ url other
-    (λ one. with_none scheme _ url named one) (λ none. with_none scheme _ url named none))
+    (λ _ two. read_slashes scheme (drop 2 body) url named two)
+    (λ _ other. by_test (leading_slashes NotSpecial body == 1) _ _ url other
+    (λ _ one. with_none scheme _ url named one) (λ _ none. with_none scheme _ url named none))
 
 read_file : (host : Host (List ℕ)) (path : List ℕ) (url : Parts) → IsPlainHost host
     → ◌≡◌ {A = Parsed Parts} (Ok (with_path (file_with_host host) path)) (Ok url) → IsRead url
@@ -322,24 +244,24 @@ unfolding after_file_double_slash
 read_file_slashes bytes url is =
     let len = segment_len File bytes in
     by_test (is_windows_drive_letter (take len bytes)) _ _ url is
-    (λ drive. read_file (Domain []) _ url no_file_host drive)
-    (λ other. ok_then (parse_file_host (take len bytes)) _ url other λ host read end.
-    read_file host _ url (plain_file_host (take len bytes) host read) end)
+    (λ _ drive. read_file (Domain []) _ url no_file_host drive)
+    (λ _ other. ok_then (parse_file_host (take len bytes)) _ url other λ host read end.
+    read_file host _ url (file_host_holds IsPlainHost plain_each (take len bytes) host read) end)
 
 read_file_body : (body : List ℕ) (url : Parts) → parse_file None body ≡ Ok url → IsRead url
 unfolding parse_file
 read_file_body body url is =
-    by_test (leading_slashes File body == 2) _ _ url is (λ two. read_file_slashes _ url two)
-    (λ other. read_file (Domain []) _ url no_file_host other)
+    by_test (leading_slashes File body == 2) _ _ url is (λ _ two. read_file_slashes _ url two)
+    (λ _ other. read_file (Domain []) _ url no_file_host other)
 
 read_body : (scheme body : List ℕ) (url : Parts) → IsScheme scheme
     → parse_body scheme None body ≡ Ok url → IsRead url
 unfolding parse_body
 read_body scheme body url named is =
-    by_test (is_file (scheme_type scheme)) _ _ url is (λ file. read_file_body body url file)
-    (λ other. by_test (is_special (scheme_type scheme)) _ _ url other
-    (λ special. read_slashes scheme _ url named special)
-    (λ plain. read_non_special scheme body url named plain))
+    by_test (is_file (scheme_type scheme)) _ _ url is (λ _ file. read_file_body body url file)
+    (λ _ other. by_test (is_special (scheme_type scheme)) _ _ url other
+    (λ _ special. read_slashes scheme _ url named special)
+    (λ _ plain. read_non_special scheme body url named plain))
 
 read_before : (url : Parts) (query fragment : Option (List ℕ)) → IsRead url
     → IsRead (before_tail url query fragment)
@@ -395,9 +317,6 @@ place_scheme : IsScheme (codes "place")
 unfolding scheme_len
 place_scheme = record { nonempty = lit< tt; whole = refl; lower = refl }
 
-begins : (xs ys : List ℕ) → starts_with nat_eq (xs ++ ys) xs ≡ true
-begins xs ys = (bytes_eq-Decides xs (take (length xs) (xs ++ ys))).1 (sym (take-append_seam xs ys))
-
 whole_begins : (scheme rest text : List ℕ) → scheme ++ 58 ∷ rest ≡ text → IsScheme scheme
     → bytes_eq scheme (codes "place") ≡ starts_with nat_eq text (codes "place:")
 whole_begins scheme rest text same named =
@@ -405,7 +324,8 @@ whole_begins scheme rest text same named =
     (λ is.
     let scheme_is = (bytes_eq-Decides scheme (codes "place")).0 is in
     subst (λ t. starts_with nat_eq t (codes "place:") ≡ true)
-    (ap (λ (s : List ℕ). s ++ 58 ∷ rest) (sym scheme_is) ∙ same) (begins (codes "place:") rest))
+    (ap (λ (s : List ℕ). s ++ 58 ∷ rest) (sym scheme_is) ∙ same)
+    (starts_with-append (codes "place:") rest))
     (λ is.
     let place = codes "place" in
     let front = (bytes_eq-Decides (codes "place:") (take 6 text)).0 is in

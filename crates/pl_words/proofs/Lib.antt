@@ -2,6 +2,7 @@ mod AsciiFolds
 mod BarRows
 mod FoldRows
 pub mod FoundLaws
+pub mod JoinedTags
 mod PieceRows
 mod PieceSteps
 mod PrefixSteps
