@@ -1,4 +1,5 @@
 pub mod ChangedLists
+pub mod FirstKey
 pub mod LastKey
 pub mod OneByOne
 pub mod Parted

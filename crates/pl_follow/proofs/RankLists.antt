@@ -11,7 +11,7 @@ use Rattle.std.specs.Ordering.{is_eq, is_gt, is_lt, match_ordering, ordering_rev
 use Rattle.std.specs.Set.{remove_key}
 use Rattle.std.specs.declared.cmp.Ordering.{Ordering}
 use Rattle.std.specs.declared.cmp.Ordering.TheVariants.{Equal, Greater, Less}
-use Rattle.std.proofs.lemmas.Cmp.{tied_itself}
+use Rattle.std.proofs.lemmas.Cmp.{back_total, tied_itself}
 use Rattle.std.proofs.lemmas.List.{get_or-reverse, length-reverse}
 use Rattle.std.proofs.lemmas.List.Elements.{recursion_from_All}
 use Rattle.std.proofs.lemmas.List.Sorted.{IsPermutation-reverse, IsPermutation-sym, IsPermutation-trans}
@@ -304,3 +304,33 @@ module _ {R : Type 0} (cmp : R → R → Ordering) (total : IsTotalOrder cmp) wh
       ap (λ zs. slice_get zs 0)
       (ap (filter (is_behind (is_above cmp) place)) (walked ks listed up is)
       ∙ kept_sorted (is_behind (is_above cmp) place) listed (listed_distinct ks listed up is))
+
+-- ---- the walk from the least on
+
+module _ {R : Type 0} (cmp : R → R → Ordering) (total : IsTotalOrder cmp) where
+  turned_above : is_above (λ x y. cmp y x) ≡ is_below cmp
+  turned_above i x y = above_alike (λ x y. cmp y x) (back_total total) x y i
+
+  none_below_tie : (ks : List R) → IsStrictlySortedBy cmp ks → IsDistinct (ties (is_below cmp)) ks
+  none_below_tie ks up =
+      IsDistinct-from_apart (ties (is_below cmp)) ks
+      (λ i j d less within. rw (Less-from_sorted cmp ks i j d up less within) refl)
+
+  -- the first rank ahead of a place
+  pub first_up : (ks listed : List R) → IsStrictlySortedBy cmp ks → ks ≡ sorted_by (is_below cmp) listed
+      → (place : Option R)
+      → slice_get (filter (is_behind (is_below cmp) place) ks) 0 ≡ next_rank (is_below cmp) place listed
+  first_up ks listed up is place =
+      ap (λ zs. slice_get (filter (is_behind (is_below cmp) place) zs) 0) is
+      ∙ ap (λ zs. slice_get zs 0)
+      (subst
+      (λ before. filter test (sorted_by before listed) ≡ sorted_by before (filter test listed)) turned_above
+      (kept_sorted (λ x y. cmp y x) (back_total total) test listed
+      (subst (λ before. IsDistinct (ties before) listed) (sym turned_above)
+      (distinct_moved (is_below cmp) ks listed
+      (IsPermutation-sym listed ks
+      (subst (λ zs. IsPermutation listed zs) (sym is) (sorted_moves (is_below cmp) listed)))
+      (none_below_tie ks up)))))
+    where
+      test : R → Bool
+      test = is_behind (is_below cmp) place

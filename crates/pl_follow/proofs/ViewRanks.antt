@@ -108,6 +108,10 @@ pub next_ahead : (place : Option (ℤ × PageId)) (ranks : List (ℤ × PageId))
     → next_rank (is_above frecency_cmp) place ranks ≡ next_rank is_ahead place ranks
 next_ahead place ranks = ap (λ before. next_rank before place ranks) ahead_above
 
+pub next_below : (place : Option (ℤ × PageId)) (ranks : List (ℤ × PageId))
+    → next_rank (is_below frecency_cmp) place ranks ≡ next_rank (λ x y. is_ahead y x) place ranks
+next_below place ranks = λ i. next_rank (λ x y. ahead_below y x i) place ranks
+
 pub next_later : (place : Option (Micros × PageId)) (ranks : List (Micros × PageId))
     → next_rank (is_above visit_cmp) place ranks ≡ next_rank is_later place ranks
 next_later place ranks = ap (λ before. next_rank before place ranks) later_above

@@ -1,12 +1,13 @@
 mod AlikeLists
 mod AnswerOfViews
 mod AskedTexts
-mod ByFrecency
 mod FirstPages
 mod FoundOrder
 mod KeyOrder
-mod RanksWalk
+mod NextViews
 mod SortedParts
 mod TakenViews
 mod ViewRows
+mod ViewsWalk
+mod WalkOrder
 mod WatchableRows

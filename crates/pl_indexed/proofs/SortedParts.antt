@@ -5,7 +5,8 @@ use Rattle.std.specs.List.{AllByRecursion, IsDistinct, flat_map}
 use Rattle.std.specs.List.Sorted.{IsPermutation, ties}
 use Rattle.std.proofs.lemmas.List.Sorted.{IsPermutation-sym, IsPermutation-trans}
 use Rattle.pl_base.specs.Sorting.{put_in_place, sorted_by}
-use Rattle.pl_base.proofs.LookUps.{part}
+use Rattle.pl_base.proofs.ListLaws.{all-filter}
+use Rattle.pl_base.proofs.LookUps.{front, part, rest_of}
 use Rattle.pl_base.proofs.SortLaws.{Ascends, all_sorted, ascends_sorted_by, distinct_moved, for_all}
 use Rattle.pl_base.proofs.SortLaws.{only_ascending, order_of_all, sorted_moves}
 use Rattle.pl_query.proofs.PartLists.{flat_sorted, same_moves}
@@ -77,6 +78,26 @@ module _ {X : Type 0} where
           ahead_of_all = s.ahead_of_all;
           rest_ascends = s.rest_ascends;
         }
+
+    -- some of the members of a list in order
+    pub ascends_filter : (test : X → Bool) (xs : List X) → Ascends before xs → Ascends before (filter test xs)
+    ascends_filter test [] up = tt
+    ascends_filter test (x ∷ xs) up = choose (test x) (ascends_filter test xs up.1)
+      where
+        choose : (b : Bool) → Ascends before (filter test xs)
+            → Ascends before (if b then x ∷ filter test xs else filter test xs)
+        choose true rest = (all-filter (λ y. before x y ≡ true) test xs up.0, rest)
+        choose false rest = rest
+
+    pub ascends_front : (xs ys : List X) → Ascends before (xs ++ ys) → Ascends before xs
+    ascends_front [] ys up = tt
+    ascends_front (x ∷ xs) ys up = (front (λ y. before x y ≡ true) xs ys up.0, ascends_front xs ys up.1)
+
+    -- each in the first part of a list in order comes before each in the second
+    pub front_ahead : (xs ys : List X) → Ascends before (xs ++ ys)
+        → AllByRecursion (λ x. AllByRecursion (λ y. before x y ≡ true) ys) xs
+    front_ahead [] ys up = tt
+    front_ahead (x ∷ xs) ys up = (rest_of (λ y. before x y ≡ true) xs ys up.0, front_ahead xs ys up.1)
 
     -- ---- lists of the same members
 

@@ -3,8 +3,7 @@ ghost use Rattle.std.specs.Prelude.{◌≡◌, List, true, IfSome};
 ghost use Rattle.std.specs.Option.{option_and_then, option_copied, option_map};
 ghost use Rattle.pl_base.specs.declared.id.PageId.{PageId};
 ghost use Rattle.pl_base.specs.declared.view.View.{View};
-ghost use Rattle.pl_follow.specs.Order.{Orders, frecency_ranks, is_ahead, next_rank, rank_of};
-ghost use Rattle.pl_follow.specs.Order.{visit_rank_of};
+ghost use Rattle.pl_follow.specs.Order.{Orders, rank_of, visit_rank_of};
 ghost use Rattle.pl_known.specs.Known.{AreFollowed};
 ghost use Rattle.pl_indexed.specs.Found.{view_before};
 ghost use Rattle.pl_indexed.specs.Walk.{next_in, sort_of, stands_in};
@@ -54,18 +53,6 @@ fn place_by_visit(view: Option<&View>) -> Option<(Micros, PageId)>
     Some((view.last?, view.id))
 }
 
-// The frecency and the id of the view next ahead of a place by frecency, or of the last of all
-// where no place is given.
-fn next_ahead(kept: &OrderIndex, place: Option<(i64, PageId)>) -> Option<(i64, PageId)>
-    ensures { (views : List View) → Orders kept.now views
-        → result ≡ next_rank (λ x y. is_ahead y x) place (frecency_ranks views) }
-{
-    match place {
-        Some(place) => kept.ahead(place).next_back().copied(),
-        None => kept.by_frecency().next_back().copied(),
-    }
-}
-
 // The page of a rank.
 fn page_of<K: Copy>(rank: Option<(K, PageId)>) -> Option<PageId>
     ensures { result ≡ option_map (λ (r : K × PageId). r.1) rank }
@@ -82,7 +69,7 @@ fn next_page(kept: &OrderIndex, order: KeptOrder, behind: Option<&View>) -> Opti
 {
     match order {
         KeptOrder::FrecencyFalling => page_of(kept.after(place_by_frecency(behind))),
-        KeptOrder::FrecencyRising => page_of(next_ahead(kept, place_by_frecency(behind))),
+        KeptOrder::FrecencyRising => page_of(kept.before(place_by_frecency(behind))),
         KeptOrder::LatestFirst => page_of(kept.visited_before(place_by_visit(behind))),
     }
 }
