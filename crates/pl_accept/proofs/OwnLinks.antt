@@ -1,12 +1,13 @@
--- What the lists of origins and of pages tell: the owners of their members are below a number where rows name such, and
--- an origin whose list has a page names a first one.
+-- What the lists of origins and of pages tell: the owners of their members are below a number where
+-- rows name such, and an origin whose list has a page names a first one.
 use Rattle.std.proofs.Common.{◌≡◌, ◌≢◌, ◌≤◌, ◌∙◌, ◌==◌, ◌∷◌, [], List, Some, ap, map, not, refl, sym, true, ℕ}
 use Rattle.std.proofs.lemmas.Bool.{and_parts, ne_eqb, true≢false}
 use Rattle.std.proofs.lemmas.List.Elements.{All-from_recursion, All-map, recursion_from_All}
-use Rattle.std.specs.List.{All, AllByRecursion, list_all, zip}
+use Rattle.std.specs.List.{All, list_all, zip}
 use Rattle.pl_accept.specs.OwnLists.{HasPageLists, names_first}
 use Rattle.pl_base.specs.declared.id.Slot.{Slot}
 use Rattle.pl_base.specs.Sorting.{sorted_by}
+use Rattle.pl_base.proofs.ListLaws.{all_second}
 use Rattle.pl_base.proofs.LookUps.{both}
 use Rattle.pl_base.proofs.SortLaws.{all_sorted}
 use Rattle.pl_load.specs.Members.{VisitIn, is_newer, origin_members, page_members}
@@ -25,13 +26,6 @@ use Rattle.pl_slot.specs.declared.links.Rail.TheVariants.{OriginPages}
 use Rattle.pl_slot.specs.Links.{link_at}
 
 -- ---- owners that rows name
-
--- what holds of each of the second list
-all_second : {X Y : Type 0} (P : Y → Type 0) (xs : List X) (ys : List Y) → AllByRecursion P ys
-    → AllByRecursion (λ (p : X × Y). P p.1) (zip xs ys)
-all_second P [] ys all = tt
-all_second P (x ∷ xs) [] all = tt
-all_second P (x ∷ xs) (y ∷ ys) all = (all.0, all_second P xs ys all.1)
 
 module _ (count : ℕ) where
   -- members that are made of rows

@@ -1,7 +1,7 @@
 -- What the tests of rows that were read require of them, as it follows from how they were read.
-use Rattle.std.proofs.Common.{◌≡◌, ◌≢◌, ◌≤◌, ◌<◌, ◌^◌, ◌∙◌, ◌++◌, ℕ, List, Option, Some, None, ap, arith, eqb}
+use Rattle.std.proofs.Common.{◌≡◌, ◌≢◌, ◌≤◌, ◌<◌, ◌^◌, ◌++◌, ℕ, List, Option, Some, None, ap, arith, eqb}
 use Rattle.std.proofs.Common.{is_some, length, map, refl, subst, sym, true}
-use Rattle.std.specs.List.{AllByRecursion, AllPairs, AllZip, IsDistinct, flat_map}
+use Rattle.std.specs.List.{AllByRecursion, AllPairs, IsDistinct, flat_map}
 use Rattle.std.specs.List.Sorted.{IsStrictlyIncreasing}
 use Rattle.std.specs.Option.{option_map}
 use Rattle.std.proofs.lemmas.List.{length-map}
@@ -19,18 +19,17 @@ use Rattle.pl_base.proofs.KeyCounts.{count-append}
 use Rattle.pl_base.proofs.ListLaws.{AllPairs-from_map, weaker}
 use Rattle.pl_check.specs.Readable.{AreReadable}
 use Rattle.pl_check.specs.Rows.{stored_visit_ids}
-use Rattle.pl_load.specs.Members.{parent_members}
 use Rattle.pl_load.specs.Owners.{NameOwners, names_origin}
 use Rattle.pl_load.specs.Reads.{AreReadFrom, Reads, numbers}
 use Rattle.pl_load.specs.RowSlots.{HasListed, HasRowEach}
+use Rattle.pl_load.proofs.KeptRows.{items_read}
 use Rattle.pl_load.proofs.Layouts.{IsRead}
 use Rattle.pl_load.proofs.ListParts.{all_pass}
 use Rattle.pl_load.proofs.MetSlots.{of_kind, page_kind, visit_kind}
 use Rattle.pl_load.proofs.MetTexts.{few}
-use Rattle.pl_load.proofs.Zips.{alike_made, firsts, seconds, zip_paired, zip_weaker}
-use Rattle.pl_owned.specs.Owned.{IsListed}
+use Rattle.pl_load.proofs.Zips.{alike_made, firsts, seconds, zip_weaker}
 use Rattle.pl_reading.specs.Live.{HoldsItem, HoldsPlace, HoldsVisit}
-use Rattle.pl_reading.specs.Read.{IsItemOf, IsPageRead, IsVisitRead, Names}
+use Rattle.pl_reading.specs.Read.{IsPageRead, IsVisitRead, Names}
 use Rattle.pl_reading.specs.Texts.{row_texts, text_parts}
 use Rattle.pl_record.specs.declared.rows.Item.{Item}
 use Rattle.pl_record.specs.declared.rows.Place.{Place}
@@ -42,7 +41,6 @@ use Rattle.pl_record.proofs.SlotSteps.{origin_by_kind}
 use Rattle.pl_sheets.specs.Sheets.{Pages}
 use Rattle.pl_slot.specs.declared.kind.SlotKind.{SlotKind}
 use Rattle.pl_slot.specs.declared.kind.SlotKind.TheVariants as kinds
-use Rattle.pl_slot.specs.declared.links.Rail.TheVariants.{Children}
 use Rattle.pl_slot.specs.declared.row.SlotRow.{SlotRow}
 use Rattle.pl_slot.specs.Arena.{IsArena, is_live, row_at, slot_count}
 use Rattle.pl_slot.specs.Links.{kind_at}
@@ -115,16 +113,6 @@ module _ (pages : Pages) (reads : Reads) (from : AreReadFrom pages reads) where
   pub pages_each : length reads.stored.pages ≡ length reads.places
   pages_each = AllZip-long (IsPageRead pages) reads.places reads.stored.pages from.stored_pages
 
-  -- each item is read, with the children that its list has
-  lists_long : length reads.items ≡ length from.children
-  lists_long =
-      AllZip-long (HoldsItem pages) reads.item_slots reads.items from.items
-      ∙ sym (AllZip-long (IsListed Children (parent_members reads.item_slots reads.items) pages) reads.item_slots
-      from.children from.parents)
-
-  items_read : AllZip (IsRead pages) reads.items reads.stored.items
-  items_read = zip_paired (IsItemOf pages) reads.items from.children reads.stored.items lists_long from.stored_items
-
   -- ---- texts
 
   pub readable : AreIdsFour reads.stored.ids → AreReadable reads.stored
@@ -142,7 +130,7 @@ module _ (pages : Pages) (reads : Reads) (from : AreReadFrom pages reads) where
         item_titles =
             All-from_recursion (λ (s : TreeItem). IsTitle s.title) reads.stored.items
             (seconds (IsRead pages) (λ (s : TreeItem). IsTitle s.title) reads.items reads.stored.items
-            (λ i s read. read.1.is_title) items_read);
+            (λ i s read. read.1.is_title) (items_read pages reads from));
       }
 
   -- ---- owners
@@ -173,7 +161,7 @@ module _ (pages : Pages) (reads : Reads) (from : AreReadFrom pages reads) where
             (firsts (IsRead pages) (λ (i : Item). i.page.0 ≤ slot_count pages) reads.items reads.stored.items
             (λ i s read.
             named_below (page_in pages) pages i.page s.page (page_below pages i.page) read.1.page)
-            items_read);
+            (items_read pages reads from));
       }
 
   -- ---- numbers

@@ -1,7 +1,7 @@
 -- What the two lists of offers are in the end, and what finding them costs.
 use Rattle.std.proofs.Common.{◌≡◌, ◌≢◌, ◌∙◌, ◌+◌, ◌-◌, ◌<◌, ◌≤◌, ◌++◌, ◌&&◌, ◌||◌, ℕ, ℤ, Bool, true, false}
-use Rattle.std.proofs.Common.{List, [], ◌∷◌}
-use Rattle.std.proofs.Common.{All, Some, ap, ap₂, arith, filter, if◌then◌else◌, length, map, min, nat_lt, not, pos}
+use Rattle.std.proofs.Common.{List, []}
+use Rattle.std.proofs.Common.{All, Some, ap, ap₂, arith, filter, length, map, min, nat_lt, not, pos}
 use Rattle.std.proofs.Common.{refl, reverse, subst, sym, take}
 use Rattle.std.specs.List.{AllByRecursion, AllPairs, list_any, sum_by}
 use Rattle.std.proofs.lemmas.Bool.{or_right}
@@ -20,7 +20,7 @@ use Rattle.pl_base.specs.Sorting.{sorted_by}
 use Rattle.pl_base.specs.Store.{Page, Store}
 use Rattle.pl_base.specs.Tags.{is_bookmarked, is_tagged}
 use Rattle.pl_base.specs.View.{AreViewsOf}
-use Rattle.pl_base.proofs.ListLaws.{All-from_map, all-filter, filter-map, sum_by-map, to_map, weaker}
+use Rattle.pl_base.proofs.ListLaws.{All-from_map, all-filter, filter-map, filter-where, sum_by-map, to_map, weaker}
 use Rattle.pl_base.proofs.LookUps.{found_self, where_passes}
 use Rattle.pl_base.proofs.SortLaws.{all_sorted, sorted_moves}
 use Rattle.pl_follow.specs.Order.{frecency_ranks, is_ahead}
@@ -31,9 +31,10 @@ use Rattle.pl_bar.specs.declared.offers.Offers.{Offers}
 use Rattle.pl_bar.specs.AddressBar.{all_match, first_tier, is_candidate, offered, ranks_before, second_tier, tiers}
 use Rattle.pl_bar.specs.Cost.{gone_through, is_counted, is_reached, page_cost}
 use Rattle.pl_bar.specs.Offers.{GoOn, filled_up, has_counted, has_id, ids_of, in_first, in_second, up_to}
+use Rattle.pl_marks.proofs.PageRows.{ids_apart}
 use Rattle.pl_bar.proofs.FilledLists.{ascends_kept, filled_cut, filled_full, filled_length, filled_more, filled_take}
 use Rattle.pl_bar.proofs.FilledLists.{up_to_alike, up_to_cost, up_to_map, up_to_more, up_to_reached}
-use Rattle.pl_bar.proofs.PageTiers.{both_filters, has_filtered, ids_apart, page_with}
+use Rattle.pl_bar.proofs.PageTiers.{both_filters, has_filtered, page_with}
 use Rattle.pl_bar.proofs.WalkedPages.{ascends, comes_before, ids_walked, in_order, is_negative, is_positive}
 use Rattle.pl_bar.proofs.WalkedPages.{negative_is, one_or_other, order_is, page_pairs, page_ranks, positive_is, rank}
 use Rattle.pl_bar.proofs.WalkedPages.{some_in_order, walk, walk_joined}
@@ -42,12 +43,6 @@ use Rattle.pl_bar.proofs.WalkedPages.{some_in_order, walk, walk_joined}
 same : (a b c d e : Bool) → (a && ((((a && b) && c) && d) && e)) ≡ ((((a && b) && c) && d) && e)
 same true b c d e = refl
 same false b c d e = refl
-
-filter_alike : {A : Type 0} (one other : A → Bool) (xs : List A) → AllByRecursion (λ x. one x ≡ other x) xs
-    → filter one xs ≡ filter other xs
-filter_alike one other [] alike = refl
-filter_alike one other (x ∷ xs) alike =
-    ap₂ (λ b zs. if b then x ∷ zs else zs) alike.0 (filter_alike one other xs alike.1)
 
 abbrev pub id_of : Page → PageId
 id_of p = p.id
@@ -125,7 +120,7 @@ module _ (kept : Kept) (well : IsWellKept kept) (asked : BarText) where
         ≡ map id_of (sorted_by (ranks_before store) (filter test store.pages))
     found_are =
         filter-map is_one id_of (walk store)
-        ∙ ap (map id_of) (filter_alike (λ p. is_one p.id) test (walk store) told ∙ in_tier)
+        ∙ ap (map id_of) (filter-where (λ p. is_one p.id) test (walk store) told ∙ in_tier)
 
   counts_first : (p : Page) → (is_counted store p && first_test p) ≡ first_test p
   counts_first p =
@@ -187,7 +182,7 @@ module _ (kept : Kept) (well : IsWellKept kept) (asked : BarText) where
         → ids_of ranks ≡ map id_of (filter (is_positive store) (in_order store))
     positive_ids is =
         ids_walked store (λ (r : ℤ × PageId). is_ahead r (pos 1, record { 0 = 0 })) views ranks are is
-        ∙ ap (map id_of) (filter_alike (λ p. is_ahead (rank store p) (pos 1, record { 0 = 0 })) (is_positive store)
+        ∙ ap (map id_of) (filter-where (λ p. is_ahead (rank store p) (pos 1, record { 0 = 0 })) (is_positive store)
         (in_order store) (all_sorted (comes_before store)
         (λ p. is_ahead (rank store p) (pos 1, record { 0 = 0 }) ≡ is_positive store p) store.pages
         (to_map (λ p. is_ahead (rank store p) (pos 1, record { 0 = 0 }) ≡ is_positive store p)

@@ -1,6 +1,6 @@
 -- In which tier a page is, by what is found in its texts and what the marks keep.
 use Rattle.std.proofs.Common.{◌≡◌, ◌≢◌, ◌∙◌, ◌==◌, ◌&&◌, ◌||◌, ℕ, Bool, true, false, List, [], ◌∷◌, Option, Some, None}
-use Rattle.std.proofs.Common.{Ok, Err, ap, ap₂, filter, find, if◌then◌else◌, length, map, nat_lt, not, refl, subst, sym}
+use Rattle.std.proofs.Common.{Ok, Err, ap, ap₂, filter, find, if◌then◌else◌, length, nat_lt, not, refl, subst, sym}
 use Rattle.std.specs.List.{AllByRecursion, list_any}
 use Rattle.std.specs.Option.{IsSome, option_map}
 use Rattle.std.proofs.lemmas.Bool.{true≢false}
@@ -18,20 +18,21 @@ use Rattle.pl_base.specs.View.{AreViews, IsViewOf}
 use Rattle.pl_base.proofs.IdsLaws.{same_page}
 use Rattle.pl_base.proofs.ListLaws.{found_in, list_all-alike, list_any-map}
 use Rattle.pl_base.proofs.LookUps.{Apart, found_one, found_passes, found_some}
-use Rattle.pl_base.proofs.PageLaws.{pages_apart}
+use Rattle.pl_marks.proofs.PageRows.{ids_apart}
 use Rattle.pl_follow.specs.declared.texts.Folded.{Folded}
 use Rattle.pl_follow.specs.declared.texts.FoldedTexts.{FoldedTexts}
 use Rattle.pl_follow.specs.Texts.{KeepsTexts, folded_of, texts_of}
 use Rattle.pl_words.specs.declared.bar_text.BarText.{BarText}
 use Rattle.pl_words.specs.declared.bar_text.Marks.{Marks}
 use Rattle.pl_words.specs.declared.stands.Standing.{Standing}
-use Rattle.pl_words.specs.declared.stands.Standing.TheVariants.{Boundary, Inside, Nowhere}
+use Rattle.pl_words.specs.declared.stands.Standing.TheVariants.{Nowhere}
 use Rattle.pl_words.specs.Pieces.{found, in_address, searched}
 use Rattle.pl_bar.specs.AddressBar.{all_match, candidates, in_title, is_candidate, searched_title, word_matches}
 use Rattle.pl_bar.specs.Cost.{is_counted}
 use Rattle.pl_bar.specs.Followers.{HaveTexts}
 use Rattle.pl_bar.specs.Offers.{TellsTier, has_counted, has_id, in_first, in_second, is_boundary, is_inside}
 use Rattle.pl_bar.specs.Standings.{all_in, in_titles, standing_by, word_in}
+use Rattle.pl_bar.proofs.WordStandings.{by}
 
 -- ---- the page with an id, among those that pass a test
 
@@ -79,21 +80,6 @@ pub has_filtered : (test : Page → Bool) (pages : List Page) (id : PageId) (p :
 has_filtered test pages id p apart at =
     any_passing (λ (q : Page). q.id.0 == id.0) test p pages (found_one (λ (q : Page). q.id.0) id.0 pages p apart at)
     ∙ ap (λ b. b && test p) (found_some (λ (q : Page). q.id.0 == id.0) pages p at)
-
--- ids of a store stand once
-Apart-map : {X Y : Type 0} (key : Y → ℕ) (f : X → Y) (xs : List X) → Apart (λ x. key (f x)) xs
-    → Apart key (map f xs)
-Apart-map key f [] apart = tt
-Apart-map {X} {Y} key f (x ∷ xs) apart = (others xs apart.0, Apart-map key f xs apart.1)
-  where
-    others : (ys : List X) → AllByRecursion (λ y. key (f y) ≢ key (f x)) ys
-        → AllByRecursion (λ y. key y ≢ key (f x)) (map f ys)
-    others [] all = tt
-    others (y ∷ ys) all = (all.0, others ys all.1)
-
-pub ids_apart : (kept : Kept) → IsWellKept kept → Apart (λ (p : Page). p.id.0) (store_of kept).pages
-ids_apart kept well =
-    Apart-map (λ (p : Page). p.id.0) (λ (p : KeptPage). p.page) kept.pages (pages_apart kept well)
 
 -- ---- the texts of the page
 
@@ -173,9 +159,6 @@ module _ (store : Store) (p : Page) (view : View) (of : IsViewOf store p view) w
       (word_is marks boundary)
 
 -- ---- the tier
-
-abbrev by : Bool → Bool → Standing
-by on_boundary anywhere = if on_boundary then Boundary else if anywhere then Inside else Nowhere
 
 -- a page that is a candidate, or in which the words do not stand
 told_by : (on_boundary anywhere candidate : Bool) → (by on_boundary anywhere ≢ Nowhere → candidate ≡ true)

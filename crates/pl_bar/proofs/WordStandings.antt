@@ -67,7 +67,7 @@ module _ (texts : Folded) where
 
 -- ---- the worse of two
 
-abbrev by : Bool → Bool → Standing
+abbrev pub by : Bool → Bool → Standing
 by on_boundary anywhere = if on_boundary then Boundary else if anywhere then Inside else Nowhere
 
 worse_by : (t a u b : Bool) → Implies t a → Implies u b

@@ -1,5 +1,5 @@
--- Items that come behind those that are there, each as a child of any item: what was there keeps its parent, and all
--- that it tells of its page.
+-- Items that come behind those that are there, each as a child of any item: what was there keeps
+-- its parent, and all that it tells of its page.
 use Rattle.std.proofs.Common.{◌≡◌, ◌∙◌, ◌<◌, ◌≤◌, ◌==◌, ◌&&◌, ◌++◌, ℕ, All, Bool, false, List, [], ◌∷◌}
 use Rattle.std.proofs.Common.{Some, ap, append_assoc, arith, filter}
 use Rattle.std.proofs.Common.{map, nat_le, refl, subst, sym}
@@ -35,8 +35,8 @@ bare_grown parent place id i = grown_same parent place id bare (λ j. refl) i
 
 -- ---- items behind those that are there
 
--- the old items but for their children, and behind them items from this id on; what is below that id has the parent
--- that it had
+-- the old items but for their children, and behind them items from this id on; what is below that
+-- id has the parent that it had
 pub record AddsItems (first : ℕ) (old new : List Item) : Type 0 where
   pub front : List Item
   pub added : List Item

@@ -1,4 +1,5 @@
--- A store whose items changed differs on those pages alone of which they tell something else, or that came.
+-- A store whose items changed differs on those pages alone of which they tell something else, or
+-- that came.
 use Rattle.std.proofs.Common.{◌≡◌, ◌∙◌, ◌+◌, ◌<◌, ◌≤◌, ◌++◌, ◌==◌, ◌||◌, ◌⊎◌, inl, inr, Bool, true, false, List, ℕ}
 use Rattle.std.proofs.Common.{Some, ap, arith, eq-eqb, find, get_or, length, map, refl, subst, sym}
 use Rattle.std.specs.List.{All, AllPairs, Contains}
@@ -14,7 +15,7 @@ use Rattle.pl_base.specs.Good.{IsGood, IsGoodPage, is_visited}
 use Rattle.pl_base.specs.Removal.{is_standing, without_idle_pages}
 use Rattle.pl_base.specs.Store.{Item, Page, Store}
 use Rattle.pl_base.proofs.ListLaws.{All-from_map, AllPairs-from_map, all_stay, weaker}
-use Rattle.pl_base.proofs.LookUps.{apart_ascending, found_self, none_at}
+use Rattle.pl_base.proofs.LookUps.{apart_increasing, found_self, none_at}
 use Rattle.pl_marks.specs.Alike.{ComeBehind, DifferOnlyOn, HaveSamePages, is_one_of}
 use Rattle.pl_history.proofs.OthersAlike.{contains_filter, contains_unfiltered}
 use Rattle.pl_bearing.specs.References.{AreReferencesAlike}
@@ -29,8 +30,7 @@ same_id store good p q here there same =
     let own : All Own store.pages =
     All-from_recursion Own store.pages
     (found_self (λ (r : Page). r.id.0) store.pages
-    (apart_ascending (λ (r : Page). r.id.0) store.pages
-    (AllPairs-from_increasing (map (λ (r : Page). r.id.0) store.pages) good.page_ids.ascending))) in
+    (apart_increasing (λ (r : Page). r.id.0) store.pages good.page_ids.ascending)) in
     same_Some q p
     (sym (All-contains Own store.pages q own there)
     ∙ ap (λ (i : PageId). find (λ (s : Page). s.id.0 == i.0) store.pages) same
@@ -120,8 +120,8 @@ module _ (ids : List PageId) (old : Store) (next : Ids) (items : List Item) (add
         behind = behind;
       }
 
--- old and new are good stores. New is old with other items and next ids, with pages more behind, whose
--- ids are the next ones or later, and then without the pages that nothing keeps
+-- old and new are good stores. New is old with other items and next ids, with pages more behind,
+-- whose ids are the next ones or later, and then without the pages that nothing keeps
 pub differ_by_items : (ids : List PageId) (old new : Store) (next : Ids) (items : List Item) (added : List Page)
     → IsGood old → IsGood new
     → new ≡ without_idle_pages (record old { ids = next; items = items; pages = old.pages ++ added })

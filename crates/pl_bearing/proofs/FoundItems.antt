@@ -1,49 +1,18 @@
 -- What is found in lists: in front of others, among those that stay, and by ids.
-use Rattle.std.proofs.Common.{◌≡◌, ◌∙◌, ◌||◌, ◌++◌, inl, inr, Bool, true, false, List, [], ◌∷◌}
+use Rattle.std.proofs.Common.{◌≡◌, ◌∙◌, ◌++◌, Bool, true, false, List, [], ◌∷◌}
 use Rattle.std.proofs.Common.{Option, Some, None, ap, filter, find, if◌then◌else◌, refl, sym}
-use Rattle.std.specs.List.{AllByRecursion, filter_map, list_any}
+use Rattle.std.specs.List.{AllByRecursion}
 use Rattle.std.specs.Option.{option_map}
-use Rattle.std.proofs.lemmas.Bool.{both_ways, false≢true, or_left, or_right}
+use Rattle.std.proofs.lemmas.Bool.{both_ways}
 use Rattle.std.proofs.lemmas.List.{append-nil}
 use Rattle.std.proofs.lemmas.List.Elements.{filter-append}
 use Rattle.std.proofs.lemmas.Option.{same_Some}
 use Rattle.pl_base.specs.declared.id.ItemId.{ItemId}
 use Rattle.pl_base.specs.Store.{Item}
 use Rattle.pl_base.specs.Tree.{has_child, item_at, parent_of}
-use Rattle.pl_base.proofs.Among.{In, at_in}
+use Rattle.pl_base.proofs.Among.{In, at_in, from_found}
 use Rattle.pl_base.proofs.ItemLookUps.{same_item_number}
 use Rattle.pl_base.proofs.LookUps.{none_kept}
-
--- ---- elements that pass a test
-
-pub found_in : {X : Type 0} (test : X → Bool) (xs : List X) (x : X) → find test xs ≡ Some x → In x xs × (test x ≡ true)
-found_in test [] x found = absurd (cc)
-found_in test (y ∷ ys) x found = choose (test y) refl found (found_in test ys x)
-  where
-    choose : (b : Bool) → test y ≡ b → (if b then Some y else find test ys) ≡ Some x
-        → (find test ys ≡ Some x → In x ys × (test x ≡ true)) → In x (y ∷ ys) × (test x ≡ true)
-    choose true is here rest =
-        let same : y ≡ x = same_Some y x here in
-        (inl (sym same), ap test (sym same) ∙ is)
-    choose false is here rest = let r = rest here in (inr r.0, r.1)
-
--- one that passes a test
-abbrev pub Passing : {X : Type 0} → (X → Bool) → List X → Type 0
-Passing {X} test xs = (x : X) × In x xs × (test x ≡ true)
-
-pub any_in : {X : Type 0} (test : X → Bool) (xs : List X) → list_any test xs ≡ true → Passing test xs
-any_in test [] some = absurd (false≢true some)
-any_in test (x ∷ xs) some = choose (test x) refl some (any_in test xs)
-  where
-    choose : (b : Bool) → test x ≡ b → (b || list_any test xs) ≡ true → (list_any test xs ≡ true → Passing test xs)
-        → Passing test (x ∷ xs)
-    choose true is some rest = (x, inl refl, is)
-    choose false is some rest = let r = rest some in (r.0, inr r.1, r.2)
-
-pub in_any : {X : Type 0} (test : X → Bool) (xs : List X) (x : X) → In x xs → test x ≡ true → list_any test xs ≡ true
-in_any test [] x there is = absurd there
-in_any test (y ∷ ys) x (inl same) is = or_left (test y) (list_any test ys) (ap test (sym same) ∙ is)
-in_any test (y ∷ ys) x (inr there) is = or_right (test y) (list_any test ys) (in_any test ys x there is)
 
 -- ---- elements in front of others that do not pass
 
@@ -86,43 +55,6 @@ module _ {X : Type 0} (stays test : X → Bool) where
       choose false true gone pass rest = absurd (both_ways (stays x) gone (all.0 pass))
       choose false false gone pass rest = rest
 
--- ---- items that were looked up
-
-pub in_looked : (at : ItemId → Option Item) (ids : List ItemId) (c : ItemId) (i : Item) → In c ids → at c ≡ Some i
-    → In i (filter_map at ids)
-in_looked at [] c i there is = absurd there
-in_looked at (d ∷ ds) c i (inl same) is =
-    let here : at d ≡ Some i = ap at (sym same) ∙ is in
-    rw here (inl refl)
-in_looked at (d ∷ ds) c i (inr there) is = choose (at d) refl (in_looked at ds c i there is)
-  where
-    choose : (o : Option Item) → at d ≡ o → In i (filter_map at ds) → In i (filter_map at (d ∷ ds))
-    choose None here rest = rw here rest
-    choose (Some j) here rest = rw here (inr rest)
-
--- an id at which the item was looked up
-abbrev pub LookedUp : (ItemId → Option Item) → List ItemId → Item → Type 0
-LookedUp at ids i = (c : ItemId) × In c ids × (at c ≡ Some i)
-
-pub looked_in : (at : ItemId → Option Item) (ids : List ItemId) (i : Item) → In i (filter_map at ids) → LookedUp at ids i
-looked_in at [] i there = absurd there
-looked_in at (d ∷ ds) i there = choose (at d) refl (looked_in at ds i)
-  where
-    first : (j : Item) → at d ≡ Some j → In i (j ∷ filter_map at ds)
-        → (In i (filter_map at ds) → LookedUp at ds i) → LookedUp at (d ∷ ds) i
-    first j here (inl same) rest = (d, inl refl, here ∙ ap (λ (k : Item). Some k) (sym same))
-    first j here (inr behind) rest = let r = rest behind in (r.0, inr r.1, r.2)
-
-    choose : (o : Option Item) → at d ≡ o → (In i (filter_map at ds) → LookedUp at ds i) → LookedUp at (d ∷ ds) i
-    choose None here rest =
-        let r = rest (rw here at there) in (r.0, inr r.1, r.2)
-    choose (Some j) here rest = first j here (rw here at there) rest
-
--- as `children_of` has it
-abbrev pub children_in : Option Item → List ItemId
-children_in None = []
-children_in (Some i) = i.children
-
 -- ---- items by their ids
 
 -- each item is found by its id
@@ -147,5 +79,5 @@ parent_there items c p is = choose (find (has_child c) items) refl is
         → (i : Item) × In i items × (i.id ≡ p) × (has_child c i ≡ true)
     choose None found is = absurd (cc)
     choose (Some i) found is =
-        let r = found_in (has_child c) items i found in
+        let r = from_found (has_child c) items i found in
         (i, r.0, same_Some i.id p is, r.1)

@@ -1,4 +1,5 @@
--- An import of bookmarks bears on the pages that got an item alone: of the others the items tell what they told.
+-- An import of bookmarks bears on the pages that got an item alone: of the others the items tell
+-- what they told.
 use Rattle.std.proofs.Common.{◌≡◌, ◌∙◌, ◌<◌, ◌≤◌, ◌+◌, ◌-◌, ◌==◌, ◌&&◌, ◌||◌, ◌++◌, ℕ, All, Bool, true, false, IsTrue}
 use Rattle.std.proofs.Common.{List, [], ◌∷◌, Option, Some, None, IfSome, IsSome, ap, append_assoc, arith, eq-eqb}
 use Rattle.std.proofs.Common.{filter, find, if◌then◌else◌, is_none, is_some, map, nat_le, refl, sym, unwrap_or}
@@ -38,8 +39,8 @@ use Rattle.pl_bearing.proofs.MappedReferences.{grown}
 
 -- ---- items that come
 
--- where an item comes with this id or one behind it, as a leaf: what was added still is, and a page that has a new item
--- still has one
+-- where an item comes with this id or one behind it, as a leaf: what was added still is, and a page
+-- that has a new item still has one
 record AddsMore (first : ℕ) (items more : List Item) : Type 0 where
   pub adds : (old : List Item) → AddsItems first old items → AddsItems first old more
   pub holds : (page : PageId) → has_new_item first items page ≡ true → has_new_item first more page ≡ true
@@ -84,8 +85,8 @@ more_tagged first next page name date items above =
 
 -- ---- a store
 
--- the pages are the old ones, and behind them pages with new ids that have a new item and were never typed; day and
--- visits are the old ones
+-- the pages are the old ones, and behind them pages with new ids that have a new item and were
+-- never typed; day and visits are the old ones
 pub record AddsPages (old new : Store) : Type 0 where
   pub added : List Page
   pub is : new.pages ≡ old.pages ++ added
@@ -273,7 +274,8 @@ adds_imported tree store =
 pub imported_items : (tree : Tree) (store : Store) → AddsItems store.ids.item store.items (imported tree store).items
 imported_items tree store = (adds_imported tree store).items
 
--- the pages of the store stand in front, and behind them pages with new ids, each with a new item and never typed
+-- the pages of the store stand in front, and behind them pages with new ids, each with a new item
+-- and never typed
 pub imported_pages : (tree : Tree) (store : Store) → AddsPages store (imported tree store)
 imported_pages tree store = (adds_imported tree store).pages
 

@@ -1,4 +1,5 @@
--- What is told where some items go, and one id no longer stands among the children of those that stay.
+-- What is told where some items go, and one id no longer stands among the children of those that
+-- stay.
 use Rattle.std.proofs.Common.{◌≡◌, ◌≢◌, ◌∙◌, ◌==◌, Bool, true, List, Some, ap, filter, map, refl, subst, sym}
 use Rattle.std.specs.List.{AllByRecursion}
 use Rattle.std.specs.Option.{option_map}

@@ -90,7 +90,8 @@ title_mapped f c items same titled =
 
 -- ---- what is told
 
--- the tag that an item gives is the same where its parent is, what that one is, and the title of a tag folder
+-- the tag that an item gives is the same where its parent is, what that one is, and the title of a
+-- tag folder
 pub tag_title_alike : (old new : List Item) (c : ItemId) → parent_of new c ≡ parent_of old c
     → ((p : ItemId) → parent_of old c ≡ Some p → is_tags_root (parent_of new p) ≡ is_tags_root (parent_of old p))
     → ((p : ItemId) → parent_of old c ≡ Some p → is_tags_root (parent_of old p) ≡ true

@@ -1,5 +1,5 @@
--- The references of other pages where an item moves or has another title: no item enters a tag folder or leaves one,
--- and no tag folder has another title.
+-- The references of other pages where an item moves or has another title: no item enters a tag
+-- folder or leaves one, and no tag folder has another title.
 use Rattle.std.proofs.Common.{◌≡◌, ◌≢◌, ◌∙◌, ◌==◌, ◌||◌, ℕ, Bool, true, false, List, Option, Some, None}
 use Rattle.std.proofs.Common.{IfSome, ap, find, if◌then◌else◌, inl, inr, length, map, refl, sym}
 use Rattle.std.specs.Prelude.{not}

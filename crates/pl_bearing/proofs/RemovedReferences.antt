@@ -1,4 +1,5 @@
--- The references of other pages where an item is removed with all below it: what stays has the parent that it had.
+-- The references of other pages where an item is removed with all below it: what stays has the
+-- parent that it had.
 use Rattle.std.proofs.Common.{◌≡◌, ◌≢◌, ◌∙◌, ◌&&◌, Bool, true, false, not, List, Some, None}
 use Rattle.std.proofs.Common.{ap, refl}
 use Rattle.std.specs.Option.{option_map}

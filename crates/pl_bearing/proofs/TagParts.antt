@@ -7,7 +7,6 @@ use Rattle.std.specs.List.Sorted.{IsStrictlySortedBy}
 use Rattle.std.specs.Map.{values_of}
 use Rattle.std.specs.Option.{option_and_then, option_map}
 use Rattle.std.proofs.lemmas.Bool.{false≢true}
-use Rattle.std.proofs.lemmas.List.Kept.{AllPairs-from_increasing}
 use Rattle.std.proofs.lemmas.Option.{same_Some}
 use Rattle.pl_base.specs.declared.id.ItemId.{ItemId}
 use Rattle.pl_base.specs.declared.id.PageId.{PageId}
@@ -17,25 +16,26 @@ use Rattle.pl_base.specs.Store.{Item, Store}
 use Rattle.pl_base.specs.Tags.{has_tag, is_tags_root, page_tags, tags_of, tags_root}
 use Rattle.pl_base.specs.Tree.{child_items, children_of, has_child, is_page, item_at, item_title, parent_of}
 use Rattle.pl_base.proofs.Among.{In, all_from_in, at_in, from_filter, in_filter}
+use Rattle.pl_base.proofs.Among.{any_from_in, from_any, from_filter_map, from_found, in_filter_map}
 use Rattle.pl_base.proofs.ItemLookUps.{id_of_item, same_item}
-use Rattle.pl_base.proofs.LookUps.{apart_ascending, found_self}
+use Rattle.pl_base.proofs.LookUps.{apart_increasing, found_self}
 use Rattle.pl_base.proofs.OneParent.{IsParent, is_among, parents}
 use Rattle.pl_base.proofs.ReferencesRun.{having}
+use Rattle.pl_tree.proofs.LookedUp.{children_in}
 use Rattle.pl_marks.specs.TagFolders.{tag_title, where_tag, with_tag}
 use Rattle.pl_marks.proofs.PageTags.{ascending_with}
 use Rattle.pl_marks.proofs.TagEntries.{AreOfTags, Ascending, Differ, differ_filter, differ_named, entries_are, look}
 use Rattle.pl_marks.proofs.TagEntries.{of_tags_insert, tag_entry, tags_found, there_insert, there_new, titles_are}
 use Rattle.pl_bearing.specs.References.{Reference, reference, references_of}
-use Rattle.pl_bearing.proofs.FoundItems.{AreFound, any_in, at_its_id, children_in, found_in, in_any, in_looked}
-use Rattle.pl_bearing.proofs.FoundItems.{looked_in, parent_there}
+use Rattle.pl_bearing.proofs.FoundItems.{AreFound, at_its_id}
+use Rattle.pl_bearing.proofs.FoundItems.{parent_there}
 
 -- ---- parents and children
 
 pub are_found : (store : Store) → IsGood store → AreFound store.items
 are_found store good =
     found_self (λ (i : Item). i.id.0) store.items
-    (apart_ascending (λ (i : Item). i.id.0) store.items
-    (AllPairs-from_increasing (map (λ (i : Item). i.id.0) store.items) good.item_ids.ascending))
+    (apart_increasing (λ (i : Item). i.id.0) store.items good.item_ids.ascending)
 
 -- a parent is an item that has the child
 pub above : (items : List Item) (id parent : ItemId) → AreFound items → parent_of items id ≡ Some parent
@@ -46,20 +46,20 @@ above items id parent found is =
 
 among_in : (id : ItemId) (ids : List ItemId) → is_among id ids ≡ true → In id ids
 among_in id ids some =
-    let r = any_in (λ (c : ItemId). c.0 == id.0) ids some in
+    let r = from_any (λ (c : ItemId). c.0 == id.0) ids some in
     subst (λ (c : ItemId). In c ids) (same_item r.0 id r.2) r.1
 
 child_in : (items : List Item) (parent : ItemId) (i : Item) → AreFound items → In i items
     → parent_of items i.id ≡ Some parent → In i (child_items items parent)
 child_in items parent i found there is =
     let q = above items i.id parent found is in
-    in_looked (item_at items) (children_of items parent) i.id i
+    in_filter_map (item_at items) (children_of items parent) i.id i
     (subst (In i.id) (sym (ap children_in q.1)) (among_in i.id q.0.children q.2)) (at_its_id items i found there)
 
 in_child : (items : List Item) (parent : ItemId) (i : Item) → IsTree items → In i (child_items items parent)
     → (In i items) × (parent_of items i.id ≡ Some parent)
 in_child items parent i tree there =
-    let c = looked_in (item_at items) (children_of items parent) i there in
+    let c = from_filter_map (item_at items) (children_of items parent) i there in
     choose c.0 c.2 (item_at items parent) refl c.1
   where
     choose : (c : ItemId) → item_at items c ≡ Some i → (o : Option Item) → item_at items parent ≡ o
@@ -67,11 +67,11 @@ in_child items parent i tree there =
     choose c at None none within = absurd within
     choose c at (Some q) q_at within =
         let has : has_child c q ≡ true =
-        in_any (λ (d : ItemId). d.0 == c.0) q.children c within (eq-eqb c.0 c.0 refl) in
+        any_from_in (λ (d : ItemId). d.0 == c.0) q.children c within (eq-eqb c.0 c.0 refl) in
         let own : IsParent items q =
         at_in (IsParent items) items q (parents items tree)
-        (found_in (λ (j : Item). j.id.0 == parent.0) items q q_at).0 in (
-          (found_in (λ (j : Item). j.id.0 == c.0) items i at).0,
+        (from_found (λ (j : Item). j.id.0 == parent.0) items q q_at).0 in (
+          (from_found (λ (j : Item). j.id.0 == c.0) items i at).0,
           ap (parent_of items) (id_of_item items c i at)
               ∙ ap (option_map (λ (j : Item). j.id)) (own c has)
               ∙ ap (λ (p : ItemId). Some p) (id_of_item items parent q q_at),
@@ -106,7 +106,7 @@ gives_tag store i title found there is = choose (parent_of items i.id) refl is
         record {
           tag = t;
           there =
-              child_in items tags_root t found (found_in (λ (j : Item). j.id.0 == f.0) items t at).0
+              child_in items tags_root t found (from_found (λ (j : Item). j.id.0 == f.0) items t at).0
               (ap (parent_of items) id ∙ tags_root_is (parent_of items f) below);
           holds = child_in items t.id i found there (within ∙ ap (λ (j : ItemId). Some j) (sym id));
           is = same_Some t.title title is;
@@ -183,7 +183,7 @@ module _ (store : Store) (page : PageId) (good : IsGood store) where
   title_found i title of is =
       let g : GivesTag store i title = gives_tag store i title found of.0 is in
       let has : has_tag store page g.tag ≡ true =
-      in_any (λ (j : Item). is_page page j.page) (child_items items g.tag.id) i g.holds of.1 in
+      any_from_in (λ (j : Item). is_page page j.page) (child_items items g.tag.id) i g.holds of.1 in
       subst (λ (text : List ℕ). look (folded text) (map tag_entry tags) ≡ Some text) g.is
       (at_in (λ (t : Item). look (folded t.title) (map tag_entry tags) ≡ Some t.title) tags g.tag
       (tags_found tags differ) (in_filter (has_tag store page) (tags_of store) g.tag g.there has))
@@ -205,7 +205,7 @@ module _ (store : Store) (page : PageId) (good : IsGood store) where
   tag_told t there =
       let tag = from_filter (has_tag store page) (tags_of store) t there in
       let root = in_child items tags_root t good.tree tag.0 in
-      let entry = any_in (λ (j : Item). is_page page j.page) (child_items items t.id) tag.1 in
+      let entry = from_any (λ (j : Item). is_page page j.page) (child_items items t.id) tag.1 in
       let within = in_child items t.id entry.0 good.tree entry.1 in
       is_told items (having items page) entry.0 t.title
       (in_filter (λ (j : Item). is_page page j.page) items entry.0 within.0 entry.2)

@@ -1,6 +1,6 @@
 -- A page that gets a tag leaves what the items of all other pages tell.
-use Rattle.std.proofs.Common.{◌≡◌, ◌<◌, ◌+◌, ◌-◌, inl, inr, ℕ, List, [], ◌∷◌}
-use Rattle.std.proofs.Common.{true, Option, Some, None, ap, arith, if◌then◌else◌, map, refl}
+use Rattle.std.proofs.Common.{◌≡◌, ◌<◌, ◌+◌, ◌-◌, ℕ, List}
+use Rattle.std.proofs.Common.{true, Option, Some, None, arith, if◌then◌else◌, refl}
 use Rattle.std.specs.Prelude.{unwrap_or}
 use Rattle.std.specs.Option.{is_none, option_map}
 use Rattle.pl_base.specs.declared.date.Micros.{Micros}
@@ -9,14 +9,15 @@ use Rattle.pl_base.specs.declared.id.PageId.{PageId}
 use Rattle.pl_base.specs.Rows.{IsWellKept, Kept}
 use Rattle.pl_base.specs.Store.{Item, item_id}
 use Rattle.pl_base.specs.Tags.{tags_root}
-use Rattle.pl_base.proofs.Among.{In, from_map, in_either}
+use Rattle.pl_base.proofs.Among.{In}
 use Rattle.pl_tree.specs.declared.place.Place.TheVariants.{End}
 use Rattle.pl_tree.specs.Changes.{item_of, with_new}
 use Rattle.pl_tree.specs.Tagged.{new_entry, new_tag, tag_named, tagged_items}
 use Rattle.pl_tree.proofs.GoodChanges.{below_next}
+use Rattle.pl_tree.proofs.MoreItems.{fresh_more}
 use Rattle.pl_marks.specs.Alike.{is_one_of}
 use Rattle.pl_bearing.specs.References.{AreReferencesAlike}
-use Rattle.pl_bearing.proofs.MappedReferences.{alike_then, grown, grown_same, other_page}
+use Rattle.pl_bearing.proofs.MappedReferences.{alike_then, other_page}
 use Rattle.pl_bearing.proofs.NewReferences.{new_alike}
 
 module _ (next : ℕ) (page : PageId) (name : List ℕ) (date : Micros) (ids : List PageId) (items : List Item)
@@ -26,18 +27,9 @@ module _ (next : ℕ) (page : PageId) (name : List ℕ) (date : Micros) (ids : L
   mid = with_new (item_id next) tags_root End (new_tag name date) items
 
   mid_fresh : (i : Item) → In i mid → i.id.0 < next + 1
-  mid_fresh i h =
-      let grow : Item → Item = grown tags_root End (item_id next) in
+  mid_fresh =
       let folder : Item = item_of (item_id next) (new_tag name date) in
-      elim (in_either (map grow items) (folder ∷ []) i h) as (λ _. i.id.0 < next + 1) [
-        | inl g ↦
-            let r = from_map grow items i g in
-            let same : (grow r.0).id.0 ≡ (r.0).id.0 =
-            grown_same tags_root End (item_id next) (λ (j : Item). j.id.0) (λ j. refl) r.0 in
-            omega (arith, ap (λ (j : Item). j.id.0) r.2, same, fresh r.0 r.1)
-        | inr (inl e) ↦ omega (arith, ap (λ (j : Item). j.id.0) e)
-        | inr (inr g) ↦ absurd g
-      ]
+      fresh_more items (item_id next) tags_root folder refl fresh
 
   mid_alike : AreReferencesAlike ids items mid
   mid_alike =

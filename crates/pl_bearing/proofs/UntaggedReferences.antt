@@ -8,21 +8,23 @@ use Rattle.std.proofs.lemmas.List.Elements.{recursion_from_All}
 use Rattle.std.proofs.lemmas.Option.{same_Some}
 use Rattle.pl_base.specs.declared.id.ItemId.{ItemId}
 use Rattle.pl_base.specs.declared.id.PageId.{PageId}
-use Rattle.pl_base.specs.declared.item.ItemKind.TheVariants.{Bookmark, Folder}
 use Rattle.pl_base.specs.Good.{HasGoodItems, IsGoodItem}
 use Rattle.pl_base.specs.Rows.{IsWellKept, Kept, store_of}
 use Rattle.pl_base.specs.Store.{Item, Store}
 use Rattle.pl_base.specs.Tree.{child_items, children_of, has_child, is_page, item_at, leaving, removed}
 use Rattle.pl_base.proofs.Among.{In, all_from_in, at_in, from_filter, from_map}
+use Rattle.pl_base.proofs.Among.{from_filter_map, from_found, not_empty}
 use Rattle.pl_base.proofs.IdsLaws.{same_page}
 use Rattle.pl_base.proofs.ItemLookUps.{same_item}
 use Rattle.pl_base.proofs.ListLaws.{find-map}
 use Rattle.pl_base.proofs.ReferencesRun.{items_found}
-use Rattle.pl_tree.specs.Tagged.{entry_in, tag_named, untagged_items}
+use Rattle.pl_base.proofs.Truths.{no_elements}
+use Rattle.pl_tree.specs.Tagged.{entry_in, if_none_left, tag_named, untagged_items, without_entry}
+use Rattle.pl_tree.proofs.LookedUp.{children_in}
+use Rattle.pl_tree.proofs.TagItems.{Bookmark≢Folder}
 use Rattle.pl_marks.specs.Alike.{is_one_of}
 use Rattle.pl_bearing.specs.References.{AreReferencesAlike}
-use Rattle.pl_bearing.proofs.FoundItems.{AreFound, LookedUp, at_its_id, children_in, find_among, found_in}
-use Rattle.pl_bearing.proofs.FoundItems.{looked_in, one_item_at}
+use Rattle.pl_bearing.proofs.FoundItems.{AreFound, at_its_id, find_among, one_item_at}
 use Rattle.pl_bearing.proofs.LeftReferences.{references_left}
 use Rattle.pl_bearing.proofs.MappedReferences.{alike_then, other_page}
 
@@ -71,17 +73,6 @@ found_left items id found =
 
 -- ---- what good items are
 
-Bookmark≢Folder : Bookmark ≢ Folder
-Bookmark≢Folder same = absurd (cc)
-
-no_ids : (ids : List ItemId) → (ids ≢ [] → ⊥) → ids ≡ []
-no_ids [] none = refl
-no_ids (c ∷ ids) none = absurd (none (λ same. absurd (cc)))
-
-some_ids : (ids : List ItemId) (c : ItemId) → In c ids → ids ≢ []
-some_ids [] c h same = absurd h
-some_ids (d ∷ ids) c h same = absurd (cc)
-
 -- one with a page has no children
 page_alone : (store : Store) (i : Item) (page : PageId) → IsGoodItem store i → is_page page i.page ≡ true
     → i.children ≡ []
@@ -90,7 +81,7 @@ page_alone store i page good is = choose i.page refl is
     choose : (o : Option PageId) → i.page ≡ o → is_page page o ≡ true → i.children ≡ []
     choose None at is = absurd (both_ways false refl is)
     choose (Some other) at is =
-        no_ids i.children (λ some. Bookmark≢Folder (sym (good.bookmark.0 (rw at refl)) ∙ good.children some))
+        no_elements i.children (λ some. Bookmark≢Folder (sym (good.bookmark.0 (rw at refl)) ∙ good.children some))
 
 -- so one with children has no page
 parent_pageless : (store : Store) (i : Item) (page : PageId) → IsGoodItem store i → i.children ≢ []
@@ -102,19 +93,6 @@ parent_pageless store i page good some = choose (is_page page i.page) refl
     choose false is = refl
 
 -- ---- a page loses a tag
-
--- as `without_unused` has it
-abbrev if_none_left : List ItemId → List Item → List Item → List Item
-if_none_left [] without with_it = without
-if_none_left (c ∷ cs) without with_it = with_it
-
--- as `untagged_items` has it
-abbrev without_entry : Option Item → Option Item → List Item → List Item
-without_entry None entry items = items
-without_entry (Some tag) None items = items
-without_entry (Some tag) (Some entry) items =
-    if_none_left (children_of (removed entry.id items) tag.id) (removed tag.id (removed entry.id items))
-    (removed entry.id items)
 
 module _ (store : Store) (page : PageId) (ids : List PageId) (good : HasGoodItems store)
     (found : AreFound store.items) (one : is_one_of ids page ≡ true) where
@@ -129,13 +107,13 @@ module _ (store : Store) (page : PageId) (ids : List PageId) (good : HasGoodItem
     mid = removed entry.id items
 
     within : In entry (child_items items tag.id) × (is_page page entry.page ≡ true)
-    within = found_in (λ (i : Item). is_page page i.page) (child_items items tag.id) entry is_entry
+    within = from_found (λ (i : Item). is_page page i.page) (child_items items tag.id) entry is_entry
 
-    up_to : LookedUp (item_at items) (children_of items tag.id) entry
-    up_to = looked_in (item_at items) (children_of items tag.id) entry within.0
+    up_to : (c : ItemId) × In c (children_of items tag.id) × (item_at items c ≡ Some entry)
+    up_to = from_filter_map (item_at items) (children_of items tag.id) entry within.0
 
     there : In entry items
-    there = (found_in (λ (i : Item). i.id.0 == (up_to.0).0) items entry up_to.2).0
+    there = (from_found (λ (i : Item). i.id.0 == (up_to.0).0) items entry up_to.2).0
 
     -- the entry is the only item with its id
     it_is : (i : Item) → In i items → i.id.0 ≡ entry.id.0 → i ≡ entry
@@ -172,7 +150,7 @@ module _ (store : Store) (page : PageId) (ids : List PageId) (good : HasGoodItem
         ap children_in (one_item_at items tag.id i found here (sym (ap (λ (k : Item). k.id.0) r.2) ∙ same)) in
         ap (λ (k : Item). is_page other k.page) r.2
         ∙ parent_pageless store i other (each_good i here)
-        (some_ids i.children up_to.0 (subst (In up_to.0) all up_to.1)))
+        (not_empty i.children up_to.0 (subst (In up_to.0) all up_to.1)))
 
     both_alike : (left : List ItemId) → children_of mid tag.id ≡ left
         → AreReferencesAlike ids items (if_none_left left (removed tag.id mid) mid)

@@ -1,4 +1,5 @@
--- The entries that are due through a day stand in front of a calendar, and their pages are those of the views.
+-- The entries that are due through a day stand in front of a calendar, and their pages are those of
+-- the views.
 use Rattle.std.proofs.Common.{◌≡◌, ◌∙◌, ◌+◌, ◌<◌, ℕ, Bool, true, false, List, [], ◌∷◌, Option, Some, None}
 use Rattle.std.proofs.Common.{ap, arith, cond, filter, if◌then◌else◌, is_lt, map, nat_cmp, nat_le, refl}
 use Rattle.std.proofs.Common.{subst, suc, sym, take}

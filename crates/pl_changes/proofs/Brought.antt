@@ -1,4 +1,5 @@
--- What is found of one page after another: the changes so far, and that they walk from the old views to new ones.
+-- What is found of one page after another: the changes so far, and that they walk from the old
+-- views to new ones.
 use Rattle.std.proofs.Common.{◌≡◌, ◌≢◌, ◌∙◌, ◌+◌, ◌<◌, ◌≤◌, ◌++◌, ◌==◌, ◌⊎◌, inl, inr, ℕ, Bool, false}
 use Rattle.std.proofs.Common.{List, [], ◌∷◌, Option, Some, None, ap, arith, get_or, length, map, refl, subst, suc}
 use Rattle.std.proofs.Common.{sym, take, take_all}

@@ -1,7 +1,7 @@
 -- A page by its id: that it is there, and the view that follows from its texts and figures.
 use Rattle.std.proofs.Common.{◌≡◌, ◌∙◌, ◌==◌, true, false, Option, Some, None, refl, subst, sym}
 use Rattle.std.specs.List.{Contains}
-use Rattle.std.specs.Option.{IsSome, is_some, option_map}
+use Rattle.std.specs.Option.{is_some, option_map}
 use Rattle.std.proofs.lemmas.Bool.{false≢true}
 use Rattle.std.proofs.lemmas.List.Elements.{All-contains}
 use Rattle.std.proofs.lemmas.Option.{none-some}
@@ -13,15 +13,14 @@ use Rattle.pl_base.specs.Good.{has_page_at}
 use Rattle.pl_base.specs.Rows.{Kept, KeptPage, has_page, mark_of, page_at, store_of}
 use Rattle.pl_base.specs.Store.{Page, Store}
 use Rattle.pl_base.specs.View.{IsViewOf}
-use Rattle.pl_base.proofs.Among.{In, all_from_in, in_map}
+use Rattle.pl_base.proofs.Among.{In, all_from_in, contains_from_in, in_map}
 use Rattle.pl_base.proofs.ListLaws.{found_in, list_any-map}
 use Rattle.pl_base.proofs.LookUps.{found_holds, found_where, there_told}
 use Rattle.pl_base.proofs.PageLaws.{id_at}
-use Rattle.pl_base.proofs.Truths.{no_test}
+use Rattle.pl_base.proofs.Truths.{no_test, some_there}
 use Rattle.pl_marks.specs.declared.figures.Figures.{Figures}
 use Rattle.pl_marks.specs.Figures.{AreFiguresOf}
 use Rattle.pl_changes.specs.Brings.{HasTexts, HasView, IfStays, IsChangeTo}
-use Rattle.pl_changes.proofs.Elements.{contained}
 use Rattle.pl_changes.proofs.SameFigures.{with_figures}
 
 -- ---- whether it is there
@@ -41,19 +40,15 @@ there kept page (Some mark) is some =
 
 -- ---- the page that is found
 
-some_at : {X : Type 0} (o : Option X) → IsSome o → (x : X) × (o ≡ Some x)
-some_at None some = absurd (cc)
-some_at (Some x) some = (x, refl)
-
 pub found : (kept : Kept) (page : PageId) → has_page kept page ≡ true
     → (p : KeptPage) × (page_at kept page ≡ Some p)
 found kept page some =
-    some_at (page_at kept page) (found_in (λ (p : KeptPage). p.page.id.0 == page.0) kept.pages some)
+    some_there (page_at kept page) (found_in (λ (p : KeptPage). p.page.id.0 == page.0) kept.pages some)
 
 pub found_there : (kept : Kept) (page : PageId) (p : KeptPage) → page_at kept page ≡ Some p
     → Contains (store_of kept).pages p.page
 found_there kept page p at =
-    contained (store_of kept).pages p.page (in_map (λ (q : KeptPage). q.page) kept.pages p
+    contains_from_in (store_of kept).pages p.page (in_map (λ (q : KeptPage). q.page) kept.pages p
     (found_holds (λ (q : KeptPage). In q kept.pages) (λ (q : KeptPage). q.page.id.0 == page.0) kept.pages p
     (all_from_in (λ (q : KeptPage). In q kept.pages) kept.pages (λ q h. h)) at))
 

@@ -1,4 +1,5 @@
--- What is known of the pages that stay: their addresses and titles, and their other texts where no item changed.
+-- What is known of the pages that stay: their addresses and titles, and their other texts where no
+-- item changed.
 use Rattle.std.proofs.Common.{◌≡◌, ◌∙◌, List, ap, sym}
 use Rattle.std.specs.List.{All}
 use Rattle.std.proofs.lemmas.List.Elements.{All-from_recursion}
@@ -8,10 +9,9 @@ use Rattle.pl_base.specs.Marks.{is_referenced}
 use Rattle.pl_base.specs.Store.{Item, Page, Store}
 use Rattle.pl_base.specs.Tags.{is_bookmarked, tag_text}
 use Rattle.pl_base.specs.View.{AreViewsOf, IsViewOf, mark_title}
-use Rattle.pl_base.proofs.Among.{In, all_from_in}
+use Rattle.pl_base.proofs.Among.{In, all_from_in, contains_from_in}
 use Rattle.pl_marks.specs.Alike.{HaveSamePages, HaveSameTexts}
 use Rattle.pl_changes.specs.Brings.{HasAddress, HasTexts, IfStays, KeepAddresses, KeepTexts}
-use Rattle.pl_changes.proofs.Elements.{contained}
 use Rattle.pl_changes.proofs.NewViews.{page_of}
 
 -- what holds of each page that stays and its view before, of the views of all
@@ -35,7 +35,7 @@ module _ (old new : Store) (p q : Page) (view : View) (before : In p old.pages) 
   address_stays : HaveSamePages old new → HasAddress q view
   address_stays same =
       let texts : (q.url ≡ p.url) × (q.title ≡ p.title) =
-      same p q (contained old.pages p before) (contained new.pages q after) named in
+      same p q (contains_from_in old.pages p before) (contains_from_in new.pages q after) named in
       record {
         id = is.id ∙ sym named;
         url = is.url ∙ sym texts.0;

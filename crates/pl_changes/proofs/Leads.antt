@@ -4,7 +4,6 @@ use Rattle.std.proofs.Common.{List, [], ◌∷◌, Option, Some, None, ap, arith
 use Rattle.std.specs.List.{Contains, list_any}
 use Rattle.std.specs.List.Sorted.{IsStrictlyIncreasing}
 use Rattle.std.proofs.lemmas.Bool.{eqb-true, false≢true, or_cases}
-use Rattle.std.proofs.lemmas.List.Kept.{AllPairs-from_increasing}
 use Rattle.std.proofs.lemmas.Option.{none-some}
 use Rattle.pl_base.specs.declared.change.Change.{Change}
 use Rattle.pl_base.specs.declared.id.PageId.{PageId}
@@ -13,8 +12,8 @@ use Rattle.pl_base.specs.Good.{IsGood, has_page_at}
 use Rattle.pl_base.specs.Rows.{IsWellKept, Kept, store_of}
 use Rattle.pl_base.specs.Store.{Page, Store}
 use Rattle.pl_base.specs.View.{AreViewsOf, IsViewOf}
-use Rattle.pl_base.proofs.Among.{In, at_in}
-use Rattle.pl_base.proofs.LookUps.{Apart, apart_ascending, found_some}
+use Rattle.pl_base.proofs.Among.{In, at_in, contains_from_in, in_from_contains}
+use Rattle.pl_base.proofs.LookUps.{Apart, apart_increasing, found_some}
 use Rattle.pl_base.proofs.Truths.{no_test}
 use Rattle.pl_follow.specs.Changes.{AreInOrder, FitStore, has_view}
 use Rattle.pl_follow.proofs.Parted.{ascend}
@@ -26,7 +25,6 @@ use Rattle.pl_known.proofs.ViewLookUps.{same_views}
 use Rattle.pl_changes.specs.Brings.{IsViewAt}
 use Rattle.pl_changes.specs.CameFrom.{CameByItems, CameFrom}
 use Rattle.pl_changes.proofs.Brought.{Brought, climbs, is_among, view_there, walk}
-use Rattle.pl_changes.proofs.Elements.{contained, is_in}
 use Rattle.pl_changes.proofs.Mixed.{Follow, mixed, mixed_above, mixed_fits, mixed_in_order}
 use Rattle.pl_changes.proofs.NewViews.{built, no_page, page_of, told, view_of_page}
 use Rattle.pl_changes.proofs.Seen.{in_seen, seen, seen_in}
@@ -62,8 +60,7 @@ same_element (x ∷ ps) apart p q (inr g) (inr h) same = same_element ps apart.1
 one_page : (store : Store) → IsGood store → (p q : Page) → In p store.pages → In q store.pages → p.id ≡ q.id → p ≡ q
 one_page store good p q g h same =
     same_element store.pages
-    (apart_ascending (λ (x : Page). x.id.0) store.pages
-    (AllPairs-from_increasing (map (λ (x : Page). x.id.0) store.pages) good.page_ids.ascending)) p q g h
+    (apart_increasing (λ (x : Page). x.id.0) store.pages good.page_ids.ascending) p q g h
     (ap (λ (id : PageId). id.0) same)
 
 -- a page with an id is found
@@ -108,7 +105,8 @@ module _ (kept : Kept) (well : IsWellKept kept) (good : IsGood (store_of kept)) 
       from_there page named None none = absurd (no_page (store_of kept) page none p h named)
       from_there page named (Some v) has =
           let same : has.element ≡ p =
-          one_page (store_of kept) good has.element p (is_in (store_of kept).pages has.element has.there) h
+          one_page (store_of kept) good has.element p
+          (in_from_contains (store_of kept).pages has.element has.there) h
           (has.named ∙ sym (ap (λ (n : ℕ). record { 0 = n }) named)) in
           (v, subst (λ (q : Page). IsViewOf (store_of kept) q v) same has.seen)
 
@@ -119,9 +117,10 @@ module _ (kept : Kept) (well : IsWellKept kept) (good : IsGood (store_of kept)) 
           from_there one.0 one.2 there.0 there.1
       choose false is =
           let before : Contains came.old.pages p =
-          came.differ.others.stood p (contained (store_of kept).pages p h) is in
+          came.differ.others.stood p (contains_from_in (store_of kept).pages p h) is in
           let w =
-          view_of_page came.old came.old.pages known.views.items came.knows.views p (is_in came.old.pages p before) in
+          view_of_page came.old came.old.pages known.views.items came.knows.views p
+          (in_from_contains came.old.pages p before) in
           (w.0, came.differ.others.views p before is w.0 w.2)
 
   all_views : (vs : List View) × AreViewsOf (store_of kept) vs
@@ -144,7 +143,7 @@ module _ (kept : Kept) (well : IsWellKept kept) (good : IsGood (store_of kept)) 
         stays : (v : View) (q : Page) → In q came.old.pages → IsViewOf came.old q v → v.id.0 ≡ n → Some v ≡ seen n new
         stays v q h sees is =
             let named : q.id.0 ≡ n = ap (λ (id : PageId). id.0) (sym sees.id) ∙ is in
-            let before : Contains came.old.pages q = contained came.old.pages q h in
+            let before : Contains came.old.pages q = contains_from_in came.old.pages q h in
             tells (record { 0 = n }) (Some v)
             (record {
               element = q;
@@ -156,10 +155,10 @@ module _ (kept : Kept) (well : IsWellKept kept) (good : IsGood (store_of kept)) 
         never : (p : Page) → In p (store_of kept).pages → p.id.0 ≡ n → seen n known.views.items ≡ None → ⊥
         never p h named unseen =
             let before : Contains came.old.pages p =
-            came.differ.others.stood p (contained (store_of kept).pages p h) (other p named) in
+            came.differ.others.stood p (contains_from_in (store_of kept).pages p h) (other p named) in
             let w =
             view_of_page came.old came.old.pages known.views.items came.knows.views p
-            (is_in came.old.pages p before) in
+            (in_from_contains came.old.pages p before) in
             let is : w.0.id.0 ≡ n = ap (λ (id : PageId). id.0) w.2.id ∙ named in
             let found : None ≡ Some w.0 =
             sym unseen ∙ ap (λ (m : ℕ). seen m known.views.items) (sym is)
@@ -195,7 +194,8 @@ module _ (kept : Kept) (well : IsWellKept kept) (good : IsGood (store_of kept)) 
         same_url v w q p g h one two same =
             let named : q.id ≡ p.id = sym one.id ∙ ap (λ (n : ℕ). record { 0 = n }) same ∙ two.id in
             let texts : (q.url ≡ p.url) × (q.title ≡ p.title) =
-            came.differ.pages p q (contained came.old.pages p h) (contained (store_of kept).pages q g) named in
+            came.differ.pages p q (contains_from_in came.old.pages p h)
+            (contains_from_in (store_of kept).pages q g) named in
             one.url ∙ texts.0 ∙ sym two.url
 
         seen_there : (v : View) (q : Page) → IsViewOf (store_of kept) q v → has_page_at came.old q.id ≡ true
@@ -214,9 +214,9 @@ module _ (kept : Kept) (well : IsWellKept kept) (good : IsGood (store_of kept)) 
             → w.id.0 < v.id.0
         is_behind v w q r g h one two none =
             let later : r.id.0 < q.id.0 =
-            came.differ.behind q r (contained (store_of kept).pages q g)
+            came.differ.behind q r (contains_from_in (store_of kept).pages q g)
             (no_test (has_page_at came.old q.id) (λ some. false≢true (sym none ∙ seen_there v q one some)))
-            (contained came.old.pages r h) in
+            (contains_from_in came.old.pages r h) in
             omega (
               arith,
               later,

@@ -1,5 +1,4 @@
 pub mod Brought
-pub mod Elements
 pub mod FoundPages
 pub mod KeptTexts
 pub mod KnownPages

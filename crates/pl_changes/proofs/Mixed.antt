@@ -1,4 +1,5 @@
--- The views on the way from old ones to new ones: the new ones up to some id, and beyond it the old ones.
+-- The views on the way from old ones to new ones: the new ones up to some id, and beyond it the old
+-- ones.
 use Rattle.std.proofs.Common.{◌≡◌, ◌≢◌, ◌∙◌, ◌+◌, ◌<◌, ◌≤◌, ◌^◌, ◌++◌, ◌==◌, ◌||◌, ◌⊎◌, inl, inr, ℕ, Bool, true, false}
 use Rattle.std.proofs.Common.{List, [], ◌∷◌, Option, Some, None, ap, arith, filter, length, nat_eq, nat_lt}
 use Rattle.std.proofs.Common.{not, refl, subst, sym}

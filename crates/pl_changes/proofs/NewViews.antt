@@ -11,12 +11,11 @@ use Rattle.pl_base.specs.Good.{has_page_at}
 use Rattle.pl_base.specs.Store.{Page, Store, Visit}
 use Rattle.pl_base.specs.View.{AreViews, AreViewsOf, IsViewOf}
 use Rattle.pl_base.specs.Visits.{sample_of}
-use Rattle.pl_base.proofs.Among.{In, all_from_in, at_in}
+use Rattle.pl_base.proofs.Among.{In, all_from_in, at_in, in_from_contains}
 use Rattle.pl_base.proofs.LookUps.{none_pass}
 use Rattle.pl_follow.specs.Changes.{AreInOrder}
 use Rattle.pl_follow.proofs.Parted.{ascend}
 use Rattle.pl_changes.specs.Brings.{IsViewAt}
-use Rattle.pl_changes.proofs.Elements.{is_in}
 use Rattle.pl_changes.proofs.Seen.{in_seen, none_seen, seen}
 
 -- ---- one view a page
@@ -118,7 +117,9 @@ told store views are ordered page None none =
     no_other : (p : Page) (v : View) → In p store.pages → IsViewOf store p v → v.id.0 ≢ page.0
     no_other p v h is same = no_page store page none p h (ap (λ (id : PageId). id.0) (sym is.id) ∙ same)
 told store views are ordered page (Some v) has =
-    let there = view_of_page store store.pages views are has.element (is_in store.pages has.element has.there) in
+    let there =
+    view_of_page store store.pages views are has.element
+    (in_from_contains store.pages has.element has.there) in
     found there.0 there.1 there.2
   where
     found : (w : View) → In w views → IsViewOf store has.element w → Some v ≡ seen page.0 views

@@ -8,13 +8,13 @@ use Rattle.std.proofs.lemmas.List.Elements.{All-from_recursion}
 use Rattle.std.proofs.lemmas.List.Kept.{AllPairs-cons}
 use Rattle.pl_base.specs.declared.change.Change.{Change}
 use Rattle.pl_base.specs.declared.view.View.{View}
+use Rattle.pl_base.proofs.Among.{contains_from_in}
 use Rattle.pl_base.proofs.ListLaws.{weaker}
 use Rattle.pl_follow.specs.Changes.{AreInOrder, FitStore, Suits, changed, has_view, removed, with_view, without_id}
 use Rattle.pl_follow.proofs.ChangedLists.{added_in_order}
 use Rattle.pl_follow.proofs.Parted.{removed_in_order}
 use Rattle.pl_known.proofs.ViewLookUps.{same_views}
 use Rattle.pl_known.specs.Changes.{AllSuit, AreEachOnce, IsOfOnePage, after, id_of}
-use Rattle.pl_changes.proofs.Elements.{contained}
 use Rattle.pl_changes.proofs.Mixed.{mixed, mixed_above, mixed_below, mixed_in_order}
 use Rattle.pl_changes.proofs.Seen.{no_view, seen, seen_in, with_other, with_seen, without_other, without_seen}
 
@@ -92,7 +92,7 @@ some_of (Some v) b differ = refl
 
 goes_of : (n : ℕ) (views : List View) (o : Option View) → o ≡ seen n views → IfSome o (λ (v : View). Contains views v)
 goes_of n views None is = tt
-goes_of n views (Some v) is = contained views v (seen_in n views v (sym is)).0
+goes_of n views (Some v) is = contains_from_in views v (seen_in n views v (sym is)).0
 
 beyond : (n m : ℕ) → n ≤ m → m ≢ n → n + 1 ≤ m
 beyond n m over other = omega arith
@@ -103,7 +103,8 @@ beyond n m over other = omega arith
 abbrev pub Agree : List View → List View → ℕ → ℕ → Type 0
 Agree old new from end = (n : ℕ) → from ≤ n → n < end → seen n old ≡ seen n new
 
--- the changes go through the ids from a bound on, and the lists tell the same of all that they leave out
+-- the changes go through the ids from a bound on, and the lists tell the same of all that they
+-- leave out
 abbrev pub Walk : List View → List View → ℕ → List Change → Type 0
 Walk old new k [] = (n : ℕ) → k ≤ n → seen n old ≡ seen n new
 Walk old new k (c ∷ cs) =

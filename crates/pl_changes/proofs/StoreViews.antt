@@ -1,6 +1,6 @@
 -- The views of a store stand in the order of their ids, and fit a store.
 use Rattle.std.proofs.Common.{◌≡◌, ◌≢◌, ◌<◌, ◌∙◌, ℕ, List, [], ◌∷◌, Ok, Err, Some, ap, arith, length, map, nat_eq}
-use Rattle.std.proofs.Common.{nat_le, refl, subst, suc, sym, true, ◌≤◌, unwrap_or, Option, None}
+use Rattle.std.proofs.Common.{nat_le, refl, subst, sym, true, ◌≤◌, unwrap_or, Option, None}
 use Rattle.std.specs.List.{AllByRecursion, AllPairs, starts_with}
 use Rattle.std.proofs.lemmas.Bool.{and_parts}
 use Rattle.std.proofs.lemmas.List.Elements.{All-from_recursion, recursion_from_All}
@@ -23,6 +23,7 @@ use Rattle.pl_base.proofs.ListLaws.{AllPairs-from_map, AllPairs-map}
 use Rattle.pl_base.proofs.OriginLaws.{store_url-from_canon}
 use Rattle.pl_follow.specs.Changes.{AreInOrder, FitStore}
 use Rattle.pl_link.proofs.PartsLemmas.{starts_with-prefix}
+use Rattle.pl_known.proofs.KnownPages.{as_many}
 use Rattle.pl_changes.proofs.SmallShares.{small}
 
 -- ---- as their pages
@@ -90,16 +91,6 @@ prefixes store (p ∷ ps) (v ∷ vs) good are = (
 )
 
 -- ---- how many
-
-alike : (store : Store) (ps : List Page) (vs : List View) → AreViews store ps vs → length vs ≡ length ps
-alike store [] [] are = refl
-alike store [] (v ∷ vs) are = absurd are
-alike store (p ∷ ps) [] are = absurd are
-alike store (p ∷ ps) (v ∷ vs) are = ap suc (alike store ps vs are.1)
-
--- there are as many views as pages
-pub as_many : (store : Store) (views : List View) → AreViewsOf store views → length views ≡ length store.pages
-as_many store views are = alike store store.pages views are
 
 some_item : (store : Store) → IsGood store → 1 ≤ length store.items
 some_item store good = choose store.items refl

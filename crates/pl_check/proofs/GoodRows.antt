@@ -9,6 +9,7 @@ use Rattle.std.proofs.lemmas.Bool.{and_from, and_parts, false≢true, le-leb, le
 use Rattle.std.proofs.lemmas.Bool.{lt-ltb, ltb-true, not-true, not_from_false, true≢false}
 use Rattle.std.proofs.lemmas.List.Elements.{All-cons, All-map, All-nil, All-weaker}
 use Rattle.std.proofs.lemmas.List.Folds.{Any-from_list_any}
+use Rattle.std.proofs.lemmas.List.Sums.{AllPass-from_list_all, list_all-from_AllPass}
 use Rattle.pl_base.specs.declared.id.PageId.{PageId}
 use Rattle.pl_base.specs.declared.id.VisitId.{VisitId}
 use Rattle.pl_base.specs.declared.transition.Transition.{Transition}
@@ -40,7 +41,6 @@ use Rattle.pl_check.proofs.ItemTests.{item-from, item-to}
 use Rattle.pl_check.proofs.RootTests.{root-from, root-to, root_there, top-from, top-to}
 use Rattle.pl_check.proofs.RowTests.{own_urls-from, own_urls-to}
 use Rattle.pl_check.proofs.TagTests.{tags-from, tags-to}
-use Rattle.pl_check.proofs.ListTests.{all_pass, pass_all}
 use Rattle.pl_base.proofs.ListLaws.{found_in, some_in}
 use Rattle.pl_base.proofs.LookUps.{none_at}
 use Rattle.pl_base.proofs.Truths.{no_test}
@@ -90,7 +90,8 @@ are_ids-to first next ids low last h =
     let parts = and_parts (ascends_above 0 ids) (list_all (λ id. nat_lt id next) ids) h in
     record {
       ascending = increases 0 ids parts.0;
-      given = ids_given next ids (ascends_all 0 ids parts.0) (all_pass (λ id. nat_lt id next) ids parts.1);
+      given =
+          ids_given next ids (ascends_all 0 ids parts.0) (AllPass-from_list_all (λ id. nat_lt id next) ids parts.1);
       next_first = low;
       next_last = last;
     }
@@ -99,7 +100,8 @@ pub are_ids-from : (first next : ℕ) (ids : List ℕ) → AreIds first next ids
 are_ids-from first next ids h =
     and_from (ascends_above 0 ids) (list_all (λ id. nat_lt id next) ids)
     (ascends 0 ids h.ascending (λ some. (h.given 0 0 some).0))
-    (pass_all (λ id. nat_lt id next) ids (λ k d within. lt-ltb (get_or ids k d) next (h.given k d within).1))
+    (list_all-from_AllPass (λ id. nat_lt id next) ids
+    (λ k d within. lt-ltb (get_or ids k d) next (h.given k d within).1))
 
 -- ---- pages
 
@@ -270,13 +272,13 @@ roots-to rows h =
       root = root-to rows.items parts.0;
       top =
           λ k d within. top-to rows.items (get_or top_numbers k d)
-          (all_pass (has_top_folder rows.items) top_numbers parts.1 k d within);
+          (AllPass-from_list_all (has_top_folder rows.items) top_numbers parts.1 k d within);
     }
 
 roots-from : (rows : Stored) → HasRoots (stored_store rows) → have_roots rows.items ≡ true
 roots-from rows h =
     and_from (has_root rows.items) (list_all (has_top_folder rows.items) top_numbers) (root-from rows.items h.root)
-    (pass_all (has_top_folder rows.items) top_numbers
+    (list_all-from_AllPass (has_top_folder rows.items) top_numbers
     (λ k d within. top-from rows.items (get_or top_numbers k d) (h.top k d within)))
 
 -- the two halves of the tests
@@ -328,15 +330,15 @@ good-to rows read h tags tree =
       pages =
           All-map (IsGoodPage (stored_store rows)) stored_page rows.pages
           (λ k d within. page-to rows (get_or rows.pages k d) (read.urls k d within) (read.titles k d within)
-          (all_pass (is_good_page rows) rows.pages five.1 k d within));
+          (AllPass-from_list_all (is_good_page rows) rows.pages five.1 k d within));
       urls = AllPairs-map (λ (p q : Page). p.url ≢ q.url) stored_page rows.pages (own_urls-to rows.pages five.0);
       visits =
           All-map (IsGoodVisit (stored_store rows)) visit_of rows.visits
           (λ k d within. visit-to rows (get_or rows.visits k d)
-          (all_pass (is_good_visit rows) rows.visits five.2 k d within));
+          (AllPass-from_list_all (is_good_visit rows) rows.visits five.2 k d within));
       items =
           λ k d within. item-to rows (get_or rows.items k d) (read.item_titles k d within)
-          (all_pass (is_good_item rows.pages) rows.items five.3 k d within);
+          (AllPass-from_list_all (is_good_item rows.pages) rows.items five.3 k d within);
       roots = roots-to rows five.4;
       tree = tree;
       tags = tags-to (stored_store rows) tags;
@@ -367,13 +369,13 @@ good-from rows h =
     (and_from _ (list_all (is_good_visit rows) rows.visits)
     (and_from (have_own_urls rows.pages) (list_all (is_good_page rows) rows.pages)
     (own_urls-from rows.pages (AllPairs-from_map (λ (p q : Page). p.url ≢ q.url) stored_page rows.pages h.urls))
-    (pass_all (is_good_page rows) rows.pages
+    (list_all-from_AllPass (is_good_page rows) rows.pages
     (λ k d within. page-from rows (get_or rows.pages k d)
     (All-from_map (IsGoodPage (stored_store rows)) stored_page rows.pages h.pages k d within))))
-    (pass_all (is_good_visit rows) rows.visits
+    (list_all-from_AllPass (is_good_visit rows) rows.visits
     (λ k d within. visit-from rows (get_or rows.visits k d)
     (All-from_map (IsGoodVisit (stored_store rows)) visit_of rows.visits h.visits k d within))))
-    (pass_all (is_good_item rows.pages) rows.items
+    (list_all-from_AllPass (is_good_item rows.pages) rows.items
     (λ k d within. item-from rows (get_or rows.items k d) (h.items k d within))))
     (roots-from rows h.roots))
 

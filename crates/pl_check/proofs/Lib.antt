@@ -1,7 +1,6 @@
 pub mod DistinctLaws
 pub mod GoodRows
 pub mod ItemTests
-pub mod ListTests
 pub mod RootTests
 pub mod RowTests
 pub mod TagTests

@@ -15,11 +15,7 @@ use Rattle.pl_check.specs.Items.{passes}
 use Rattle.pl_base.proofs.ItemLookUps.{folder_kind}
 use Rattle.pl_base.proofs.ListLaws.{some_in}
 use Rattle.pl_base.proofs.LookUps.{found_passes}
-use Rattle.pl_base.proofs.Truths.{no_length}
-
-none : {X : Type 0} (o : Option X) → is_none o ≡ true → o ≡ None
-none None h = refl
-none (Some x) h = absurd (false≢true h)
+use Rattle.pl_base.proofs.Truths.{no_length, none_there}
 
 pub id_is : (id : ItemId) (n : ℕ) → (id.0 == n) ≡ true → id ≡ item_id n
 id_is id n h = ap item_id (eqb-true id.0 n h)
@@ -36,7 +32,8 @@ plain i n id h =
     let second = and_parts (is_folder i.kind) (length i.title == 0) third.0 in
     alike i.id i.kind i.title i.page i.added i.modified (id_is i.id n id)
     (folder_kind is_folder refl refl i.kind second.0)
-    (no_length i.title second.1) (none i.page third.1) (first_moment i.added fourth.1) (first_moment i.modified last.1)
+    (no_length i.title second.1) (none_there i.page third.1) (first_moment i.added fourth.1)
+    (first_moment i.modified last.1)
   where
     alike : (id : ItemId) (kind : ItemKind) (title : List ℕ) (page : Option PageId) (added modified : Micros)
         → id ≡ item_id n → kind ≡ Folder → title ≡ [] → page ≡ None → added ≡ record { 0 = 0 }

@@ -6,6 +6,7 @@ use Rattle.std.specs.List.{AllPairs, cons_option, filter_map}
 use Rattle.std.specs.Option.{IfSome, IsSome}
 use Rattle.std.proofs.lemmas.Bool.{and_from, and_parts, eq-eqb, false≢true}
 use Rattle.std.proofs.lemmas.List.Elements.{All-cons, All-head, All-nil, All-tail}
+use Rattle.std.proofs.lemmas.List.Sums.{AllPass-from_list_all, list_all-from_AllPass}
 use Rattle.pl_base.specs.declared.id.ItemId.{ItemId}
 use Rattle.pl_base.specs.declared.id.PageId.{PageId}
 use Rattle.pl_base.specs.declared.item.ItemKind.TheVariants.{Bookmark}
@@ -22,7 +23,6 @@ use Rattle.pl_base.proofs.LookUps.{found_passes}
 use Rattle.pl_base.proofs.Truths.{no_length}
 use Rattle.pl_check.proofs.ItemTests.{bookmark_kind}
 use Rattle.pl_check.proofs.RootTests.{id_is}
-use Rattle.pl_check.proofs.ListTests.{all_pass, pass_all}
 
 -- ---- children are items
 
@@ -117,7 +117,7 @@ tag-to store tag h =
       used = h.tag_folder.used;
       entries =
           λ k d within. entry-to (get_or (child_items store.items tag.id) k d)
-          (all_pass is_tag_entry (child_items store.items tag.id) h.entries.each k d within);
+          (AllPass-from_list_all is_tag_entry (child_items store.items tag.id) h.entries.each k d within);
       pages = pages-to (child_items store.items tag.id) h.entries.pages;
     }
 
@@ -130,7 +130,7 @@ tag-from store tag items h =
       entries =
           record {
             each =
-                pass_all is_tag_entry (child_items store.items tag.id)
+                list_all-from_AllPass is_tag_entry (child_items store.items tag.id)
                 (λ k d within. entry-from (get_or (child_items store.items tag.id) k d) (h.entries k d within));
             pages =
                 pages-from (child_items store.items tag.id)

@@ -121,8 +121,8 @@ module _ (first : List ℕ) (calls : List Recorded) (said more : List ℕ) (call
         (take_all k calls' (omega (arith, ge, past, size))) left)
   ]
 
-  -- What is shown since is what was shown, or a file that may be left at the call's beginning or at its end,
-  -- and a front of what it says.
+  -- What is shown since is what was shown, or a file that may be left at the call's beginning or at
+  -- its end, and a front of what it says.
   pub shown_then : (t : ℕ) (file line : List ℕ) → t ≤ length calls → Since first calls' (said ++ more) t file line
       → Since first calls said t file line
       ⊎ ((LeftAfter first calls file ⊎ LeftAfter first calls' file)

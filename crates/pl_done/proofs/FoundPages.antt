@@ -1,7 +1,7 @@
 -- The page with a URL, the first page of an origin, and their views.
 use Rattle.std.proofs.Common.{◌≡◌, ◌∙◌, ◌==◌, ◌&&◌, ℕ, Bool, true, false, List, [], ◌∷◌, Option, Some, None}
 use Rattle.std.proofs.Common.{ap, bytes_eq, eq-eqb, filter, find, if◌then◌else◌, refl, subst, sym}
-use Rattle.std.specs.List.{AllByRecursion, slice_get}
+use Rattle.std.specs.List.{slice_get}
 use Rattle.std.specs.Option.{IfSome, option_and_then, option_map}
 use Rattle.std.specs.Result.{IsOkAnd}
 use Rattle.std.proofs.lemmas.Bool.{and_from}
@@ -17,7 +17,7 @@ use Rattle.pl_base.specs.Totals.{Origin}
 use Rattle.pl_base.specs.View.{AreViews, AreViewsOf, IsViewOf}
 use Rattle.pl_base.specs.Visiting.{find_page}
 use Rattle.pl_base.proofs.ListLaws.{find-map}
-use Rattle.pl_base.proofs.LookUps.{found_any, found_holds, found_passes, found_self}
+use Rattle.pl_base.proofs.LookUps.{found_any, found_holds, found_passes, found_self, none_found}
 use Rattle.pl_base.proofs.OriginLaws.{same_origin-by_texts}
 use Rattle.pl_base.proofs.PageLaws.{pages_apart}
 use Rattle.pl_link.specs.declared.parts.Parts.{Parts}
@@ -110,17 +110,6 @@ first_id kept views url origin are own =
     moved None = refl
     moved (Some p) = refl
 
-none_pass : {X : Type 0} (test : X → Bool) (xs : List X) → find test xs ≡ None
-    → AllByRecursion (λ x. test x ≡ false) xs
-none_pass test [] none = tt
-none_pass {X} test (x ∷ xs) none = choose (test x) refl none (none_pass test xs)
-  where
-    choose : (b : Bool) → test x ≡ b → ◌≡◌ {A = Option X} (if b then Some x else find test xs) None
-        → (find test xs ≡ None → AllByRecursion (λ y. test y ≡ false) xs)
-        → AllByRecursion (λ y. test y ≡ false) (x ∷ xs)
-    choose true is here rest = absurd (cc)
-    choose false is here rest = (is, rest here)
-
 module _ (kept : Kept) (url : List ℕ) (h : IsWellKept kept) where
   abbrev passes : KeptPage → Bool
   passes p = same_origin p.page.url url
@@ -150,7 +139,7 @@ module _ (kept : Kept) (url : List ℕ) (h : IsWellKept kept) where
           → IsOriginOf kept url (option_and_then (origin_of kept) (option_map (λ (p : KeptPage). p.page.id) o))
       choose None at =
           All-from_recursion (λ (p : KeptPage). same_origin p.page.url url ≡ false) kept.pages
-          (none_pass passes kept.pages at)
+          (none_found passes kept.pages at)
       choose (Some p) at =
           let itself : page_at kept p.page.id ≡ Some p =
           found_holds (λ (q : KeptPage). page_at kept q.page.id ≡ Some q) passes kept.pages p

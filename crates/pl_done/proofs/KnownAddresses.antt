@@ -3,26 +3,18 @@ use Rattle.std.proofs.Common.{◌≡◌, ◌∙◌, ◌++◌, ◌==◌, ap, find
 use Rattle.std.specs.List.{Contains}
 use Rattle.std.proofs.lemmas.List.{map-append}
 use Rattle.std.proofs.lemmas.List.Elements.{All-contains, All-from_recursion, Contains-append_left}
-use Rattle.std.proofs.lemmas.List.Kept.{AllPairs-from_increasing}
 use Rattle.std.proofs.lemmas.Option.{same_Some}
 use Rattle.pl_base.specs.declared.id.PageId.{PageId}
 use Rattle.pl_base.specs.declared.view.View.{View}
 use Rattle.pl_base.specs.Rows.{IsWellKept, Kept, KeptPage, store_of, with_items}
 use Rattle.pl_base.specs.Store.{Item, Page, Store}
-use Rattle.pl_base.proofs.ListLaws.{map-map}
-use Rattle.pl_base.proofs.LookUps.{Apart, apart_ascending, found_self}
+use Rattle.pl_base.proofs.LookUps.{Apart, found_self}
+use Rattle.pl_marks.proofs.PageRows.{ids_apart}
 use Rattle.pl_known.specs.declared.known.Known.{Known}
 use Rattle.pl_known.specs.Known.{Knows}
 use Rattle.pl_history.specs.Addresses.{HaveAddresses}
 use Rattle.pl_history.proofs.KeptAddresses.{addresses_known, addresses_same}
 use Rattle.pl_history.proofs.OthersAlike.{pages_once, texts_stay}
-
--- no two pages of the store have the same id
-ids_apart : (kept : Kept) → IsWellKept kept → Apart (λ (p : Page). p.id.0) (store_of kept).pages
-ids_apart kept h =
-    apart_ascending (λ (p : Page). p.id.0) (store_of kept).pages
-    (rw (map-map (λ (p : Page). p.id.0) (λ (p : KeptPage). p.page) kept.pages)
-    (AllPairs-from_increasing (map (λ (p : KeptPage). p.page.id.0) kept.pages) h.page_ids.ascending))
 
 same_one : (pages : List Page) → Apart (λ (p : Page). p.id.0) pages → (p q : Page) → Contains pages p
     → Contains pages q → q.id ≡ p.id → q ≡ p

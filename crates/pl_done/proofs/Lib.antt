@@ -3,5 +3,4 @@ pub mod CameFrom
 pub mod ChildItems
 pub mod FoundPages
 pub mod KnownAddresses
-pub mod PlaceUrls
 pub mod VisitSlots

@@ -1,5 +1,5 @@
--- What holds of the rows behind an import: each page stands there, and what was computed of a page that has no new
--- item stays right.
+-- What holds of the rows behind an import: each page stands there, and what was computed of a page
+-- that has no new item stays right.
 use Rattle.std.proofs.Common.{◌≡◌, ◌≢◌, ◌∙◌, ◌<◌, ◌≤◌, ◌==◌, ◌&&◌, ◌||◌, ◌++◌, ℕ, All, Bool, true, false, IsTrue}
 use Rattle.std.proofs.Common.{List, [], ◌∷◌, ap, arith, count_by, eq-eqb, filter, get_or}
 use Rattle.std.proofs.Common.{map, refl, subst, sym}

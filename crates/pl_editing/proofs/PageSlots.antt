@@ -1,4 +1,5 @@
--- The slots of new items and of their page, where it is new, as they are reckoned from those of a visit.
+-- The slots of new items and of their page, where it is new, as they are reckoned from those of a
+-- visit.
 use Rattle.std.proofs.Common.{◌≡◌, ◌∙◌, ◌+◌, ◌<◌, ◌≤◌, ◌==◌, ◌&&◌, ℕ, false, List, Option}
 use Rattle.std.proofs.Common.{Some, None, ap, arith, sym}
 use Rattle.std.specs.Option.{is_none}

@@ -1,15 +1,14 @@
 -- What holds of the rows once a page lost a tag, but of that page.
-use Rattle.std.proofs.Common.{◌≡◌, ◌≢◌, ◌∙◌, ◌==◌, ◌&&◌, ℕ, Bool, true, false, IsTrue, List, [], ◌∷◌}
+use Rattle.std.proofs.Common.{◌≡◌, ◌∙◌, ◌==◌, ◌&&◌, ℕ, Bool, true, false, IsTrue, List, [], ◌∷◌}
 use Rattle.std.proofs.Common.{Option, Some, None, ap, arith, bytes_eq, filter, map, refl, subst, sym}
 use Rattle.std.specs.Prelude.{not}
 use Rattle.std.specs.List.{AllByRecursion}
 use Rattle.std.specs.Option.{IsSome, option_and_then}
 use Rattle.std.proofs.lemmas.Bool.{eqb-true, or_parts}
 use Rattle.std.proofs.lemmas.List.Elements.{All-from_recursion, recursion_from_All}
-use Rattle.std.proofs.lemmas.List.Kept.{AllPairs-from_increasing}
 use Rattle.pl_base.specs.declared.id.ItemId.{ItemId}
 use Rattle.pl_base.specs.declared.id.PageId.{PageId}
-use Rattle.pl_base.specs.declared.item.ItemKind.TheVariants.{Bookmark, Folder}
+use Rattle.pl_base.specs.declared.item.ItemKind.TheVariants.{Folder}
 use Rattle.pl_base.specs.Fold.{folded}
 use Rattle.pl_base.specs.Good.{HasGoodItems, IsGoodItem, IsTagFolder}
 use Rattle.pl_base.specs.Rows.{IsWellKept, Kept, has_page, store_of, with_items}
@@ -17,8 +16,9 @@ use Rattle.pl_base.specs.Store.{Item, Store}
 use Rattle.pl_base.specs.Tags.{tags_of, tags_root}
 use Rattle.pl_base.specs.Tree.{child_items, children_of, is_page, item_at, leaving, removed}
 use Rattle.pl_base.proofs.ListLaws.{all-filter, list_any-map, weaker}
-use Rattle.pl_base.proofs.LookUps.{Apart, apart_ascending, found_holds, found_one, found_passes}
+use Rattle.pl_base.proofs.LookUps.{Apart, apart_increasing, found_holds, found_one, found_passes}
 use Rattle.pl_tree.specs.Tagged.{entry_in, tag_named, untagged_items, without_entry, without_unused}
+use Rattle.pl_tree.proofs.TagItems.{Bookmark≢Folder}
 use Rattle.pl_base.specs.Rows.{IsSound}
 use Rattle.pl_history.specs.Settled.{AreSettledBut}
 use Rattle.pl_done.proofs.ChildItems.{children_hold, children_too}
@@ -72,9 +72,6 @@ other_page : (page id : PageId) (of : Option PageId) → is_page page of ≡ tru
 other_page page id None is other = absurd (cc)
 other_page page id (Some p) is other =
     ap (λ (n : ℕ). n == id.0) (eqb-true p.0 page.0 is) ∙ other_way id page other
-
-Bookmark≢Folder : Bookmark ≢ Folder
-Bookmark≢Folder same = absurd (cc)
 
 folder_page : (store : Store) (t : Item) → IsGoodItem store t → t.kind ≡ Folder → t.page ≡ None
 folder_page store t good kind = none t.page (λ some. Bookmark≢Folder (sym (good.bookmark.0 some) ∙ kind))
@@ -143,7 +140,6 @@ untagged_settled old new page name h sound there is good =
     (λ i j d before within. absurd (omega arith))
     (λ id other.
     reference_untagged (store_of old) page id name
-    (apart_ascending (λ (i : Item). i.id.0) old.items
-    (AllPairs-from_increasing (map (λ (i : Item). i.id.0) old.items) h.item_ids.ascending))
+    (apart_increasing (λ (i : Item). i.id.0) old.items h.item_ids.ascending)
     (items_of (store_of old) sound.good) (or_parts (id.0 == page.0) false other).0)
     (subst (λ (k : Kept). HasGoodItems (store_of k)) is good))

@@ -108,7 +108,7 @@ removed_in_order id views ordered =
     AllPairs-filter (λ (v w : View). v.id.0 < w.id.0) (λ (v : View). not (v.id.0 == id.0)) views ordered
 
 -- views with greater ids all stay
-all_above : (id : PageId) (views : List View) → AllByRecursion (λ (w : View). id.0 < w.id.0) views
+pub all_above : (id : PageId) (views : List View) → AllByRecursion (λ (w : View). id.0 < w.id.0) views
     → without_id id views ≡ views
 all_above id views above =
     all_stay (λ (v : View). not (v.id.0 == id.0)) views

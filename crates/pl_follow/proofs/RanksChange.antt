@@ -26,7 +26,7 @@ some_ranked f None = refl
 some_ranked f (Some v) = refl
 
 -- no view has the id of one that was taken out
-none_left : (id : PageId) (views : List View) → has_view id (without_id id views) ≡ false
+pub none_left : (id : PageId) (views : List View) → has_view id (without_id id views) ≡ false
 none_left id [] = refl
 none_left id (v ∷ vs) = choose (v.id.0 == id.0) refl (none_left id vs)
   where

@@ -198,8 +198,8 @@ none_below last n (m ∷ ns) ascends le (suc k, lt, is) = let first = ascends_fi
 
 -- ---- a change of the store's pages
 
--- Bytes that begin with others, up to the store's length after a change, which lists each page past these: with
--- the listed images both are the same.
+-- Bytes that begin with others, up to the store's length after a change, which lists each page past
+-- these: with the listed images both are the same.
 pub grown : (pages : List PageImage) (last before after : ℕ) (bytes longer : List ℕ)
     → length bytes ≡ bytes_before before → length longer ≡ bytes_before after → 1 ≤ before → before ≤ after
     → take (length bytes) longer ≡ bytes

@@ -1,6 +1,6 @@
 -- A list of nodes that is counted from node to node.
 use Rattle.std.proofs.Common.{◌≡◌, ◌<◌, ◌≤◌, ◌∙◌, ◌+◌, ℕ, Bool, true, false, List, [], ◌∷◌, IsTrue}
-use Rattle.std.proofs.Common.{add-one, ap, drop, drop-cons, get_or, length, refl, subst, sym}
+use Rattle.std.proofs.Common.{ap, drop, get_or, length, refl, subst, sym}
 use Rattle.std.specs.List.{AllByRecursion, list_all}
 use Rattle.std.proofs.Math.ListN.{drop_of_length-le}
 use Rattle.std.proofs.lemmas.Bool.{false≢true}
@@ -17,6 +17,7 @@ use Rattle.pl_graft.specs.Import.{folder_of, folders_behind, with_list, with_nod
 use Rattle.pl_graft.specs.Ready.{Takes}
 use Rattle.pl_graft.specs.Tally.{IsTallyOf, node_weight, weight}
 use Rattle.pl_graft.proofs.NodeLaws.{IsFormed, behind_take, folder_takes, node_takes, takes_node}
+use Rattle.pl_graft.proofs.NodesLeft.{node_next}
 
 -- ---- what is left of a list
 
@@ -29,16 +30,10 @@ each_formed nodes i node all within is = choose (is_formed node) refl
     choose false e =
         absurd (false≢true (sym (list_all_at is_formed nodes i node within (ap is_formed (sym is) ∙ e)) ∙ all))
 
-drop_one : (nodes : List Node) (i : ℕ) (node : Node) → i < length nodes → node ≡ get_or nodes i node
-    → drop i nodes ≡ node ∷ drop (i + 1) nodes
-drop_one nodes i node within is =
-    drop-cons nodes i node within ∙ ap (λ (n : ℕ). get_or nodes i node ∷ drop n nodes) (sym (add-one i))
-    ∙ ap (λ (n : Node). n ∷ drop (i + 1) nodes) (sym is)
-
 pub weight_left : (nodes : List Node) (i : ℕ) (node : Node) → i < length nodes → node ≡ get_or nodes i node
     → weight (drop i nodes) ≡ node_weight node + weight (drop (i + 1) nodes)
 weight_left nodes i node within is =
-    ap weight (drop_one nodes i node within is) ∙ sum_by-cons node_weight node (drop (i + 1) nodes)
+    ap weight (node_next nodes i node within is) ∙ sum_by-cons node_weight node (drop (i + 1) nodes)
 
 -- ---- the store so far
 
@@ -86,7 +81,7 @@ pub goes_on : (old new : Tally) (root : ItemId) (nodes : List Node) (i : ℕ) (n
     → IsCounting new root (drop (i + 1) nodes) whole
 goes_on old new root nodes i node whole within is f title s step =
     next_node old new root node (drop (i + 1) nodes) whole f title
-    (subst (λ (rest : List Node). IsCounting old root rest whole) (drop_one nodes i node within is) s) step
+    (subst (λ (rest : List Node). IsCounting old root rest whole) (node_next nodes i node within is) s) step
 
 -- nothing is left
 pub ends : (tally : Tally) (root : ItemId) (nodes : List Node) (i : ℕ) (whole : Store) → length nodes ≤ i

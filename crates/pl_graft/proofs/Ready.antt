@@ -1,4 +1,5 @@
--- Stores that rows may be added to: their items are those of a good store, with ids below the next one.
+-- Stores that rows may be added to: their items are those of a good store, with ids below the next
+-- one.
 use Rattle.std.proofs.Common.{◌≡◌, ◌<◌, ◌+◌, ◌++◌, ◌==◌, ◌||◌, ◌⊎◌, ◌∙◌, ℕ, All, Bool, true, false}
 use Rattle.std.proofs.Common.{List, [], ◌∷◌, Option, Some, None, ap, arith, eq-eqb, find, get_or, if◌then◌else◌}
 use Rattle.std.proofs.Common.{is_some, length, map, refl, subst, sym}

@@ -1,4 +1,5 @@
--- The slots of a store with a page, an item or a tag more, and that an import makes no store smaller.
+-- The slots of a store with a page, an item or a tag more, and that an import makes no store
+-- smaller.
 use Rattle.std.proofs.Common.{◌≡◌, ◌≤◌, ◌∙◌, ◌+◌, ◌-◌, ◌==◌, ◌&&◌, ◌||◌, ◌++◌, ℕ, Bool, true, false, List}
 use Rattle.std.proofs.Common.{[], ◌∷◌, Option, Some, None, ap, arith, if◌then◌else◌, length, refl}
 use Rattle.std.specs.List.{list_any}

@@ -29,6 +29,7 @@ use Rattle.pl_graft.specs.declared.tags.Tags.{Tags}
 use Rattle.pl_graft.specs.KnownTags.{AreBelow, HasPairs, IsFolderOf, KnowsTags, has_pair, last_of, pair_cmp, stands_in}
 use Rattle.pl_graft.specs.TagRows.{TagEntry, TagRow, entered, holds, holds_in, new_row, row_with, with_entry}
 use Rattle.pl_graft.specs.TagRows.{with_entry_in}
+use Rattle.pl_graft.proofs.TagRowLaws.{last_map}
 
 -- ---- lists
 
@@ -42,11 +43,6 @@ apart R (x ∷ xs) pairs = (
   recursion_from_All (R x) xs (λ k d within. pairs 0 (suc k) d (omega arith) (omega arith)),
   apart R xs (λ i j d before within. pairs (suc i) (suc j) d (omega arith) (omega arith)),
 )
-
-pub last_map : {X Y : Type 0} (f : X → Y) (xs : List X) → last_of (map f xs) ≡ option_map f (last_of xs)
-last_map f [] = refl
-last_map f (x ∷ []) = refl
-last_map f (x ∷ y ∷ ys) = last_map f (y ∷ ys)
 
 pub last_push : {X : Type 0} (xs : List X) (x : X) → last_of (xs ++ x ∷ []) ≡ Some x
 last_push [] x = refl

@@ -28,6 +28,7 @@ use Rattle.pl_graft.specs.declared.tags.Tags.{Tags}
 use Rattle.pl_graft.specs.KnownTags.{HasPairs, IsOther, KnowsTags, has_entry, has_pair, last_id, last_of}
 use Rattle.pl_graft.specs.TagRows.{TagEntry, TagRow, entries_of, entry_row, row_with, tag_row}
 use Rattle.pl_tree.proofs.CountedChildren.{children_known}
+use Rattle.pl_tree.proofs.LookedUp.{children_in}
 use Rattle.pl_graft.proofs.TagLookups.{Apart, FoldersPut, apart, knows_push, last_push}
 
 -- ---- items that are there
@@ -120,10 +121,6 @@ put_more items folder old mid new last front id page now there page_is now_is p 
     joined false true false false = refl
 
 -- ---- the tag folders
-
-abbrev children_in : Option Item → List ItemId
-children_in None = []
-children_in (Some i) = i.children
 
 -- the tags by these ids
 abbrev pub rows_by : List Item → List ItemId → List TagRow

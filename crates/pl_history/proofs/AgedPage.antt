@@ -1,4 +1,5 @@
--- The page of a view that was its view on some day, once its frecency and its due day are those of another.
+-- The page of a view that was its view on some day, once its frecency and its due day are those of
+-- another.
 use Rattle.std.proofs.Common.{◌≡◌, ◌∙◌, ◌||◌, ◌==◌, All, Bool, true, List, ◌∷◌, ℤ, ap, eq-eqb, refl, subst, sym}
 use Rattle.std.specs.List.{Contains}
 use Rattle.std.proofs.lemmas.List.Elements.{All-contains_itself, All-weaker}

@@ -8,7 +8,6 @@ use Rattle.std.specs.Option.{option_map}
 use Rattle.std.proofs.lemmas.Bool.{eqb-false, eqb-true, false_from_ne_true, false≢true, ne_eqb, not-true, or_from}
 use Rattle.std.proofs.lemmas.Bool.{or_parts}
 use Rattle.std.proofs.lemmas.List.{length-map}
-use Rattle.std.proofs.lemmas.List.Kept.{AllPairs-from_increasing}
 use Rattle.std.proofs.lemmas.List.Elements.{All-from_recursion, All-map, recursion_from_All}
 use Rattle.pl_base.specs.declared.date.Day.{Day}
 use Rattle.pl_base.specs.declared.id.Ids.{Ids}
@@ -27,7 +26,7 @@ use Rattle.pl_history.specs.Sound.{IsTypedRight}
 use Rattle.pl_base.specs.Removal.{is_standing}
 use Rattle.pl_history.specs.Settled.{AreSettledBut, Drops}
 use Rattle.pl_base.specs.Removal.{without_idle_pages}
-use Rattle.pl_base.proofs.LookUps.{Apart, apart_ascending, both, none_pass, where_passes}
+use Rattle.pl_base.proofs.LookUps.{Apart, apart_increasing, both, none_pass, where_passes}
 use Rattle.pl_history.proofs.GoodRows.{items_with}
 
 -- ---- lists
@@ -71,7 +70,7 @@ not_both true b apart = apart refl
 not_both false b apart = refl
 
 -- each other page is still there
-page_left : (page id : PageId) (old new : List KeptPage) → map unnamed new ≡ map unnamed (other_pages page old)
+pub page_left : (page id : PageId) (old new : List KeptPage) → map unnamed new ≡ map unnamed (other_pages page old)
     → page.0 ≢ id.0
     → list_any (λ (p : KeptPage). p.page.id.0 == id.0) new ≡ list_any (λ (p : KeptPage). p.page.id.0 == id.0) old
 page_left page id old new same other =
@@ -180,7 +179,7 @@ rebuilt page old new w =
     ∙ ap (λ (i : List Item). record new { day = old.day; ids = old.ids; visits = old.visits; items = i }) w.items
 
 -- the page of an item is not the one that goes
-item_page_left : (page : PageId) (old new : Store) (of : Option PageId) → is_page page of ≡ false
+pub item_page_left : (page : PageId) (old new : Store) (of : Option PageId) → is_page page of ≡ false
     → ((id : PageId) → page.0 ≢ id.0 → IsTrue (has_page_at old id) → IsTrue (has_page_at new id))
     → IfSome of (λ id. IsTrue (has_page_at old id)) → IfSome of (λ id. IsTrue (has_page_at new id))
 item_page_left page old new None other stays there = tt
@@ -313,8 +312,7 @@ dropped_fewer page old new h there w =
     omega (
       arith,
       one_fewer page old.pages
-          (apart_ascending (λ (p : KeptPage). p.page.id.0) old.pages
-          (AllPairs-from_increasing (map (λ (p : KeptPage). p.page.id.0) old.pages) h.page_ids.ascending))
+          (apart_increasing (λ (p : KeptPage). p.page.id.0) old.pages h.page_ids.ascending)
           there,
       sym (length-map new.pages unnamed) ∙ ap length w.pages ∙ length-map (other_pages page old.pages) unnamed,
     )

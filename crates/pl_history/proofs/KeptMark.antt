@@ -5,7 +5,6 @@ use Rattle.std.proofs.Common.{length, map, refl, sym}
 use Rattle.std.specs.Option.{option_map}
 use Rattle.std.proofs.lemmas.List.{length-map}
 use Rattle.std.proofs.lemmas.List.Elements.{All-from_recursion, All-weaker, recursion_from_All}
-use Rattle.std.proofs.lemmas.List.Kept.{AllPairs-from_increasing}
 use Rattle.std.proofs.lemmas.List.Sums.{count_by-le-length, sum_by_push}
 use Rattle.pl_base.specs.declared.id.PageId.{PageId}
 use Rattle.pl_base.specs.declared.row.Mark.{Mark}
@@ -17,7 +16,7 @@ use Rattle.pl_base.specs.Rows.{next_visit, mark_of, page_at, store_of, with_visi
 use Rattle.pl_base.specs.Store.{Visit}
 use Rattle.pl_marks.specs.Refreshed.{HaveCounts, visited_mark}
 use Rattle.pl_base.proofs.IdsLaws.{few_ids, same_page}
-use Rattle.pl_base.proofs.LookUps.{apart_ascending, found_holds, found_one, found_passes}
+use Rattle.pl_base.proofs.LookUps.{apart_increasing, found_holds, found_one, found_passes}
 
 -- the page that the mark is kept of
 pub record IsMarkAt (kept : Kept) (id : PageId) (mark : Mark) : Type 0 where
@@ -46,8 +45,7 @@ pub one_at : (kept : Kept) (id : PageId) (mark : Mark) → IsWellKept kept → (
 one_at kept id mark h m =
     All-from_recursion (λ (p : KeptPage). (p.page.id.0 == id.0) ≡ true → p ≡ m.page) kept.pages
     (found_one (λ (p : KeptPage). p.page.id.0) id.0 kept.pages m.page
-    (apart_ascending (λ (p : KeptPage). p.page.id.0) kept.pages
-    (AllPairs-from_increasing (map (λ (p : KeptPage). p.page.id.0) kept.pages) h.page_ids.ascending)) m.at)
+    (apart_increasing (λ (p : KeptPage). p.page.id.0) kept.pages h.page_ids.ascending) m.at)
 
 -- the mark types each page with the id as it was
 pub typed_at : (kept : Kept) (id : PageId) (mark : Mark) → IsWellKept kept → IsMarkAt kept id mark

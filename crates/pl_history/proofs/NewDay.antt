@@ -1,4 +1,5 @@
--- Rows on a new day: the pages that it does not bear on, and that the rows are sound once each page is right.
+-- Rows on a new day: the pages that it does not bear on, and that the rows are sound once each page
+-- is right.
 use Rattle.std.proofs.Common.{◌≡◌, ◌≤◌, ◌∙◌, false, List, [], get_or, refl, subst, sym}
 use Rattle.std.specs.List.{Contains}
 use Rattle.std.proofs.lemmas.List.Elements.{All-contains_itself}

@@ -18,7 +18,7 @@ use Rattle.pl_base.proofs.ListLaws.{found_in}
 use Rattle.pl_base.proofs.LookUps.{found_holds, found_passes}
 use Rattle.pl_base.proofs.Truths.{same_tests}
 use Rattle.pl_history.specs.Addresses.{HasAddress, HaveAddresses}
-use Rattle.pl_history.proofs.OriginParts.{passes}
+use Rattle.pl_link.proofs.PlaceUrls.{passes}
 
 -- ---- the prefix of a query
 

@@ -1,4 +1,5 @@
--- A walk over the visits that came from one, up to the first that no redirect made: the pages of the redirects.
+-- A walk over the visits that came from one, up to the first that no redirect made: the pages of
+-- the redirects.
 use Rattle.std.proofs.Common.{◌≡◌, ◌≢◌, ◌++◌, ◌∙◌, Bool, true, false, List, [], ◌∷◌}
 use Rattle.std.proofs.Common.{Option, Some, ap, append_assoc, if◌then◌else◌, map, refl, sym}
 use Rattle.std.specs.List.{AllByRecursion}

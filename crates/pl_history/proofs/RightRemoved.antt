@@ -7,7 +7,6 @@ use Rattle.std.specs.Option.{option_and_then, option_map}
 use Rattle.std.proofs.lemmas.Bool.{eq-eqb, eqb-true, false_from_ne_true, false≢true}
 use Rattle.std.proofs.lemmas.List.{length-map, take-map}
 use Rattle.std.proofs.lemmas.List.Elements.{All-from_recursion, All-take}
-use Rattle.std.proofs.lemmas.List.Kept.{AllPairs-from_increasing}
 use Rattle.pl_base.specs.declared.id.PageId.{PageId}
 use Rattle.pl_base.specs.declared.id.VisitId.{VisitId}
 use Rattle.pl_base.specs.declared.transition.Transition.{Transition}
@@ -25,7 +24,7 @@ use Rattle.pl_marks.specs.Refreshed.{is_passing, source_page}
 use Rattle.pl_base.proofs.ListLaws.{sum_by-agree, sum_by-map, weaker}
 use Rattle.pl_base.proofs.VisitLists.{each_visit_found}
 use Rattle.pl_base.proofs.VisitsLaws.{all-latest_first}
-use Rattle.pl_base.proofs.LookUps.{apart_ascending, both, found_one, where_passes}
+use Rattle.pl_base.proofs.LookUps.{apart_increasing, both, found_one, where_passes}
 use Rattle.pl_marks.proofs.SeenVisits.{hidden_by}
 use Rattle.pl_history.proofs.RightAfter.{led_apart}
 use Rattle.pl_history.proofs.VisitsLeft.{Keeps, among_is, among_one, any_left, count_left, filter_left, find_left}
@@ -115,8 +114,7 @@ module _ (old : Kept) (id : VisitId) (gone : Visit) (h : IsWellKept old) (at : v
       (λ (v : Visit). is_among (id ∷ []) v.id ≡ true → v ≡ gone) old.visits
       (λ v one among. one (among_is id v.id among))
       (found_one (λ (v : Visit). v.id.0) id.0 old.visits gone
-      (apart_ascending (λ (v : Visit). v.id.0) old.visits
-      (AllPairs-from_increasing (map (λ (v : Visit). v.id.0) old.visits) h.visit_ids.ascending)) at)
+      (apart_increasing (λ (v : Visit). v.id.0) old.visits h.visit_ids.ascending) at)
 
   -- a test that the visit fails, and that does not ask for a source
   keeps : (q : Visit → Bool) → q gone ≡ false → ((v : Visit) → q (visit_left (id ∷ []) v) ≡ q v)

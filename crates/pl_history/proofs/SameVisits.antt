@@ -1,4 +1,5 @@
--- What stays of a store without some visits depends on which visits go, and not on the order in which they are named.
+-- What stays of a store without some visits depends on which visits go, and not on the order in
+-- which they are named.
 use Rattle.std.proofs.Common.{◌≡◌, ◌∙◌, Bool, List, [], ◌∷◌, Option, Some, None, ap, filter, map, not, if◌then◌else◌}
 use Rattle.std.proofs.Common.{refl}
 use Rattle.pl_base.specs.declared.id.VisitId.{VisitId}

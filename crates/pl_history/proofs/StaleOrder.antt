@@ -1,4 +1,5 @@
--- Pages in the order in which they go, the stalest first: that is an order, and the one of a sort's comparisons.
+-- Pages in the order in which they go, the stalest first: that is an order, and the one of a sort's
+-- comparisons.
 use Rattle.std.proofs.Common.{◌≡◌, ◌&&◌, ◌||◌, ℕ, Bool, true, Option, Some, None, Ordering, arith, is_lt, ltb}
 use Rattle.std.proofs.Common.{nat_cmp, nat_lt, not, refl, suc}
 use Rattle.std.specs.Cmp.{IsStrictWeakOrder}

@@ -1,5 +1,5 @@
--- The visits of some pages that pass a test, one page behind the other: each is there, none stands twice, and they are
--- those that a filter over all visits gives.
+-- The visits of some pages that pass a test, one page behind the other: each is there, none stands
+-- twice, and they are those that a filter over all visits gives.
 use Rattle.std.proofs.Common.{◌≡◌, ◌≢◌, ◌∙◌, ◌++◌, ◌&&◌, ◌||◌, ◌==◌, ℕ, Bool, true, false, List, [], ◌∷◌, Some, ap}
 use Rattle.std.proofs.Common.{append_assoc, arith, eqb, filter, IsTrue, if◌then◌else◌, map, refl, subst, sym}
 use Rattle.std.specs.List.{AllByRecursion, AllPairs, flat_map, list_any}
@@ -9,7 +9,7 @@ use Rattle.std.proofs.lemmas.Grind.{flat_map-append}
 use Rattle.std.proofs.lemmas.List.{append-nil, map-append}
 use Rattle.std.proofs.lemmas.List.Elements.{All-from_recursion, All-map, filter-append, recursion_from_All}
 use Rattle.std.proofs.lemmas.List.Folds.{list_any-append}
-use Rattle.std.proofs.lemmas.List.Kept.{AllPairs-cons, AllPairs-from_increasing}
+use Rattle.std.proofs.lemmas.List.Kept.{AllPairs-cons}
 use Rattle.pl_base.specs.declared.id.PageId.{PageId}
 use Rattle.pl_base.specs.declared.id.VisitId.{VisitId}
 use Rattle.pl_base.specs.Removal.{is_among, without_visits}
@@ -21,7 +21,7 @@ use Rattle.pl_base.proofs.ListLaws.{AllPairs-map, all-filter, list_any-alike, li
 use Rattle.pl_base.proofs.ListLaws.{all_append, any-and, any-or, any-where, everyone}
 use Rattle.pl_base.proofs.VisitLists.{any-latest_first}
 use Rattle.pl_base.proofs.VisitsLaws.{Differ, Differ-filter}
-use Rattle.pl_base.proofs.LookUps.{Apart, apart_ascending, found_some}
+use Rattle.pl_base.proofs.LookUps.{Apart, apart_increasing, found_some}
 use Rattle.pl_base.proofs.VisitsRun.{IsVisitOf, differ, visits_stand}
 use Rattle.pl_base.proofs.TargetsRun.{differ_append}
 use Rattle.pl_history.specs.Taken.{AreThese, ids_of}
@@ -252,8 +252,7 @@ apart_ids (p ∷ ps) apart = (
 pub kept_apart : (kept : Kept) → IsWellKept kept → Apart (λ (p : PageId). p.0) (page_ids kept.pages)
 kept_apart kept h =
     apart_ids kept.pages
-    (apart_ascending (λ (p : KeptPage). p.page.id.0) kept.pages
-    (AllPairs-from_increasing (map (λ (p : KeptPage). p.page.id.0) kept.pages) h.page_ids.ascending))
+    (apart_increasing (λ (p : KeptPage). p.page.id.0) kept.pages h.page_ids.ascending)
 
 pub eqb-sym : (m n : ℕ) → eqb m n ≡ eqb n m
 eqb-sym m n = grind (arith, nat_tests)

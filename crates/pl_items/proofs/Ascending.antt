@@ -6,9 +6,9 @@ use Rattle.std.specs.List.Sorted.{IsNonDecreasingBy, IsPermutation}
 use Rattle.std.proofs.lemmas.Bool.{eq-eqb}
 use Rattle.std.proofs.lemmas.List.{get_or-map, length-map}
 use Rattle.std.proofs.lemmas.List.Elements.{recursion_from_All}
-use Rattle.pl_items.proofs.Members.{in_permutation, in_place}
+use Rattle.pl_items.proofs.Members.{in_place}
 use Rattle.std.proofs.lemmas.List.Sorted.{sum_by-IsPermutation, IsPermutation-sym}
-use Rattle.pl_base.proofs.Among.{In, at_in}
+use Rattle.pl_base.proofs.Among.{In, at_in, in_permutation}
 use Rattle.pl_base.proofs.KeyCounts.{Ascends, Once, count-cons, counted, once_from_pairs, tick}
 
 -- ---- one ascending list

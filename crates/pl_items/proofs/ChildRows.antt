@@ -1,38 +1,16 @@
 -- The children of nodes, with their parents.
-use Rattle.std.proofs.Common.{◌≡◌, ◌==◌, ◌∙◌, ◌&&◌, ℕ, Bool, true, false, List, [], ◌∷◌, map, ap, sym, arith, refl, not}
-use Rattle.std.proofs.Common.{Option, Some, None, if◌then◌else◌, inl, inr, eqb, filter}
+use Rattle.std.proofs.Common.{◌≡◌, ◌==◌, ◌∙◌, ◌&&◌, Bool, true, false, List, [], ◌∷◌, map, ap, sym, refl, not}
+use Rattle.std.proofs.Common.{Option, Some, None, if◌then◌else◌, filter}
 use Rattle.std.specs.List.{cons_option, filter_map}
 use Rattle.std.specs.List.Sorted.{IsStableByKey}
 use Rattle.std.specs.Option.{option_map}
 use Rattle.std.specs.Ordering.{is_lt, nat_cmp}
-use Rattle.std.proofs.lemmas.Bool.{cases_order, lt-ltb, le-ltb, eq-eqb, ne_eqb}
 use Rattle.std.proofs.lemmas.List.Elements.{filter_agree}
 use Rattle.pl_base.specs.declared.id.ItemId.{ItemId}
+use Rattle.pl_base.proofs.SortLaws.{numbers_tie}
 use Rattle.pl_items.specs.Nodes.{child_nodes, child_row, ids_under, is_parent, item_of, listed_item}
 use Rattle.pl_items.specs.declared.by_id.Child.{Child}
 use Rattle.pl_items.specs.declared.node.Node.{Node}
-
--- two numbers tie where they are one
-tie : (a b : ℕ) → (not (is_lt (nat_cmp a b)) && not (is_lt (nat_cmp b a))) ≡ eqb b a
-tie a b =
-    elim (cases_order a b) as (λ _. (not (is_lt (nat_cmp a b)) && not (is_lt (nat_cmp b a))) ≡ eqb b a) [
-      | inl same ↦
-          let p = le-ltb a b (omega arith) in
-          let q = le-ltb b a (omega arith) in
-          let r = eq-eqb a b same in
-          let s = eq-eqb b a (sym same) in
-          rw (p, q, r, s)
-      | inr (inl below) ↦
-          let p = lt-ltb a b below in
-          let s = ne_eqb b a (λ e. omega arith) in
-          rw (p, s)
-      | inr (inr above) ↦
-          let p = le-ltb a b (omega arith) in
-          let q = lt-ltb b a above in
-          let r = ne_eqb a b (λ e. omega arith) in
-          let s = ne_eqb b a (λ e. omega arith) in
-          rw (p, q, r, s)
-    ]
 
 -- the rows of nodes with this parent are its children in the order of the nodes
 pub rows_under : (nodes : List Node) (id : ItemId) → ids_under (filter_map child_row nodes) id ≡ child_nodes nodes id
@@ -67,7 +45,7 @@ pub sorted_under : (rows sorted : List Child) (id : ItemId)
 sorted_under rows sorted id stable =
     let test : Child → Bool = λ c. c.parent.0 == id.0 in
     let tied : Child → Bool = λ c. not (is_lt (nat_cmp id.0 c.parent.0)) && not (is_lt (nat_cmp c.parent.0 id.0)) in
-    let agree : (c : Child) → tied c ≡ test c = λ c. tie id.0 c.parent.0 in
+    let agree : (c : Child) → tied c ≡ test c = λ c. numbers_tie id.0 c.parent.0 in
     ap (map (λ (c : Child). c.id))
     (sym (filter_agree tied test agree sorted)
     ∙ stable (record { parent = id; id = id })

@@ -12,6 +12,7 @@ use Rattle.pl_base.proofs.KeyCounts.{Ascends}
 use Rattle.pl_items.specs.Nodes.{by_id, in_id_order}
 use Rattle.pl_items.specs.declared.node.Node.{Node}
 use Rattle.pl_items.proofs.Ascending.{ascends_sorted, only_ascending}
+use Rattle.pl_items.proofs.IdOrder.{all-by_id, all-in_id_order}
 use Rattle.pl_items.proofs.Members.{pairs_head, pairs_tail}
 
 abbrev pub node_key : Node → ℕ
@@ -34,20 +35,6 @@ by_id-moves [] = IsPermutation-refl []
 by_id-moves (n ∷ ns) =
     IsPermutation-trans _ _ _ (IsPermutation-cons n _ _ (by_id-moves ns)) (placed n (by_id ns))
 
-all_placed : (P : Node → Type 0) (n : Node) (ms : List Node) → P n → AllByRecursion P ms
-    → AllByRecursion P (in_id_order n ms)
-all_placed P n [] one all = (one, tt)
-all_placed P n (m ∷ ms) one all = choose (ltb n.id.0 m.id.0) (all_placed P n ms one all.1)
-  where
-    choose : (b : Bool) → AllByRecursion P (in_id_order n ms)
-        → AllByRecursion P (if b then n ∷ m ∷ ms else m ∷ in_id_order n ms)
-    choose true further = (one, all)
-    choose false further = (all.0, further)
-
-pub all_by_id : (P : Node → Type 0) (nodes : List Node) → AllByRecursion P nodes → AllByRecursion P (by_id nodes)
-all_by_id P [] all = tt
-all_by_id P (n ∷ ns) all = all_placed P n (by_id ns) all.0 (all_by_id P ns all.1)
-
 above : (n m : Node) (ms : List Node) → node_key n < node_key m → AllByRecursion (λ o. node_key m < node_key o) ms
     → AllByRecursion (λ o. node_key n < node_key o) ms
 above n m [] below all = tt
@@ -67,14 +54,14 @@ placed_ascends n (m ∷ ms) apart up =
         let le = ltb-false n.id.0 m.id.0 test in
         let ne : node_key n ≢ node_key m = apart.0 in
         let below : node_key m < node_key n = omega arith in
-        (all_placed (λ o. node_key m < node_key o) n ms below up.0, further)
+        (all-in_id_order (λ o. node_key m < node_key o) n ms below up.0, further)
 
 pub by_id-ascends : (nodes : List Node) → AllPairs (λ n m. node_key n ≢ node_key m) nodes
     → Ascends node_key (by_id nodes)
 by_id-ascends [] apart = tt
 by_id-ascends (n ∷ ns) apart =
     placed_ascends n (by_id ns)
-    (all_by_id (λ m. node_key n ≢ node_key m) ns (pairs_head (λ m o. node_key m ≢ node_key o) n ns apart))
+    (all-by_id (λ m. node_key n ≢ node_key m) ns (pairs_head (λ m o. node_key m ≢ node_key o) n ns apart))
     (by_id-ascends ns (pairs_tail (λ m o. node_key m ≢ node_key o) n ns apart))
 
 -- of nodes whose ids are distinct their numbers are

@@ -21,6 +21,7 @@ use Rattle.pl_base.proofs.KeyCounts.{Ascends, Once, ascends_from_pairs, count, c
 use Rattle.pl_base.proofs.KeyCounts.{once_from_pairs, pairs_from_once, tick_same}
 use Rattle.pl_base.proofs.ListLaws.{AllPairs-from_map, AllPairs-map, list_any-map, map-map, sum_by-map}
 use Rattle.pl_base.proofs.Among.{In, all_from_in, at_in, from_flat_map, from_map, in_flat_map, in_map}
+use Rattle.pl_base.proofs.Among.{in_permutation}
 use Rattle.pl_base.proofs.ListLaws.{to_map}
 use Rattle.pl_base.proofs.Truths.{is_none_at}
 use Rattle.pl_items.specs.Nodes.{AreNodes, by_id, child_nodes, has_node, ids_under, item_of, items_of}
@@ -30,7 +31,7 @@ use Rattle.pl_items.specs.declared.node.Node.{Node}
 use Rattle.pl_items.specs.declared.plant.Waiting.{Waiting}
 use Rattle.pl_items.proofs.Ascending.{only}
 use Rattle.pl_items.proofs.KeyCounts.{count-flat_map, pairs_from_ascent, same_key, sum_of_part}
-use Rattle.pl_items.proofs.Members.{in_permutation, in_place}
+use Rattle.pl_items.proofs.Members.{in_place}
 use Rattle.pl_items.proofs.NodeOrder.{by_id-ascends, by_id-moves, node_key}
 use Rattle.pl_items.proofs.PlantSteps.{Apart, IsPlanting, IsReachedId, child_id, children_ids, item_id_of}
 use Rattle.pl_items.proofs.PlantSteps.{nodes_of, parents, row_parent}

@@ -1,4 +1,5 @@
--- What changes make of views in order: they keep the order, fit a store, and each page has the view of its change.
+-- What changes make of views in order: they keep the order, fit a store, and each page has the view
+-- of its change.
 use Rattle.std.proofs.Common.{◌≡◌, ◌<◌, ◌==◌, ◌∙◌, ℕ, Bool, true, false, List, [], ◌∷◌, Option, Some, None}
 use Rattle.std.proofs.Common.{ap, arith, eqb-true, if◌then◌else◌, refl, subst, sym}
 use Rattle.std.specs.List.{AllByRecursion}

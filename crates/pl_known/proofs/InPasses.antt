@@ -18,7 +18,8 @@ use Rattle.pl_known.specs.Changes.{AllSuit, AreEachOnce, IsOfOnePage, after, id_
 use Rattle.pl_known.specs.Known.{view_of}
 use Rattle.pl_known.specs.Passes.{all_put, change_of, goes, put, staying}
 use Rattle.pl_known.proofs.ChangesMade.{after_in_order, either_way, no_change, told, view_after}
-use Rattle.pl_known.proofs.ViewLookUps.{none_left, same_views, view_added, view_kept, view_removed}
+use Rattle.pl_follow.proofs.RanksChange.{none_left}
+use Rattle.pl_known.proofs.ViewLookUps.{same_views, view_added, view_kept, view_removed}
 
 -- ---- the views that go
 

@@ -1,12 +1,14 @@
 -- The page with a URL and its view, and views that followers stand for while changes come.
 use Rattle.std.proofs.Common.{◌≡◌, ◌+◌, ◌<◌, ◌∙◌, ℕ, Bool, true, false, List, [], ◌∷◌, Option, Some, None}
-use Rattle.std.proofs.Common.{ap, arith, drop, eq-eqb, find, get_or, if◌then◌else◌, length, refl, subst, sym}
+use Rattle.std.proofs.Common.{ap, arith, drop, eq-eqb, find, get_or, if◌then◌else◌, length, refl, subst, suc, sym}
 use Rattle.std.specs.Option.{option_map}
 use Rattle.std.proofs.lemmas.Bool.{ne_eqb}
 use Rattle.std.proofs.lemmas.List.{drop_more}
 use Rattle.pl_base.specs.declared.change.Change.{Change}
 use Rattle.pl_base.specs.declared.id.PageId.{PageId}
 use Rattle.pl_base.specs.declared.view.View.{View}
+use Rattle.pl_base.specs.Store.{Page, Store}
+use Rattle.pl_base.specs.View.{AreViews, AreViewsOf}
 use Rattle.pl_base.proofs.LookUps.{found_holds}
 use Rattle.pl_follow.specs.Changes.{AreInOrder, Suits, changed}
 use Rattle.pl_follow.proofs.Parted.{Ascend, ascend}
@@ -55,6 +57,20 @@ by_its_id test id (v ∷ vs) up found = choose (test v) found (by_its_id test id
 pub found_by_id : (test : View → Bool) (id : PageId) (views : List View) → AreInOrder views
     → page_of test views ≡ Some id → view_of id views ≡ find test views
 found_by_id test id views ordered found = by_its_id test id views (ascend views ordered) found
+
+-- ---- how many
+
+alike : (store : Store) (ps : List Page) (vs : List View) → AreViews store ps vs
+    → length vs ≡ length ps
+alike store [] [] are = refl
+alike store [] (v ∷ vs) are = absurd are
+alike store (p ∷ ps) [] are = absurd are
+alike store (p ∷ ps) (v ∷ vs) are = ap suc (alike store ps vs are.1)
+
+-- there are as many views as pages
+pub as_many : (store : Store) (views : List View) → AreViewsOf store views
+    → length views ≡ length store.pages
+as_many store views are = alike store store.pages views are
 
 -- ---- changes one after another
 

@@ -1,5 +1,5 @@
 -- A view that comes at its place among views in order, or in place of that of its page.
-use Rattle.std.proofs.Common.{◌≡◌, ◌+◌, ◌<◌, ◌≤◌, ◌==◌, ◌∙◌, ℕ, Bool, true, false, List, [], ◌∷◌, ap, arith}
+use Rattle.std.proofs.Common.{◌≡◌, ◌+◌, ◌<◌, ◌≤◌, ◌∙◌, ℕ, Bool, true, false, List, [], ◌∷◌, ap, arith}
 use Rattle.std.proofs.Common.{eq-eqb, get_or, if◌then◌else◌, length, map, nat_lt, not, refl, set, subst, suc, sym, zero}
 use Rattle.std.specs.List.{AllByRecursion, AllPairs, insert}
 use Rattle.std.specs.List.Sorted.{IsNonDecreasingBy, IsPartitionPoint, IsStrictlyIncreasing}
@@ -9,25 +9,16 @@ use Rattle.std.proofs.lemmas.Bool.{ne_eqb}
 use Rattle.std.proofs.lemmas.Bool.Decides.{nat_tests}
 use Rattle.std.proofs.lemmas.Cmp.{ranked}
 use Rattle.std.proofs.lemmas.List.Elements.{All-from_recursion, recursion_from_All}
-use Rattle.pl_base.specs.declared.id.PageId.{PageId}
 use Rattle.pl_base.specs.declared.view.View.{View}
-use Rattle.pl_base.proofs.ListLaws.{AllPairs-map, all_stay, weaker}
+use Rattle.pl_base.proofs.ListLaws.{AllPairs-map}
 use Rattle.pl_base.proofs.Searches.{never_falls}
 use Rattle.pl_follow.specs.Changes.{AreInOrder, with_view, without_id}
-use Rattle.pl_follow.proofs.Parted.{Ascend}
+use Rattle.pl_follow.proofs.Parted.{Ascend, all_above}
 
 -- numbers of which each is less than all behind it
 pub increasing : {X : Type 0} (n : X → ℕ) (xs : List X) → AllPairs (λ x y. n x < n y) xs
     → IsStrictlyIncreasing (map n xs)
 increasing n xs pairs k within = AllPairs-map (λ a b. a < b) n xs pairs k (k + 1) 0 (omega arith) within
-
--- views with greater ids all stay
-all_above : (id : PageId) (views : List View) → AllByRecursion (λ (w : View). id.0 < w.id.0) views
-    → without_id id views ≡ views
-all_above id views above =
-    all_stay (λ (v : View). not (v.id.0 == id.0)) views
-    (weaker (λ (w : View). id.0 < w.id.0) (λ (w : View). not (w.id.0 == id.0) ≡ true) views
-    (λ w below. ap not (ne_eqb w.id.0 id.0 (λ same. absurd (omega (arith, below, same))))) above)
 
 module _ (new : View) where
   -- in place of that of its page
@@ -89,7 +80,8 @@ module _ (new : View) where
         λ j d low high. parts.1 (suc j) d (omega (arith, low)) (omega (arith, high)),
       ))
 
--- where a search by halves ends in vain, lesser ids stand in front of the place, and greater ones behind it
+-- where a search by halves ends in vain, lesser ids stand in front of the place, and greater ones
+-- behind it
 pub between_ids : (views : List View) (id place : ℕ)
     → IsPartitionPoint (λ (w : View). nat_cmp w.id.0 id ≡ Less) (λ (w : View). nat_cmp w.id.0 id ≡ Greater) views place
     → IsPartitionPoint (λ (w : View). w.id.0 < id) (λ (w : View). id < w.id.0) views place

@@ -1,5 +1,6 @@
--- What look-ups by id tell of views in order: that they tell the list, and what a change makes of them.
-use Rattle.std.proofs.Common.{◌≡◌, ◌<◌, ◌==◌, ◌||◌, ◌∙◌, ℕ, Bool, true, false, List, [], ◌∷◌, All, Some, None}
+-- What look-ups by id tell of views in order: that they tell the list, and what a change makes of
+-- them.
+use Rattle.std.proofs.Common.{◌≡◌, ◌<◌, ◌==◌, ◌∙◌, ℕ, Bool, true, false, List, [], ◌∷◌, All, Some, None}
 use Rattle.std.proofs.Common.{ap, arith, eq-eqb, eqb-true, filter, if◌then◌else◌, nat_lt, not, refl, subst, sym}
 use Rattle.std.specs.List.{AllByRecursion}
 use Rattle.std.proofs.lemmas.Bool.{ne_eqb}
@@ -125,16 +126,6 @@ view_kept gone id (v ∷ vs) = choose (v.id.0 == id.0) refl (gone v.id.0) refl (
 pub view_removed : (gone : PageId) (id : PageId) (views : List View)
     → view_of id (without_id gone views) ≡ (if id.0 == gone.0 then None else view_of id views)
 view_removed gone id views = view_kept (λ n. n == gone.0) id views
-
--- none has the id of the one that went
-pub none_left : (id : PageId) (views : List View) → has_view id (without_id id views) ≡ false
-none_left id [] = refl
-none_left id (v ∷ vs) = choose (v.id.0 == id.0) refl (none_left id vs)
-  where
-    choose : (b : Bool) → (v.id.0 == id.0) ≡ b → has_view id (without_id id vs) ≡ false
-        → has_view id (if not b then v ∷ without_id id vs else without_id id vs) ≡ false
-    choose true is rest = rest
-    choose false is rest = ap (λ (b : Bool). b || has_view id (without_id id vs)) is ∙ rest
 
 -- a view comes
 pub view_added : (new : View) (id : PageId) (views : List View) → has_view new.id views ≡ false

@@ -1,4 +1,5 @@
--- Ids that ascend and lie below the next one, where some of their rows go or change, or one row more has the next id.
+-- Ids that ascend and lie below the next one, where some of their rows go or change, or one row
+-- more has the next id.
 use Rattle.std.proofs.Common.{◌≡◌, ◌<◌, ◌≤◌, ◌+◌, ◌++◌, ◌==◌, ◌∙◌, ℕ, All, Bool, true, List, [], ◌∷◌, Option, Some}
 use Rattle.std.proofs.Common.{None, arith, filter, find, map, refl, subst, sym}
 use Rattle.std.specs.List.{AllPairs, list_any}

@@ -1,4 +1,5 @@
--- What a store keeps of a good one where its items change: the ids of the items, and the pages that stand by them.
+-- What a store keeps of a good one where its items change: the ids of the items, and the pages that
+-- stand by them.
 use Rattle.std.proofs.Common.{◌≡◌, ◌+◌, ◌-◌, ◌++◌, ◌==◌, ◌||◌, ◌∙◌, ℕ, All, Bool, true, false, IsTrue, List}
 use Rattle.std.proofs.Common.{[], ◌∷◌, Option, Some, None, ap, arith, filter, get_or, if◌then◌else◌, is_none, map, not}
 use Rattle.std.proofs.Common.{refl, subst, sym, unwrap_or}

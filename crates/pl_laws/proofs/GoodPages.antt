@@ -1,4 +1,5 @@
--- What a store keeps of a good one on another day, with a page or a visit more, with a title, and without some visits.
+-- What a store keeps of a good one on another day, with a page or a visit more, with a title, and
+-- without some visits.
 use Rattle.std.proofs.Common.{◌≡◌, ◌≢◌, ◌<◌, ◌+◌, ◌++◌, ◌==◌, ◌||◌, ◌∙◌, ℕ, All, Bool, true, false, IsTrue}
 use Rattle.std.proofs.Common.{List, [], ◌∷◌, Option, Some, None, ap, arith, bytes_eq, eq-eqb, filter, get_or}
 use Rattle.std.proofs.Common.{if◌then◌else◌, is_none, is_some, map, not, refl, sym}

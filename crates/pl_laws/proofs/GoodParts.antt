@@ -1,5 +1,5 @@
--- A store that is good but for pages that nothing keeps and for the ends of the ids of pages and items: its parts, and
--- that without such pages it is good.
+-- A store that is good but for pages that nothing keeps and for the ends of the ids of pages and
+-- items: its parts, and that without such pages it is good.
 use Rattle.std.proofs.Common.{◌≡◌, ◌≢◌, ◌<◌, ◌≤◌, ◌==◌, ◌&&◌, ◌∙◌, ℕ, All, Bool, true, false, IsTrue, List}
 use Rattle.std.proofs.Common.{Option, Some, None, ap, eq-eqb, get_or, map, refl}
 use Rattle.std.specs.List.{AllPairs, list_any}

@@ -77,8 +77,14 @@ group_small (a ∷ b ∷ []) n group = omega (arith, group.0.1, group.0.0.1.0, g
 group_small (a ∷ b ∷ c ∷ []) n group =
     omega (arith, group.0.1, group.0.0.1.0, group.0.0.1.1.0, group.0.0.1.1.1.0)
 group_small (a ∷ b ∷ c ∷ d ∷ []) n group =
-    omega (arith, group.0.1, group.0.0.1.0, group.0.0.1.1.0, group.0.0.1.1.1.0,
-    group.0.0.1.1.1.1.0)
+    omega (
+      arith,
+      group.0.1,
+      group.0.0.1.0,
+      group.0.0.1.1.0,
+      group.0.0.1.1.1.0,
+      group.0.0.1.1.1.1.0,
+    )
 group_small (a ∷ b ∷ c ∷ d ∷ e ∷ text) n group = absurd (omega (arith, group.1))
 
 dotted_small : (text octets : List ℕ) → IsDotted text octets → AllSegments (segments_of octets)

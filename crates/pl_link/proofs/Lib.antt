@@ -3,6 +3,7 @@ mod ConstantRows
 pub mod HostCases
 pub mod OriginParts
 pub mod PartsLemmas
+pub mod PlaceUrls
 mod UrlHosts
 mod UrlPaths
 pub mod UrlTexts

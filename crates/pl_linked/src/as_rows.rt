@@ -1,4 +1,9 @@
-// Linked rows as rows of a store: each call is the one of the same name.
+// Linked rows as rows of a store: each look-up is the one of the same name, and each change that of
+// the slots.
+ghost use Rattle.std.specs.Prelude.{◌≡◌, ℕ, List, true, false};
+ghost use Rattle.pl_base.specs.Good.{is_visited};
+ghost use Rattle.pl_base.specs.Marks.{is_referenced};
+ghost use Rattle.pl_base.specs.Rows.{WithoutPage, has_page, other_pages, store_of};
 ghost use Rattle.pl_record.specs.Form.{StandsFor};
 ghost use Rattle.pl_linked.specs.Linked.{IsBase, bytes_of, kept_of, pending_of, targets_of};
 ghost use Rattle.pl_linked.specs.LinkedLaws.{based, stands, targeted, well_kept};
@@ -28,7 +33,7 @@ impl Rows for Linked {
     }
 
     fn set_day<L: Ledger>(&mut self, day: Day, steps: &mut Steps<L>) {
-        Linked::set_day(self, day, steps);
+        self.slots.set_day(day, steps);
     }
 
     fn ids<L: Ledger>(&self, steps: &mut Steps<L>) -> Ids {
@@ -69,11 +74,19 @@ impl Rows for Linked {
         origin: Option<Slot>,
         steps: &mut Steps<L>,
     ) -> Result<PageId, NoMemory> {
-        Linked::insert_page(self, url, origin, steps)
+        self.slots.insert_page(url, origin, steps)
     }
 
-    fn remove_page<L: Ledger>(&mut self, page: PageId, steps: &mut Steps<L>) {
-        Linked::remove_page(self, page, steps);
+    fn remove_page<L: Ledger>(&mut self, page: PageId, steps: &mut Steps<L>)
+        requires page { has_page (kept_of self.old) page ≡ true }
+        requires unvisited { is_visited (store_of (kept_of self.old)) page ≡ false }
+        requires unreferenced { is_referenced (store_of (kept_of self.old)) page ≡ false }
+        ensures kept { WithoutPage page (kept_of self.old) (kept_of self.new) }
+        // All other pages keep the names of their origins.
+        ensures names { (kept_of self.new).pages ≡ other_pages page (kept_of self.old).pages }
+        ensures base { (bytes : List ℕ) → IsBase self.old bytes → IsBase self.new bytes }
+    {
+        self.slots.remove_page(page, steps);
     }
 
     fn set_title<L: Ledger>(
@@ -82,15 +95,15 @@ impl Rows for Linked {
         title: &str,
         steps: &mut Steps<L>,
     ) -> Result<(), NoMemory> {
-        Linked::set_title(self, page, title, steps)
+        self.slots.set_title(page, title, steps)
     }
 
     fn set_mark<L: Ledger>(&mut self, page: PageId, mark: Mark, steps: &mut Steps<L>) {
-        Linked::set_mark(self, page, mark, steps);
+        self.slots.set_mark(page, mark, steps);
     }
 
     fn set_total<L: Ledger>(&mut self, origin: Slot, total: u64, steps: &mut Steps<L>) {
-        Linked::set_total(self, origin, total, steps);
+        self.slots.set_total(origin, total, steps);
     }
 
     fn visit_at<L: Ledger>(&self, visit: VisitId, steps: &mut Steps<L>) -> Option<VisitRow> {
@@ -122,11 +135,11 @@ impl Rows for Linked {
         row: &VisitRow,
         steps: &mut Steps<L>,
     ) -> Result<VisitId, NoMemory> {
-        Linked::insert_visit(self, row, steps)
+        self.slots.insert_visit(row, steps)
     }
 
     fn remove_visit<L: Ledger>(&mut self, visit: VisitId, steps: &mut Steps<L>) {
-        Linked::remove_visit(self, visit, steps);
+        self.slots.remove_visit(visit, steps);
     }
 
     fn items<L: Ledger>(&self, steps: &mut Steps<L>) -> u32 {
@@ -168,7 +181,7 @@ impl Rows for Linked {
         after: Option<ItemId>,
         steps: &mut Steps<L>,
     ) -> Result<ItemId, NoMemory> {
-        Linked::insert_item(self, row, title, after, steps)
+        self.slots.insert_item(row, title, after, steps)
     }
 
     fn move_item<L: Ledger>(
@@ -178,7 +191,7 @@ impl Rows for Linked {
         after: Option<ItemId>,
         steps: &mut Steps<L>,
     ) {
-        Linked::move_item(self, item, parent, after, steps);
+        self.slots.move_item(item, parent, after, steps);
     }
 
     fn set_item<L: Ledger>(
@@ -188,19 +201,19 @@ impl Rows for Linked {
         modified: Micros,
         steps: &mut Steps<L>,
     ) -> Result<(), NoMemory> {
-        Linked::set_item(self, item, title, modified, steps)
+        self.slots.set_item(item, title, modified, steps)
     }
 
     fn set_modified<L: Ledger>(&mut self, item: ItemId, modified: Micros, steps: &mut Steps<L>) {
-        Linked::set_modified(self, item, modified, steps);
+        self.slots.set_modified(item, modified, steps);
     }
 
     fn remove_item<L: Ledger>(&mut self, item: ItemId, steps: &mut Steps<L>) {
-        Linked::remove_item(self, item, steps);
+        self.slots.remove_item(item, steps);
     }
 
     fn touched<L: Ledger>(&mut self, steps: &mut Steps<L>) -> Result<Touched, NoMemory> {
-        Linked::touched(self, steps)
+        self.slots.touched(steps)
     }
 
     ghost based = { based };

@@ -9,6 +9,7 @@ use crate::linked::Linked;
 use pl_accept::{Accepted, accept};
 use pl_base::{CheckError, Steps};
 use pl_reading::arena_in;
+use pl_slotted::Slotted;
 use std::alloc::Global;
 use std::sync::ledger::Ledger;
 
@@ -43,12 +44,12 @@ impl Linked {
             visits,
             items,
         } = accept(alloc, &arena, steps)?;
-        Ok(Linked {
-            alloc,
+        let slots = Slotted {
             arena,
             pages,
             visits,
             items,
-        })
+        };
+        Ok(Linked { alloc, slots })
     }
 }

@@ -1,12 +1,6 @@
 // Items, read.
-mod changes;
-mod insert;
-mod moves;
-mod remove;
-
 ghost use Rattle.std.specs.Prelude.{◌≡◌, ◌≤◌, ◌+◌, length, true, IfOk, IfSome, IsSomeAnd, Some};
 ghost use Rattle.std.specs.Option.{option_and_then, option_map};
-ghost use Rattle.pl_base.specs.declared.id.ItemId.{ItemId as Number};
 ghost use Rattle.pl_base.specs.Rows.{most_reads};
 ghost use Rattle.pl_base.specs.Tree.{children_of, first_item, has_item, item_at, item_row};
 ghost use Rattle.pl_base.specs.Tree.{item_title, last_item, reference_behind, references};
@@ -51,35 +45,12 @@ fn page_in<L: Ledger>(arena: &Arena, slot: Option<Slot>, steps: &mut Steps<L>) -
 impl Linked {
     ghost use Rattle.pl_linked.specs.Linked.{kept_of};
 
-    // The slot of an item that is there.
-    pub(crate) fn item_slot(&self, item: ItemId) -> Slot
-        requires { has_item (kept_of self.now).items item ≡ true }
-        ensures { index.slot_at self.now.items.entries item.0 ≡ Some result }
-    {
-        match slot_at(&self.items, item.0) {
-            Some(slot) => slot,
-            None => unreachable!(),
-        }
-    }
-
-    // The slot of an item that is there, if one is named.
-    pub(crate) fn slot_after(&self, after: Option<ItemId>) -> Option<Slot>
-        requires { IfSome after (λ id. has_item (kept_of self.now).items id ≡ true) }
-        ensures { result ≡ option_and_then (λ (id : Number). index.slot_at
-            self.now.items.entries id.0) after }
-    {
-        match after {
-            Some(after) => Some(self.item_slot(after)),
-            None => None,
-        }
-    }
-
     /// How many items there are, the roots among them.
     pub fn items<L: Ledger>(&self, steps: &mut Steps<L>) -> u32
         ensures items { result ≡ length (kept_of self.now).items }
         ensures cost { steps.new ≤ steps.old + most_reads }
     {
-        self.items.len() as u32
+        self.slots.items.len() as u32
     }
 
     pub fn item_at<L: Ledger>(&self, item: ItemId, steps: &mut Steps<L>) -> Option<ItemRow>
@@ -87,12 +58,12 @@ impl Linked {
             (item_at (kept_of self.now).items item) }
         ensures cost { steps.new ≤ steps.old + most_reads }
     {
-        let slot = slot_at(&self.items, item.0)?;
-        let row = read_item(&self.arena, slot, steps);
+        let slot = slot_at(&self.slots.items, item.0)?;
+        let row = read_item(&self.slots.arena, slot, steps);
         Some(ItemRow {
             kind: row.kind,
-            parent: id_in(&self.arena, named(row.parent), steps),
-            page: page_in(&self.arena, named(row.page), steps),
+            parent: id_in(&self.slots.arena, named(row.parent), steps),
+            page: page_in(&self.slots.arena, named(row.page), steps),
             added: row.added,
             modified: row.modified,
         })
@@ -104,18 +75,24 @@ impl Linked {
             Some title ≡ item_title (kept_of self.now).items item) }
     {
         let title = self.row_of(item, steps).title;
-        load(self.alloc, &self.arena, title.slot, title.length, steps)
+        load(
+            self.alloc,
+            &self.slots.arena,
+            title.slot,
+            title.length,
+            steps,
+        )
     }
 
     // The row of an item that is there.
     fn row_of<L: Ledger>(&self, item: ItemId, steps: &mut Steps<L>) -> Item
         requires { has_item (kept_of self.now).items item ≡ true }
-        ensures row { IsSomeAnd (index.slot_at self.now.items.entries item.0) (λ slot.
-            spec.row_in slot self.now.arena ≡ Some (spec.item_row result)) }
+        ensures row { IsSomeAnd (index.slot_at self.now.slots.items.entries item.0) (λ slot.
+            spec.row_in slot self.now.slots.arena ≡ Some (spec.item_row result)) }
         ensures counted { steps.new ≡ steps.old + 1 }
     {
-        match slot_at(&self.items, item.0) {
-            Some(slot) => read_item(&self.arena, slot, steps),
+        match slot_at(&self.slots.items, item.0) {
+            Some(slot) => read_item(&self.slots.arena, slot, steps),
             None => unreachable!(),
         }
     }
@@ -124,18 +101,18 @@ impl Linked {
         ensures first { result ≡ first_item (children_of (kept_of self.now).items item) }
         ensures cost { steps.new ≤ steps.old + most_reads }
     {
-        let slot = slot_at(&self.items, item.0)?;
-        let child = first(&self.arena, Rail::Children, Owner::At(slot), steps);
-        id_in(&self.arena, child, steps)
+        let slot = slot_at(&self.slots.items, item.0)?;
+        let child = first(&self.slots.arena, Rail::Children, Owner::At(slot), steps);
+        id_in(&self.slots.arena, child, steps)
     }
 
     pub fn last_child<L: Ledger>(&self, item: ItemId, steps: &mut Steps<L>) -> Option<ItemId>
         ensures last { result ≡ last_item (children_of (kept_of self.now).items item) }
         ensures cost { steps.new ≤ steps.old + most_reads }
     {
-        let slot = slot_at(&self.items, item.0)?;
-        let child = last(&self.arena, Rail::Children, Owner::At(slot), steps);
-        id_in(&self.arena, child, steps)
+        let slot = slot_at(&self.slots.items, item.0)?;
+        let child = last(&self.slots.arena, Rail::Children, Owner::At(slot), steps);
+        id_in(&self.slots.arena, child, steps)
     }
 
     /// The child of the same item that comes next.
@@ -143,10 +120,10 @@ impl Linked {
         ensures next { result ≡ sibling_behind (kept_of self.now).items item }
         ensures cost { steps.new ≤ steps.old + most_reads }
     {
-        let slot = slot_at(&self.items, item.0)?;
-        named(read_item(&self.arena, slot, steps).parent)?;
-        let sibling = next(&self.arena, Rail::Children, slot, steps);
-        id_in(&self.arena, sibling, steps)
+        let slot = slot_at(&self.slots.items, item.0)?;
+        named(read_item(&self.slots.arena, slot, steps).parent)?;
+        let sibling = next(&self.slots.arena, Rail::Children, slot, steps);
+        id_in(&self.slots.arena, sibling, steps)
     }
 
     /// The first by id of the items that have this page.
@@ -154,9 +131,9 @@ impl Linked {
         ensures first { result ≡ first_item (references (kept_of self.now).items page) }
         ensures cost { steps.new ≤ steps.old + most_reads }
     {
-        let slot = slot_at(&self.pages, page.0)?;
-        let item = first(&self.arena, Rail::References, Owner::At(slot), steps);
-        id_in(&self.arena, item, steps)
+        let slot = slot_at(&self.slots.pages, page.0)?;
+        let item = first(&self.slots.arena, Rail::References, Owner::At(slot), steps);
+        id_in(&self.slots.arena, item, steps)
     }
 
     /// The next by id of the items that have the same page.
@@ -164,9 +141,9 @@ impl Linked {
         ensures next { result ≡ reference_behind (kept_of self.now).items item }
         ensures cost { steps.new ≤ steps.old + most_reads }
     {
-        let slot = slot_at(&self.items, item.0)?;
-        named(read_item(&self.arena, slot, steps).page)?;
-        let other = next(&self.arena, Rail::References, slot, steps);
-        id_in(&self.arena, other, steps)
+        let slot = slot_at(&self.slots.items, item.0)?;
+        named(read_item(&self.slots.arena, slot, steps).page)?;
+        let other = next(&self.slots.arena, Rail::References, slot, steps);
+        id_in(&self.slots.arena, other, steps)
     }
 }

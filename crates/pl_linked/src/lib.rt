@@ -1,5 +1,5 @@
-//! The rows of a store in linked slots: each row stands in a slot, and is found by a map or by the
-//! chains of those that it belongs to.
+//! The rows of a store in linked slots, as `Rows`: each is found by a map, or by the chains of those
+//! that it belongs to. The check of a file of them.
 #![tactic(auto)]
 
 mod as_rows;

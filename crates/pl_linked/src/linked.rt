@@ -1,11 +1,6 @@
-// The rows of a store in linked slots.
-ghost use Rattle.pl_record.specs.LinkedRows.{Keeps};
-ghost use Rattle.pl_record.proofs.OneKept.{keeps_once};
-
-use pl_base::Slot;
-use pl_slot::Arena;
+// The rows of a store, found in their slots.
+use pl_slotted::Slotted;
 use std::alloc::Global;
-use std::collections::BTreeMap;
 
 /// A store in linked slots.
 ///
@@ -13,11 +8,7 @@ use std::collections::BTreeMap;
 /// each look-up reads at most four slots, however many there are.
 #[derive(Debug, Drop)]
 pub struct Linked {
+    // The memory of the texts that are read.
     pub(crate) alloc: Global,
-    pub(crate) arena: Arena,
-    // The slots of pages, visits and items by the numbers of their ids.
-    pub(crate) pages: BTreeMap<u32, Slot>,
-    pub(crate) visits: BTreeMap<u32, Slot>,
-    pub(crate) items: BTreeMap<u32, Slot>,
-    ghost rows: { Keeps arena pages.entries visits.entries items.entries } by { keeps_once arena pages.entries visits.entries items.entries },
+    pub(crate) slots: Slotted,
 }

@@ -1,9 +1,4 @@
 // Pages and their origins, read.
-mod insert;
-mod marks;
-mod remove;
-mod titles;
-
 ghost use Rattle.std.specs.Prelude.{◌≡◌, ◌≤◌, ◌+◌, true, IfOk, IsSomeAnd, Some};
 ghost use Rattle.std.specs.Option.{option_map};
 ghost use Rattle.pl_base.specs.Rows.{has_origin, has_page, mark_of, most_reads, origin_of};
@@ -20,26 +15,15 @@ use std::sync::ledger::Ledger;
 impl Linked {
     ghost use Rattle.pl_linked.specs.Linked.{kept_of};
 
-    // The slot of a page that is there.
-    pub(crate) fn page_slot(&self, page: PageId) -> Slot
-        requires { has_page (kept_of self.now) page ≡ true }
-        ensures { index.slot_at self.now.pages.entries page.0 ≡ Some result }
-    {
-        match slot_at(&self.pages, page.0) {
-            Some(slot) => slot,
-            None => unreachable!(),
-        }
-    }
-
     // The row of a page that is there.
     fn place_of<L: Ledger>(&self, page: PageId, steps: &mut Steps<L>) -> Place
         requires { has_page (kept_of self.now) page ≡ true }
-        ensures row { IsSomeAnd (index.slot_at self.now.pages.entries page.0) (λ slot.
-            spec.row_in slot self.now.arena ≡ Some (spec.place_row result)) }
+        ensures row { IsSomeAnd (index.slot_at self.now.slots.pages.entries page.0) (λ slot.
+            spec.row_in slot self.now.slots.arena ≡ Some (spec.place_row result)) }
         ensures counted { steps.new ≡ steps.old + 1 }
     {
-        match slot_at(&self.pages, page.0) {
-            Some(slot) => read_place(&self.arena, slot, steps),
+        match slot_at(&self.slots.pages, page.0) {
+            Some(slot) => read_place(&self.slots.arena, slot, steps),
             None => unreachable!(),
         }
     }
@@ -57,7 +41,7 @@ impl Linked {
             Some(page) => page.0,
             None => 0,
         };
-        match id_behind(&self.pages, id) {
+        match id_behind(&self.slots.pages, id) {
             Some(id) => Some(PageId(id)),
             None => None,
         }
@@ -67,8 +51,8 @@ impl Linked {
         ensures mark { result ≡ option_map mark_of (page_at (kept_of self.now) page) }
         ensures cost { steps.new ≤ steps.old + most_reads }
     {
-        let slot = slot_at(&self.pages, page.0)?;
-        Some(read_place(&self.arena, slot, steps).mark)
+        let slot = slot_at(&self.slots.pages, page.0)?;
+        Some(read_place(&self.slots.arena, slot, steps).mark)
     }
 
     pub fn url<L: Ledger>(&self, page: PageId, steps: &mut Steps<L>) -> Result<Txt, NoMemory>
@@ -76,7 +60,7 @@ impl Linked {
         ensures url { IfOk result (λ url. Some url ≡ url_of (kept_of self.now) page) }
     {
         let url = self.place_of(page, steps).url;
-        load(self.alloc, &self.arena, url.slot, url.length, steps)
+        load(self.alloc, &self.slots.arena, url.slot, url.length, steps)
     }
 
     pub fn title<L: Ledger>(&self, page: PageId, steps: &mut Steps<L>) -> Result<Txt, NoMemory>
@@ -84,7 +68,13 @@ impl Linked {
         ensures title { IfOk result (λ title. Some title ≡ title_of (kept_of self.now) page) }
     {
         let title = self.place_of(page, steps).title;
-        load(self.alloc, &self.arena, title.slot, title.length, steps)
+        load(
+            self.alloc,
+            &self.slots.arena,
+            title.slot,
+            title.length,
+            steps,
+        )
     }
 
     pub fn origin_of<L: Ledger>(&self, page: PageId, steps: &mut Steps<L>) -> Slot
@@ -101,7 +91,7 @@ impl Linked {
         ensures cost { steps.new ≤ steps.old + most_reads }
     {
         OriginRow {
-            total: read_total(&self.arena, origin, steps),
+            total: read_total(&self.slots.arena, origin, steps),
         }
     }
 }

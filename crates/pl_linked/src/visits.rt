@@ -1,12 +1,8 @@
 // Visits and their targets, read.
-mod insert;
-mod remove;
-
 ghost use Rattle.std.specs.Prelude.{◌≡◌, ◌≢◌, ◌≤◌, ◌+◌, length, true, IfSome, Some};
 ghost use Rattle.std.specs.Option.{option_and_then, option_map};
-ghost use Rattle.pl_base.specs.Rows.{first_id, has_visit, most_reads, older_visit, page_visits};
+ghost use Rattle.pl_base.specs.Rows.{first_id, most_reads, older_visit, page_visits};
 ghost use Rattle.pl_base.specs.Rows.{row_of, target_behind, visit_at};
-ghost use Rattle.pl_record.specs.LinkedRows as index;
 ghost use Rattle.pl_record.specs.Rows as spec;
 ghost use Rattle.pl_slot.specs.declared.kind.SlotKind.TheVariants as kinds;
 ghost use Rattle.pl_slot.specs.Links.{kind_at};
@@ -33,29 +29,18 @@ fn id_in<L: Ledger>(arena: &Arena, slot: Option<Slot>, steps: &mut Steps<L>) -> 
 impl Linked {
     ghost use Rattle.pl_linked.specs.Linked.{kept_of, targets_of};
 
-    // The slot of a visit that is there.
-    fn visit_slot(&self, visit: VisitId) -> Slot
-        requires { has_visit (kept_of self.now) visit ≡ true }
-        ensures { index.slot_at self.now.visits.entries visit.0 ≡ Some result }
-    {
-        match slot_at(&self.visits, visit.0) {
-            Some(slot) => slot,
-            None => unreachable!(),
-        }
-    }
-
     /// The visit with this id, without its id.
     pub fn visit_at<L: Ledger>(&self, visit: VisitId, steps: &mut Steps<L>) -> Option<VisitRow>
         ensures row { result ≡ option_map row_of (visit_at (kept_of self.now) visit) }
         ensures cost { steps.new ≤ steps.old + most_reads }
     {
-        let slot = slot_at(&self.visits, visit.0)?;
-        let row = read_visit(&self.arena, slot, steps);
+        let slot = slot_at(&self.slots.visits, visit.0)?;
+        let row = read_visit(&self.slots.arena, slot, steps);
         Some(VisitRow {
-            page: read_place(&self.arena, row.page, steps).id,
+            page: read_place(&self.slots.arena, row.page, steps).id,
             date: row.date,
             transition: row.transition,
-            source: id_in(&self.arena, named(row.source), steps),
+            source: id_in(&self.slots.arena, named(row.source), steps),
         })
     }
 
@@ -64,7 +49,7 @@ impl Linked {
         ensures visits { result ≡ length (kept_of self.now).visits }
         ensures cost { steps.new ≤ steps.old + most_reads }
     {
-        self.visits.len() as u32
+        self.slots.visits.len() as u32
     }
 
     /// The latest visit of a page.
@@ -72,9 +57,9 @@ impl Linked {
         ensures latest { result ≡ first_id (page_visits (kept_of self.now) page) }
         ensures cost { steps.new ≤ steps.old + most_reads }
     {
-        let slot = slot_at(&self.pages, page.0)?;
-        let latest = first(&self.arena, Rail::PageVisits, Owner::At(slot), steps);
-        id_in(&self.arena, latest, steps)
+        let slot = slot_at(&self.slots.pages, page.0)?;
+        let latest = first(&self.slots.arena, Rail::PageVisits, Owner::At(slot), steps);
+        id_in(&self.slots.arena, latest, steps)
     }
 
     /// The visit of the same page that is next before it by date, and by id where dates are the
@@ -83,9 +68,9 @@ impl Linked {
         ensures older { result ≡ older_visit (kept_of self.now) visit }
         ensures cost { steps.new ≤ steps.old + most_reads }
     {
-        let slot = slot_at(&self.visits, visit.0)?;
-        let older = next(&self.arena, Rail::PageVisits, slot, steps);
-        id_in(&self.arena, older, steps)
+        let slot = slot_at(&self.slots.visits, visit.0)?;
+        let older = next(&self.slots.arena, Rail::PageVisits, slot, steps);
+        id_in(&self.slots.arena, older, steps)
     }
 
     /// The first of the visits that came from this one. A redirect stands before all others.
@@ -93,9 +78,9 @@ impl Linked {
         ensures first { result ≡ first_id (targets_of self.now visit) }
         ensures cost { steps.new ≤ steps.old + most_reads }
     {
-        let slot = slot_at(&self.visits, visit.0)?;
-        let target = first(&self.arena, Rail::Targets, Owner::At(slot), steps);
-        id_in(&self.arena, target, steps)
+        let slot = slot_at(&self.slots.visits, visit.0)?;
+        let target = first(&self.slots.arena, Rail::Targets, Owner::At(slot), steps);
+        id_in(&self.slots.arena, target, steps)
     }
 
     /// The next of the visits that came from the same one.
@@ -103,9 +88,9 @@ impl Linked {
         ensures next { result ≡ target_behind (targets_of self.now) (kept_of self.now) visit }
         ensures cost { steps.new ≤ steps.old + most_reads }
     {
-        let slot = slot_at(&self.visits, visit.0)?;
-        named(read_visit(&self.arena, slot, steps).source)?;
-        let target = next(&self.arena, Rail::Targets, slot, steps);
-        id_in(&self.arena, target, steps)
+        let slot = slot_at(&self.slots.visits, visit.0)?;
+        named(read_visit(&self.slots.arena, slot, steps).source)?;
+        let target = next(&self.slots.arena, Rail::Targets, slot, steps);
+        id_in(&self.slots.arena, target, steps)
     }
 }

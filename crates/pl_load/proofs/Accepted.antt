@@ -1,5 +1,5 @@
--- Where what was read from an arena is a good store's rows, and its links make the lists that they demand, the arena is
--- the form of these rows.
+-- Where what was read from an arena is a good store's rows, and its links make the lists that they
+-- demand, the arena is the form of these rows.
 use Rattle.std.proofs.Common.{◌≡◌, ◌∙◌, ◌-◌, ◌+◌, length, map, replicate, sym, true}
 use Rattle.std.proofs.lemmas.List.Elements.{All-weaker}
 use Rattle.pl_base.specs.declared.id.ItemId.{ItemId}

@@ -1,5 +1,5 @@
--- Where the links of a file's slots make the lists that the rows read from it demand, its slots are linked as those of
--- the store.
+-- Where the links of a file's slots make the lists that the rows read from it demand, its slots are
+-- linked as those of the store.
 use Rattle.std.proofs.Common.{◌≡◌, ◌∙◌, ◌==◌, List, All, Option, Some, None, ap, eq-eqb, map, refl, subst, true}
 use Rattle.std.specs.List.{AllByRecursion, list_any, zip}
 use Rattle.std.specs.Option.{IfSome}
@@ -13,7 +13,7 @@ use Rattle.pl_base.specs.Good.{IsGood, IsGoodItem}
 use Rattle.pl_base.specs.Rows.{IsWellKept, Kept, KeptOrigin, KeptPage, has_page, page_visits, store_of}
 use Rattle.pl_base.specs.Store.{Item, Page, Visit}
 use Rattle.pl_base.specs.Tree.{parent_of, references}
-use Rattle.pl_base.proofs.Among.{all_from_in}
+use Rattle.pl_base.proofs.Among.{all_from_in, any_from_in}
 use Rattle.pl_base.proofs.ListLaws.{All-from_map, from_map, map-map}
 use Rattle.pl_base.proofs.LookUps.{both}
 use Rattle.pl_base.proofs.TargetsRun.{differ_all}
@@ -26,7 +26,6 @@ use Rattle.pl_load.proofs.Layouts.{kept_of, layout_of}
 use Rattle.pl_load.proofs.Lists.{zip_maps}
 use Rattle.pl_load.proofs.OwnedLists.{pages_owned, references_owned, visits_owned}
 use Rattle.pl_load.proofs.ParentsTold.{children_linked, parents_are, rows_read}
-use Rattle.pl_load.proofs.SameMembers.{any_in}
 use Rattle.pl_load.proofs.SourceSlots.{sources_there}
 use Rattle.pl_load.proofs.TargetLists.{targets_in, targets_linked}
 use Rattle.pl_load.proofs.WellRead.{good_rows, page_known}
@@ -64,7 +63,7 @@ module _ (pages : Pages) (reads : Reads) (from : AreReadFrom pages reads)
     pages_there =
         all_from_in (λ (p : KeptPage). has_page kept p.page.id ≡ true) kept.pages
         (λ p within.
-        any_in (λ (q : KeptPage). q.page.id.0 == p.page.id.0) kept.pages p within
+        any_from_in (λ (q : KeptPage). q.page.id.0 == p.page.id.0) kept.pages p within
         (eq-eqb p.page.id.0 p.page.id.0 refl))
 
     visit_pages : AllByRecursion (λ (v : Visit). has_page kept v.page ≡ true) kept.visits

@@ -1,5 +1,5 @@
--- The children of items as lists of the slots that name them: where chains link the slots of the children, and each row
--- names its parent's slot, they are exactly the slots that name the item.
+-- The children of items as lists of the slots that name them: where chains link the slots of the
+-- children, and each row names its parent's slot, they are exactly the slots that name the item.
 use Rattle.std.proofs.Common.{◌≡◌, ◌≢◌, ◌∙◌, ◌==◌, ◌∷◌, ◌++◌, [], List, ap, filter, map}
 use Rattle.std.proofs.Common.{inl, inr, subst, sym, true}
 use Rattle.std.specs.List.{All, AllByRecursion, AllPairs, AllZip, zip}
@@ -11,17 +11,18 @@ use Rattle.pl_base.specs.declared.id.Slot.{Slot}
 use Rattle.pl_base.specs.Good.{child_ids}
 use Rattle.pl_base.specs.Store.{Item as TreeItem}
 use Rattle.pl_base.specs.Tree.{has_child, has_item, parent_of}
-use Rattle.pl_base.proofs.Among.{In, all_from_in, at_in, from_filter, from_map, in_filter, in_map}
+use Rattle.pl_base.proofs.Among.{In, all_from_in, at_in, from_any, from_filter, from_map, in_filter, in_map}
 use Rattle.pl_base.proofs.ItemLookUps.{same_item}
-use Rattle.pl_base.proofs.ListLaws.{everyone, map-map}
+use Rattle.pl_base.proofs.ListLaws.{everyone, filter-where, map-map}
 use Rattle.pl_base.proofs.OneParent.{Once, once_behind}
 use Rattle.pl_base.proofs.OneParent as parents
 use Rattle.pl_load.specs.Members.{parent_members}
 use Rattle.pl_load.proofs.ItemSlots as given
 use Rattle.pl_load.proofs.ItemSlots.{HaveSlots, child_in, in_child, members_paired, pair_member}
-use Rattle.pl_load.proofs.Lists.{kept_alike, owned_map}
-use Rattle.pl_load.proofs.PairLists.{zip_made, zip_map}
-use Rattle.pl_load.proofs.SameMembers.{EachOnce, in_any, once_kept, once_keyed, same_members}
+use Rattle.pl_load.proofs.ListParts.{zip_made}
+use Rattle.pl_load.proofs.Lists.{owned_map}
+use Rattle.pl_load.proofs.PairLists.{zip_map}
+use Rattle.pl_load.proofs.SameMembers.{EachOnce, once_kept, once_keyed, same_members}
 use Rattle.pl_owned.specs.declared.owned.Member.{Member}
 use Rattle.pl_owned.specs.Owned.{IsListed, owned_by}
 use Rattle.pl_rail.specs.declared.owner.Owner.TheVariants.{At}
@@ -87,7 +88,8 @@ module _ (pages : Pages) (items : List TreeItem) (slot_of : ItemId → Slot) (sl
       ap (λ (ms : List Member). owned_by ms (slot_of i.id)) members_are
       ∙ owned_map parent_slot (λ (j : TreeItem). slot_of j.id) items (slot_of i.id)
       ∙ ap (map (λ (j : TreeItem). slot_of j.id))
-      (kept_alike (λ (j : TreeItem). (parent_slot j).0 == (slot_of i.id).0) (λ (j : TreeItem). has_child j.id i) items
+      (filter-where (λ (j : TreeItem). (parent_slot j).0 == (slot_of i.id).0)
+      (λ (j : TreeItem). has_child j.id i) items
       (everyone (λ (j : TreeItem). ((parent_slot j).0 == (slot_of i.id).0) ≡ has_child j.id i) items
       (λ j. given.owner_alike pages items slot_of slots in_slots once i within j.id)))
       ∙ sym (map-map slot_of (λ (j : TreeItem). j.id) (filter (λ (j : TreeItem). has_child j.id i) items))
@@ -101,7 +103,7 @@ module _ (pages : Pages) (items : List TreeItem) (slot_of : ItemId → Slot) (sl
       (at_in (λ (j : TreeItem). All (λ (d : ItemId). has_item items d ≡ true) j.children) items i
       (recursion_from_All (λ (j : TreeItem). All (λ (d : ItemId). has_item items d ≡ true) j.children) items known)
       within)) child in
-      let r = in_any (λ (j : TreeItem). j.id.0 == c.0) items there in
+      let r = from_any (λ (j : TreeItem). j.id.0 == c.0) items there in
       let j : TreeItem = r.0 in
       let same : j.id ≡ c = same_item j.id c r.2 in
       subst (λ (d : ItemId). In d (ids_below i)) same

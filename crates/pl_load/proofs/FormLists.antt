@@ -1,4 +1,5 @@
--- Pages that are the form of a store link the lists that its rows demand, and leave alone the slots that are in none.
+-- Pages that are the form of a store link the lists that its rows demand, and leave alone the slots
+-- that are in none.
 use Rattle.std.proofs.Common.{◌≡◌, ◌≢◌, ◌∙◌, ◌==◌, [], Bool, List, Option, Some, None, ap, eq-eqb, filter, find, map}
 use Rattle.std.proofs.Common.{refl, subst, sym, true}
 use Rattle.std.specs.List.{All, AllByRecursion, Contains, zip}
@@ -13,7 +14,7 @@ use Rattle.pl_base.specs.Date.{IsDate}
 use Rattle.pl_base.specs.Rows.{Kept, KeptOrigin, KeptPage, has_page, has_visit, page_origins, page_visits}
 use Rattle.pl_base.specs.Store.{Item as TreeItem, Visit as StoreVisit}
 use Rattle.pl_base.specs.Tree.{has_child, parent_of, references}
-use Rattle.pl_base.proofs.Among.{In, all_from_in, in_filter, in_map}
+use Rattle.pl_base.proofs.Among.{In, all_from_in, any_from_in, from_any, in_filter, in_map}
 use Rattle.pl_base.proofs.IdsLaws.{same_slot}
 use Rattle.pl_base.proofs.ListLaws.{map-map, to_map, weaker}
 use Rattle.pl_base.proofs.LookUps.{found_holds}
@@ -25,7 +26,6 @@ use Rattle.pl_load.proofs.FormReads.{are_read, of_one, reads_of}
 use Rattle.pl_load.proofs.ItemSlots.{no_item}
 use Rattle.pl_load.proofs.Lists.{zip_maps}
 use Rattle.pl_load.proofs.OwnedLists.{no_page, pages_owned, references_owned, visits_owned}
-use Rattle.pl_load.proofs.SameMembers.{any_in, in_any}
 use Rattle.pl_load.proofs.SourceSlots.{no_visit, sources_there}
 use Rattle.pl_load.proofs.TargetSlots.{all_listed, all_redirects_first, target_lists}
 use Rattle.pl_owned.specs.Owned.{owned_by}
@@ -74,7 +74,7 @@ module _ (at : Layout) (kept : Kept) (targets : VisitId → List StoreVisit) (pa
       let test : KeptPage → Bool = λ (p : KeptPage). p.origin.0 == o.origin.0 in
       let used : Contains (page_origins kept) o.origin.0 =
       of_one (λ (a : KeptOrigin). Contains (page_origins kept) a.origin.0) kept.origins o rows.well.origins.used here in
-      let r = in_any test kept.pages (numbered (λ (p : KeptPage). p.origin.0) kept.pages o.origin.0 used) in
+      let r = from_any test kept.pages (numbered (λ (p : KeptPage). p.origin.0) kept.pages o.origin.0 used) in
       subst (In (at.page r.0.page.id)) (sym (owned_pages_are o.origin) ∙ empty)
       (in_map (λ (p : KeptPage). at.page p.page.id) (filter test kept.pages) r.0
       (in_filter test kept.pages r.0 r.1 r.2))
@@ -83,7 +83,8 @@ module _ (at : Layout) (kept : Kept) (targets : VisitId → List StoreVisit) (pa
 
   page_there : (p : KeptPage) → In p kept.pages → has_page kept p.page.id ≡ true
   page_there p here =
-      any_in (λ (q : KeptPage). q.page.id.0 == p.page.id.0) kept.pages p here (eq-eqb p.page.id.0 p.page.id.0 refl)
+      any_from_in (λ (q : KeptPage). q.page.id.0 == p.page.id.0) kept.pages p here
+      (eq-eqb p.page.id.0 p.page.id.0 refl)
 
   -- visits and items have pages that are there
   visits_own : AllByRecursion (λ (v : StoreVisit). has_page kept v.page ≡ true) kept.visits

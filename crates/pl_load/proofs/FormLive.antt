@@ -1,5 +1,5 @@
--- The header of pages that are the form of a store: it counts the slots of all rows that are read, and those that their
--- texts want, and begins and ends as any store's does.
+-- The header of pages that are the form of a store: it counts the slots of all rows that are read,
+-- and those that their texts want, and begins and ends as any store's does.
 use Rattle.std.proofs.Common.{◌≡◌, ◌+◌, ◌-◌, ◌∷◌, [], ℕ, List, arith, length, map, refl, replicate}
 use Rattle.std.specs.List.{flat_map, sum_by}
 use Rattle.std.proofs.lemmas.List.{length-map}

@@ -1,5 +1,5 @@
--- In pages that are the form of a store two URLs have the same name exactly where they have the same origin, and there
--- are as many origins as have names.
+-- In pages that are the form of a store two URLs have the same name exactly where they have the
+-- same origin, and there are as many origins as have names.
 use Rattle.std.proofs.Common.{◌≡◌, ◌∙◌, List, ap, length, map, subst, sym}
 use Rattle.std.specs.List.{All}
 use Rattle.std.proofs.lemmas.List.{length-map}

@@ -1,5 +1,5 @@
--- Pages that are the form of a store name owners that are there: each page a slot with an origin, and each item a
--- parent that is an item, or none.
+-- Pages that are the form of a store name owners that are there: each page a slot with an origin,
+-- and each item a parent that is an item, or none.
 use Rattle.std.proofs.Common.{◌≡◌, ◌||◌, ◌==◌, List, Option, Some, None, ap, find, map, refl, true}
 use Rattle.std.specs.Option.{option_map}
 use Rattle.std.proofs.lemmas.Bool.{or_right}

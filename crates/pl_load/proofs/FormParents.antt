@@ -1,4 +1,5 @@
--- Pages that are the form of a store list the children of each item, so they are read as its rows, and as no others.
+-- Pages that are the form of a store list the children of each item, so they are read as its rows,
+-- and as no others.
 use Rattle.std.proofs.Common.{◌≡◌, List, ap}
 use Rattle.std.specs.Option.{option_and_then}
 use Rattle.pl_base.specs.declared.id.VisitId.{VisitId}

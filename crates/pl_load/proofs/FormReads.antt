@@ -24,6 +24,7 @@ use Rattle.pl_link.proofs.UrlTexts.{store_url_ascii}
 use Rattle.pl_load.specs.Members.{parent_members}
 use Rattle.pl_load.specs.Reads.{AreRead, AreReadFrom, Reads, item_at, met_slots, numbers, place_at, stored_page}
 use Rattle.pl_load.specs.Reads.{stored_rows, stored_visit, text_at, visit_at}
+use Rattle.pl_load.proofs.ListParts.{zip_made}
 use Rattle.pl_load.proofs.Lists.{zip_maps}
 use Rattle.pl_load.proofs.OneReads.{one_reads}
 use Rattle.pl_owned.specs.Owned.{IsListed}
@@ -47,11 +48,6 @@ use Rattle.pl_stored.specs.Fits.{IsUrl}
 use Rattle.pl_text.specs.Chunks.{Hold}
 
 -- ---- lists made of the same one
-
-pub zipped : {X Y Z : Type 0} (R : Y → Z → Type 0) (f : X → Y) (g : X → Z) (xs : List X)
-    → AllByRecursion (λ x. R (f x) (g x)) xs → AllZip R (map f xs) (map g xs)
-zipped R f g [] all = tt
-zipped R f g (x ∷ xs) all = (all.0, zipped R f g xs all.1)
 
 -- where the one on the right is the list itself
 pub zipped_own : {X Y : Type 0} (R : Y → X → Type 0) (f : X → Y) (xs : List X)
@@ -166,24 +162,24 @@ module _ (at : Layout) (kept : Kept) (targets : VisitId → List StoreVisit) (pa
 
   totals_held : AllZip (HoldsTotal pages) (reads_of at kept).origins (reads_of at kept).totals
   totals_held =
-      zipped (HoldsTotal pages) (λ (o : KeptOrigin). o.origin) (λ (o : KeptOrigin). o.total) kept.origins
+      zip_made (HoldsTotal pages) (λ (o : KeptOrigin). o.origin) (λ (o : KeptOrigin). o.total) kept.origins
       (recursion_from_All (λ (o : KeptOrigin). HoldsRow (origin_record o) pages) kept.origins laid.rows.origins)
 
   places_held : AllZip (HoldsPlace pages) (reads_of at kept).place_slots (reads_of at kept).places
   places_held =
-      zipped (HoldsPlace pages) (λ (p : KeptPage). at.page p.page.id) (place_at at) kept.pages
+      zip_made (HoldsPlace pages) (λ (p : KeptPage). at.page p.page.id) (place_at at) kept.pages
       (recursion_from_All (λ (p : KeptPage). HoldsRow (page_record at p) pages) kept.pages laid.rows.places)
 
   visits_held : AllZip (HoldsVisit pages) (reads_of at kept).visit_slots (reads_of at kept).visits
   visits_held =
-      zipped (HoldsVisit pages) (λ (v : StoreVisit). at.visit v.id) (visit_at at) kept.visits
+      zip_made (HoldsVisit pages) (λ (v : StoreVisit). at.visit v.id) (visit_at at) kept.visits
       (recursion_from_All (λ (v : StoreVisit). HoldsRow (visit_record at v) pages) kept.visits laid.rows.visits)
 
   items_held : AllZip (HoldsItem pages) (reads_of at kept).item_slots (reads_of at kept).items
   items_held =
       subst (λ (ss : List Slot). AllZip (HoldsItem pages) ss (map (item_at at kept.items) kept.items))
       (sym (map-map at.item (λ (i : TreeItem). i.id) kept.items))
-      (zipped (HoldsItem pages) (λ (i : TreeItem). at.item i.id) (item_at at kept.items) kept.items
+      (zip_made (HoldsItem pages) (λ (i : TreeItem). at.item i.id) (item_at at kept.items) kept.items
       (recursion_from_All (λ (i : TreeItem). HoldsRow (item_record at kept.items i) pages) kept.items laid.rows.items))
 
   -- ---- texts
@@ -360,10 +356,10 @@ module _ (at : Layout) (kept : Kept) (targets : VisitId → List StoreVisit) (pa
         day = sym laid.header.day;
         ids = sym laid.header.ids;
         stored_pages =
-            zipped (IsPageRead pages) (place_at at) stored_page kept.pages
+            zip_made (IsPageRead pages) (place_at at) stored_page kept.pages
             (all_from_in (λ (p : KeptPage). IsPageRead pages (place_at at p) (stored_page p)) kept.pages page_read);
         stored_visits =
-            zipped (IsVisitRead pages) (visit_at at) stored_visit kept.visits
+            zip_made (IsVisitRead pages) (visit_at at) stored_visit kept.visits
             (all_from_in (λ (v : StoreVisit). IsVisitRead pages (visit_at at v) (stored_visit v)) kept.visits
             visit_read);
         children = child_slots at kept;

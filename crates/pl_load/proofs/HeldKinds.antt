@@ -1,4 +1,5 @@
--- What the header lists are slots of its kinds, and what they hold is what any reading of the file has.
+-- What the header lists are slots of its kinds, and what they hold is what any reading of the file
+-- has.
 use Rattle.std.proofs.Common.{◌≡◌, ◌∙◌, true, List, Option, Some, None, ap, eqb-true, refl, sym}
 use Rattle.std.proofs.lemmas.List.Elements.{All-from_recursion}
 use Rattle.std.specs.List.{All}

@@ -1,4 +1,5 @@
--- The pages hold the rows that were read, with their texts, in slots of their own, and list them by their kinds.
+-- The pages hold the rows that were read, with their texts, in slots of their own, and list them by
+-- their kinds.
 use Rattle.std.proofs.Common.{◌≡◌, ◌∙◌, ◌∷◌, ◌++◌, [], ℕ, List, ap, append_assoc, map, refl, subst, sym, true}
 use Rattle.std.proofs.Common.{eqb}
 use Rattle.std.proofs.lemmas.Grind.{flat_map-append}
@@ -135,7 +136,7 @@ module _ (pages : Pages) (reads : Reads) (from : AreReadFrom pages reads)
             (λ (i : Item) (s : TreeItem). Hold (at.item_title s.id) s.title pages)
             reads.items reads.stored.items
             (λ i s row parts. text_held pages i.title s.title (at.item_title s.id) row.1.title parts)
-            (items_read pages reads from good) (item_title_own pages reads from good)));
+            (items_read pages reads from) (item_title_own pages reads from good)));
       }
 
   -- ---- each slot once

@@ -1,4 +1,5 @@
--- Items in slots that say their ids: which item a slot is that of, and which slots name an item as their parent.
+-- Items in slots that say their ids: which item a slot is that of, and which slots name an item as
+-- their parent.
 use Rattle.std.proofs.Common.{◌≡◌, ◌≢◌, ◌∙◌, ◌==◌, ◌∷◌, [], List, Option, Some, None, ap, eq-eqb, eqb-true}
 use Rattle.std.proofs.Common.{false, find, map, refl, subst, sym, true}
 use Rattle.std.specs.List.{All, AllPairs, zip}
@@ -6,7 +7,6 @@ use Rattle.std.specs.List.Sorted.{IsPermutation, IsStrictlyIncreasing}
 use Rattle.std.specs.Option.{option_and_then, option_map}
 use Rattle.std.proofs.lemmas.Bool.{true≢false}
 use Rattle.std.proofs.lemmas.List.Elements.{recursion_from_All}
-use Rattle.std.proofs.lemmas.List.Kept.{AllPairs-from_increasing}
 use Rattle.std.proofs.lemmas.List.Sorted.{list_any-IsPermutation}
 use Rattle.std.proofs.lemmas.Option.{same_Some}
 use Rattle.pl_base.specs.declared.id.ItemId.{ItemId}
@@ -14,15 +14,15 @@ use Rattle.pl_base.specs.declared.id.Slot.{Slot}
 use Rattle.pl_base.specs.Good.{child_ids}
 use Rattle.pl_base.specs.Store.{Item as TreeItem}
 use Rattle.pl_base.specs.Tree.{has_child, parent_of}
-use Rattle.pl_base.proofs.Among.{In, at_in, from_map}
+use Rattle.pl_base.proofs.Among.{In, any_from_in, at_in, from_any, from_found, from_map}
 use Rattle.pl_base.proofs.IdsLaws.{same_slot}
 use Rattle.pl_base.proofs.ItemLookUps.{same_item, same_item_number}
-use Rattle.pl_base.proofs.LookUps.{Apart, apart_ascending, found_passes}
+use Rattle.pl_base.proofs.LookUps.{Apart, apart_increasing, found_passes}
 use Rattle.pl_base.proofs.OneParent.{IsParent, parents_found}
 use Rattle.pl_base.proofs.OneParent as parents
 use Rattle.pl_base.proofs.Truths.{no_test, same_tests}
 use Rattle.pl_load.specs.Members.{parent_members}
-use Rattle.pl_load.proofs.SameMembers.{any_in, found_in_list, in_any, same_key}
+use Rattle.pl_load.proofs.SameMembers.{same_key}
 use Rattle.pl_load.proofs.SlotNames as names
 use Rattle.pl_owned.specs.declared.owned.Member.{Member}
 use Rattle.pl_rail.specs.Rails.{is_in, is_kind, none}
@@ -58,7 +58,7 @@ item_by_kind (Some kinds.Text) is = absurd (true≢false (sym is))
 
 pub slot_among : (s : Slot) (slots : List Slot) → is_in s slots ≡ true → In s slots
 slot_among s slots among =
-    let r = in_any (λ (o : Slot). o.0 == s.0) slots among in
+    let r = from_any (λ (o : Slot). o.0 == s.0) slots among in
     let other : Slot = r.0 in
     subst (λ (o : Slot). In o slots) (same_slot other s (eqb-true other.0 s.0 r.2)) r.1
 
@@ -67,17 +67,17 @@ pub in_moved : (s : Slot) (xs ys : List Slot) → IsPermutation xs ys → In s x
 in_moved s xs ys moves within =
     slot_among s ys
     (sym (list_any-IsPermutation (λ (o : Slot). o.0 == s.0) xs ys moves)
-    ∙ any_in (λ (o : Slot). o.0 == s.0) xs s within (eq-eqb s.0 s.0 refl))
+    ∙ any_from_in (λ (o : Slot). o.0 == s.0) xs s within (eq-eqb s.0 s.0 refl))
 
 -- ---- children
 
 pub child_in : (i : TreeItem) (id : ItemId) → has_child id i ≡ true → In id i.children
 child_in i id has =
-    let r = in_any (λ (c : ItemId). c.0 == id.0) i.children has in
+    let r = from_any (λ (c : ItemId). c.0 == id.0) i.children has in
     subst (λ (c : ItemId). In c i.children) (same_item r.0 id r.2) r.1
 
 pub in_child : (i : TreeItem) (id : ItemId) → In id i.children → has_child id i ≡ true
-in_child i id within = any_in (λ (c : ItemId). c.0 == id.0) i.children id within (eq-eqb id.0 id.0 refl)
+in_child i id within = any_from_in (λ (c : ItemId). c.0 == id.0) i.children id within (eq-eqb id.0 id.0 refl)
 
 -- ---- members, as pairs of an item and the slot that its row names as its parent
 
@@ -107,8 +107,7 @@ module _ (pages : Pages) (items : List TreeItem) (slot_of : ItemId → Slot) (sl
 
   pub items_apart : Apart (λ (i : TreeItem). i.id.0) items
   items_apart =
-      apart_ascending (λ (i : TreeItem). i.id.0) items
-      (AllPairs-from_increasing (map (λ (i : TreeItem). i.id.0) items) in_slots.ascending)
+      apart_increasing (λ (i : TreeItem). i.id.0) items in_slots.ascending
 
   pub one_item : (i j : TreeItem) → In i items → In j items → i.id.0 ≡ j.id.0 → i ≡ j
   one_item i j first second same = same_key (λ (k : TreeItem). k.id.0) items i j items_apart first second same
@@ -157,7 +156,7 @@ module _ (pages : Pages) (items : List TreeItem) (slot_of : ItemId → Slot) (sl
             let both : None ≡ Some i = sym is ∙ is_parent i within id has in
             absurd (cc)))
         choose (Some p) is =
-            let here : In p items = found_in_list (has_child id) items p is in
+            let here : In p items = (from_found (has_child id) items p is).0 in
             same_own p.id i.id (slot_says p here) (slot_says i within)
             ∙ same_tests (p.id.0 == i.id.0) (has_child id i)
             (λ same.

@@ -51,6 +51,20 @@ text_is pages t text ns is parts =
     let slot : first_in ns ≡ t.slot = ap first_in these ∙ sym is.held.first in
     λ i. record { slot = slot i; length = is.size i }
 
+-- ---- the children of items
+
+module _ (pages : Pages) (reads : Reads) (from : AreReadFrom pages reads) where
+  -- each item has a list of children
+  lists_long : length reads.items ≡ length from.children
+  lists_long =
+      AllZip-long (HoldsItem pages) reads.item_slots reads.items from.items
+      ∙ sym (AllZip-long (IsListed Children (parent_members reads.item_slots reads.items) pages) reads.item_slots
+      from.children from.parents)
+
+  -- and is read with the children that its list has
+  pub items_read : AllZip (IsRead pages) reads.items reads.stored.items
+  items_read = zip_paired (IsItemOf pages) reads.items from.children reads.stored.items lists_long from.stored_items
+
 module _ (pages : Pages) (reads : Reads) (from : AreReadFrom pages reads)
     (good : IsGood (stored_store reads.stored)) where
   abbrev at : Layout
@@ -218,22 +232,13 @@ module _ (pages : Pages) (reads : Reads) (from : AreReadFrom pages reads)
 
   -- ---- the slots of items
 
-  -- each item has a list of children
-  pub lists_long : length reads.items ≡ length from.children
-  lists_long =
-      AllZip-long (HoldsItem pages) reads.item_slots reads.items from.items
-      ∙ sym (AllZip-long (IsListed Children (parent_members reads.item_slots reads.items) pages) reads.item_slots
-      from.children from.parents)
-
-  pub items_read : AllZip (IsRead pages) reads.items reads.stored.items
-  items_read = zip_paired (IsItemOf pages) reads.items from.children reads.stored.items lists_long from.stored_items
-
   abbrev ItemIn : Slot → TreeItem → Type 0
   ItemIn slot s = (i : Item) × HoldsItem pages slot i × IsRead pages i s
 
   item_rows : AllZip ItemIn reads.item_slots reads.stored.items
   item_rows =
-      zip_through (HoldsItem pages) (IsRead pages) reads.item_slots reads.items reads.stored.items from.items items_read
+      zip_through (HoldsItem pages) (IsRead pages) reads.item_slots reads.items reads.stored.items from.items
+      (items_read pages reads from)
 
   pub item_own : AllZip (λ (slot : Slot) (s : TreeItem). at.item s.id ≡ slot) reads.item_slots reads.stored.items
   item_own =
@@ -266,7 +271,7 @@ module _ (pages : Pages) (reads : Reads) (from : AreReadFrom pages reads)
       reads.stored.items
   item_title_own =
       beside_own (IsRead pages) item_number (λ (i : Item). text_parts pages i.title) [] reads.items reads.stored.items
-      items_read (items_apart reads good)
+      (items_read pages reads from) (items_apart reads good)
 
   abbrev HasParent : Item → TreeItem → Type 0
   HasParent i s = i.parent ≡ slot_or_none at.item (parent_of kept.items s.id)
@@ -297,7 +302,7 @@ module _ (pages : Pages) (reads : Reads) (from : AreReadFrom pages reads)
   items_are parents =
       sym (given_back (item_at at kept.items) reads.items reads.stored.items
       (zip_both (IsRead pages) HasBoth (λ (i : Item) (s : TreeItem). item_at at kept.items s ≡ i) reads.items
-      reads.stored.items same_item items_read
+      reads.stored.items same_item (items_read pages reads from)
       (zip_both HasParent (HasTitle pages reads) HasBoth reads.items reads.stored.items
       (λ i s parent title. (parent, title))
       (zip_alike (λ (i : Item). i.parent) (λ (s : TreeItem). slot_or_none at.item (parent_of kept.items s.id))

@@ -1,7 +1,6 @@
 -- The rows of a store that were read, and the slots in which they stand.
 use Rattle.std.proofs.Common.{◌≡◌, [], ℕ, List, map, subst}
 use Rattle.std.specs.List.{zip}
-use Rattle.std.proofs.lemmas.List.Kept.{AllPairs-from_increasing}
 use Rattle.std.specs.List.Sorted.{IsStrictlyIncreasing}
 use Rattle.pl_base.specs.declared.id.ItemId.{ItemId}
 use Rattle.pl_base.specs.declared.id.PageId.{PageId}
@@ -12,7 +11,7 @@ use Rattle.pl_base.specs.Rows.{Kept, KeptOrigin, KeptPage}
 use Rattle.pl_base.specs.Store.{Item as TreeItem, Page, Visit as StoreVisit}
 use Rattle.pl_base.specs.Tree.{parent_of}
 use Rattle.pl_base.proofs.ListLaws.{map-map}
-use Rattle.pl_base.proofs.LookUps.{Apart, apart_ascending}
+use Rattle.pl_base.proofs.LookUps.{Apart, apart_increasing}
 use Rattle.pl_load.specs.Reads.{Reads}
 use Rattle.pl_load.proofs.Zips.{beside}
 use Rattle.pl_reading.specs.Read.{IsItemRead}
@@ -111,20 +110,17 @@ AreParents pages reads =
 -- ---- ids stand once
 
 module _ (reads : Reads) (good : IsGood (stored_store reads.stored)) where
-  apart_by : {X : Type 0} (key : X → ℕ) (xs : List X) → IsStrictlyIncreasing (map key xs) → Apart key xs
-  apart_by key xs ascend = apart_ascending key xs (AllPairs-from_increasing (map key xs) ascend)
-
   pub pages_apart : Apart page_number reads.stored.pages
   pages_apart =
-      apart_by page_number reads.stored.pages
+      apart_increasing page_number reads.stored.pages
       (subst IsStrictlyIncreasing (map-map (λ (p : Page). p.id.0) stored_page reads.stored.pages)
       good.page_ids.ascending)
 
   pub visits_apart : Apart visit_number reads.stored.visits
   visits_apart =
-      apart_by visit_number reads.stored.visits
+      apart_increasing visit_number reads.stored.visits
       (subst IsStrictlyIncreasing (map-map (λ (v : StoreVisit). v.id.0) visit_of reads.stored.visits)
       good.visit_ids.ascending)
 
   pub items_apart : Apart item_number reads.stored.items
-  items_apart = apart_by item_number reads.stored.items good.item_ids.ascending
+  items_apart = apart_increasing item_number reads.stored.items good.item_ids.ascending

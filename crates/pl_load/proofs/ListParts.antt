@@ -2,10 +2,8 @@
 use Rattle.std.proofs.Common.{◌≡◌, ◌∙◌, ◌∷◌, [], ◌++◌, ◌&&◌, Bool, true, false, List, ap, append-nil, filter, map}
 use Rattle.std.proofs.Common.{if◌then◌else◌, not, refl}
 use Rattle.std.specs.List.{AllByRecursion, AllZip, list_all}
-use Rattle.std.specs.List.Sorted.{IsPermutation}
 use Rattle.std.proofs.lemmas.Bool.{and_from, and_parts}
-use Rattle.std.proofs.lemmas.List.Elements.{All-from_recursion, filter-append, recursion_from_All}
-use Rattle.std.proofs.lemmas.List.Sorted.{All-permutation}
+use Rattle.std.proofs.lemmas.List.Elements.{filter-append}
 use Rattle.pl_base.proofs.ListLaws.{all_stay, weaker}
 use Rattle.pl_base.proofs.LookUps.{none_kept}
 
@@ -22,12 +20,6 @@ pub pass_all : {X : Type 0} (test : X → Bool) (xs : List X) → AllByRecursion
     → list_all test xs ≡ true
 pass_all test [] all = refl
 pass_all test (x ∷ xs) all = and_from (test x) (list_all test xs) all.0 (pass_all test xs all.1)
-
--- in another order
-pub all_moved : {X : Type 0} (P : X → Type 0) (xs ys : List X) → IsPermutation xs ys → AllByRecursion P xs
-    → AllByRecursion P ys
-all_moved P xs ys moves all =
-    recursion_from_All P ys (All-permutation P xs ys moves (All-from_recursion P xs all))
 
 -- what is made of each, and made back of that
 pub made_back : {X Y : Type 0} (f : X → Y) (g : Y → X) (xs : List X) → AllByRecursion (λ x. g (f x) ≡ x) xs

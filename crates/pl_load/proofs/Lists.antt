@@ -1,7 +1,7 @@
 -- Lists made of the same one, and lists that are sorted by what they are made of.
-use Rattle.std.proofs.Common.{◌≡◌, ◌∙◌, ◌∷◌, ◌==◌, [], Bool, true, false, List, ap, filter, map, refl}
+use Rattle.std.proofs.Common.{◌≡◌, ◌∙◌, ◌∷◌, ◌==◌, [], List, ap, filter, map, refl}
 use Rattle.std.proofs.Common.{if◌then◌else◌}
-use Rattle.std.specs.List.{AllByRecursion, zip}
+use Rattle.std.specs.List.{zip}
 use Rattle.pl_base.specs.declared.id.Slot.{Slot}
 use Rattle.pl_base.specs.Sorting.{put_in_place, sorted_by}
 use Rattle.pl_base.specs.Store.{Visit}
@@ -15,14 +15,6 @@ pub zip_maps : {X A B : Type 0} (f : X → A) (g : X → B) (xs : List X)
 zip_maps f g [] = refl
 zip_maps {X} {A} {B} f g (x ∷ xs) = ap (λ (ps : List (A × B)). (f x, g x) ∷ ps) (zip_maps f g xs)
 
--- tests that agree of each keep the same
-pub kept_alike : {X : Type 0} (p q : X → Bool) (xs : List X) → AllByRecursion (λ x. p x ≡ q x) xs
-    → filter p xs ≡ filter q xs
-kept_alike p q [] alike = refl
-kept_alike {X} p q (x ∷ xs) alike =
-    ap (λ (b : Bool). if b then x ∷ filter p xs else filter p xs) alike.0
-    ∙ ap (λ (ys : List X). if q x then x ∷ ys else ys) (kept_alike p q xs alike.1)
-
 -- the slots that name an owner, of members that are made of rows
 pub owned_map : {X : Type 0} (owner_of slot_of : X → Slot) (xs : List X) (owner : Slot)
     → owned_by (map (λ x. record { owner = owner_of x; slot = slot_of x }) xs) owner
@@ -35,24 +27,6 @@ owned_map {X} owner_of slot_of xs owner =
     (filter (λ (x : X). (owner_of x).0 == owner.0) xs)
 
 -- ---- sorts
-
-placed_map : {X Y : Type 0} (before : Y → Y → Bool) (f : X → Y) (x : X) (xs : List X)
-    → put_in_place before (f x) (map f xs) ≡ map f (put_in_place (λ a b. before (f a) (f b)) x xs)
-placed_map before f x [] = refl
-placed_map {X} {Y} before f x (y ∷ ys) = choose (before (f x) (f y)) (placed_map before f x ys)
-  where
-    choose : (b : Bool) → put_in_place before (f x) (map f ys) ≡ map f (put_in_place (λ a b. before (f a) (f b)) x ys)
-        → (if b then f x ∷ f y ∷ map f ys else f y ∷ put_in_place before (f x) (map f ys))
-        ≡ map f (if b then x ∷ y ∷ ys else y ∷ put_in_place (λ a b. before (f a) (f b)) x ys)
-    choose true rest = refl
-    choose false rest = ap (λ (zs : List Y). f y ∷ zs) rest
-
-pub sorted_map : {X Y : Type 0} (before : Y → Y → Bool) (f : X → Y) (xs : List X)
-    → sorted_by before (map f xs) ≡ map f (sorted_by (λ a b. before (f a) (f b)) xs)
-sorted_map before f [] = refl
-sorted_map before f (x ∷ xs) =
-    ap (put_in_place before (f x)) (sorted_map before f xs)
-    ∙ placed_map before f x (sorted_by (λ a b. before (f a) (f b)) xs)
 
 placed_later : (v : Visit) (ws : List Visit) → put_in_place is_later v ws ≡ in_place v ws
 placed_later v [] = refl

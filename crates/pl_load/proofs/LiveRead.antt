@@ -1,5 +1,5 @@
--- How many slots are live, where what was read are the rows of a store: as many as the definition counts, and no more
--- than an arena has.
+-- How many slots are live, where what was read are the rows of a store: as many as the definition
+-- counts, and no more than an arena has.
 use Rattle.std.proofs.Common.{◌≡◌, ◌≤◌, ◌∙◌, ◌∷◌, ◌++◌, ◌+◌, [], ℕ, List, Some, ap, arith, length, map, refl, sym}
 use Rattle.std.proofs.Common.{true}
 use Rattle.std.specs.List.{AllByRecursion, AllZip, flat_map, sum_by}
@@ -180,11 +180,11 @@ module _ (pages : Pages) (reads : Reads) (from : AreReadFrom pages reads) where
           length-map reads.stored.visits visit_of,
           AllZip-long (IsPageRead pages) reads.places reads.stored.pages from.stored_pages,
           AllZip-long (IsVisitRead pages) reads.visits reads.stored.visits from.stored_visits,
-          AllZip-long (ItemRead pages) reads.items reads.stored.items (items_read pages reads from good),
+          AllZip-long (ItemRead pages) reads.items reads.stored.items (items_read pages reads from),
           sum_by-map (λ (p : Page). chunks p.url + chunks p.title) stored_page reads.stored.pages,
           sum_by-append text_long (flat_map page_texts reads.places) (map (λ (i : Item). i.title) reads.items),
           pages_want pages reads.places reads.stored.pages from.stored_pages,
-          items_want pages reads.items reads.stored.items (items_read pages reads from good),
+          items_want pages reads.items reads.stored.items (items_read pages reads from),
         )
 
     pub live_few : IsArena pages → live_slots (store_of kept) ≤ slot_limit

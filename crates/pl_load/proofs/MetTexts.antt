@@ -1,5 +1,5 @@
--- The slots of texts that are there: they are live, as many as the lengths want, and where none is met twice no more
--- than there are.
+-- The slots of texts that are there: they are live, as many as the lengths want, and where none is
+-- met twice no more than there are.
 use Rattle.std.proofs.Common.{◌≡◌, ◌∙◌, ◌+◌, ◌<◌, ◌≤◌, ◌∷◌, [], ℕ, List, ap, arith, drop, eqb, is_some, length}
 use Rattle.std.proofs.Common.{false, length-append, refl, subst, suc, sym, true}
 use Rattle.std.proofs.lemmas.Bool.{or_cases}

@@ -1,5 +1,5 @@
--- The names of origins, where what was read are the rows of a store: each origin has a slot of its own, and pages name
--- the same one exactly where they have the same origin.
+-- The names of origins, where what was read are the rows of a store: each origin has a slot of its
+-- own, and pages name the same one exactly where they have the same origin.
 use Rattle.std.proofs.Common.{◌≡◌, ◌≢◌, ◌≤◌, ◌<◌, ◌∙◌, ◌∷◌, ◌++◌, ◌==◌, [], ℕ, Bool, List, Some, All, ap, arith}
 use Rattle.std.proofs.Common.{filter, inl, inr, map, refl, subst, sym, true}
 use Rattle.std.specs.List.{AllByRecursion, AllPairs, Contains, flat_map, list_any, zip}

@@ -1,14 +1,13 @@
 -- Visits in slots, the latest first: that is an order, in which visits of different ids do not tie.
-use Rattle.std.proofs.Common.{◌≡◌, ◌≢◌, ◌∙◌, ◌∷◌, ◌==◌, ◌&&◌, ◌||◌, [], ℕ, Bool, List, ap, arith, length, map, nat_lt}
+use Rattle.std.proofs.Common.{◌≡◌, ◌≢◌, ◌∙◌, ◌∷◌, ◌&&◌, [], Bool, List, ap, arith, length, map, nat_lt}
 use Rattle.std.proofs.Common.{not, refl, subst, sym, true}
-use Rattle.std.proofs.lemmas.Bool.Decides.{nat_tests}
 use Rattle.std.proofs.lemmas.List.Sorted.{IsStrictWeakOrder-by_number, IsStrictWeakOrder-flip}
 use Rattle.std.specs.Cmp.{IsStrictWeakOrder}
 use Rattle.std.specs.List.{AllPairs, zip}
 use Rattle.std.specs.List.Sorted.{ties}
 use Rattle.pl_base.specs.declared.id.Slot.{Slot}
 use Rattle.pl_base.proofs.ListLaws.{AllPairs-from_map}
-use Rattle.pl_base.proofs.SortLaws.{ranks_alike, then_by, then_ranks, then_ties, tied_numbers}
+use Rattle.pl_base.proofs.SortLaws.{ranks_alike, then_by, then_by_number, then_ranks, then_ties, tied_numbers}
 use Rattle.pl_load.specs.Members.{VisitIn, is_newer}
 use Rattle.pl_record.specs.declared.rows.Visit.{Visit}
 
@@ -24,11 +23,8 @@ smaller v w = nat_lt v.1.id.0 w.1.id.0
 abbrev greater : VisitIn → VisitIn → Bool
 greater v w = smaller w v
 
-by_two : (m n : ℕ) (g : Bool) → (nat_lt n m || ((n == m) && g)) ≡ (nat_lt n m || (not (nat_lt m n) && g))
-by_two m n g = grind (arith, nat_tests)
-
 newer_alike : (v w : VisitIn) → is_newer v w ≡ then_by later greater v w
-newer_alike v w = by_two v.1.date.0 w.1.date.0 (nat_lt w.1.id.0 v.1.id.0)
+newer_alike v w = then_by_number v.1.date.0 w.1.date.0 (nat_lt w.1.id.0 v.1.id.0)
 
 pub newer_ranks : IsStrictWeakOrder is_newer
 newer_ranks =

@@ -1,12 +1,13 @@
 -- What is read from pages is read in one way.
-use Rattle.std.proofs.Common.{◌≡◌, ◌∙◌, ◌∷◌, [], ℕ, List, Option, Some, None, ap, map, refl, subst, sym}
+use Rattle.std.proofs.Common.{◌≡◌, ◌∙◌, ◌∷◌, [], ℕ, List, Option, Some, None, ap, refl, subst, sym}
 use Rattle.std.specs.List.{AllZip, zip}
-use Rattle.std.specs.Option.{option_and_then, option_map}
 use Rattle.pl_base.specs.declared.id.Slot.{Slot}
 use Rattle.pl_base.specs.Store.{Item as TreeItem}
+use Rattle.pl_base.proofs.ListLaws.{same_somes}
 use Rattle.pl_load.specs.Members.{parent_members}
 use Rattle.pl_load.specs.Reads.{AreReadFrom, Reads}
 use Rattle.pl_load.proofs.OwnedLists.{no_page}
+use Rattle.pl_load.proofs.SourceSlots.{no_visit}
 use Rattle.pl_owned.specs.declared.owned.Member.{Member}
 use Rattle.pl_owned.specs.Owned.{IsListed}
 use Rattle.pl_rail.specs.declared.owner.Owner.TheVariants.{At, Header}
@@ -18,12 +19,10 @@ use Rattle.pl_record.specs.declared.rows.Item.{Item}
 use Rattle.pl_record.specs.declared.rows.Place.{Place}
 use Rattle.pl_record.specs.declared.rows.TextAt.{TextAt}
 use Rattle.pl_record.specs.declared.rows.Visit.{Visit}
-use Rattle.pl_record.specs.Records.{unlinked}
-use Rattle.pl_record.specs.Rows.{item_row, origin_row, page_in, place_row, visit_id, visit_in, visit_row}
+use Rattle.pl_record.specs.Rows.{item_row, origin_row, page_in, place_row, visit_in, visit_row}
 use Rattle.pl_sheets.specs.Sheets.{Pages}
 use Rattle.pl_slot.specs.declared.kind.LiveKind.TheVariants as kinds
 use Rattle.pl_slot.specs.declared.links.Rail.TheVariants.{Children, Live}
-use Rattle.pl_slot.proofs.SlotPlaces.{no_slot}
 use Rattle.pl_stored.specs.declared.stored.StoredPage.{StoredPage}
 use Rattle.pl_stored.specs.declared.stored.StoredVisit.{StoredVisit}
 use Rattle.pl_text.proofs.HeldTexts.{one_text}
@@ -47,21 +46,7 @@ one_right {X} {Y} R S one xs ws ys zs same first second =
         let tail = go xs ys zs first.1 second.1 in
         λ i. head i ∷ tail i
 
-pub one_somes : {X : Type 0} (xs ys : List X) → map Some xs ≡ map Some ys → xs ≡ ys
-one_somes [] [] same = refl
-one_somes [] (y ∷ ys) same = absurd (cc)
-one_somes (x ∷ xs) [] same = absurd (cc)
-one_somes (x ∷ xs) (y ∷ ys) same =
-    let head : x ≡ y = cc in
-    let tail : map Some xs ≡ map Some ys = cc in
-    let rest : xs ≡ ys = one_somes xs ys tail in
-    λ i. head i ∷ rest i
-
 -- ---- what numbers name
-
--- slot 0 is that of no visit
-no_visit : (pages : Pages) → visit_in pages none ≡ None
-no_visit pages = ap (λ o. option_and_then visit_id (option_map unlinked o)) (no_slot 0 pages refl)
 
 one_name : {Id : Type 0} (held : Slot → Option Id) → held none ≡ None → (slot : Slot) (a b : Option Id)
     → Names held slot a → Names held slot b → a ≡ b
@@ -176,7 +161,7 @@ module _ (pages : Pages) where
       let added : s.added ≡ t.added = first.added ∙ sym second.added in
       let modified : s.modified ≡ t.modified = first.modified ∙ sym second.modified in
       let children : s.children ≡ t.children =
-      one_somes s.children t.children (sym first.children ∙ second.children) in
+      same_somes s.children t.children (sym first.children ∙ second.children) in
       λ i.
       record {
         id = id i;

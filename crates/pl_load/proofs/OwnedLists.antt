@@ -10,13 +10,14 @@ use Rattle.pl_base.specs.Sorting.{sorted_by}
 use Rattle.pl_base.specs.Store.{Item, Visit}
 use Rattle.pl_base.specs.Tree.{is_page, references}
 use Rattle.pl_base.specs.Visits.{latest_first}
-use Rattle.pl_base.proofs.ListLaws.{map-map, weaker}
+use Rattle.pl_base.proofs.ListLaws.{filter-where, map-map, weaker}
+use Rattle.pl_base.proofs.SortLaws.{sorted_map}
 use Rattle.pl_base.proofs.VisitOrder.{latest_part}
 use Rattle.pl_base.proofs.VisitsLaws.{Differ, all-latest_first}
 use Rattle.pl_load.specs.Members.{is_newer, origin_member, origin_members, page_member, page_members}
 use Rattle.pl_load.specs.Members.{ItemIn, VisitIn, reference_member, reference_members}
 use Rattle.pl_load.specs.Reads.{AreRead, Reads, item_at, place_at, visit_at}
-use Rattle.pl_load.proofs.Lists.{kept_alike, owned_map, sorted_later, sorted_map, zip_maps}
+use Rattle.pl_load.proofs.Lists.{owned_map, sorted_later, zip_maps}
 use Rattle.pl_load.proofs.SlotNames as names
 use Rattle.pl_owned.specs.declared.owned.Member.{Member}
 use Rattle.pl_owned.specs.Owned.{owned_by}
@@ -78,7 +79,7 @@ module _ (at : Layout) (kept : Kept) (reads : Reads) (are : AreRead at kept read
         ∙ owned_map (λ (v : Visit). at.page v.page) (λ (v : Visit). at.visit v.id) (latest_first kept.visits)
         (at.page id)
         ∙ ap (map (λ (v : Visit). at.visit v.id))
-        (kept_alike (λ (v : Visit). (at.page v.page).0 == (at.page id).0) (λ (v : Visit). v.page.0 == id.0)
+        (filter-where (λ (v : Visit). (at.page v.page).0 == (at.page id).0) (λ (v : Visit). v.page.0 == id.0)
         (latest_first kept.visits)
         (weaker (λ (v : Visit). has_page kept v.page ≡ true)
         (λ (v : Visit). ((at.page v.page).0 == (at.page id).0) ≡ (v.page.0 == id.0)) (latest_first kept.visits)
@@ -93,7 +94,7 @@ module _ (at : Layout) (kept : Kept) (reads : Reads) (are : AreRead at kept read
             ∙ ap (λ (rs : List VisitIn). map page_member (sorted_by is_newer rs))
             (zip_maps (λ (v : Visit). at.visit v.id) (visit_at at) kept.visits)
             ∙ ap (map page_member)
-            (sorted_map is_newer visit_row kept.visits ∙ ap (map visit_row) (sorted_later kept.visits))
+            (sym (sorted_map visit_row is_newer kept.visits) ∙ ap (map visit_row) (sorted_later kept.visits))
             ∙ map-map page_member visit_row (latest_first kept.visits)
 
     -- ---- the items of a page
@@ -114,7 +115,8 @@ module _ (at : Layout) (kept : Kept) (reads : Reads) (are : AreRead at kept read
         ap (λ (ms : List Member). owned_by ms (at.page id)) members
         ∙ owned_map (λ (i : Item). slot_or_none at.page i.page) (λ (i : Item). at.item i.id) kept.items (at.page id)
         ∙ ap (map (λ (i : Item). at.item i.id))
-        (kept_alike (λ (i : Item). (slot_or_none at.page i.page).0 == (at.page id).0) (λ (i : Item). is_page id i.page)
+        (filter-where (λ (i : Item). (slot_or_none at.page i.page).0 == (at.page id).0)
+        (λ (i : Item). is_page id i.page)
         kept.items
         (weaker (λ (i : Item). IfSome i.page (λ p. has_page kept p ≡ true))
         (λ (i : Item). ((slot_or_none at.page i.page).0 == (at.page id).0) ≡ is_page id i.page) kept.items

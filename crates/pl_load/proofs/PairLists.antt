@@ -42,11 +42,6 @@ map_from_zip g (x ∷ xs) (y ∷ ys) long all =
 
 -- ---- relations place by place
 
-pub zip_made : {X A B : Type 0} (R : A → B → Type 0) (f : X → A) (g : X → B) (xs : List X)
-    → AllByRecursion (λ x. R (f x) (g x)) xs → AllZip R (map f xs) (map g xs)
-zip_made R f g [] all = tt
-zip_made R f g (x ∷ xs) all = (all.0, zip_made R f g xs all.1)
-
 -- what is related to what is made of each, and to each
 pub zip_joined : {X A B : Type 0} (R : A → B → Type 0) (Q : B → X → Type 0) (f : X → A) (xs : List X) (ys : List B)
     → AllZip R (map f xs) ys → AllZip Q ys xs → AllByRecursion (λ x. (y : B) × R (f x) y × Q y x) xs

@@ -1,5 +1,5 @@
--- The parents of items, where the list of each item has the slots that name it: the lists are those of its children's
--- slots, and each row names the slot of its parent.
+-- The parents of items, where the list of each item has the slots that name it: the lists are those
+-- of its children's slots, and each row names the slot of its parent.
 use Rattle.std.proofs.Common.{◌≡◌, ◌≢◌, ◌∙◌, ◌⊎◌, ◌==◌, ◌∷◌, [], Bool, List, Option, Some, None, ap, eq-eqb}
 use Rattle.std.proofs.Common.{filter, find, inl, inr, length, map, refl, subst, sym, true}
 use Rattle.std.specs.List.{All, AllByRecursion, AllPairs, AllZip, list_all, zip}
@@ -14,7 +14,7 @@ use Rattle.pl_base.specs.declared.id.Slot.{Slot}
 use Rattle.pl_base.specs.Good.{child_ids}
 use Rattle.pl_base.specs.Store.{Item as TreeItem}
 use Rattle.pl_base.specs.Tree.{has_child, parent_of}
-use Rattle.pl_base.proofs.Among.{In, all_from_in, at_in, from_filter, from_map, in_filter, in_map}
+use Rattle.pl_base.proofs.Among.{In, all_from_in, at_in, from_filter, from_found, from_map, in_filter, in_map}
 use Rattle.pl_base.proofs.ListLaws.{to_map, weaker}
 use Rattle.pl_base.proofs.LookUps.{found_passes}
 use Rattle.pl_load.specs.Members.{parent_members}
@@ -22,7 +22,7 @@ use Rattle.pl_load.proofs.ItemSlots as given
 use Rattle.pl_load.proofs.ItemSlots.{HaveSlots, child_in, in_child, in_moved, item_by_kind, members_paired}
 use Rattle.pl_load.proofs.Lists.{owned_map}
 use Rattle.pl_load.proofs.PairLists.{apart_first, in_zip, map_from_zip, zip_joined}
-use Rattle.pl_load.proofs.SameMembers.{found_in_list, same_key}
+use Rattle.pl_load.proofs.SameMembers.{same_key}
 use Rattle.pl_owned.specs.declared.owned.Member.{Member}
 use Rattle.pl_owned.specs.Owned.{IsListed, owned_by}
 use Rattle.pl_rail.specs.declared.owner.Owner.TheVariants.{At}
@@ -196,7 +196,7 @@ module _ (pages : Pages) (items : List TreeItem) (slot_of : ItemId → Slot) (sl
             → parent ≡ slot_or_none slot_of (option_map (λ (j : TreeItem). j.id) o)
         choose None is = nothing
         choose (Some q) is =
-            let q_in : In q items = found_in_list (has_child i.id) items q is in
+            let q_in : In q items = (from_found (has_child i.id) items q is).0 in
             let zero : (0 == (slot_of q.id).0) ≡ true =
             ap (λ (s : Slot). s.0 == (slot_of q.id).0) (sym nothing)
             ∙ child_named i parent within q q_in (found_passes (has_child i.id) items q is) in

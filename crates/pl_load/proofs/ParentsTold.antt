@@ -1,5 +1,5 @@
--- What was read tells of its items: each stands in the slot that says its id, each row names the slot of its item's
--- parent, and chains link the slots of the children.
+-- What was read tells of its items: each stands in the slot that says its id, each row names the
+-- slot of its item's parent, and chains link the slots of the children.
 use Rattle.std.proofs.Common.{◌≡◌, ◌≢◌, ◌∙◌, ◌∷◌, ◌==◌, [], List, Some, arith, eqb-true}
 use Rattle.std.proofs.Common.{inl, inr, length, map, suc, sym, true}
 use Rattle.std.specs.List.{All, AllPairs, AllZip, zip}
@@ -131,7 +131,7 @@ module _ (pages : Pages) (reads : Reads) (from : AreReadFrom pages reads)
       said (item_there pages reads from)
       (made_alike (λ (i : Item) (s : TreeItem). (slots : List Slot) × IsItemRead pages i slots s) (λ (r : Item). r.id)
       (λ (i : TreeItem). i.id) reads.items reads.stored.items (λ r s read. sym read.1.id)
-      (items_read pages reads from good)) parents_named children_once
+      (items_read pages reads from)) parents_named children_once
 
   -- what was read are the rows of a store
   pub rows_read : AreRead at kept reads

@@ -1,5 +1,5 @@
--- What holds of all that is read from pages that are the form of a store: where any of it fails, the pages are no
--- store's.
+-- What holds of all that is read from pages that are the form of a store: where any of it fails,
+-- the pages are no store's.
 use Rattle.std.proofs.Common.{List, subst, sym}
 use Rattle.pl_base.specs.declared.id.VisitId.{VisitId}
 use Rattle.pl_base.specs.Rows.{Kept}

@@ -1,37 +1,12 @@
--- What is an element of a list: by a test, and of lists without repeats. Two such lists that have the same elements are
--- one another in another order.
-use Rattle.std.proofs.Common.{◌≡◌, ◌≢◌, ◌∙◌, ◌∷◌, ◌++◌, ◌||◌, [], ℕ, Bool, List, Some, ap, false, filter, find}
+-- What is an element of a list: by a number that stands once, and of lists without repeats. Two
+-- such lists that have the same elements are one another in another order.
+use Rattle.std.proofs.Common.{◌≡◌, ◌≢◌, ◌∙◌, ◌∷◌, ◌++◌, [], ℕ, Bool, List, ap, false, filter}
 use Rattle.std.proofs.Common.{if◌then◌else◌, inl, inr, map, refl, subst, sym, true}
-use Rattle.std.specs.List.{list_any}
 use Rattle.std.specs.List.Sorted.{IsPermutation}
-use Rattle.std.proofs.lemmas.Bool.{or_left, or_right}
 use Rattle.std.proofs.lemmas.List.Sorted.{IsPermutation-cons, IsPermutation-middle, IsPermutation-refl}
 use Rattle.std.proofs.lemmas.List.Sorted.{IsPermutation-sym, IsPermutation-trans}
-use Rattle.pl_base.proofs.Among.{In, all_from_in, at_in, from_filter, from_map, in_map}
-use Rattle.pl_base.proofs.LookUps.{Apart, found_holds}
-
--- ---- by a test
-
-pub any_in : {X : Type 0} (test : X → Bool) (xs : List X) (x : X) → In x xs → test x ≡ true → list_any test xs ≡ true
-any_in test [] x within passes = absurd within
-any_in test (y ∷ ys) x (inl same) passes = or_left (test y) (list_any test ys) (ap test (sym same) ∙ passes)
-any_in test (y ∷ ys) x (inr within) passes = or_right (test y) (list_any test ys) (any_in test ys x within passes)
-
-pub in_any : {X : Type 0} (test : X → Bool) (xs : List X) → list_any test xs ≡ true
-    → (x : X) × In x xs × (test x ≡ true)
-in_any test [] some = absurd (cc)
-in_any {X} test (y ∷ ys) some = choose (test y) refl some (in_any test ys)
-  where
-    choose : (b : Bool) → test y ≡ b → (b || list_any test ys) ≡ true
-        → (list_any test ys ≡ true → (x : X) × In x ys × (test x ≡ true))
-        → (x : X) × In x (y ∷ ys) × (test x ≡ true)
-    choose true is some rest = (y, inl refl, is)
-    choose false is some rest = let r = rest some in (r.0, inr r.1, r.2)
-
--- what is found is an element
-pub found_in_list : {X : Type 0} (test : X → Bool) (xs : List X) (x : X) → find test xs ≡ Some x → In x xs
-found_in_list {X} test xs x found =
-    found_holds (λ (z : X). In z xs) test xs x (all_from_in (λ (z : X). In z xs) xs (λ z within. within)) found
+use Rattle.pl_base.proofs.Among.{In, at_in, from_filter, from_map, in_map}
+use Rattle.pl_base.proofs.LookUps.{Apart}
 
 -- ---- by a number that stands once
 

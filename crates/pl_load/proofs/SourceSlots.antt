@@ -1,5 +1,5 @@
--- The visits that came from one, in the slots of a layout: which slots name its slot as their source, and which hold
--- redirects.
+-- The visits that came from one, in the slots of a layout: which slots name its slot as their
+-- source, and which hold redirects.
 use Rattle.std.proofs.Common.{◌≡◌, ◌≢◌, ◌<◌, ◌∙◌, ◌∷◌, ◌==◌, [], ℕ, List, Option, Some, None, ap, filter, map}
 use Rattle.std.proofs.Common.{All, eq-eqb, refl, sym, true}
 use Rattle.std.specs.Prelude.{IsTrue}
@@ -13,13 +13,13 @@ use Rattle.pl_base.specs.Redirects.{is_redirect, is_source}
 use Rattle.pl_base.specs.Rows.{HasSource, IsWellKept, Kept, has_visit}
 use Rattle.pl_base.specs.Store.{Visit}
 use Rattle.pl_base.proofs.IdsLaws.{same_slot}
-use Rattle.pl_base.proofs.ListLaws.{map-map, weaker}
+use Rattle.pl_base.proofs.ListLaws.{filter-where, map-map, weaker}
 use Rattle.pl_base.proofs.LookUps.{Apart, both}
 use Rattle.pl_base.proofs.VisitsLaws.{Differ}
 use Rattle.pl_base.proofs.VisitsRun.{visit_is}
 use Rattle.pl_load.specs.Members.{source_member, source_members}
 use Rattle.pl_load.specs.Reads.{visit_at}
-use Rattle.pl_load.proofs.Lists.{kept_alike, owned_map, zip_maps}
+use Rattle.pl_load.proofs.Lists.{owned_map, zip_maps}
 use Rattle.pl_load.proofs.SlotNames as names
 use Rattle.pl_owned.specs.declared.owned.Member.{Member}
 use Rattle.pl_owned.specs.Owned.{owned_by}
@@ -146,7 +146,7 @@ module _ (pages : Pages) (at : Layout) (kept : Kept)
       ∙ owned_map (λ (v : Visit). slot_or_none at.visit v.source) (λ (v : Visit). at.visit v.id) kept.visits
       (at.visit id)
       ∙ ap (map (λ (v : Visit). at.visit v.id))
-      (kept_alike (λ (v : Visit). (slot_or_none at.visit v.source).0 == (at.visit id).0)
+      (filter-where (λ (v : Visit). (slot_or_none at.visit v.source).0 == (at.visit id).0)
       (λ (v : Visit). is_source id v.source) kept.visits
       (weaker (λ (v : Visit). IfSome v.source (λ s. has_visit kept s ≡ true))
       (λ (v : Visit). ((slot_or_none at.visit v.source).0 == (at.visit id).0) ≡ is_source id v.source) kept.visits

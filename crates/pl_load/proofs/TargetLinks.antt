@@ -1,9 +1,9 @@
 -- What the lists of the visits that came from each tell.
-use Rattle.std.proofs.Common.{◌≡◌, ◌≤◌, ◌∷◌, [], IsSome, List, Some, refl, subst, true}
+use Rattle.std.proofs.Common.{◌≡◌, ◌≤◌, IsSome, List, Some, refl, subst, true}
 use Rattle.std.proofs.lemmas.List.Elements.{All-from_recursion, All-map, recursion_from_All}
-use Rattle.std.specs.List.{All, AllByRecursion, AllZip, zip}
+use Rattle.std.specs.List.{All, AllZip, zip}
 use Rattle.pl_base.specs.declared.id.Slot.{Slot}
-use Rattle.pl_base.proofs.ListLaws.{weaker}
+use Rattle.pl_base.proofs.ListLaws.{all_second, weaker}
 use Rattle.pl_load.specs.Members.{VisitIn, source_member, source_members}
 use Rattle.pl_load.proofs.ListParts.{all_pass}
 use Rattle.pl_load.proofs.RowLinks.{each_linked}
@@ -23,13 +23,6 @@ use Rattle.pl_slot.specs.declared.links.Link.TheVariants.{First}
 use Rattle.pl_slot.specs.declared.links.Rail.TheVariants.{Targets}
 use Rattle.pl_slot.specs.Arena.{slot_count}
 use Rattle.pl_slot.specs.Links.{kind_at}
-
--- what holds of each of the second list
-all_second : {X Y : Type 0} (P : Y → Type 0) (xs : List X) (ys : List Y) → AllByRecursion P ys
-    → AllByRecursion (λ (p : X × Y). P p.1) (zip xs ys)
-all_second P [] ys all = tt
-all_second P (x ∷ xs) [] all = tt
-all_second P (x ∷ xs) (y ∷ ys) all = (all.0, all_second P xs ys all.1)
 
 module _ (pages : Pages) (slots : List Slot) (visits : List Visit) where
   abbrev Of : Slot → Type 0

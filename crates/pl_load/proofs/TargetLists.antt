@@ -1,5 +1,5 @@
--- Lists of the slots that name each visit as their source, redirects first: the visits in them are those that came
--- from each, in the order of the lists.
+-- Lists of the slots that name each visit as their source, redirects first: the visits in them are
+-- those that came from each, in the order of the lists.
 use Rattle.std.proofs.Common.{◌≡◌, ◌∙◌, ◌∷◌, ◌++◌, ◌==◌, ◌||◌, [], Bool, List, Option, Some, None, All, ap, false}
 use Rattle.std.proofs.Common.{◌&&◌, filter, find, if◌then◌else◌, map, not, refl, subst, sym, true}
 use Rattle.std.specs.List.{AllByRecursion, AllZip, list_any}
@@ -16,12 +16,13 @@ use Rattle.pl_base.specs.Rows.{AreTargets, Kept, has_visit, store_of}
 use Rattle.pl_base.specs.Store.{Visit}
 use Rattle.pl_base.proofs.ListLaws.{all-filter, to_map, weaker}
 use Rattle.pl_base.proofs.LookUps.{both, found_self, front, none_kept, none_pass, rest_of}
+use Rattle.pl_base.proofs.SortLaws.{all_moved}
 use Rattle.pl_base.proofs.TargetsRun.{source_is}
 use Rattle.pl_base.proofs.Truths.{no_test}
 use Rattle.pl_base.proofs.VisitsLaws.{Differ}
 use Rattle.pl_load.specs.Members.{source_members}
 use Rattle.pl_load.specs.Reads.{visit_at}
-use Rattle.pl_load.proofs.ListParts.{all_moved, all_pass, back_kept, front_kept, kept_of_kept, made_back, zip_from_made}
+use Rattle.pl_load.proofs.ListParts.{all_pass, back_kept, front_kept, kept_of_kept, made_back, zip_from_made}
 use Rattle.pl_load.proofs.ListParts.{zip_joined}
 use Rattle.pl_load.proofs.SourceSlots.{all_there, came_from, redirects_told, slots_apart, sources_owned}
 use Rattle.pl_owned.specs.Owned.{IsListed}

@@ -1,5 +1,5 @@
--- The slots of the visits that came from each visit, redirects first: they are lists of the slots that name each visit
--- as their source.
+-- The slots of the visits that came from each visit, redirects first: they are lists of the slots
+-- that name each visit as their source.
 use Rattle.std.proofs.Common.{◌≡◌, ◌∙◌, ◌++◌, ◌&&◌, Bool, List, All, ap, false, filter, map, not, refl, subst, sym}
 use Rattle.std.proofs.Common.{true}
 use Rattle.std.specs.List.{AllByRecursion, AllZip}
@@ -17,9 +17,10 @@ use Rattle.pl_base.specs.Rows.{AreTargets, Kept, has_visit, store_of}
 use Rattle.pl_base.specs.Store.{Visit}
 use Rattle.pl_base.proofs.ListLaws.{all-filter, to_map, weaker}
 use Rattle.pl_base.proofs.LookUps.{any_none, both}
+use Rattle.pl_base.proofs.SortLaws.{all_moved}
 use Rattle.pl_load.specs.Members.{source_members}
 use Rattle.pl_load.specs.Reads.{visit_at}
-use Rattle.pl_load.proofs.ListParts.{all_moved, kept_of_kept, pass_all, zip_made}
+use Rattle.pl_load.proofs.ListParts.{kept_of_kept, pass_all, zip_made}
 use Rattle.pl_load.proofs.SourceSlots.{all_there, came_from, redirects_told, sources_owned}
 use Rattle.pl_owned.specs.Owned.{IsListed}
 use Rattle.pl_owned.specs.Redirects.{HasRedirectsFirst, holds_redirect}
@@ -70,7 +71,8 @@ module _ (pages : Pages) (at : Layout) (kept : Kept)
 
   -- ---- redirects stand in front
 
-  -- where a test of visits tells whether a redirect made them, the slots of those that it keeps tell so too
+  -- where a test of visits tells whether a redirect made them, the slots of those that it keeps
+  -- tell so too
   told_moved : (test : Visit → Bool) (is : Bool) (vs : List Visit) → IsPermutation vs (filter test kept.visits)
       → ((v : Visit) → test v ≡ true → is_made v ≡ is)
       → AllByRecursion (λ v. holds_redirect pages (put v) ≡ is) vs

@@ -1,4 +1,5 @@
--- Two lists side by side: what holds of each pair, what is made of the pairs, and what stands beside a number.
+-- Two lists side by side: what holds of each pair, what is made of the pairs, and what stands
+-- beside a number.
 use Rattle.std.proofs.Common.{◌≡◌, ◌≢◌, ◌∙◌, ◌∷◌, ◌++◌, ◌==◌, [], ℕ, List, ap, arith, eq-eqb, if◌then◌else◌, length}
 use Rattle.std.proofs.Common.{map, refl, subst, sym}
 use Rattle.std.specs.List.{AllByRecursion, AllZip, flat_map, zip}
@@ -162,7 +163,8 @@ map_same {X} (x ∷ xs) = ap (λ (ys : List X). x ∷ ys) (map_same xs)
 
 -- ---- what stands beside a number
 
--- what is made of the one that stands beside the first with this number, and something else where there is none
+-- what is made of the one that stands beside the first with this number, and something else where
+-- there is none
 abbrev pub beside : {X Y A : Type 0} → (Y → ℕ) → (X → A) → A → List X → List Y → ℕ → A
 beside key f other [] ys n = other
 beside key f other (x ∷ xs) [] n = other

@@ -1,14 +1,19 @@
 -- What the rows tell of a page.
-use Rattle.std.proofs.Common.{◌≡◌, ◌==◌, ◌∙◌, ℕ, ℤ, All, Bool, List, Some, ap, refl}
+use Rattle.std.proofs.Common.{◌≡◌, ◌==◌, ◌∙◌, ℕ, ℤ, All, Bool, List, None, Option, Some, ap, map}
+use Rattle.std.proofs.Common.{refl}
 use Rattle.std.specs.Option.{option_map}
 use Rattle.std.proofs.lemmas.List.Elements.{recursion_from_All}
+use Rattle.std.proofs.lemmas.List.Kept.{AllPairs-from_increasing}
 use Rattle.pl_base.specs.declared.id.PageId.{PageId}
 use Rattle.pl_base.specs.declared.row.Mark.{Mark}
 use Rattle.pl_base.specs.Frecency.{frecency_of}
 use Rattle.pl_base.specs.Marks.{is_hidden, visit_count}
-use Rattle.pl_base.specs.Rows.{IsRight, Kept, KeptPage, mark_of, page_at, store_of, title_of, url_of}
+use Rattle.pl_base.specs.Rows.{IsRight, IsWellKept, Kept, KeptPage, mark_of, page_at, store_of}
+use Rattle.pl_base.specs.Rows.{title_of, url_of}
 use Rattle.pl_base.specs.Store.{Page, Store}
-use Rattle.pl_base.proofs.LookUps.{found_holds}
+use Rattle.pl_base.proofs.ListLaws.{map-map}
+use Rattle.pl_base.proofs.LookUps.{Apart, apart_ascending, found_holds}
+use Rattle.pl_base.proofs.PageLaws.{id_at}
 
 -- what the rows tell of the page is what is known of it
 pub record AreTold (kept : Kept) (p : KeptPage) (mark : Mark) (url title : List ℕ) : Type 0 where
@@ -52,3 +57,35 @@ right_mark kept id p right at =
     (holds (λ (q : KeptPage). q.frecency ≡ frecency_of store q.page) right.frecencies)
     (holds (λ (q : KeptPage). q.count ≡ visit_count store q.page.id) right.counts)
     (holds (λ (q : KeptPage). q.hidden ≡ is_hidden store q.page) right.hidden)
+
+pub mark_at : (kept : Kept) (page : PageId) (mark : Mark) (p : KeptPage) → IsRight kept
+    → Some mark ≡ option_map mark_of (page_at kept page) → page_at kept page ≡ Some p
+    → mark ≡ mark_in (store_of kept) p.page
+mark_at kept page mark p right is at =
+    let same : Some mark ≡ Some (mark_of p) = is ∙ ap (option_map mark_of) at in
+    let here : mark ≡ mark_of p = cc in
+    here ∙ right_mark kept page p right at
+
+-- the visits that are kept beside a page are those of the page
+pub count_at : (kept : Kept) (page : PageId) (mark : Mark) → IsRight kept
+    → Some mark ≡ option_map mark_of (page_at kept page)
+    → mark.count ≡ visit_count (store_of kept) page
+count_at kept page mark right is = choose (page_at kept page) refl is
+  where
+    choose : (o : Option KeptPage) → page_at kept page ≡ o → Some mark ≡ option_map mark_of o
+        → mark.count ≡ visit_count (store_of kept) page
+    choose None at same = absurd (cc)
+    choose (Some p) at same =
+        ap (λ (m : Mark). m.count) (mark_at kept page mark p right is at)
+        ∙ ap (visit_count (store_of kept)) (id_at kept page p at)
+
+-- ---- the pages of a store
+
+-- no two have the same id
+pub ids_apart : (kept : Kept) → IsWellKept kept
+    → Apart (λ (p : Page). p.id.0) (store_of kept).pages
+ids_apart kept h =
+    apart_ascending (λ (p : Page). p.id.0) (store_of kept).pages
+    (rw (map-map (λ (p : Page). p.id.0) (λ (p : KeptPage). p.page) kept.pages)
+    (AllPairs-from_increasing (map (λ (p : KeptPage). p.page.id.0) kept.pages)
+    h.page_ids.ascending))

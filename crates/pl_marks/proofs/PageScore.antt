@@ -1,5 +1,5 @@
 -- The frecency of a page, and whether an item has it.
-use Rattle.std.proofs.Common.{◌≡◌, ◌∙◌, ◌<◌, ◌≤◌, ◌==◌, ◌||◌, if◌then◌else◌, ℕ, All, Bool, true, false, List, [], ◌∷◌}
+use Rattle.std.proofs.Common.{◌≡◌, ◌∙◌, ◌<◌, ◌≤◌, ◌==◌, ◌||◌, if◌then◌else◌, ℕ, Bool, true, false, List, [], ◌∷◌}
 use Rattle.std.proofs.Common.{Option, ap, arith, filter, is_some, length, map, refl, subst, sym, take, ℤ}
 use Rattle.std.specs.List.{list_any}
 use Rattle.std.proofs.lemmas.List.{length-map, length-take}
@@ -14,13 +14,13 @@ use Rattle.pl_base.specs.Marks.{is_counted, is_referenced, visit_count}
 use Rattle.pl_base.specs.Redirects.{is_redirect_source, source_transition}
 use Rattle.pl_base.specs.Rows.{IsWellKept, Kept, page_visits, row_of, store_of}
 use Rattle.pl_base.specs.Store.{Item, Page, Store, Visit}
-use Rattle.pl_base.specs.Tables.{bonus_of, greatest_bonus}
+use Rattle.pl_base.specs.Tables.{bonus_of}
 use Rattle.pl_base.specs.Totals.{most_share, share}
 use Rattle.pl_base.specs.Tree.{first_item, is_page, references}
 use Rattle.pl_base.specs.Visits.{sample_of, visits_of, sample_size}
 use Rattle.pl_score.specs.declared.sample.Sampled.{Sampled}
 use Rattle.pl_score.specs.Sample.{points_of, sampled_of}
-use Rattle.pl_score.proofs.StoreSamples.{frecency-sampled, sampled-small}
+use Rattle.pl_score.proofs.StoreSamples.{frecency-sampled}
 use Rattle.pl_base.proofs.ListLaws.{count_by-and-le}
 use Rattle.pl_base.proofs.SmallFrecencies.{small_in}
 use Rattle.pl_base.proofs.VisitsLaws.{length-latest_first}
@@ -52,10 +52,6 @@ sampled_is store v row source led referenced bonus rows came leads refers is =
     ∙ ap (λ (o : Option Transition). bonus_of v.transition o led referenced) came
     ∙ ap (λ (b : Bool). bonus_of v.transition (source_transition store v) b referenced) leads
     ∙ ap (bonus_of v.transition (source_transition store v) (is_redirect_source store v)) refers)
-
-pub small_bonuses : (store : Store) (vs : List Visit) (sample : List Sampled) → sample ≡ map (sampled_of store) vs
-    → All (λ (s : Sampled). s.bonus ≤ greatest_bonus) sample
-small_bonuses store vs sample is = rw is (sampled-small store vs)
 
 -- a page with visits that count has a sample
 pub sample_filled : (kept : Kept) (page : PageId) (sample : List Sampled) (count : ℕ)

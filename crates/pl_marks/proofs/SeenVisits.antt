@@ -1,7 +1,8 @@
--- What a walk over the visits of a page has seen, the latest first: the sample, and whether a visit shows the page.
+-- What a walk over the visits of a page has seen, the latest first: the sample, and whether a visit
+-- shows the page.
 use Rattle.std.proofs.Common.{◌≡◌, ◌≢◌, ◌+◌, ◌≤◌, ◌++◌, ◌&&◌, ◌||◌, ◌∙◌, ℕ, Bool, true}
 use Rattle.std.proofs.Common.{false, List, [], ◌∷◌, Option, Some, ap, arith}
-use Rattle.std.proofs.Common.{if◌then◌else◌, is_some, length, map, refl, sym, take}
+use Rattle.std.proofs.Common.{is_some, length, map, refl, sym, take}
 use Rattle.std.specs.List.{list_all}
 use Rattle.std.proofs.lemmas.Bool.{and_from, and_left, and_right}
 use Rattle.std.proofs.lemmas.List.Folds.{list_all-append}
@@ -13,11 +14,11 @@ use Rattle.pl_base.specs.Marks.{is_hidden}
 use Rattle.pl_base.specs.Rows.{Kept, first_id}
 use Rattle.pl_base.specs.Rows.{page_visits, store_of}
 use Rattle.pl_base.specs.Store.{Page, Store, Visit}
-use Rattle.pl_base.specs.Visits.{in_place, is_later, latest_first, visits_of}
+use Rattle.pl_base.specs.Visits.{latest_first, visits_of}
 use Rattle.pl_score.specs.declared.sample.Sampled.{Sampled}
 use Rattle.pl_score.specs.Sample.{sampled_of}
 use Rattle.pl_marks.specs.Refreshed.{is_passing}
-use Rattle.pl_base.proofs.VisitLists.{one_in_place}
+use Rattle.pl_base.proofs.VisitLists.{list_all-latest_first, one_in_place}
 use Rattle.pl_base.proofs.VisitsRun.{visit_names}
 use Rattle.pl_base.proofs.Walk.{StandsAt, Walk, ends}
 
@@ -70,27 +71,6 @@ passing_more store front v all is =
     ∙ and_from (list_all (is_passing store) front) (is_passing store v && true) all
     (and_from (is_passing store v) true is refl)
 
-all_in_place : (p : Visit → Bool) (v : Visit) (ws : List Visit)
-    → list_all p (in_place v ws) ≡ (p v && list_all p ws)
-all_in_place p v [] = refl
-all_in_place p v (w ∷ ws) = choose (is_later v w) (all_in_place p v ws)
-  where
-    swap : (a b c : Bool) → (a && (b && c)) ≡ (b && (a && c))
-    swap true true c = refl
-    swap true false c = refl
-    swap false true c = refl
-    swap false false c = refl
-
-    choose : (b : Bool) → list_all p (in_place v ws) ≡ (p v && list_all p ws)
-        → list_all p (if b then v ∷ w ∷ ws else w ∷ in_place v ws) ≡ (p v && (p w && list_all p ws))
-    choose true rest = refl
-    choose false rest = ap (λ (b : Bool). p w && b) rest ∙ swap (p w) (p v) (list_all p ws)
-
-all_latest_first : (p : Visit → Bool) (vs : List Visit) → list_all p (latest_first vs) ≡ list_all p vs
-all_latest_first p [] = refl
-all_latest_first p (v ∷ vs) =
-    all_in_place p v (latest_first vs) ∙ ap (λ (b : Bool). p v && b) (all_latest_first p vs)
-
 -- as `is_hidden` has it
 abbrev pub hidden_by : Store → List Visit → Bool
 hidden_by store [] = false
@@ -102,7 +82,7 @@ hidden_latest store [] = refl
 hidden_latest store (v ∷ vs) =
     sym (ap (λ (b : Bool). b && list_all (is_passing store) (latest_first (v ∷ vs)))
     (one_in_place v (latest_first vs))
-    ∙ all_latest_first (is_passing store) (v ∷ vs))
+    ∙ list_all-latest_first (is_passing store) (v ∷ vs))
 
 -- a page is hidden by its visits where there is a latest one, and none shows it
 hidden_if : (kept : Kept) (page : PageId) (hidden : Bool) (p : Page) → p.id ≡ page

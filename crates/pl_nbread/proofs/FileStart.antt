@@ -1,11 +1,11 @@
 -- How a bookmark file begins.
 use Rattle.std.proofs.Common.{◌≡◌, ◌∙◌, ◌-◌, ◌<◌, ◌≤◌, ℕ, Bool, true, false, List, Option}
-use Rattle.std.proofs.Common.{Some, None, MatchOption, ap, arith, drop, get_or, length, lit<, refl}
+use Rattle.std.proofs.Common.{Some, None, MatchOption, ap, arith, get_or, length, lit<, refl}
 use Rattle.std.proofs.Common.{sym, take}
 use lib.Utf8.{encode}
 use Rattle.std.specs.Borrow.{Bor}
 use Rattle.std.specs.Char.{to_ascii_lowercase}
-use Rattle.std.specs.List.{prefix_len, starts_with}
+use Rattle.std.specs.List.{starts_with}
 use Rattle.std.specs.Option.{unwrap_or}
 use Rattle.std.specs.Prelude.{nat_eq}
 use Rattle.std.specs.Str.{IsCharBoundary, IsTrimAsciiStart, IsUtf8, is_utf8}
@@ -15,19 +15,11 @@ use Rattle.std.proofs.lemmas.Bool.Decides.{nat_tests}
 use Rattle.std.proofs.lemmas.List.{get_or-map, get_or-take, length-map, length-take}
 use Rattle.std.proofs.lemmas.Slice.Eq.{bytes_eq-Decides}
 use Rattle.std.proofs.lemmas.Str.{IsCharBoundary-after_ascii, IsUtf8-from_is_utf8, is_utf8-from_IsUtf8}
-use Rattle.std.proofs.lemmas.Str.Ascii.{trim_ascii_start_is}
 use Rattle.std.proofs.lemmas.Str.Pattern.{starts_text}
 use Rattle.pl_words.specs.TagName.{trimmed_front}
-use Rattle.pl_words.proofs.TagNames.{same_blank}
 use Rattle.pl_nbread.specs.BookmarkFile.{behind_mark, byte_order_mark, doctype, from_doctype, has_doctype, lowered}
 use Rattle.pl_nbread.specs.BookmarkFile.{offset}
-
--- ---- blanks
-
--- what std drops in front are the blanks
-trims : (text rest : List ℕ) → IsTrimAsciiStart text rest → rest ≡ trimmed_front text
-trims text rest h =
-    trim_ascii_start_is text rest h ∙ ap (λ (t : ℕ → Bool). drop (prefix_len t text) text) (λ i b. same_blank b i)
+use Rattle.pl_nbread.proofs.ScanSteps.{trimmed_is}
 
 -- ---- U+FEFF
 
@@ -46,7 +38,7 @@ pub starts_there : (text stripped : Bor (List ℕ)) (r : Option (Bor (List ℕ))
     → MatchOption r (FindsCharPrefix 65279 text.now None) (λ x. StripsPrefix (FindsCharPrefix 65279) text.now x.now)
     → stripped ≡ unwrap_or r text → IsTrimAsciiStart stripped.now rest → rest ≡ from_doctype text.now
 starts_there text stripped r rest cases is trimmed =
-    trims stripped.now rest trimmed
+    trimmed_is stripped.now rest trimmed
     ∙ ap trimmed_front (ap (λ (t : Bor (List ℕ)). t.now) is ∙ unmarked text r cases)
 
 -- ---- the doctype

@@ -1,4 +1,5 @@
--- What parts make by recursion on the nesting of lists is what they make with a stack of open lists.
+-- What parts make by recursion on the nesting of lists is what they make with a stack of open
+-- lists.
 use Rattle.std.proofs.Common.{◌≡◌, ◌≢◌, ◌∙◌, ◌++◌, ℕ, List, [], ◌∷◌, Option, Some, None}
 use Rattle.std.proofs.Common.{ap, append-nil, append_assoc, refl, sym}
 use Rattle.std.specs.Prelude.{unwrap_or}

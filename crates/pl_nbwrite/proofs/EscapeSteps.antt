@@ -1,13 +1,12 @@
 -- How texts and titles are escaped, character by character.
-use Rattle.std.proofs.Common.{◌≡◌, ◌≢◌, ◌∙◌, ◌<◌, ◌≤◌, ℕ, suc, List, [], ◌∷◌, ◌++◌, ⊎_elim}
-use Rattle.std.proofs.Common.{ap, append-nil, append_assoc, arith, get_or, length, map, refl, sym}
-use Rattle.std.specs.Prelude.{chars, codes, encode_utf8, encode_utf8_all}
-use Rattle.std.specs.Str.{IsUtf8}
-use Rattle.std.proofs.lemmas.Bool.{cases_lt, ne_eqb}
+use Rattle.std.proofs.Common.{◌≡◌, ◌≢◌, ◌∙◌, ◌<◌, ◌≤◌, ℕ, List, [], ◌∷◌, ◌++◌}
+use Rattle.std.proofs.Common.{ap, append-nil, append_assoc, arith, refl, sym}
+use Rattle.std.specs.Prelude.{codes, encode_utf8}
+use Rattle.std.proofs.lemmas.Bool.{ne_eqb}
 use Rattle.std.proofs.lemmas.Grind.{flat_map-append}
-use Rattle.std.proofs.lemmas.List.{map-id}
-use Rattle.std.proofs.lemmas.Str.{encode_ascii, encodes-append, encodes-chars, inside_one}
+use Rattle.std.proofs.lemmas.Str.{encode_ascii}
 use Rattle.pl_base.specs.Tags.{comma_joined}
+use Rattle.pl_words.proofs.WrittenBytes.{written-plain}
 use Rattle.pl_nbwrite.specs.BookmarkText.{edge, escape, escaped, title_end, title_text}
 use Rattle.pl_nbwrite.specs.Written.{comma_before}
 
@@ -34,40 +33,12 @@ escape-high b high =
     escape-plain b (omega arith) (omega arith) (omega arith) (omega arith) (omega arith) (omega arith) (omega arith)
     (omega arith) (omega arith)
 
-pub escaped-high : (bytes : List ℕ) → ((k : ℕ) → k < length bytes → 128 ≤ get_or bytes k 0) → escaped bytes ≡ bytes
-escaped-high [] high = refl
-escaped-high (b ∷ bytes) high =
-    ap (λ (x : List ℕ). x ++ escaped bytes) (escape-high b (high 0 (omega arith)))
-    ∙ ap (λ (more : List ℕ). b ∷ more) (escaped-high bytes (λ k within. high (suc k) (omega arith)))
-
 -- a character that is not escaped is written as it is
 pub escaped-plain : (c : ℕ) → escape c ≡ c ∷ [] → escaped (encode_utf8 c) ≡ encode_utf8 c
-escaped-plain c plain =
-    ⊎_elim
-    (λ low. let one = encode_ascii c low in
-    ap escaped one ∙ ap (λ (e : List ℕ). e ++ []) plain ∙ sym one)
-    (λ high. escaped-high (encode_utf8 c) (λ k within.
-    ⊎_elim
-    (λ low. let same = inside_one c [] (encode_utf8 c) k (sym (append-nil (encode_utf8 c))) within low in
-    absurd (omega arith))
-    (λ far. far) (cases_lt (get_or (encode_utf8 c) k 0) 128)))
-    (cases_lt c 128)
+escaped-plain c plain = written-plain escape escape-high c plain
 
 pub escaped-low : (c : ℕ) → c < 128 → escaped (encode_utf8 c) ≡ escape c
 escaped-low c low = ap escaped (encode_ascii c low) ∙ append-nil (escape c)
-
--- one character more
-pub escaped-push : (cs : List ℕ) (c : ℕ)
-    → escaped (encode_utf8_all (cs ++ c ∷ [])) ≡ escaped (encode_utf8_all cs) ++ escaped (encode_utf8 c)
-escaped-push cs c =
-    ap escaped (encodes-append cs (c ∷ []) ∙ ap (λ (more : List ℕ). encode_utf8_all cs ++ more) (append-nil (encode_utf8 c)))
-    ∙ flat_map-append escape (encode_utf8_all cs) (encode_utf8 c)
-
--- all characters
-pub escaped-chars : (text cs : List ℕ) → IsUtf8 text → map (λ (c : ℕ). c) cs ≡ chars text
-    → escaped (encode_utf8_all cs) ≡ escaped text
-escaped-chars text cs utf8 all =
-    ap (λ (l : List ℕ). escaped (encode_utf8_all l)) (sym (map-id cs) ∙ all) ∙ ap escaped (encodes-chars text utf8)
 
 -- ---- titles
 

@@ -1,4 +1,5 @@
--- The import of a tree into the store before its first command gives a store with the same nodes, their tags aside.
+-- The import of a tree into the store before its first command gives a store with the same nodes,
+-- their tags aside.
 use Rattle.std.proofs.Common.{◌≡◌, ◌≢◌, ◌∙◌, ◌<◌, ◌++◌, ◌⊎◌, ℕ, List, ap, arith, inl, inr, map, refl, sym}
 use Rattle.std.proofs.lemmas.List.Elements.{All-from_recursion, All-nil}
 use Rattle.pl_base.specs.Store.{Item, Page, Store, item_id, opening, roots}

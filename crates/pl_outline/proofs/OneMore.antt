@@ -64,8 +64,8 @@ grown p id i = if i.id.0 == p.0 then record i { children = put End id i.children
 abbrev pub more : ItemId → ItemId → Item → List Item → List Item
 more p id new items = with_child p End id items ++ new ∷ []
 
--- a folder on the way down to the one with a child more, and its last child, which is the next on the way; `R` holds
--- of its other children
+-- a folder on the way down to the one with a child more, and its last child, which is the next on
+-- the way; `R` holds of its other children
 pub record LeadsTo (items : List Item) (p id : ItemId) (R : ItemId → Type 0) (root f : ItemId) : Type 0 where
   pub front : List ItemId
   pub is : children_of items root ≡ front ++ f ∷ []

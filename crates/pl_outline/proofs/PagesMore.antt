@@ -10,7 +10,6 @@ use Rattle.std.proofs.lemmas.Bool.{eqb-true, false_from_ne_true, ne_eqb, true≢
 use Rattle.std.proofs.lemmas.List.{map_push}
 use Rattle.std.proofs.lemmas.List.Elements.{All-from_recursion, All-map, All-push, All-weaker, recursion_from_All}
 use Rattle.std.proofs.lemmas.List.Folds.{find-append}
-use Rattle.std.proofs.lemmas.List.Kept.{AllPairs-from_increasing}
 use Rattle.std.proofs.lemmas.List.Quantifiers.{all_pairs_push}
 use Rattle.std.proofs.lemmas.Option.{none-some, same_Some}
 use Rattle.std.proofs.lemmas.Slice.Eq.{bytes_eq-Decides}
@@ -23,7 +22,8 @@ use Rattle.pl_base.specs.Tree.{child_items, children_of, is_page, item_at}
 use Rattle.pl_base.specs.Visiting.{find_page, new_page, page_for, with_page_for}
 use Rattle.pl_base.proofs.IdsLaws.{same_page}
 use Rattle.pl_base.proofs.ListLaws.{list_any-map, weaker}
-use Rattle.pl_base.proofs.LookUps.{Apart, any_none, apart_ascending, both, found_holds, found_passes}
+use Rattle.pl_base.proofs.LookUps.{Apart, any_none, both, found_holds, found_passes, none_found}
+use Rattle.pl_base.proofs.LookUps.{apart_increasing}
 use Rattle.pl_base.proofs.Truths.{same_tests}
 use Rattle.pl_tree.proofs.GoodStores.{ascends_push}
 use Rattle.pl_graft.specs.Ready.{IsReady}
@@ -32,17 +32,6 @@ use Rattle.pl_outline.proofs.Bare.{HasPages}
 use Rattle.pl_outline.proofs.TagMarks.{marks}
 
 -- ---- tests
-
-none_left : {X : Type 0} (test : X → Bool) (xs : List X) → find test xs ≡ None
-    → AllByRecursion (λ x. test x ≡ false) xs
-none_left test [] none = tt
-none_left test (x ∷ xs) none = choose (test x) refl none (none_left test xs)
-  where
-    choose : (b : Bool) → test x ≡ b → (if b then Some x else find test xs) ≡ None
-        → (find test xs ≡ None → AllByRecursion (λ y. test y ≡ false) xs)
-        → AllByRecursion (λ y. test y ≡ false) (x ∷ xs)
-    choose true is here rest = absurd (none-some x (sym here))
-    choose false is here rest = (is, rest here)
 
 -- two that are found are one where their keys are
 one_found : {X : Type 0} (key : X → ℕ) (p q : X → Bool) (xs : List X) (a b : X) → Apart key xs → find p xs ≡ Some a
@@ -65,8 +54,7 @@ one_found {X} key p q (x ∷ xs) a b apart first second same =
 module _ (store : Store) (h : HasPages store) where
   pub page_ids : Apart (λ (p : Page). p.id.0) store.pages
   page_ids =
-      apart_ascending (λ (p : Page). p.id.0) store.pages
-      (AllPairs-from_increasing (map (λ (p : Page). p.id.0) store.pages) h.ascending)
+      apart_increasing (λ (p : Page). p.id.0) store.pages h.ascending
 
   below : AllByRecursion (λ (p : Page). p.id.0 < store.ids.page) store.pages
   below = recursion_from_All (λ (p : Page). p.id.0 < store.ids.page) store.pages h.below
@@ -180,7 +168,7 @@ module _ (store : Store) (url : List ℕ) where
                 (All-from_recursion (λ (p : Page). p.url ≢ url) store.pages
                 (weaker (λ (p : Page). bytes_eq p.url url ≡ false) (λ (p : Page). p.url ≢ url) store.pages
                 (λ p other same. true≢false (sym ((bytes_eq-Decides p.url url).1 same) ∙ other))
-                (none_left (λ (p : Page). bytes_eq p.url url) store.pages none)));
+                (none_found (λ (p : Page). bytes_eq p.url url) store.pages none)));
           }
 
   -- the page is found then

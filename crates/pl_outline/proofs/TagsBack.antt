@@ -1,4 +1,5 @@
--- An import of a store's bookmarks into the store before its first command gives each page the tags that it had.
+-- An import of a store's bookmarks into the store before its first command gives each page the tags
+-- that it had.
 use Rattle.std.proofs.Common.{◌≡◌, ◌∙◌, ◌⊎◌, ◌<◌, ◌&&◌, ◌||◌, inl, inr, ℕ, All, Bool, true, false}
 use Rattle.std.proofs.Common.{List, [], ◌∷◌, Option, Some, None, ap, arith, bytes_eq, filter, if◌then◌else◌}
 use Rattle.std.proofs.Common.{map, refl, subst, sym}

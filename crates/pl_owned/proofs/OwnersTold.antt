@@ -1,4 +1,5 @@
--- What is told of owners whose links may name anything: each is a slot, which has a list among those of all owners.
+-- What is told of owners whose links may name anything: each is a slot, which has a list among
+-- those of all owners.
 use Rattle.std.proofs.Common.{◌≡◌, ◌∙◌, ◌+◌, ◌*◌, ◌<◌, ◌≤◌, ◌∷◌, [], ◌++◌, ℕ, List, ap, arith}
 use Rattle.std.proofs.Common.{get_or, IsSome, is_some, length, None, Option, refl, Some, subst}
 use Rattle.std.proofs.Common.{suc, sym, take, true, zero}

@@ -56,8 +56,8 @@ nothing_asked : canonical plain ≡ codes "place:"
 unfolding plain
 nothing_asked = refl
 
--- times count from a reference, and a reference 0 is not written; each byte of a word that is no letter or digit and
--- none of `-_.~` is escaped
+-- times count from a reference, and a reference 0 is not written; each byte of a word that is no
+-- letter or digit and none of `-_.~` is escaped
 words_of_last_days : canonical (record plain {
   begin_time = Some (negsuc 4);
   begin_ref = Today;

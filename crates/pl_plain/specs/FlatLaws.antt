@@ -137,5 +137,6 @@ pub based : (flat : Flat) → (bytes : List ℕ) × IsBase flat bytes
 based flat = ([], refl)
 
 -- the form says nothing of them
-pub stands : (flat : Flat) → IsSound (kept_of flat) → StandsForAny (bytes_of flat) (store_of (kept_of flat))
+pub stands : (flat : Flat) → IsSound (kept_of flat)
+    → StandsForAny (bytes_of flat) (store_of (kept_of flat))
 stands flat sound = tt

@@ -1,13 +1,13 @@
--- The rows of all pages, one page behind the other: they are those of the definition in another order.
+-- The rows of all pages, one page behind the other: they are those of the definition in another
+-- order.
 use Rattle.std.proofs.Common.{◌≡◌, ◌≢◌, ◌∙◌, ◌++◌, ◌&&◌, ◌||◌, ◌==◌, ℕ, Bool, true, false, List, [], ◌∷◌, Option}
 use Rattle.std.proofs.Common.{Some, None, ap, filter, find, if◌then◌else◌, map, not, refl, subst, sym}
 use Rattle.std.specs.List.{AllByRecursion, AllPairs, flat_map, list_any}
-use Rattle.std.specs.List.Sorted.{IsPermutation, IsStrictlyIncreasing}
+use Rattle.std.specs.List.Sorted.{IsPermutation}
 use Rattle.std.specs.Option.{option_and_then, option_map, option_to_list}
 use Rattle.std.proofs.lemmas.Bool.{eq-eqb, eqb-true, false≢true, ne_eqb}
 use Rattle.std.proofs.lemmas.Grind.{flat_map-append}
 use Rattle.std.proofs.lemmas.List.{append-nil, map-append}
-use Rattle.std.proofs.lemmas.List.Kept.{AllPairs-from_increasing}
 use Rattle.std.proofs.lemmas.List.Sorted.{IsPermutation-trans}
 use Rattle.pl_base.specs.declared.id.PageId.{PageId}
 use Rattle.pl_base.specs.Marks.{last_date_of}
@@ -19,7 +19,7 @@ use Rattle.pl_base.specs.Tree.{is_page, item_at}
 use Rattle.pl_base.specs.Visits.{is_later, visits_of}
 use Rattle.pl_base.proofs.IdsLaws.{same_page}
 use Rattle.pl_base.proofs.ListLaws.{all-filter, to_map, weaker}
-use Rattle.pl_base.proofs.LookUps.{Apart, apart_ascending, found_self, where_passes}
+use Rattle.pl_base.proofs.LookUps.{Apart, apart_increasing, found_self, where_passes}
 use Rattle.pl_base.proofs.PageLaws.{pages_apart}
 use Rattle.pl_base.proofs.ReferencesRun.{having, items_found}
 use Rattle.pl_base.proofs.VisitsRun.{IsVisitOf, visits_stand}
@@ -373,9 +373,6 @@ store_pages_apart [] apart = tt
 store_pages_apart (p ∷ ps) apart =
     (to_map (λ (w : Page). w.id.0 ≢ p.page.id.0) (λ (k : KeptPage). k.page) ps apart.0, store_pages_apart ps apart.1)
 
-apart_by : {X : Type 0} (key : X → ℕ) (xs : List X) → IsStrictlyIncreasing (map key xs) → Apart key xs
-apart_by key xs up = apart_ascending key xs (AllPairs-from_increasing (map key xs) up)
-
 rows_apart : (query_type : QueryType) (result_type : ResultType) (kept : Kept) (q : Query) → IsWellKept kept
     → Apart (λ (r : Row). r.id) (rows_of query_type result_type (store_of kept) q)
 rows_apart History Pages kept q h =
@@ -385,13 +382,13 @@ rows_apart History Pages kept q h =
     (store_of kept).pages (store_pages_apart kept.pages (pages_apart kept h))
 rows_apart History Visits kept q h =
     apart_there (visit_there kept q) (λ (v : Visit). v.id.0) (λ (r : Row). r.id) (visit_id kept q) kept.visits
-    (apart_by (λ (v : Visit). v.id.0) kept.visits h.visit_ids.ascending)
+    (apart_increasing (λ (v : Visit). v.id.0) kept.visits h.visit_ids.ascending)
 rows_apart Bookmarks Pages kept q h =
     apart_there (mark_there kept q) (λ (i : Item). i.id.0) (λ (r : Row). r.id) (mark_id kept q) kept.items
-    (apart_by (λ (i : Item). i.id.0) kept.items h.item_ids.ascending)
+    (apart_increasing (λ (i : Item). i.id.0) kept.items h.item_ids.ascending)
 rows_apart Bookmarks Visits kept q h =
     apart_there (mark_there kept q) (λ (i : Item). i.id.0) (λ (r : Row). r.id) (mark_id kept q) kept.items
-    (apart_by (λ (i : Item). i.id.0) kept.items h.item_ids.ascending)
+    (apart_increasing (λ (i : Item). i.id.0) kept.items h.item_ids.ascending)
 
 pub rows_differ : (query_type : QueryType) (result_type : ResultType) (kept : Kept) (q : Query) → IsWellKept kept
     → AllPairs (λ (r s : Row). r.id ≢ s.id) (rows_of query_type result_type (store_of kept) q)

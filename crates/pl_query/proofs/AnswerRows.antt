@@ -1,4 +1,5 @@
--- Worked rows of the order of answers: the definitions compute to values that were worked out by hand.
+-- Worked rows of the order of answers: the definitions compute to values that were worked out by
+-- hand.
 use Rattle.std.proofs.Common.{◌≡◌, ℕ, List, [], ◌∷◌, Option, Some, None, false, map, refl, true}
 use Rattle.std.specs.Prelude.{ℤ, codes, pos}
 use Rattle.std.specs.declared.cmp.Ordering.TheVariants.{Less, Equal, Greater}

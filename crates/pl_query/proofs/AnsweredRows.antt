@@ -5,8 +5,8 @@ use Rattle.std.specs.List.{AllByRecursion, AllPairs}
 use Rattle.std.specs.List.Sorted.{IsPermutation}
 use Rattle.std.specs.Option.{option_map}
 use Rattle.std.proofs.lemmas.List.{map-append, map_more, take-map}
-use Rattle.std.proofs.lemmas.List.Elements.{All-from_recursion, All-take, recursion_from_All}
-use Rattle.std.proofs.lemmas.List.Sorted.{All-permutation, IsPermutation-map, IsPermutation-sym}
+use Rattle.std.proofs.lemmas.List.Elements.{All-from_recursion}
+use Rattle.std.proofs.lemmas.List.Sorted.{IsPermutation-map, IsPermutation-sym}
 use Rattle.pl_base.specs.declared.date.Micros.{Micros}
 use Rattle.pl_base.specs.Frecency.{frecency_of}
 use Rattle.pl_base.specs.Marks.{visit_count}
@@ -14,8 +14,8 @@ use Rattle.pl_base.specs.Rows.{IsWellKept, Kept, store_of}
 use Rattle.pl_base.specs.Sorting.{sorted_by}
 use Rattle.pl_base.specs.Store.{Store}
 use Rattle.pl_base.specs.Tags.{tag_text}
-use Rattle.pl_base.proofs.ListLaws.{AllPairs-map, to_map, weaker}
-use Rattle.pl_base.proofs.SortLaws.{all_sorted}
+use Rattle.pl_base.proofs.ListLaws.{AllPairs-map, all_take, same_somes, to_map, weaker}
+use Rattle.pl_base.proofs.SortLaws.{all_moved, all_sorted}
 use Rattle.pl_place.specs.declared.query.Query.{Query}
 use Rattle.pl_query.specs.declared.ordering.Candidate.{Candidate}
 use Rattle.pl_query.specs.declared.result_row.ResultRow.{ResultRow}
@@ -39,9 +39,6 @@ limited_map {X = X} {Y = Y} f most xs = choose (most == 0)
     choose true = refl
     choose false = take-map f most xs
 
-pub all_take : {X : Type 0} (P : X → Type 0) (n : ℕ) (xs : List X) → AllByRecursion P xs → AllByRecursion P (take n xs)
-all_take P n xs all = recursion_from_All P (take n xs) (All-take P n xs (All-from_recursion P xs all))
-
 all_limited : {X : Type 0} (P : X → Type 0) (most : ℕ) (xs : List X) → AllByRecursion P xs
     → AllByRecursion P (limited most xs)
 all_limited P most xs all = choose (most == 0)
@@ -49,20 +46,6 @@ all_limited P most xs all = choose (most == 0)
     choose : (b : Bool) → AllByRecursion P (if b then xs else take most xs)
     choose true = all
     choose false = all_take P most xs all
-
-some_alike : {X : Type 0} (xs ys : List X) → map Some xs ≡ map Some ys → xs ≡ ys
-some_alike [] [] same = refl
-some_alike [] (y ∷ ys) same = absurd (cc)
-some_alike (x ∷ xs) [] same = absurd (cc)
-some_alike (x ∷ xs) (y ∷ ys) same =
-    let first : x ≡ y = cc in
-    let rest : map Some xs ≡ map Some ys = cc in
-    rw (first, some_alike xs ys rest) refl
-
-moved_all : {X : Type 0} (P : X → Type 0) (xs ys : List X) → IsPermutation xs ys → AllByRecursion P xs
-    → AllByRecursion P ys
-moved_all P xs ys moves all =
-    recursion_from_All P ys (All-permutation P xs ys moves (All-from_recursion P xs all))
 
 -- ---- the candidates of a query
 
@@ -120,7 +103,7 @@ module _ (kept : Kept) (q : Query) (h : IsWellKept kept) where
       all_limited (IsThere (subject_in q) kept) q.max_results
       (sorted_by (comes_before (store_of kept) q.sort) (wanted_in kept q))
       (all_sorted (comes_before (store_of kept) q.sort) (IsThere (subject_in q) kept) (wanted_in kept q)
-      (moved_all (IsThere (subject_in q) kept) (parts_in kept q) (wanted_in kept q)
+      (all_moved (IsThere (subject_in q) kept) (parts_in kept q) (wanted_in kept q)
       (IsPermutation-sym (wanted_in kept q) (parts_in kept q) (rows_moved q.query_type q.result_type kept q h))
       (parts_there q.query_type q.result_type kept q h)))
 
@@ -142,7 +125,7 @@ module _ (kept : Kept) (q : Query) (h : IsWellKept kept) where
       ≡ map (λ (c : Candidate). option_map (told_row (store_of kept)) (row_at kept c.subject)) cut
       → told ≡ map (told_row (store_of kept)) (answer (store_of kept) q)
   told_are cut told is each =
-      some_alike told (map (told_row (store_of kept)) (answer (store_of kept) q))
+      same_somes told (map (told_row (store_of kept)) (answer (store_of kept) q))
       (each ∙ ap (map (λ (c : Candidate). option_map (told_row (store_of kept)) (row_at kept c.subject))) is
       ∙ tell (answer (store_of kept) q) answer_there)
     where

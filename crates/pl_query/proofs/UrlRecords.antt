@@ -1,5 +1,5 @@
 -- What a URL tells of its record: the host without its port, and whether it holds a query.
-use Rattle.std.proofs.Common.{◌≡◌, ◌∙◌, ◌+◌, ◌-◌, ◌<◌, ◌^◌, ◌==◌, ◌&&◌, ◌||◌, ◌++◌, not, ℕ, Bool}
+use Rattle.std.proofs.Common.{◌≡◌, ◌∙◌, ◌+◌, ◌^◌, ◌==◌, ◌&&◌, ◌||◌, ◌++◌, not, ℕ, Bool}
 use Rattle.std.proofs.Common.{true, false, cond, List, [], ◌∷◌, All, None, Option, Some, Ok, Err}
 use Rattle.std.proofs.Common.{ap, append-nil, arith, decimal, drop, get_or, nat_lt, refl}
 use Rattle.std.proofs.Common.{subst, sym, take, unwrap_or, if◌then◌else◌, lit<, is_some}
@@ -41,12 +41,12 @@ use Rattle.url.proofs.InputLemmas.{IsNot, rsplit_once_at, rsplit_once_none}
 use Rattle.url.proofs.SetLemmas.{All_kept_differs}
 use Rattle.url.proofs.SchemeLemmas.{IsScheme_file, scheme_at_front}
 use Rattle.url.proofs.RoundTrip.{split_own_scheme}
+use Rattle.pl_base.proofs.ListLaws.{starts_with-append}
 use Rattle.pl_base.proofs.Truths.{same_tests}
 use Rattle.pl_base.specs.Address.{host_and_port, is_place, record_of}
 use Rattle.pl_base.proofs.Numerals.{decimal_numeral, digits_from_numeral}
 use Rattle.pl_link.proofs.HostCases.{HoldsOfEach, by_test, file_host_holds, host_holds}
 use Rattle.pl_link.proofs.HostCases.{octets_small, ok_then, past_error, same_ok}
-use Rattle.pl_link.proofs.PartsLemmas.{starts_with-append}
 use Rattle.pl_place.specs.PlaceText.{place_prefix}
 use Rattle.pl_query.specs.Decides.{before_port, host_alone}
 

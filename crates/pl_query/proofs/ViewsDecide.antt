@@ -22,7 +22,7 @@ use Rattle.pl_base.specs.View.{IsViewOf}
 use Rattle.pl_base.specs.Visits.{latest_first, visits_of}
 use Rattle.pl_base.proofs.ListLaws.{list_all-alike, list_any-alike}
 use Rattle.pl_base.proofs.OriginLaws.{store_url-from_canon}
-use Rattle.pl_base.proofs.Truths.{no_length, same_tests}
+use Rattle.pl_base.proofs.Truths.{no_length, none_there, same_tests}
 use Rattle.pl_base.proofs.VisitLists.{any-latest_first}
 use Rattle.pl_place.specs.declared.query.Query.{Query}
 use Rattle.pl_place.specs.PlaceText.{place_prefix}
@@ -162,10 +162,6 @@ record AsksViews (q : Query) : Type 0 where
   end : q.end_time ≡ None
   transitions : q.transitions ≡ []
   parents : q.parents ≡ []
-
-none_there : {A : Type 0} (o : Option A) → is_none o ≡ true → o ≡ None
-none_there None none = refl
-none_there (Some x) none = absurd (cc)
 
 asks_views : (q : Query) → is_watchable q ≡ true → AsksViews q
 asks_views q watchable =

@@ -2,6 +2,7 @@
 use Rattle.std.proofs.Common.{◌≡◌, ◌≢◌, ◌∙◌, ◌==◌, ◌++◌, ◌∷◌, ap, eq-eqb, eqb-true, false, IsSome, is_some, List, Option, refl, Some, subst, sym, true}
 use Rattle.std.proofs.Common.{None, if◌then◌else◌, []}
 use Rattle.std.proofs.lemmas.Bool.{ne_eqb, true≢false}
+use Rattle.std.proofs.lemmas.Option.{same_Some}
 use Rattle.pl_base.specs.declared.id.Slot.{Slot}
 use Rattle.pl_rail.specs.declared.owner.Owner.{Owner}
 use Rattle.pl_rail.specs.declared.owner.Owner.TheVariants as owners
@@ -11,7 +12,7 @@ use Rattle.pl_rail.specs.Rails.{HasMember, HasPlace, Joins, Lists, SetsSide, end
 use Rattle.pl_rail.specs.Rails.{end_in, end_link, last_from, last_of, named, neighbour, none, or_none, side_link, with_end}
 use Rattle.pl_rail.proofs.ChainLaws.{around, place_around, place_links, stands}
 use Rattle.pl_rail.proofs.ListLaws.{all_last, before_in, behind_in, differs_in, first_behind, first_differs, last_differs, last_is}
-use Rattle.pl_rail.proofs.ListLaws.{member_link, member_some, members_some, named_first, same_slot}
+use Rattle.pl_rail.proofs.ListLaws.{member_link, member_some, members_some, named_first}
 use Rattle.pl_rail.proofs.Rings.{Differ, Ends, Named, differ_parts}
 use Rattle.pl_rail.proofs.SideLaws.{at_end, at_link, end_by_header, end_by_link, numbered, one_side, other_number, side_by_link}
 use Rattle.pl_sheets.specs.Sheets.{Pages, page_count}
@@ -30,7 +31,7 @@ pub first_told : (rail : Rail) (owner : Owner) (pages : Pages) (slot : Slot) (sl
     → end_at Behind rail owner pages ≡ Some slot → Lists rail owner slots pages → named slot ≡ first_of slots
 first_told rail owner pages slot slots read lists =
     named_first slots slot (members_some rail owner pages slots lists.members)
-    (same_slot slot (or_none (first_of slots))
+    (same_Some slot (or_none (first_of slots))
     (sym read ∙ first_behind (behind_in rail owner pages) (before_in rail owner pages) none slots lists.linked))
 
 -- the last slot of a chain names its owner
@@ -49,7 +50,7 @@ pub last_told : (rail : Rail) (owner : Owner) (pages : Pages) (slot : Slot) (slo
     → end_at Before rail owner pages ≡ Some slot → Lists rail owner slots pages → named slot ≡ last_of slots
 last_told rail owner pages slot slots read lists =
     named_last slots slot (members_some rail owner pages slots lists.members)
-    (same_slot slot (last_from none slots)
+    (same_Some slot (last_from none slots)
     (sym read ∙ last_before (behind_in rail owner pages) (before_in rail owner pages) none slots lists.linked)
     ∙ sym (last_is slots))
 
@@ -61,7 +62,7 @@ next_told rail owner pages slot next front back read lists =
     let there : neighbour Behind rail owner pages slot ≡ link_at rail Next slot.0 pages =
     at_link Behind rail owner pages slot (other_number slot none stood.some) in
     named_first back next (members_some rail owner pages back (all_last (is_member rail owner pages) front slot back lists.members))
-    (same_slot next (or_none (first_of back)) (sym read ∙ sym there ∙ stood.goes_on))
+    (same_Some next (or_none (first_of back)) (sym read ∙ sym there ∙ stood.goes_on))
 
 -- a neighbour that is named is there
 pub is_named : (o : Option Slot) (slot : Slot) → o ≡ Some slot → IsSome o

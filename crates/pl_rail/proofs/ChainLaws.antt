@@ -3,6 +3,7 @@ use Rattle.std.proofs.Common.{◌≡◌, ◌≢◌, ◌∙◌, ◌==◌, ◌||�
 use Rattle.std.proofs.Common.{false, inl, inr, Option, refl, Some, subst, sym, true}
 use Rattle.std.specs.Option.{option_and_then}
 use Rattle.std.proofs.lemmas.Bool.{cases_eq, or_parts}
+use Rattle.std.proofs.lemmas.Option.{same_Some}
 use Rattle.pl_base.specs.declared.id.Slot.{Slot}
 use Rattle.pl_rail.specs.declared.owner.Owner.{Owner}
 use Rattle.pl_rail.specs.declared.owner.Side.{Side}
@@ -12,7 +13,7 @@ use Rattle.pl_rail.specs.Rails.{are_apart, first_of, is_in, is_member, last_from
 use Rattle.pl_rail.specs.Rails.{SetsSide, side_link}
 use Rattle.pl_rail.proofs.ListLaws.{all_with, all_without, apart_first, apart_last, apart_member, back_is, before_in}
 use Rattle.pl_rail.proofs.ListLaws.{behind_in, differs_in, first_behind, first_differs, in_front, last_differs, last_is, member_some}
-use Rattle.pl_rail.proofs.ListLaws.{members_some, same_members, same_slot, tail_of}
+use Rattle.pl_rail.proofs.ListLaws.{members_some, same_members, tail_of}
 use Rattle.pl_rail.proofs.Rings.{AreSame, Differ, Ends, Named, With, Without, before_member, differ_parts, from_member}
 use Rattle.pl_rail.proofs.Rings.{kept_links, once, once_in_front, parted, with_member, without}
 use Rattle.pl_rail.proofs.SideLaws.{at_link, one_side, only_then, other_side, rest_then}
@@ -137,8 +138,8 @@ pub around : (f b : Named) (front : List Slot) (slot : Slot) (back : List Slot) 
     → Stands f b front slot back → b slot ≡ Some before → f slot ≡ Some behind
     → (last_from none front ≡ before) × (or_none (first_of back) ≡ behind)
 around f b front slot back before behind stood read_before read_behind = (
-  same_slot (last_from none front) before (sym stood.forth_back ∙ read_before),
-  same_slot (or_none (first_of back)) behind (sym stood.goes_on ∙ read_behind),
+  same_Some (last_from none front) before (sym stood.forth_back ∙ read_before),
+  same_Some (or_none (first_of back)) behind (sym stood.goes_on ∙ read_behind),
 )
 
 pub unlinked : (rail : Rail) (owner : Owner) (slot before behind : Slot) (front back : List Slot) (old new : Pages)
@@ -364,7 +365,7 @@ place_around rail owner front back after behind old lists last read =
     let before_is : last_from none front ≡ or_none after = sym (last_is front) ∙ ap or_none last in
     let on : Ends f b (last_from none front) back = on_from f b front back lists.linked in
     let behind_is : or_none (first_of back) ≡ behind =
-    same_slot (or_none (first_of back)) behind
+    same_Some (or_none (first_of back)) behind
     (sym (first_behind f b (last_from none front) back on) ∙ ap f before_is ∙ read) in (
       before_is,
       behind_is,

@@ -102,9 +102,6 @@ one_list rail owner xs ys pages to_xs to_ys =
 
 -- ---- first, next and last
 
-pub same_slot : (a b : Slot) → Some a ≡ Some b → a ≡ b
-same_slot a b same = cc
-
 -- behind the owner is the first one, or the owner
 pub first_behind : (f b : Named) (a : Slot) (xs : List Slot) → Ends f b a xs → f a ≡ Some (or_none (first_of xs))
 first_behind f b a [] linked = linked.0

@@ -1,6 +1,8 @@
--- Lists of slots that are linked in a ring, from the slot 0 along others and back to it, whatever the links are.
+-- Lists of slots that are linked in a ring, from the slot 0 along others and back to it, whatever
+-- the links are.
 use Rattle.std.proofs.Common.{◌≡◌, ◌≢◌, ◌∙◌, ◌≤◌, ◌∷◌, [], ◌++◌, ℕ, List, Option, Some, ap, arith}
 use Rattle.std.proofs.Common.{length, refl, subst, suc, sym}
+use Rattle.std.proofs.lemmas.Option.{same_Some}
 use Rattle.pl_base.specs.declared.id.Slot.{Slot}
 use Rattle.pl_rail.specs.Rails.{AreLinked, last_from, none}
 
@@ -15,9 +17,6 @@ Ends f b a xs = AreLinked f b a (xs ++ none ∷ [])
 abbrev pub Differ : Slot → List Slot → Type 0
 Differ a [] = Unit {0}
 Differ a (x ∷ xs) = (x ≢ a) × Differ a xs
-
-some_same : (a b : Slot) → Some a ≡ Some b → a ≡ b
-some_same a b same = cc
 
 -- ---- parts
 
@@ -50,11 +49,11 @@ pub one : (f b : Named) (a : Slot) (xs ys : List Slot) → Ends f b a xs → Dif
     → xs ≡ ys
 one f b a [] [] to_xs some_xs to_ys some_ys = refl
 one f b a [] (y ∷ ys) to_xs some_xs to_ys some_ys =
-    absurd (some_ys.0 (some_same y none (sym to_ys.0 ∙ to_xs.0)))
+    absurd (some_ys.0 (same_Some y none (sym to_ys.0 ∙ to_xs.0)))
 one f b a (x ∷ xs) [] to_xs some_xs to_ys some_ys =
-    absurd (some_xs.0 (some_same x none (sym to_xs.0 ∙ to_ys.0)))
+    absurd (some_xs.0 (same_Some x none (sym to_xs.0 ∙ to_ys.0)))
 one f b a (x ∷ xs) (y ∷ ys) to_xs some_xs to_ys some_ys =
-    let same : x ≡ y = some_same x y (sym to_xs.0 ∙ to_ys.0) in
+    let same : x ≡ y = same_Some x y (sym to_xs.0 ∙ to_ys.0) in
     let from_y : Ends f b y xs = subst (λ k. Ends f b k xs) same to_xs.2 in
     ap (λ k. k ∷ xs) same ∙ ap (λ l. y ∷ l) (one f b y xs ys from_y some_xs.1 to_ys.2 some_ys.1)
 
@@ -115,8 +114,8 @@ pub record Without (f b : Named) (g c : Named) (p m q : Slot) : Type 0 where
 pair_without : (f b g c : Named) (p m q : Slot) → Without f b g c p m q → (a x : Slot) → f a ≡ Some x → b x ≡ Some a
     → a ≢ m → x ≢ m → (g a ≡ Some x) × (c x ≡ Some a)
 pair_without f b g c p m q gone a x forth back apart_a apart_x = (
-  gone.behind a (λ same. apart_x (some_same x m (sym forth ∙ ap f same ∙ gone.forth))) apart_a ∙ forth,
-  gone.before x (λ same. apart_a (some_same a m (sym back ∙ ap b same ∙ gone.back))) apart_x ∙ back,
+  gone.behind a (λ same. apart_x (same_Some x m (sym forth ∙ ap f same ∙ gone.forth))) apart_a ∙ forth,
+  gone.before x (λ same. apart_a (same_Some a m (sym back ∙ ap b same ∙ gone.back))) apart_x ∙ back,
 )
 
 kept_without : (f b g c : Named) (p m q : Slot) → Without f b g c p m q → (a : Slot) (xs : List Slot)
@@ -150,7 +149,7 @@ pub record With (f b : Named) (g c : Named) (p m q : Slot) : Type 0 where
 pair_with : (f b g c : Named) (p m q : Slot) → With f b g c p m q → (a x : Slot) → f a ≡ Some x → b x ≡ Some a
     → a ≢ m → x ≢ m → x ≢ q → (g a ≡ Some x) × (c x ≡ Some a)
 pair_with f b g c p m q come a x forth back apart_a apart_x other = (
-  come.behind a (λ same. other (some_same x q (sym forth ∙ ap f same ∙ come.forth))) apart_a ∙ forth,
+  come.behind a (λ same. other (same_Some x q (sym forth ∙ ap f same ∙ come.forth))) apart_a ∙ forth,
   come.before x other apart_x ∙ back,
 )
 

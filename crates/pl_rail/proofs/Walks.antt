@@ -6,13 +6,14 @@ use Rattle.std.specs.List.{IsDistinct, list_all}
 use Rattle.std.specs.Option.{option_and_then, option_map}
 use Rattle.std.proofs.lemmas.Bool.{and_from, and_parts}
 use Rattle.std.proofs.lemmas.List.{append-nil}
+use Rattle.std.proofs.lemmas.Option.{same_Some}
 use Rattle.pl_base.specs.declared.id.Slot.{Slot}
 use Rattle.pl_rail.specs.declared.owner.Owner.{Owner}
 use Rattle.pl_rail.specs.declared.owner.Owner.TheVariants as owners
 use Rattle.pl_rail.specs.declared.owner.Side.TheVariants.{Before, Behind}
 use Rattle.pl_rail.specs.Rails.{AreLinked, IsBetween, Lists, end_at, first_of, is_member, last_from}
 use Rattle.pl_rail.specs.Rails.{none, or_none, last_of}
-use Rattle.pl_rail.proofs.ListLaws.{all_with, before_in, behind_in, first_behind, members_some, same_slot}
+use Rattle.pl_rail.proofs.ListLaws.{all_with, before_in, behind_in, first_behind, members_some}
 use Rattle.pl_rail.proofs.MemberCount.{differ_numbers, distinct_few, numbers}
 use Rattle.pl_rail.proofs.Rings.{Differ, Ends, Named, once, together}
 use Rattle.pl_rail.proofs.SideLaws.{at_end}
@@ -147,9 +148,9 @@ record GoesOn (f b : Named) (a : Slot) (met xs : List Slot) : Type 0 where
 goes_on : (f b : Named) (a : Slot) (met xs : List Slot) → AreLinked f b a met → Differ none met → Ends f b a xs
     → Differ none xs → GoesOn f b a met xs
 goes_on f b a [] xs walked some ends others = record { rest = xs; whole = refl; ends = ends }
-goes_on f b a (x ∷ met) [] walked some ends others = absurd (some.0 (same_slot x none (sym walked.0 ∙ ends.0)))
+goes_on f b a (x ∷ met) [] walked some ends others = absurd (some.0 (same_Some x none (sym walked.0 ∙ ends.0)))
 goes_on f b a (x ∷ met) (y ∷ xs) walked some ends others =
-    let same : y ≡ x = same_slot y x (sym ends.0 ∙ walked.0) in
+    let same : y ≡ x = same_Some y x (sym ends.0 ∙ walked.0) in
     let from_x : Ends f b x xs = subst (λ k. Ends f b k xs) same ends.2 in
     let on = goes_on f b x met xs walked.2 some.1 from_x others.1 in
     record { rest = on.rest; whole = ap (λ k. k ∷ xs) same ∙ ap (λ l. x ∷ l) on.whole; ends = on.ends }
@@ -211,9 +212,9 @@ module _ (rail : Rail) (owner : Owner) (met : List Slot) (last next : Slot) (bef
     where
       from : (rest : List Slot) → Ends (behind_in rail owner pages) (before_in rail owner pages) last rest
           → list_all (is_member rail owner pages) rest ≡ true → ⊥
-      from [] ends members = some (same_slot next none (sym walks.names ∙ ends.0))
+      from [] ends members = some (same_Some next none (sym walks.names ∙ ends.0))
       from (r ∷ rest) ends members =
-          let same : r ≡ next = same_slot r next (sym ends.0 ∙ walks.names) in
+          let same : r ≡ next = same_Some r next (sym ends.0 ∙ walks.names) in
           let between : IsBetween rail owner last r (or_none (first_of rest)) pages = record {
             member = (and_parts (is_member rail owner pages r) (list_all (is_member rail owner pages) rest) members).0;
             back = ends.1;
@@ -246,5 +247,5 @@ module _ (rail : Rail) (owner : Owner) (met : List Slot) (last next : Slot) (bef
       from : (rest : List Slot) → Ends (behind_in rail owner pages) (before_in rail owner pages) last rest
           → Differ none rest → ⊥
       from [] ends some =
-          other (same_slot told last (sym (at_end Before rail owner pages none refl ∙ read) ∙ ends.1))
-      from (r ∷ rest) ends some = some.0 (same_slot r none (sym ends.0 ∙ walks.names ∙ ap Some named))
+          other (same_Some told last (sym (at_end Before rail owner pages none refl ∙ read) ∙ ends.1))
+      from (r ∷ rest) ends some = some.0 (same_Some r none (sym ends.0 ∙ walks.names ∙ ap Some named))

@@ -1,4 +1,5 @@
--- What a change of pages tells of the bytes that may have been before, and of how many have changed.
+-- What a change of pages tells of the bytes that may have been before, and of how many have
+-- changed.
 use Rattle.std.proofs.Common.{◌≡◌, ◌∙◌, ◌+◌, ◌-◌, ◌<◌, ◌≤◌, ℕ, Bool, List, Some, ap, arith, false, length, sym}
 use Rattle.std.proofs.Common.{◌++◌, ◌==◌, inl, inr}
 use Rattle.std.proofs.lemmas.Bool.{cases_lt, or_parts, true≢false}

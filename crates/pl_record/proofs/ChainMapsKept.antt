@@ -4,6 +4,7 @@ use Rattle.std.proofs.Common.{false, inl, inr, IsSome, is_some, not, refl, subst
 use Rattle.std.specs.List.{list_all}
 use Rattle.std.specs.Option.{option_and_then}
 use Rattle.std.proofs.lemmas.Bool.{and_parts, cases_Bool, not-true, or_cases, or_parts, true≢false}
+use Rattle.std.proofs.lemmas.Option.{same_Some}
 use Rattle.pl_base.specs.declared.id.Slot.{Slot}
 use Rattle.pl_base.proofs.Truths.{is_none_at, no_test}
 use Rattle.pl_record.specs.ChainMap.{AreChains, ChainMap, IsLoose}
@@ -17,7 +18,6 @@ use Rattle.pl_rail.specs.declared.owner.Owner.{Owner}
 use Rattle.pl_rail.specs.declared.owner.Owner.TheVariants.{At, Header}
 use Rattle.pl_rail.specs.declared.owner.Side.TheVariants.{Behind}
 use Rattle.pl_rail.specs.Rails.{KeepsRest, Lists, end_at, none}
-use Rattle.pl_rail.proofs.ListLaws.{same_slot}
 use Rattle.pl_rail.proofs.SideLaws.{numbered}
 use Rattle.pl_sheets.specs.Sheets.{Pages}
 use Rattle.pl_slot.specs.declared.links.Link.{Link}
@@ -100,7 +100,7 @@ unlinked_bare row is r l s named =
   where
     of_named : (o : Option Slot) (s : Slot) → names_none o ≡ true → o ≡ Some s → s ≡ none
     of_named None s zero_is named = absurd (cc)
-    of_named (Some t) s zero_is named = sym (same_slot t s named) ∙ ap numbered (eqb-true t.0 0 zero_is)
+    of_named (Some t) s zero_is named = sym (same_Some t s named) ∙ ap numbered (eqb-true t.0 0 zero_is)
 
 row_bare : (n : ℕ) (row : SlotRow) (pages : Pages) → live_at n pages ≡ Some row → IsBareRow row → IsBare n pages
 row_bare n row pages is bare r l s named =

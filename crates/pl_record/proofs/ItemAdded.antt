@@ -1,5 +1,5 @@
--- Rows with an item more stay rows of a store: the item is a child of its parent, and stands behind all items of its
--- page. Nothing else changes.
+-- Rows with an item more stay rows of a store: the item is a child of its parent, and stands behind
+-- all items of its page. Nothing else changes.
 use Rattle.std.proofs.Common.{◌≡◌, ◌≢◌, ◌+◌, ◌<◌, ◌≤◌, ◌==◌, ◌||◌, ◌++◌, ◌∙◌, ℕ, All, Bool, true, false, IfSome}
 use Rattle.std.proofs.Common.{List, [], ◌∷◌, Option, None, Some, ap, append-nil, arith, eq-eqb, eqb-true, filter}
 use Rattle.std.proofs.Common.{find, if◌then◌else◌, map, refl, subst, sym}

@@ -1,5 +1,5 @@
--- No item stands among the children of two others, nor in the chains of two pages; and one that is no child stands in
--- no chain of children, and one that has no page in no chain of a page's items.
+-- No item stands among the children of two others, nor in the chains of two pages; and one that is
+-- no child stands in no chain of children, and one that has no page in no chain of a page's items.
 use Rattle.std.proofs.Common.{◌≡◌, ◌≢◌, ◌∙◌, ◌==◌, List, Option, Some, None, ap, eq-eqb, eqb-true, find}
 use Rattle.std.proofs.Common.{length, refl, sym, true}
 use Rattle.std.specs.List.{All, AllByRecursion, list_any}

@@ -1,4 +1,5 @@
--- What the slots of a store hold, and how they are chained, with an item more, which has the next id.
+-- What the slots of a store hold, and how they are chained, with an item more, which has the next
+-- id.
 use Rattle.std.proofs.Common.{◌≡◌, ◌∙◌, ◌∷◌, ◌==◌, ◌+◌, ◌++◌, ◌<◌, ◌≤◌, [], ℕ, All, List, None}
 use Rattle.std.proofs.Common.{Option, Some, ap, arith, eqb, false, find, if◌then◌else◌}
 use Rattle.std.proofs.Common.{IfSome, inl, inr, is_some, length, map, refl, subst, sym, true}

@@ -1,5 +1,5 @@
--- Rows without an item that has no children stay rows of a store: it is no child, and none of the items of its page.
--- Nothing else changes.
+-- Rows without an item that has no children stay rows of a store: it is no child, and none of the
+-- items of its page. Nothing else changes.
 use Rattle.std.proofs.Common.{◌≡◌, ◌≢◌, ◌+◌, ◌<◌, ◌==◌, ◌++◌, ◌∙◌, ℕ, All, Bool, true, false, IfSome}
 use Rattle.std.proofs.Common.{List, [], ◌∷◌, Option, None, Some, ap, arith, eq-eqb, eqb-true, filter, find}
 use Rattle.std.proofs.Common.{if◌then◌else◌, map, not, refl, subst, sym}
@@ -7,7 +7,7 @@ use Rattle.std.specs.List.{AllByRecursion, AllPairs}
 use Rattle.std.specs.Option.{option_map}
 use Rattle.std.proofs.lemmas.Bool.{false≢true, ne_eqb}
 use Rattle.std.proofs.lemmas.List.Elements.{All-filter, All-from_recursion, All-map, All-weaker, recursion_from_All}
-use Rattle.std.proofs.lemmas.List.Kept.{AllPairs-from_increasing, IsStrictlyIncreasing-filter}
+use Rattle.std.proofs.lemmas.List.Kept.{IsStrictlyIncreasing-filter}
 use Rattle.std.proofs.lemmas.Map.Views.{any-filter_same}
 use Rattle.pl_base.specs.declared.id.ItemId.{ItemId}
 use Rattle.pl_base.specs.declared.id.PageId.{PageId}
@@ -20,7 +20,7 @@ use Rattle.pl_base.specs.Tree.{children_of, has_child, has_item, is_page, item_a
 use Rattle.pl_base.specs.Tree.{removed, without_id}
 use Rattle.pl_base.proofs.ItemLaws.{count_removed, ids_removed, slots_removed, titles_removed}
 use Rattle.pl_base.proofs.ListLaws.{everyone, filter-map, map-map, weaker}
-use Rattle.pl_base.proofs.LookUps.{apart_ascending, found_one, where_passes}
+use Rattle.pl_base.proofs.LookUps.{apart_increasing, found_one, where_passes}
 use Rattle.pl_base.proofs.OneParent.{is_among}
 use Rattle.pl_record.specs.Form.{AreRows}
 use Rattle.pl_record.proofs.NamedSlots.{found_of}
@@ -179,8 +179,7 @@ module _ (id : ItemId) (kept : Kept) where
       weaker (λ (j : Item). (j.id.0 == id.0) ≡ true → j ≡ i) (λ (j : Item). is_rest id j ≡ false → j.children ≡ [])
       kept.items (λ j same goes. ap (λ (k : Item). k.children) (same (not_false (j.id.0 == id.0) goes)) ∙ alone)
       (found_one (λ (j : Item). j.id.0) id.0 kept.items i
-      (apart_ascending (λ (j : Item). j.id.0) kept.items
-      (AllPairs-from_increasing (map (λ (j : Item). j.id.0) kept.items) h.item_ids.ascending)) here)
+      (apart_increasing (λ (j : Item). j.id.0) kept.items h.item_ids.ascending) here)
 
   -- the slots of the item and of its title go
   pub item_gone_live : (i : Item) → IsWellKept kept → item_at kept.items id ≡ Some i

@@ -1,4 +1,5 @@
--- An item becomes a child of another by a few calls: what these ask for, and what they leave of the rows.
+-- An item becomes a child of another by a few calls: what these ask for, and what they leave of the
+-- rows.
 use Rattle.std.proofs.Common.{◌≡◌, ◌≢◌, ◌∙◌, ◌==◌, ℕ, IfSome, List, None, Option, Some, ap, map, refl}
 use Rattle.std.proofs.Common.{subst, sym, true}
 use Rattle.std.proofs.Props.{props}

@@ -1,4 +1,5 @@
--- The slot of an item that moves: it leaves its parent, and comes among the children of another, or of the same.
+-- The slot of an item that moves: it leaves its parent, and comes among the children of another, or
+-- of the same.
 use Rattle.std.proofs.Common.{◌≡◌, ◌≢◌, ◌∙◌, ◌==◌, ◌||◌, ◌∷◌, ◌++◌, ℕ, Bool, IfSome, IsSome, List, None, Option}
 use Rattle.std.proofs.Common.{Some, ap, arith, cond, eqb-true, false, inl, inr, not, refl, subst, sym, true, []}
 use Rattle.std.specs.Option.{option_map}

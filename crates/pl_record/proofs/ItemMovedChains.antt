@@ -1,5 +1,5 @@
--- The chains of a store's slots where an item becomes a child of another: its slot leaves the children of the parent
--- that it had, and stands among those of the other.
+-- The chains of a store's slots where an item becomes a child of another: its slot leaves the
+-- children of the parent that it had, and stands among those of the other.
 use Rattle.std.proofs.Common.{◌≡◌, ◌∙◌, ◌∷◌, ◌==◌, ◌&&◌, [], All, Bool, IfSome, List, None, Option, Some, ap}
 use Rattle.std.proofs.Common.{eq-eqb, eqb-true, false, find, if◌then◌else◌, ne_eqb, not, refl, subst, sym}
 use Rattle.std.proofs.Common.{true}

@@ -1,5 +1,5 @@
--- Rows where an item is a child of another one than before stay rows of a store: it leaves its parent, and stands among
--- the children of the other. Nothing else changes.
+-- Rows where an item is a child of another one than before stay rows of a store: it leaves its
+-- parent, and stands among the children of the other. Nothing else changes.
 use Rattle.std.proofs.Common.{◌≡◌, ◌≢◌, ◌==◌, ◌∙◌, All, Bool, true, IfSome, List, Option, None, Some, ap, arith}
 use Rattle.std.proofs.Common.{find, if◌then◌else◌, map, not, refl, subst, sym}
 use Rattle.std.specs.List.{AllPairs}

@@ -1,4 +1,5 @@
--- What the slots of a store hold, and how they are chained, where an item becomes a child of another.
+-- What the slots of a store hold, and how they are chained, where an item becomes a child of
+-- another.
 use Rattle.std.proofs.Common.{◌≡◌, ◌≢◌, ◌∙◌, ◌==◌, ◌++◌, ℕ, All, Bool, IfSome, List, None, Option, Some, ap}
 use Rattle.std.proofs.Common.{eq-eqb, eqb, false, if◌then◌else◌, inl, inr, is_some, map, refl, subst}
 use Rattle.std.proofs.Common.{sym, true}

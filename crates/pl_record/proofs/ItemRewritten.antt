@@ -1,4 +1,5 @@
--- The rows of a store in linked slots where the row of one item is written anew, with all but its title and its date.
+-- The rows of a store in linked slots where the row of one item is written anew, with all but its
+-- title and its date.
 use Rattle.std.proofs.Common.{◌≡◌, ◌≢◌, ◌∙◌, ◌==◌, ℕ, Bool, List, Some, ap, eq-eqb, if◌then◌else◌, inl, inr, is_some}
 use Rattle.std.proofs.Common.{map, subst, sym}
 use Rattle.std.specs.List.{slice_index_or}

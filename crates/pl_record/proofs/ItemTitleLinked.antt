@@ -1,4 +1,5 @@
--- The rows that linked slots keep where the title of an item goes, and where one comes: each by three calls.
+-- The rows that linked slots keep where the title of an item goes, and where one comes: each by
+-- three calls.
 use Rattle.std.specs.Option.{option_map}
 use Rattle.std.proofs.Common.{◌≡◌, ◌∙◌, ◌+◌, ◌-◌, ◌∷◌, ◌==◌, ◌≤◌, [], ℕ, Bool, List, None, Option, Some, ap, arith}
 use Rattle.std.proofs.Common.{find, if◌then◌else◌, length, map, refl, subst, sym, true, false}

@@ -1,4 +1,5 @@
--- The rows of a store in linked slots where an item gets another title, whose slots are there already.
+-- The rows of a store in linked slots where an item gets another title, whose slots are there
+-- already.
 use Rattle.std.proofs.Common.{◌≡◌, ◌≢◌, ◌∙◌, ℕ, Bool, List, Some, ap, eq-eqb, if◌then◌else◌, is_some, length, refl, sym}
 use Rattle.std.proofs.lemmas.Bool.{ne_eqb}
 use Rattle.pl_base.specs.declared.id.ItemId.{ItemId}

@@ -1,5 +1,5 @@
--- The slots of rows and texts where an item's title lies in other slots, and what these leave of all else, where they
--- go and where they come.
+-- The slots of rows and texts where an item's title lies in other slots, and what these leave of
+-- all else, where they go and where they come.
 use Rattle.std.proofs.Common.{◌≡◌, ◌∙◌, ◌+◌, ◌==◌, ◌∷◌, ◌<◌, ◌≤◌, [], ℕ, Bool, List, Some, ap, arith, eq-eqb, false}
 use Rattle.std.proofs.Common.{get_or, if◌then◌else◌, inl, inr, is_some, length, refl, subst, sym, true}
 use Rattle.std.specs.List.{slice_index_or, sum_by}

@@ -1,5 +1,5 @@
--- What the pages and the maps of `Linked` tell of the rows that it keeps: what holds of all rows that they may
--- keep holds of those.
+-- What the pages and the maps of `Linked` tell of the rows that it keeps: what holds of all rows
+-- that they may keep holds of those.
 use Rattle.std.proofs.Common.{◌≡◌, ◌∙◌, ◌++◌, ◌∷◌, [], ℕ, List, Option, Some, None, ap, nat_lt, refl, sym, true}
 use Rattle.std.proofs.Math.Logic.{∥∥₁_elim}
 use Rattle.std.proofs.Props.{props}

@@ -1,9 +1,9 @@
 -- The chains of a layout as one map: those of a store's rows, and back from a map to its rows.
-use Rattle.std.proofs.Common.{◌≡◌, ◌∙◌, ◌∷◌, ◌==◌, [], ℕ, Bool, List, Option, Some, None, ap, eq-eqb, eqb-true}
-use Rattle.std.proofs.Common.{false, find, inl, inr, is_some, map, refl, subst, sym, true}
+use Rattle.std.proofs.Common.{◌≡◌, ◌∙◌, ◌==◌, [], ℕ, List, Option, Some, None, ap, eq-eqb, eqb-true}
+use Rattle.std.proofs.Common.{false, find, is_some, map, refl, subst, sym, true}
 use Rattle.std.specs.List.{All, AllByRecursion, list_any}
 use Rattle.std.specs.Option.{IsSome, option_and_then, option_map}
-use Rattle.std.proofs.lemmas.Bool.{or_left, or_right, true≢false}
+use Rattle.std.proofs.lemmas.Bool.{true≢false}
 use Rattle.std.proofs.lemmas.List.Elements.{All-from_recursion, recursion_from_All}
 use Rattle.std.proofs.lemmas.Option.{same_Some}
 use Rattle.pl_base.specs.declared.id.PageId.{PageId}
@@ -12,7 +12,7 @@ use Rattle.pl_base.specs.declared.id.VisitId.{VisitId}
 use Rattle.pl_base.specs.Rows.{IsWellKept, Kept, KeptOrigin, KeptPage, page_visits}
 use Rattle.pl_base.specs.Store.{Item, Visit}
 use Rattle.pl_base.specs.Tree.{item_at, references}
-use Rattle.pl_base.proofs.Among.{In, all_from_in, at_in}
+use Rattle.pl_base.proofs.Among.{In, all_from_in, any_from_in, at_in}
 use Rattle.pl_base.proofs.ListLaws.{list_any-map, weaker}
 use Rattle.pl_base.proofs.LookUps.{both, found_holds, found_passes, none_kept, where_passes}
 use Rattle.pl_base.proofs.ReferencesRun.{items_found}
@@ -275,11 +275,6 @@ origins_apart at kept targets pages held (At one) (Header kind) slot first secon
 
 -- ---- the map has the chains of the rows
 
-any_in : {X : Type 0} (test : X → Bool) (xs : List X) (x : X) → In x xs → test x ≡ true → list_any test xs ≡ true
-any_in test [] x within passes = absurd within
-any_in test (y ∷ ys) x (inl same) passes = or_left (test y) (list_any test ys) (ap test (sym same) ∙ passes)
-any_in test (y ∷ ys) x (inr within) passes = or_right (test y) (list_any test ys) (any_in test ys x within passes)
-
 -- each row is found by its slot, or one with the same chain
 own_chains : {X : Type 0} (at : X → Slot) (chain : X → List Slot) (P : X → Type 0) (xs : List X)
     → ((x y : X) → P x → P y → at x ≡ at y → chain x ≡ chain y) → AllByRecursion P xs
@@ -292,7 +287,7 @@ own_chains {X} at chain P xs same all =
     own x within =
         let found =
         found_of (λ y. (at y).0 == (at x).0) xs
-        (any_in (λ y. (at y).0 == (at x).0) xs x within (eq-eqb (at x).0 (at x).0 refl)) in
+        (any_from_in (λ y. (at y).0 == (at x).0) xs x within (eq-eqb (at x).0 (at x).0 refl)) in
         let here : at found.0 ≡ at x =
         ap (λ (n : ℕ). record { 0 = n })
         (eqb-true (at found.0).0 (at x).0 (found_passes (λ y. (at y).0 == (at x).0) xs found.0 found.1)) in

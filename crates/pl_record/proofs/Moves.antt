@@ -1,4 +1,5 @@
--- That pages and slots by ids which have moved on keep the rows that were made of those kept before.
+-- That pages and slots by ids which have moved on keep the rows that were made of those kept
+-- before.
 use Rattle.std.proofs.Common.{◌≡◌, List, ap}
 use Rattle.std.proofs.Math.Logic.{∥∥₁_elim, ∥∥₁_prop}
 use Rattle.pl_base.specs.declared.id.VisitId.{VisitId}

@@ -1,10 +1,10 @@
 -- What the rows of slots name: a slot that holds the row of an origin, a page, a visit or an item
 -- is that of one.
-use Rattle.std.proofs.Common.{◌≡◌, ◌≢◌, ◌∙◌, ◌∷◌, ◌==◌, [], Bool, List, Option, Some, None, ap}
+use Rattle.std.proofs.Common.{◌≡◌, ◌≢◌, ◌∙◌, ◌∷◌, ◌==◌, [], Bool, List, Some, None, ap}
 use Rattle.std.proofs.Common.{find, map, refl}
 use Rattle.std.proofs.Common.{sym, true}
 use Rattle.std.specs.List.{All, AllByRecursion, list_any}
-use Rattle.std.specs.Option.{IsSome, option_and_then, option_map}
+use Rattle.std.specs.Option.{option_and_then, option_map}
 use Rattle.std.proofs.lemmas.List.Elements.{recursion_from_All}
 use Rattle.pl_base.specs.declared.id.ItemId.{ItemId}
 use Rattle.pl_base.specs.declared.id.PageId.{PageId}
@@ -17,6 +17,7 @@ use Rattle.pl_base.proofs.ItemLookUps.{same_item}
 use Rattle.pl_base.proofs.ListLaws.{found_in}
 use Rattle.pl_base.proofs.LookUps.{found_holds, found_passes}
 use Rattle.pl_base.proofs.PageLaws.{id_at}
+use Rattle.pl_base.proofs.Truths.{some_there}
 use Rattle.pl_base.proofs.VisitsRun.{visit_is}
 use Rattle.pl_record.specs.Records.{HoldsRow, HoldsRows, Layout, Record, item_record, page_record}
 use Rattle.pl_record.specs.Records.{unlinked, visit_record}
@@ -63,11 +64,7 @@ matched P Q f g (x ∷ xs) (y ∷ ys) ps qs same slots =
 
 pub found_of : {X : Type 0} (test : X → Bool) (xs : List X) → list_any test xs ≡ true → (x : X)
     × (find test xs ≡ Some x)
-found_of {X} test xs some = choose (find test xs) refl (found_in test xs some)
-  where
-    choose : (o : Option X) → find test xs ≡ o → IsSome o → (x : X) × (find test xs ≡ Some x)
-    choose None is none = absurd (cc)
-    choose (Some x) is some = (x, is)
+found_of test xs some = some_there (find test xs) (found_in test xs some)
 
 -- what holds of all holds of the one that is found
 pub found_all : {X : Type 0} (P : X → Type 0) (test : X → Bool) (xs : List X) (x : X) → All P xs

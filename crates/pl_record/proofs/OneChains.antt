@@ -1,5 +1,5 @@
--- That slots are chained in one way, and that a page without visits and items, and a visit from which none came,
--- are held in one way.
+-- That slots are chained in one way, and that a page without visits and items, and a visit from
+-- which none came, are held in one way.
 use mathlib.Core.HLevel.{is_prop→PathP}
 use Rattle.std.proofs.Common.{◌≡◌, ◌≢◌, ◌∙◌, ◌++◌, ◌∷◌, [], ℕ, List, None, Option, Some, ap, false, is_some, refl, sym}
 use Rattle.std.proofs.Common.{true}

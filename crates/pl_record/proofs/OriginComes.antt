@@ -1,4 +1,5 @@
--- What the slots of a store hold, and how they are chained, with an origin more, which has no page yet.
+-- What the slots of a store hold, and how they are chained, with an origin more, which has no page
+-- yet.
 use Rattle.std.proofs.Common.{◌≡◌, ◌∙◌, ◌∷◌, ◌==◌, ◌+◌, ◌++◌, ◌≤◌, [], ℕ, List, Some, ap, arith, eq-eqb, eqb-true}
 use Rattle.std.proofs.Common.{false, if◌then◌else◌, refl, sym, true}
 use Rattle.std.specs.List.{IsDistinct}

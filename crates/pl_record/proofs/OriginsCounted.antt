@@ -1,4 +1,5 @@
--- How many origins the pages have: as many as have names. So the slots of a store are counted over its rows.
+-- How many origins the pages have: as many as have names. So the slots of a store are counted over
+-- its rows.
 use Rattle.std.proofs.Common.{◌≡◌, ◌≢◌, ◌+◌, ◌≤◌, ◌++◌, ◌||◌, ◌==◌, ◌∙◌, ℕ, All, Bool, true, false, List, [], ◌∷◌}
 use Rattle.std.proofs.Common.{ap, append-nil, append_assoc, arith, count_by, eq-eqb, eqb-true, get_or, if◌then◌else◌}
 use Rattle.std.proofs.Common.{length, map, ne_eqb, refl, subst, sym}

@@ -1,4 +1,5 @@
--- Maps of chains in which an owner has another chain, and those without a slot of an owner: the chains that they have.
+-- Maps of chains in which an owner has another chain, and those without a slot of an owner: the
+-- chains that they have.
 use Rattle.std.proofs.Common.{◌≡◌, ◌∙◌, ◌==◌, ◌&&◌, Bool, List, ap, eqb-true, false, if◌then◌else◌, refl, sym, true}
 use Rattle.pl_base.specs.declared.id.Slot.{Slot}
 use Rattle.pl_base.proofs.IdsLaws.{same_slot}
@@ -13,7 +14,8 @@ use Rattle.pl_slot.specs.declared.links.Rail.{Rail}
 use Rattle.pl_slot.specs.Links.{is_rail}
 
 module _ (rail : Rail) (owner : Slot) (slots : List Slot) (chains : ChainMap) where
-  -- a map in which an owner has another chain, or the map itself, has the chains of other rails that it had
+  -- a map in which an owner has another chain, or the map itself, has the chains of other rails
+  -- that it had
   pub owner_beside : (none : Bool) (r : Rail) (o : Owner) → is_rail r rail ≡ false
       → (if none then chains else with_chain rail (At owner) slots chains) r o ≡ chains r o
   owner_beside true r o other = refl

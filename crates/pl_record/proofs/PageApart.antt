@@ -1,4 +1,5 @@
--- A page comes with an origin of its own, by a few calls: what these ask for, and what they leave of the rows.
+-- A page comes with an origin of its own, by a few calls: what these ask for, and what they leave
+-- of the rows.
 use Rattle.std.proofs.Common.{◌≡◌, ◌≢◌, ◌∙◌, ◌+◌, ◌++◌, ◌==◌, ◌<◌, ◌≤◌, ◌||◌, ◌∷◌, [], ℕ, List, None, Some, ap, arith}
 use Rattle.std.proofs.Common.{eq-eqb, false, if◌then◌else◌, inl, inr, length, map, not, refl, subst, sym, true}
 use Rattle.std.specs.List.{All, AllByRecursion}

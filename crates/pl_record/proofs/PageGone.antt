@@ -1,5 +1,5 @@
--- Rows without a page that has no visit and no item, and without its origin if no other page has that, stay rows of
--- a store.
+-- Rows without a page that has no visit and no item, and without its origin if no other page has
+-- that, stay rows of a store.
 use Rattle.std.proofs.Common.{◌≡◌, ◌≢◌, ◌+◌, ◌<◌, ◌==◌, ◌∙◌, ℕ, All, Bool, true, false, IsTrue, List, [], ◌∷◌}
 use Rattle.std.proofs.Common.{IfSome, None, Option, Some, ap, arith, eq-eqb, eqb-true, filter, find, get_or}
 use Rattle.std.proofs.Common.{if◌then◌else◌, length, map, ne_eqb, not, refl, subst, sym}

@@ -1,4 +1,5 @@
--- A page that has no visit and no item goes from linked slots: what the calls ask, and what they leave.
+-- A page that has no visit and no item goes from linked slots: what the calls ask, and what they
+-- leave.
 use Rattle.std.proofs.Common.{◌≡◌, ◌∙◌, ◌==◌, ◌∷◌, [], ℕ, Bool, List, Some, ap, eqb-true, false, filter, if◌then◌else◌}
 use Rattle.std.proofs.Common.{◌||◌, Option, is_some, length, map, not, refl, subst, sym, true}
 use Rattle.std.proofs.lemmas.Bool.{true≢false}

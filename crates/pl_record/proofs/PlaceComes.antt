@@ -1,4 +1,5 @@
--- What the slots of a store hold, and how they are chained, with a page more, which has the next id.
+-- What the slots of a store hold, and how they are chained, with a page more, which has the next
+-- id.
 use Rattle.std.proofs.Common.{◌≡◌, ◌∙◌, ◌∷◌, ◌==◌, ◌+◌, ◌++◌, ◌||◌, ◌<◌, ◌≤◌, [], ℕ, All, Bool, List, None, Option}
 use Rattle.std.proofs.Common.{Some}
 use Rattle.std.proofs.Common.{ap, append-nil, arith, eq-eqb, eqb, eqb-true, false, filter, if◌then◌else◌, IfSome, inl}

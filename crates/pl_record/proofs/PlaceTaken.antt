@@ -1,4 +1,5 @@
--- The slots of a page that comes: its own behind all pages, also of its origin, and those of its URL.
+-- The slots of a page that comes: its own behind all pages, also of its origin, and those of its
+-- URL.
 use Rattle.std.proofs.Common.{◌≡◌, ◌≢◌, ◌∙◌, ◌==◌, ◌||◌, ◌≤◌, ◌∷◌, ◌++◌, [], ℕ, List, IsSome, Some, ap, arith}
 use Rattle.std.proofs.Common.{cond, eq-eqb, eqb-true, false, inl, inr, is_some, length, refl, sym, true}
 use Rattle.std.proofs.lemmas.Bool.{cases_Bool, or_cases, or_parts, true≢false}

@@ -26,7 +26,8 @@ use Rattle.pl_slot.specs.declared.links.Rail.TheVariants.{References}
 use Rattle.pl_slot.specs.Links.{is_rail, kind_at}
 use Rattle.pl_slot.proofs.LinkPlaces.{same_rail}
 
--- a slot that is another than the one that came, and was in no chain of the rail, still stands alone
+-- a slot that is another than the one that came, and was in no chain of the rail, still stands
+-- alone
 pub alone_inserted : (rail : Rail) (owner : Owner) (after : Option Slot) (slot : Slot) (slots : List Slot)
     (old new : Pages) → Inserts rail owner after slot old new → Lists rail owner slots old → (r : Rail) (other : Slot)
     → (is_rail r rail ≡ true → (other ≢ slot) × (is_in other slots ≡ false)) → IsAlone r other old

@@ -1,4 +1,5 @@
--- Rows and texts that stay, and what a row that is written in place of another leaves of them, and of live slots.
+-- Rows and texts that stay, and what a row that is written in place of another leaves of them, and
+-- of live slots.
 use Rattle.std.proofs.Common.{◌≡◌, ◌≢◌, ◌∙◌, ◌∷◌, [], ℕ, List, None, Option, Some, ap, eq-eqb, if◌then◌else◌}
 use Rattle.std.proofs.Common.{drop, inl, inr, is_some, refl, take}
 use Rattle.std.specs.List.{slice_index_or}

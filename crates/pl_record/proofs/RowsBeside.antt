@@ -1,4 +1,5 @@
--- What the rows and texts of a layout keep where other slots come or go, and how often a slot stands among theirs.
+-- What the rows and texts of a layout keep where other slots come or go, and how often a slot
+-- stands among theirs.
 use Rattle.std.proofs.Common.{◌≡◌, ◌∙◌, ◌+◌, ◌++◌, ◌<◌, ◌≤◌, ◌∷◌, [], ℕ, List, None, Some, ap, arith, drop, eqb}
 use Rattle.std.proofs.Common.{false, get_or, inl, inr, is_some, length, map, refl, sym, take, true}
 use Rattle.std.specs.List.{slice_index_or, sum_by}

@@ -1,5 +1,5 @@
--- What holds of all rows is so of linked rows, which are known to be there only: a number among names is found again
--- by a search, and lists in another order by a sort.
+-- What holds of all rows is so of linked rows, which are known to be there only: a number among
+-- names is found again by a search, and lists in another order by a sort.
 use Rattle.std.proofs.Common.{◌≡◌, ◌∙◌, ◌++◌, ◌==◌, ◌≢◌, ◌&&◌, ◌+◌, ℕ, All, arith, Bool, List, ap}
 use Rattle.std.proofs.Common.{append-nil, false, filter, map, ltb-true, nat_lt, not, subst, sym, true}
 use Rattle.std.proofs.Math.Logic.{∥∥₁_elim}

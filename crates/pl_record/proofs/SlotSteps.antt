@@ -1,4 +1,5 @@
--- Steps of a change of slots: a slot is taken, comes to the end of a chain or goes out of one, and is given back.
+-- Steps of a change of slots: a slot is taken, comes to the end of a chain or goes out of one, and
+-- is given back.
 use Rattle.std.proofs.Common.{◌≡◌, ◌≢◌, ◌∙◌, ◌==◌, ◌||◌, ◌+◌, ◌≤◌, ◌∷◌, ◌++◌, [], ℕ, Bool, List, None, Option, Some}
 use Rattle.std.proofs.Common.{IsSome, ap, cond, false, is_some, refl, sym, true}
 use Rattle.std.specs.Option.{option_and_then, option_map}

@@ -1,4 +1,5 @@
--- What slots that held parts of texts, or nothing, leave of rows, texts and chains when they change.
+-- What slots that held parts of texts, or nothing, leave of rows, texts and chains when they
+-- change.
 use Rattle.std.proofs.Common.{◌≡◌, ◌≢◌, ◌∙◌, ◌==◌, ◌∷◌, [], ℕ, List, None, Option, Some, ap, drop, eqb-true, false, inl}
 use Rattle.std.proofs.Common.{inr, is_some, refl, sym, take, true}
 use Rattle.std.specs.Option.{IsSome, option_and_then, option_map}

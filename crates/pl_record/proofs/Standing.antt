@@ -1,5 +1,5 @@
--- The bytes of linked rows stand for their store: the form is seen of the bytes from page 1 on, whatever page 0 has and
--- whichever pages have changed.
+-- The bytes of linked rows stand for their store: the form is seen of the bytes from page 1 on,
+-- whatever page 0 has and whichever pages have changed.
 use Rattle.std.proofs.Common.{◌≡◌, ◌∙◌, ◌*◌, ◌/◌, ◌≤◌, ℕ, List, ap, arith, false, inl, inr}
 use Rattle.std.proofs.Common.{length, length-append, length-drop, refl, replicate, sym, take}
 use Rattle.std.proofs.Math.Logic.{∥∥₁_elim, ∥∥₁_prop}

@@ -1,5 +1,5 @@
--- The visits that came from each visit, where one comes or goes, and rows without a visit as the source of others, or
--- without the visit.
+-- The visits that came from each visit, where one comes or goes, and rows without a visit as the
+-- source of others, or without the visit.
 use Rattle.std.specs.Prelude.{◌==◌, not, List, [], ◌∷◌, ◌++◌, map, if◌then◌else◌}
 use Rattle.std.specs.List.{filter}
 use Rattle.pl_base.specs.declared.id.VisitId.{VisitId}

@@ -2,6 +2,7 @@
 use Rattle.std.proofs.Common.{◌≡◌, ◌≢◌, ◌∙◌, ◌==◌, ◌∷◌, ◌++◌, [], ℕ, List, None, Option, Some, ap, arith, cond, eq-eqb}
 use Rattle.std.proofs.Common.{false, IfSome, IsSome, inl, inr, refl, subst, sym, true}
 use Rattle.std.proofs.lemmas.Bool.{cases_Bool, true≢false}
+use Rattle.std.proofs.lemmas.Option.{same_Some}
 use Rattle.pl_base.specs.declared.id.Slot.{Slot}
 use Rattle.pl_record.specs.ChainMap.{AreApart, AreChains, ChainMap, IsLoose, with_chain}
 use Rattle.pl_record.specs.Chains.{IsAlone}
@@ -17,7 +18,6 @@ use Rattle.pl_rail.specs.declared.owner.Owner.TheVariants.{At}
 use Rattle.pl_rail.specs.declared.owner.Side.TheVariants.{Before, Behind}
 use Rattle.pl_rail.specs.Rails.{ChangesAround, KeepsBeside, KeepsOwners, KeepsRails, KeepsRest, Lists, end_at, last_of}
 use Rattle.pl_rail.specs.Rails.{first_of, named, or_none, page_by}
-use Rattle.pl_rail.proofs.ListLaws.{same_slot}
 use Rattle.pl_sheets.specs.Sheets.{Pages}
 use Rattle.pl_slot.specs.declared.kind.SlotKind.TheVariants as kinds
 use Rattle.pl_slot.specs.declared.links.Link.TheVariants.{First}
@@ -56,7 +56,7 @@ is_named slot other is = elim (cases_Bool (slot.0 == 0)) [
       absurd (cc)
   | inr some ↦
       record {
-        same = same_slot slot other (sym (ap (λ b. cond b None (Some slot)) some) ∙ is);
+        same = same_Some slot other (sym (ap (λ b. cond b None (Some slot)) some) ∙ is);
         some = some;
       }
 ]

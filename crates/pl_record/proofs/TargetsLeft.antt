@@ -1,4 +1,5 @@
--- The visits that came from one come from none: what the slots of a store hold then, and which stand alone.
+-- The visits that came from one come from none: what the slots of a store hold then, and which
+-- stand alone.
 use Rattle.std.proofs.Common.{◌≡◌, ◌∙◌, ◌∷◌, ◌==◌, ◌++◌, ◌&&◌, [], ℕ, All, Bool, List, None}
 use Rattle.std.proofs.Common.{Option, Some, ap, eq-eqb, eqb, eqb-true, false, filter, if◌then◌else◌}
 use Rattle.std.proofs.Common.{inl, inr, is_some, map, not, refl, subst, sym, true}

@@ -1,4 +1,5 @@
--- The title of a page goes by three calls, and comes by three: what they leave of the rows and the bytes.
+-- The title of a page goes by three calls, and comes by three: what they leave of the rows and the
+-- bytes.
 use Rattle.std.proofs.Common.{◌≡◌, ◌∙◌, ◌+◌, ◌-◌, ◌∷◌, ◌≤◌, [], ℕ, List, Some, ap, arith, length, sym, true}
 use Rattle.std.proofs.Common.{◌==◌, Bool, None, Option, false, find, if◌then◌else◌, map, refl}
 use Rattle.std.specs.Option.{option_map}

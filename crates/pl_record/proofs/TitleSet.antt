@@ -1,4 +1,5 @@
--- The rows of a store in linked slots where a page gets another title, whose slots are there already.
+-- The rows of a store in linked slots where a page gets another title, whose slots are there
+-- already.
 use Rattle.std.proofs.Common.{◌≡◌, ◌≢◌, ◌∙◌, ◌==◌, ℕ, Bool, List, Some, ap, eq-eqb, if◌then◌else◌, is_some, length}
 use Rattle.std.proofs.Common.{refl, sym}
 use Rattle.std.specs.List.{slice_index_or}

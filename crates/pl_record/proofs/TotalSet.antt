@@ -1,4 +1,5 @@
--- The rows of a store in linked slots where an origin gets another total, and where the day is another.
+-- The rows of a store in linked slots where an origin gets another total, and where the day is
+-- another.
 use Rattle.std.proofs.Common.{◌≡◌, ◌≢◌, ◌∙◌, ◌∷◌, ◌++◌, ◌==◌, [], ℕ, Bool, List, ap, eq-eqb, eqb, if◌then◌else◌, inl}
 use Rattle.std.proofs.Common.{false, inr, is_some, map, refl, subst, sym, true}
 use Rattle.std.specs.List.{IsDistinct, slice_index_or}

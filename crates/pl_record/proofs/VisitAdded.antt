@@ -1,4 +1,5 @@
--- Rows with a visit more stay rows of a store, whose targets are those of before with the visit among its source's.
+-- Rows with a visit more stay rows of a store, whose targets are those of before with the visit
+-- among its source's.
 use Rattle.std.proofs.Common.{◌≡◌, ◌≢◌, ◌+◌, ◌<◌, ◌==◌, ◌&&◌, ◌||◌, ◌++◌, ◌∙◌, ℕ, All, Bool, true, false, IfSome}
 use Rattle.std.proofs.Common.{IsTrue, List, [], ◌∷◌, ap, append-nil, append_assoc, arith, eqb, eqb-true, filter}
 use Rattle.std.proofs.Common.{if◌then◌else◌, ltb, map, nat_lt, not, refl, subst, sym}

@@ -1,5 +1,5 @@
--- No visit stands in the chains of two pages, nor in those of two sources; and one that came from none stands in no
--- chain of targets.
+-- No visit stands in the chains of two pages, nor in those of two sources; and one that came from
+-- none stands in no chain of targets.
 use Rattle.std.proofs.Common.{◌≡◌, ◌≢◌, ◌∙◌, ◌==◌, List, Option, Some, None, ap, eqb-true, find}
 use Rattle.std.proofs.Common.{◌<◌, arith, refl, sym, true, false}
 use Rattle.std.specs.Option.{IfSome}

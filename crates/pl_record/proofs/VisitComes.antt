@@ -1,4 +1,5 @@
--- What the slots of a store hold, and how they are chained, with a visit more, which has the next id.
+-- What the slots of a store hold, and how they are chained, with a visit more, which has the next
+-- id.
 use Rattle.std.proofs.Common.{◌≡◌, ◌∙◌, ◌∷◌, ◌==◌, ◌+◌, ◌<◌, ◌≤◌, [], ℕ, All, List, None}
 use Rattle.std.proofs.Common.{Option, Some, ap, arith, eq-eqb, eqb, false, if◌then◌else◌, IfSome, inl}
 use Rattle.std.proofs.Common.{inr, nat_lt, not, refl, subst, sym, true}

@@ -1,5 +1,5 @@
--- What the slots of a store hold, and how they are chained, without a visit: those that came from it come from none,
--- and then its slot is free.
+-- What the slots of a store hold, and how they are chained, without a visit: those that came from
+-- it come from none, and then its slot is free.
 use Rattle.std.proofs.Common.{◌≡◌, ◌≢◌, ◌∙◌, ◌∷◌, ◌==◌, ◌+◌, ◌<◌, ◌≤◌, [], ℕ, All, Bool, List, None}
 use Rattle.std.proofs.Common.{Option, Some, ap, arith, eq-eqb, eqb, eqb-true, false, filter, if◌then◌else◌, IfSome}
 use Rattle.std.proofs.Common.{map, not, refl, subst, sym, true}

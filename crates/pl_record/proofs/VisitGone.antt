@@ -1,5 +1,5 @@
--- Rows without a visit, from which no visit came from then on, stay rows of a store. They are the rows where it is the
--- source of none, without it.
+-- Rows without a visit, from which no visit came from then on, stay rows of a store. They are the
+-- rows where it is the source of none, without it.
 use Rattle.std.proofs.Common.{◌≡◌, ◌≢◌, ◌+◌, ◌<◌, ◌==◌, ◌&&◌, ◌∙◌, ℕ, Bool, true, false, IfSome}
 use Rattle.std.proofs.Common.{IsTrue, List, [], ◌∷◌, Option, None, Some, ap, arith, eq-eqb, filter}
 use Rattle.std.proofs.Common.{if◌then◌else◌, length, map, not, refl, subst, sym}

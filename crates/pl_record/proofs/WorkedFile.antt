@@ -164,7 +164,8 @@ worked_bytes = worked_header ++ replicate (page_size - 68) 0 ++ flat_map slot_by
 abbrev worked_pages : Pages
 worked_pages = pages_of worked_bytes
 
--- pages 1 and 2 in slots 8 and 12, visits 1 and 2 in slots 10 and 11, the items 7 and 8 in slots 16 and 18
+-- pages 1 and 2 in slots 8 and 12, visits 1 and 2 in slots 10 and 11, the items 7 and 8 in slots 16
+-- and 18
 abbrev worked_layout : Layout
 worked_layout =
     record {
@@ -302,7 +303,8 @@ alone =
           worked_items ((λ none. record { before = refl; behind = refl }), ((λ none. record { before = refl; behind = refl }), ((λ none. record { before = refl; behind = refl }), ((λ none. record { before = refl; behind = refl }), ((λ none. record { before = refl; behind = refl }), ((λ none. record { before = refl; behind = refl }), ((λ some. absurd (cc)), ((λ none. record { before = refl; behind = refl }), tt))))))));
     }
 
--- the slots that the store takes are counted by hand, since the origins of its URLs are not computed here
+-- the slots that the store takes are counted by hand, since the origins of its URLs are not
+-- computed here
 header : ((header_of worked_pages).form ≡ form_name) × ((header_of worked_pages).day ≡ worked_kept.day)
     × ((header_of worked_pages).ids ≡ worked_kept.ids) × ((header_of worked_pages).live ≡ 18)
     × ((header_of worked_pages).rest ≡ replicate (page_size - 68) 0)

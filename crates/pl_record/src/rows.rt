@@ -1,5 +1,5 @@
-// What the rows of slots say beside their links. Each call reads one slot, and is inlined, so that a
-// caller reads only the fields that it asks for.
+// What the rows of slots say beside their links. Each call reads one slot, and is inlined, so that
+// a caller reads only the fields that it asks for.
 ghost use Rattle.std.specs.Prelude.{◌≡◌, ◌+◌, Some};
 ghost use Rattle.pl_record.specs.Rows as spec;
 ghost use Rattle.pl_rail.specs.Rails as rails;

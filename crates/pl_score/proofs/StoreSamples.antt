@@ -23,6 +23,11 @@ sampled-small store vs =
     let v : Visit = get_or vs k d in
     bonus_of-le v.transition (source_transition store v) (is_redirect_source store v) (is_referenced store v.page))
 
+pub small_bonuses : (store : Store) (vs : List Visit) (sampled : List Sampled)
+    → sampled ≡ map (sampled_of store) vs
+    → All (λ (s : Sampled). s.bonus ≤ greatest_bonus) sampled
+small_bonuses store vs sampled is = rw is (sampled-small store vs)
+
 points_of-sampled : (store : Store) (vs : List Visit)
     → points_of store.day (map (sampled_of store) vs)
     ≡ sum_by (λ (v : Visit). points store.day v.date (visit_bonus store v)) vs

@@ -1,16 +1,14 @@
 -- Escapes in text fields.
 use Rattle.std.proofs.Common.{◌≡◌, subst, sym, ◌≢◌, ⊎_elim, eq-eqb, ◌<◌, ◌+◌, ℕ, true, false, List, [], ◌∷◌, ◌++◌}
 use Rattle.std.proofs.Common.{length, get_or, drop, Some, None, Option, refl, ap, add-one, append_assoc, drop-cons}
-use Rattle.std.proofs.Common.{◌∙◌, ◌≤◌, append-nil, arith, map, suc}
-use Rattle.std.specs.Prelude.{chars, encode_utf8, encode_utf8_all}
+use Rattle.std.proofs.Common.{◌≤◌, arith}
+use Rattle.std.specs.Prelude.{encode_utf8}
 use Rattle.std.specs.Option.{option_map}
-use Rattle.std.proofs.lemmas.Bool.{cases_Bool, cases_eq, cases_lt, cond-false, cond-true, ne_eqb}
+use Rattle.std.proofs.lemmas.Bool.{cases_Bool, cases_eq, cond-false, cond-true, ne_eqb}
 use Rattle.std.proofs.lemmas.Bool.Decides.{nat_tests}
-use Rattle.std.proofs.lemmas.Grind.{flat_map-append}
-use Rattle.std.proofs.lemmas.List.{map-id}
-use Rattle.std.proofs.lemmas.Str.{encode_ascii, encodes-append, encodes-chars, inside_one}
 use Rattle.std.proofs.lemmas.Str.{IsUtf8-from_is_utf8, is_utf8-from_IsUtf8}
 use Rattle.std.specs.Str.{IsUtf8, is_utf8}
+use Rattle.pl_words.proofs.WrittenBytes.{written-plain}
 use Rattle.pl_script.specs.Script.{before_text, escape_of, escaped, escaped_as, escaped_byte, text_of, unescaped}
 
 -- a byte that is put behind what was read
@@ -86,34 +84,12 @@ text_of-escaped text utf8 = text_of-utf8 (escaped text) text (sym (unescaped-esc
 escape_of-high : (b : ℕ) → 128 ≤ b → escape_of b ≡ None
 escape_of-high b high = grind (arith, nat_tests)
 
-escaped-high : (bytes : List ℕ) → ((k : ℕ) → k < length bytes → 128 ≤ get_or bytes k 0) → escaped bytes ≡ bytes
-escaped-high [] high = refl
-escaped-high (b ∷ bytes) high =
-    rw (escape_of-high b (high 0 (omega arith)))
-    (ap (λ more. b ∷ more) (escaped-high bytes (λ k within. high (suc k) (omega arith))))
+-- what is written of a byte
+abbrev pub written : ℕ → List ℕ
+written b = escaped_as b (escape_of b)
 
 -- a character that is not escaped is written as it is
 pub escaped-plain : (c : ℕ) → escape_of c ≡ None → escaped (encode_utf8 c) ≡ encode_utf8 c
 escaped-plain c plain =
-    ⊎_elim
-    (λ low. let one = encode_ascii c low in
-    ap escaped one ∙ ap (λ e. escaped_as c e ++ []) plain ∙ sym one)
-    (λ high. escaped-high (encode_utf8 c) (λ k within.
-    ⊎_elim
-    (λ low. let same = inside_one c [] (encode_utf8 c) k (sym (append-nil (encode_utf8 c))) within low in
-    absurd (omega arith))
-    (λ far. far) (cases_lt (get_or (encode_utf8 c) k 0) 128)))
-    (cases_lt c 128)
-
--- one character more
-pub escaped-push : (cs : List ℕ) (c : ℕ)
-    → escaped (encode_utf8_all (cs ++ c ∷ [])) ≡ escaped (encode_utf8_all cs) ++ escaped (encode_utf8 c)
-escaped-push cs c =
-    ap escaped (encodes-append cs (c ∷ []) ∙ ap (λ more. encode_utf8_all cs ++ more) (append-nil (encode_utf8 c)))
-    ∙ flat_map-append (λ b. escaped_as b (escape_of b)) (encode_utf8_all cs) (encode_utf8 c)
-
--- all characters
-pub escaped-chars : (text cs : List ℕ) → IsUtf8 text → map (λ (c : ℕ). c) cs ≡ chars text
-    → escaped (encode_utf8_all cs) ≡ escaped text
-escaped-chars text cs utf8 all =
-    ap (λ (l : List ℕ). escaped (encode_utf8_all l)) (sym (map-id cs) ∙ all) ∙ ap escaped (encodes-chars text utf8)
+    written-plain written (λ b high. ap (escaped_as b) (escape_of-high b high)) c
+    (ap (escaped_as c) plain)

@@ -32,8 +32,8 @@ last_date : Names (codes "9999-12-31") 2_932_896
 unfolding jiff_fmt_on_literals
 last_date = refl
 
--- a day that the calendar has in other years alone, a month that it has not, a day that it has not, and one that is
--- too early
+-- a day that the calendar has in other years alone, a month that it has not, a day that it has not,
+-- and one that is too early
 no_days : NamesNone (codes "2023-02-29") × NamesNone (codes "2024-13-01") × NamesNone (codes "2024-00-10")
     × NamesNone (codes "1969-12-31")
 unfolding jiff_fmt_on_literals

@@ -1,5 +1,5 @@
--- Worked rows of the lines of queries and of the address bar, and of their replies, to texts that were worked out by
--- hand.
+-- Worked rows of the lines of queries and of the address bar, and of their replies, to texts that
+-- were worked out by hand.
 use Rattle.std.proofs.Common.{◌≡◌, ℕ, List, ◌++◌, refl, [], ◌∷◌, Option, None, Some, Ok, Err}
 use Rattle.std.specs.Prelude.{codes, pos, negsuc, ℤ}
 use Rattle.std.specs.Fmt.{digits}

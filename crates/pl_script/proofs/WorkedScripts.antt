@@ -1,5 +1,5 @@
--- Worked rows of whole scripts: from the bytes of the input to the bytes of the replies, by the definitions
--- alone, to texts that were worked out by hand.
+-- Worked rows of whole scripts: from the bytes of the input to the bytes of the replies, by the
+-- definitions alone, to texts that were worked out by hand.
 use Rattle.std.proofs.Common.{◌≡◌, ℕ, List, ◌++◌, refl, [], ◌∷◌, true, false, Option, None, Some, Ok, Err}
 use Rattle.std.proofs.Common.{replicate}
 use Rattle.std.specs.Prelude.{codes, decimal, pos, negsuc}
@@ -46,8 +46,8 @@ one_link : said (codes "visit\thttps://www.mozilla.org/\t1\t0\n") ≡ codes "vis
 unfolding url_on_literals
 one_link = refl
 
--- Ten links push the typed visit out of the sample, 2,000 points of eleven visits; one that arrives late with an
--- early date is counted and not sampled.
+-- Ten links push the typed visit out of the sample, 2,000 points of eleven visits; one that arrives
+-- late with an early date is counted and not sampled.
 typed_then_links : said (codes "visit\thttps://a.example/\t2\t0\n" ++ ten_more (codes "1")
     ++ codes "visit\thttps://a.example/\t2\t0\n")
     ≡ codes "visit\t1\tpage\t1\tfrecency\t2000\nvisit\t2\tpage\t1\tfrecency\t2100\n"
@@ -116,8 +116,8 @@ sources : script (codes "visit\thttps://a.example/\t1\t0\nvisit\thttps://a.examp
 unfolding url_on_literals
 sources = refl
 
--- a date that is later than the last one is a number, and is refused behind what is not of its form and before what is
--- no address
+-- a date that is later than the last one is a number, and is refused behind what is not of its form
+-- and before what is no address
 late_dates : script (codes "visit\thttps://a.example/\t1\t253402300800000000\n"
     ++ codes "visit\thttps://a.example/\t1\t18446744073709551615\nvisit\tno url\t1\t253402300800000000\t9\n"
     ++ codes "visit\thttps://a.example/\t1\t18446744073709551616\n"
@@ -137,7 +137,8 @@ titles_and_pages : script (codes "title\thttps://a.example\ta\\\\b\\tc\\nd\\re\n
 unfolding url_on_literals
 titles_and_pages = refl
 
--- columns of what is missing, not of its form or too many; an address that is no URL is refused behind these
+-- columns of what is missing, not of its form or too many; an address that is no URL is refused
+-- behind these
 faulty_titles_and_pages : said (codes "title\ntitle\thttps://a.example/\ntitle\ta\\x\tb\n"
     ++ codes "title\thttps://a.example/\t\\\ntitle\tno url\tb\tc\ntitle\tno url\tb\n"
     ++ codes "titles\tno url\tb\npage\npage\ta\\x\npage\tno url\t\npage\t\n")
@@ -189,7 +190,8 @@ late_items = refl
 
 -- ---- lines of tags
 
--- each line; blanks at the ends of the text are no part of the name, written as they are or as escapes
+-- each line; blanks at the ends of the text are no part of the name, written as they are or as
+-- escapes
 tags : script (codes "tag\t HTTPS://A.Example:443\t  a b \t7\nuntag\thttps://a.example/\t\\na\\\\b\\t\n"
     ++ codes "tag\thttps://a.example/\tA\t253402300799999999\nuntag\thttps://a.example\tA")
     ≡ Ok (Tag (codes "https://a.example/") (codes "a b") (at 7))
@@ -219,7 +221,8 @@ faulty_tags : script (codes "tag\ntag\ta\ntag\ta\tb\ntag\ta\\x\tb\t0\ntag\ta\t\\
 unfolding url_on_literals
 faulty_tags = refl
 
--- the form of the whole line, then a late date, then an address that is no URL, and last a text that names no tag
+-- the form of the whole line, then a late date, then an address that is no URL, and last a text
+-- that names no tag
 causes_of_tags : script (codes "tag\tno url\t\t253402300800000000\t\ntag\tno url\t\t253402300800000000\n"
     ++ codes "tag\thttps://a.example/\t,\t253402300800000000\ntag\tno url\t\t0\ntag\thttps://a.example/\t,\t0\n"
     ++ codes "untag\tno url\t,\t\nuntag\tno url\t,\nuntag\thttps://a.example/\t,\n")
@@ -338,8 +341,8 @@ titled = refl
 
 -- ---- the bookmark tree on the store before its first command
 
--- items in two folders: a new one at the front, one that is moved behind the others of its folder, and one that goes
--- with its folder
+-- items in two folders: a new one at the front, one that is moved behind the others of its folder,
+-- and one that goes with its folder
 tree : said (codes "folder\t2\tend\tA\t5\nfolder\t7\tend\tB\t5\nbookmark\t2\t0\thttps://a.example\tT\t6\n"
     ++ codes "separator\t2\tend\t7\nretitle\t10\tS\t8\nlist\t2\nmove\t7\t2\tend\t9\nmove\t10\t7\t0\t9\n"
     ++ codes "list\t2\nlist\t7\nremove\t7\nlist\t2\nlist\t10\n")
@@ -362,7 +365,8 @@ refused_items = refl
 
 -- ---- tags on the store before its first command
 
--- no page, a page without the tag, and one that gets it: a folder of the tags root by the trimmed name, with an entry
+-- no page, a page without the tag, and one that gets it: a folder of the tags root by the trimmed
+-- name, with an entry
 tagged : said (codes "untag\thttps://a.example/\tb\nbookmark\t2\tend\thttps://a.example/\tT\t0\n"
     ++ codes "untag\thttps://a.example/\tb\ntag\thttps://a.example\t b \t5\npage\thttps://a.example/\n"
     ++ codes "list\t4\nlist\t8\n")

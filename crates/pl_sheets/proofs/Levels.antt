@@ -227,7 +227,8 @@ none_through from below p sums here behind k above = elim (cases_eq (k / 64) (fr
   | inr apart ↦ empty_word k below p sums (behind (k / 64) (omega arith))
 ]
 
--- none is left in the word of `from`; the next word behind it is told from above, and its lowest bit
+-- none is left in the word of `from`; the next word behind it is told from above, and its lowest
+-- bit
 pub first_through : (from w n : ℕ) (below : List ℕ) (p : ℕ → Bool)
     → ((w : ℕ) → p w ≡ not (is_empty w below))
     → ((k : ℕ) → from ≤ k → k / 64 ≡ from / 64 → has_bit k below ≡ false)

@@ -1,6 +1,7 @@
 -- Pages in memory, and which of them have changed.
 use Rattle.std.specs.Prelude.{◌≡◌, ℕ, ◌+◌, ◌*◌, ◌/◌, ◌^◌, ◌<◌, ◌≤◌, Bool, true, false}
-use Rattle.std.specs.Prelude.{List, [], ◌∷◌, ◌++◌, length, take, drop, map, replicate, if◌then◌else◌}
+use Rattle.std.specs.Prelude.{List, [], ◌∷◌, ◌++◌, length, take, drop, map, replicate}
+use Rattle.std.specs.Prelude.{if◌then◌else◌}
 use Rattle.std.specs.Prelude.{bytes_eq, slice_index_or, slice_set}
 use Rattle.std.specs.List.{filter, range_with_len}
 use Rattle.pl_base.specs.Touched.{Change, PageImage, page_size}

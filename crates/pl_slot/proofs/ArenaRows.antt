@@ -31,7 +31,8 @@ last = refl
 
 -- ---- the header
 
--- PLSTORE1, 3 pages, day 12, the next ids 2, 3 and 7, the first free slot 5, chains, and 4 live slots
+-- PLSTORE1, 3 pages, day 12, the next ids 2, 3 and 7, the first free slot 5, chains, and 4 live
+-- slots
 abbrev header_page : List ℕ
 header_page =
     laid 1_024 0

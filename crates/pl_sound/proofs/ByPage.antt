@@ -1,11 +1,11 @@
--- Visits sorted by page, and those of one page the latest first, are those of each page as it is defined.
-use Rattle.std.proofs.Common.{◌≡◌, ◌≢◌, ◌∙◌, ◌==◌, ◌&&◌, ◌||◌, ℕ, Bool, List, ap, arith, eqb, filter, map, nat_lt, not, refl}
+-- Visits sorted by page, and those of one page the latest first, are those of each page as it is
+-- defined.
+use Rattle.std.proofs.Common.{◌≡◌, ◌≢◌, ◌∙◌, ◌==◌, ◌&&◌, ℕ, Bool, List, ap, arith, filter, map, nat_lt, not, refl}
 use Rattle.std.proofs.Common.{None, subst, sym, true, ◌<◌}
 use Rattle.std.specs.Cmp.{IsStrictWeakOrder}
 use Rattle.std.specs.List.{AllPairs}
 use Rattle.std.specs.List.Sorted.{IsPermutation, IsSortedBy, IsStableByKey, IsStrictlyIncreasing, ties}
 use Rattle.std.specs.Ordering.{is_lt, nat_cmp}
-use Rattle.std.proofs.lemmas.Bool.Decides.{nat_tests}
 use Rattle.std.proofs.lemmas.List.Elements.{filter_agree}
 use Rattle.std.proofs.lemmas.List.Kept.{AllPairs-from_increasing}
 use Rattle.std.proofs.lemmas.List.Sorted.{IsStrictWeakOrder-by_number, IsStrictWeakOrder-flip}
@@ -15,10 +15,11 @@ use Rattle.pl_base.specs.Store.{Visit}
 use Rattle.pl_base.specs.Visits.{is_later, latest_first}
 use Rattle.pl_base.proofs.ListLaws.{AllPairs-from_map, filter-map, map-map}
 use Rattle.pl_base.proofs.SortLaws.{none_tie, ranks_alike, then_by, then_ranks, then_ties, tied_numbers, weak_sorted_is}
+use Rattle.pl_base.proofs.SortLaws.{numbers_tie, sorted_map, then_by_number}
 use Rattle.pl_base.proofs.VisitOrder.{latest_part}
 use Rattle.pl_base.proofs.VisitsLaws.{Differ, Differ-ascending}
 use Rattle.pl_check.specs.Rows.{stored_visit_ids}
-use Rattle.pl_load.proofs.Lists.{sorted_later, sorted_map}
+use Rattle.pl_load.proofs.Lists.{sorted_later}
 use Rattle.pl_sound.specs.Visits.{AreByPage, of_page}
 use Rattle.pl_stored.specs.declared.stored.StoredVisit.{StoredVisit}
 use Rattle.pl_stored.specs.Stored.{visit_of}
@@ -35,11 +36,8 @@ newer v w = nat_lt w.date.0 v.date.0
 abbrev greater : StoredVisit → StoredVisit → Bool
 greater v w = nat_lt w.id.0 v.id.0
 
-in_two_steps : (m n : ℕ) (g : Bool) → (nat_lt n m || ((n == m) && g)) ≡ (nat_lt n m || (not (nat_lt m n) && g))
-in_two_steps m n g = grind (arith, nat_tests)
-
 later_alike : (v w : StoredVisit) → later v w ≡ then_by newer greater v w
-later_alike v w = in_two_steps v.date.0 w.date.0 (nat_lt w.id.0 v.id.0)
+later_alike v w = then_by_number v.date.0 w.date.0 (nat_lt w.id.0 v.id.0)
 
 pub later_ranks : IsStrictWeakOrder later
 later_ranks =
@@ -72,13 +70,9 @@ module _ (visits : List StoredVisit) (rise : IsStrictlyIncreasing (stored_visit_
       ap (map visit_of)
       (weak_sorted_is later later_ranks visits sorted
       (none_tie later (λ (v : StoredVisit). v.id.0) tied_ids visits apart) moves order)
-      ∙ sym (sorted_map is_later visit_of visits) ∙ sorted_later (map visit_of visits)
+      ∙ sorted_map visit_of is_later visits ∙ sorted_later (map visit_of visits)
 
 -- ---- by page
-
--- two numbers tie where they are one
-tie : (a b : ℕ) → (not (is_lt (nat_cmp a b)) && not (is_lt (nat_cmp b a))) ≡ eqb b a
-tie a b = grind (arith, nat_tests)
 
 -- some visit to a page
 abbrev visit_to : PageId → StoredVisit
@@ -93,7 +87,7 @@ same_page rows sorted page any own stable =
     let tied : StoredVisit → Bool =
     λ v. not (is_lt (nat_cmp any.page.0 v.page.0)) && not (is_lt (nat_cmp v.page.0 any.page.0)) in
     let agree : (v : StoredVisit) → tied v ≡ of_page page v =
-    λ v. tie any.page.0 v.page.0 ∙ ap (λ (p : PageId). v.page.0 == p.0) own in
+    λ v. numbers_tie any.page.0 v.page.0 ∙ ap (λ (p : PageId). v.page.0 == p.0) own in
     sym (filter_agree tied (of_page page) agree sorted) ∙ stable any
     ∙ filter_agree tied (of_page page) agree rows
 

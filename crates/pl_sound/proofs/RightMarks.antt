@@ -1,28 +1,26 @@
 -- The marks of pages, computed from their visits by page.
-use Rattle.std.proofs.Common.{◌≡◌, ◌≤◌, ◌<◌, ◌^◌, ◌+◌, ◌∙◌, ◌&&◌, ◌||◌, ◌==◌, ℕ, Bool, true, false, List, [], ◌∷◌, All, ap}
-use Rattle.std.proofs.Common.{Err, Ok, Result, arith, filter, if◌then◌else◌, length, map, not, refl, suc, sym, take, zero}
-use Rattle.std.specs.List.{AllByRecursion, count_by, list_all, list_any}
-use Rattle.std.specs.Result.{IsOkAnd}
+use Rattle.std.proofs.Common.{◌≡◌, ◌≤◌, ◌<◌, ◌^◌, ◌+◌, ◌∙◌, ◌&&◌, ◌||◌, ◌==◌, ℕ, Bool, true, false, List, [], ◌∷◌, ap}
+use Rattle.std.proofs.Common.{arith, filter, if◌then◌else◌, length, map, not, refl, sym, take}
+use Rattle.std.specs.List.{AllByRecursion, count_by, list_all}
 use Rattle.std.proofs.lemmas.Bool.{ne_eqb}
 use Rattle.std.proofs.lemmas.List.{length-map, take-map}
 use Rattle.std.proofs.lemmas.List.Folds.{list_all-map}
 use Rattle.std.proofs.lemmas.List.Sums.{count_by-le-length, length-filter, sum_by-cons}
 use Rattle.pl_base.specs.declared.id.PageId.{PageId}
-use Rattle.pl_base.specs.Address.{is_place, is_place_url, record_of}
+use Rattle.pl_base.specs.Address.{is_place_url}
 use Rattle.pl_base.specs.Frecency.{frecency_from, frecency_of}
 use Rattle.pl_base.specs.Live.{slot_limit}
 use Rattle.pl_base.specs.Marks.{is_counted, is_framed, is_hidden, is_referenced, visit_count}
 use Rattle.pl_base.specs.Redirects.{is_redirect_source}
 use Rattle.pl_base.specs.Store.{Store, Visit}
-use Rattle.pl_base.specs.Tables.{greatest_bonus}
-use Rattle.pl_base.specs.Visits.{latest_first, sample_of, sample_size, visits_of}
+use Rattle.pl_base.specs.Visits.{sample_of, sample_size, visits_of}
 use Rattle.pl_base.proofs.IdsLaws.{same_page}
-use Rattle.pl_base.proofs.ListLaws.{map-map, sum_by-map}
-use Rattle.pl_base.proofs.VisitLists.{any-latest_first}
+use Rattle.pl_base.proofs.ListLaws.{all_take, map-map, sum_by-map}
+use Rattle.pl_base.proofs.VisitLists.{list_all-latest_first}
 use Rattle.pl_base.proofs.VisitsLaws.{latest_first-same, length-latest_first}
 use Rattle.pl_score.specs.declared.sample.Sampled.{Sampled}
 use Rattle.pl_score.specs.Sample.{points_of, sampled_of}
-use Rattle.pl_score.proofs.StoreSamples.{frecency-sampled, sampled-small}
+use Rattle.pl_score.proofs.StoreSamples.{frecency-sampled}
 use Rattle.pl_sound.specs.Marks.{are_unseen, told_sample}
 use Rattle.pl_sound.specs.Visits.{AreByPage, of_page}
 use Rattle.pl_stored.specs.declared.stored.StoredPage.{StoredPage}
@@ -45,24 +43,6 @@ all_kept {X} p (x ∷ xs) = choose (p x) refl (all_kept p xs)
         → AllByRecursion (Passes p) (if b then x ∷ filter p xs else filter p xs)
     choose true is rest = (is, rest)
     choose false is rest = rest
-
-all_first : {X : Type 0} (P : X → Type 0) (n : ℕ) (xs : List X) → AllByRecursion P xs → AllByRecursion P (take n xs)
-all_first P zero xs all = tt
-all_first P (suc n) [] all = tt
-all_first P (suc n) (x ∷ xs) all = (all.0, all_first P n xs all.1)
-
--- all pass where none fails
-all_by_any : {X : Type 0} (p : X → Bool) (xs : List X) → list_all p xs ≡ not (list_any (λ x. not (p x)) xs)
-all_by_any p [] = refl
-all_by_any p (x ∷ xs) = ap (λ b. p x && b) (all_by_any p xs) ∙ both (p x) (list_any (λ y. not (p y)) xs)
-  where
-    both : (a b : Bool) → (a && not b) ≡ not (not a || b)
-    both true b = refl
-    both false b = refl
-
-all_latest : (p : Visit → Bool) (vs : List Visit) → list_all p (latest_first vs) ≡ list_all p vs
-all_latest p vs =
-    all_by_any p (latest_first vs) ∙ ap not (any-latest_first (λ v. not (p v)) vs) ∙ sym (all_by_any p vs)
 
 counted_part : (p : Visit → Bool) (vs : List Visit)
     → count_by counts (filter p vs) ≡ count_by (λ v. p v && counts v) vs
@@ -119,7 +99,7 @@ module _ (rows : Stored) (sorted : List StoredVisit) (by : AreByPage rows.visits
       → map (told_sample rows referenced) sampled ≡ map (sampled_of store) (sample_of store page)
   sample_is referenced told =
       ap (λ (b : Bool). map (told_sample rows b) sampled) told
-      ∙ told_right sampled (all_first (Passes (of_page page)) sample_size own (all_kept (of_page page) sorted))
+      ∙ told_right sampled (all_take (Passes (of_page page)) sample_size own (all_kept (of_page page) sorted))
       ∙ sym (map-map (sampled_of store) visit_of sampled)
       ∙ ap (map (sampled_of store)) (sym (take-map visit_of sample_size own) ∙ ap (take sample_size) (by page))
 
@@ -144,7 +124,7 @@ module _ (rows : Stored) (sorted : List StoredVisit) (by : AreByPage rows.visits
       ap (λ (b : Bool). not (length own == 0) && b)
       (sym (list_all-map unseen visit_of own)
       ∙ ap (list_all unseen) (by page)
-      ∙ all_latest unseen (visits_of store page))
+      ∙ list_all-latest_first unseen (visits_of store page))
       ∙ ap (λ (n : ℕ). not (n == 0)
       && list_all unseen (visits_of store page))
       (sym (length-map own visit_of) ∙ ap length (by page) ∙ length-latest_first (visits_of store page))
@@ -158,10 +138,6 @@ module _ (rows : Stored) (sorted : List StoredVisit) (by : AreByPage rows.visits
 
 -- ---- the frecency
 
-pub small_bonuses : (store : Store) (vs : List Visit) (sampled : List Sampled) → sampled ≡ map (sampled_of store) vs
-    → All (λ (s : Sampled). s.bonus ≤ greatest_bonus) sampled
-small_bonuses store vs sampled is = rw is (sampled-small store vs)
-
 pub score_is : (rows : Stored) (p : StoredPage) (sampled : List Sampled) (count : ℕ) (referenced place : Bool)
     → sampled ≡ map (sampled_of (stored_store rows)) (sample_of (stored_store rows) p.id)
     → count ≡ visit_count (stored_store rows) p.id → referenced ≡ is_referenced (stored_store rows) p.id
@@ -170,19 +146,3 @@ pub score_is : (rows : Stored) (p : StoredPage) (sampled : List Sampled) (count 
     ≡ frecency_of (stored_store rows) (stored_page p)
 score_is rows p sampled count referenced place is counted refers places =
     rw (is, counted, refers, places) (frecency-sampled (stored_store rows) (stored_page p))
-
--- ---- queries
-
-abbrev passes : {T E : Type 0} → (T → Bool) → Result T E → Bool
-passes test (Ok found) = test found
-passes test (Err e) = false
-
-told_by : {T E : Type 0} (r : Result T E) (test : T → Bool) (b : Bool) → IsOkAnd r (λ found. b ≡ test found)
-    → b ≡ passes test r
-told_by (Ok found) test b is = is
-told_by (Err e) test b is = absurd is
-
--- a URL holds a query where its record says so
-pub place_is : (url : List ℕ) (b : Bool) → IsOkAnd (record_of url) (λ found. b ≡ is_place found)
-    → b ≡ is_place_url url
-place_is url b is = told_by (record_of url) is_place b is

@@ -7,7 +7,8 @@ use Rattle.std.proofs.lemmas.Option.{MatchOption-at_some, same_Some}
 use Rattle.std.proofs.lemmas.Result.{err_from_is_err_and}
 use Rattle.pl_base.specs.Store.{Store}
 use Rattle.pl_base.specs.Touched.{page_size}
-use Rattle.pl_desk.proofs.Told.{if_some, value}
+use Rattle.pl_base.proofs.Truths.{some_there}
+use Rattle.pl_desk.proofs.Told.{if_some}
 use Rattle.pl_desk.proofs.AnyMoment.{rests_less, still_rests}
 use Rattle.pl_desk.specs.Calls.{KeepsLine, OnlyReads}
 use Rattle.pl_desk.specs.Shown.{Rests}
@@ -122,7 +123,7 @@ module _ {D : Type 0} (desk : Ghosts D) (told : (now : D) → IsSome (desk.held 
     still_none = if_some (desk.held new) _ (λ later is store stands.
         let is_mid = sym reads.file.held ∙ is in
         let said = (told mid).0 (subst IsSome (sym is_mid) refl) in
-        let first = value (desk.held old) ((told old).1 (subst IsSome line.said said)) in
+        let first = some_there (desk.held old) ((told old).1 (subst IsSome line.said said)) in
         let rests = settled first.0 first.1 in
         let has = subst (IsSettledAs first.0) (same_Some rests.file later (sym rests.is_held ∙ is_mid)) rests.has in
         (MatchOption-at_some _ _ later is_mid none) store (later_form first.0 later has store stands));

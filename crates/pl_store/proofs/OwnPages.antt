@@ -1,12 +1,13 @@
--- Pages whose bytes may have been those of now alone when their changes were told last: none has changed since.
+-- Pages whose bytes may have been those of now alone when their changes were told last: none has
+-- changed since.
 use Rattle.std.proofs.Common.{◌≡◌, ◌≢◌, ◌↔◌, ◌∙◌, ◌+◌, ◌-◌, ◌*◌, ◌<◌, ◌≤◌, ◌∷◌, [], ℕ, Bool, List, ap, arith, false, inl, inr}
 use Rattle.std.proofs.Common.{length, refl, sym, true}
-use Rattle.std.proofs.Math.Logic.{∥∥₁_elim}
-use Rattle.std.proofs.Props.{props}
 use Rattle.std.proofs.lemmas.Bool.{cases_Bool, cases_lt, cases_order, true≢false}
 use Rattle.std.proofs.lemmas.List.{get_or_past, length-drop}
 use Rattle.pl_base.specs.Touched.{bytes_before, page_size}
 use Rattle.pl_linked.specs.declared.linked.Linked.{Linked}
+use Rattle.pl_linked.specs.Linked.{sheets_of}
+use Rattle.pl_linked.specs.LinkedLaws.{are_pages}
 use Rattle.pl_record.specs.Form.{bytes_in}
 use Rattle.pl_record.specs.LinkedRows.{IsBaseOf, changes}
 use Rattle.pl_sheets.specs.Sheets.{ArePages, Pages, bytes_at, has_changed, overwritten, page_count}
@@ -82,6 +83,5 @@ module _ (sheets : Pages) (are : ArePages sheets)
       let all : 0 + page_count sheets ≡ page_count sheets = omega arith in
       ap (passed p 0) (sym all) ∙ passed_past p 0 0 (page_count sheets) (λ page above. nowhere page)
 
-pub none_pending : (rows : Linked) → HasOwnBase rows → changes rows.arena ≡ 0
-none_pending rows own =
-    ∥∥₁_elim rows.rows.linked (Prim.hlevel props) (λ linked. none_changed rows.arena linked.laid.arena.whole own)
+pub none_pending : (rows : Linked) → HasOwnBase rows → changes (sheets_of rows) ≡ 0
+none_pending rows own = none_changed (sheets_of rows) (are_pages rows) own

@@ -56,8 +56,8 @@ pub record Joined (slot : Slot) (slots text : List ℕ) (pages : Pages) : Type 0
   pub first : slot ≡ first_in slots
   pub held : Hold slots text pages
 
--- slots were found that hold a text together with those that hold what is left, from the next one on;
--- if there is such a text, so much of it is left there
+-- slots were found that hold a text together with those that hold what is left, from the next one
+-- on; if there is such a text, so much of it is left there
 pub record Follows (slot next : Slot) (size left before now : ℕ) (found : List ℕ) (pages : Pages) : Type 0 where
   pub front : List ℕ
   pub long : length front + left ≡ size

@@ -15,11 +15,10 @@ use Rattle.pl_base.specs.Rows.{title_of, url_of}
 use Rattle.pl_base.specs.Sorting.{sorted_by}
 use Rattle.pl_base.specs.Store.{Page, Store}
 use Rattle.pl_base.proofs.IdsLaws.{same_page}
-use Rattle.pl_base.proofs.ListLaws.{all-filter, all_append, found_in, some_in, to_map, weaker}
+use Rattle.pl_base.proofs.ListLaws.{all-filter, all_append, all_take, found_in, some_in, to_map, weaker}
 use Rattle.pl_base.proofs.SortLaws.{all_sorted}
 use Rattle.pl_base.proofs.LookUps.{found_passes, found_self}
 use Rattle.pl_base.proofs.PageLaws.{pages_apart}
-use Rattle.pl_query.proofs.AnsweredRows.{all_take}
 use Rattle.pl_marks.proofs.PageRows.{AreTold, right_mark, told_at}
 use Rattle.pl_words.specs.Bar.{marks_of, words_of}
 use Rattle.pl_words.specs.declared.bar_text.Marks.{Marks}

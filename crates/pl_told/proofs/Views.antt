@@ -1,6 +1,6 @@
 -- What the views of a store tell of its origins.
 use Rattle.std.proofs.Common.{◌≡◌, ◌≢◌, ◌∙◌, ◌≤◌, ◌==◌, ℕ, List, [], ◌∷◌, ap, arith, eq-eqb, filter}
-use Rattle.std.proofs.Common.{if◌then◌else◌, length, refl, suc, sym, Ok, Err, Bool}
+use Rattle.std.proofs.Common.{if◌then◌else◌, length, refl, sym, Ok, Err, Bool}
 use Rattle.std.specs.List.{filter_map}
 use Rattle.std.specs.Option.{option_map}
 use Rattle.std.specs.Result.{IsOkAnd}
@@ -39,16 +39,6 @@ scored store (p ∷ ps) (v ∷ vs) are =
 pub scored_same : (store : Store) (views : List View) → AreViewsOf store views
     → scored_views views ≡ scored_pages store
 scored_same store views are = scored store store.pages views are
-
-alike : (store : Store) (ps : List Page) (vs : List View) → AreViews store ps vs → length vs ≡ length ps
-alike store [] [] are = refl
-alike store [] (v ∷ vs) are = absurd are
-alike store (p ∷ ps) [] are = absurd are
-alike store (p ∷ ps) (v ∷ vs) are = ap suc (alike store ps vs are.1)
-
--- there are as many views as pages
-pub as_many : (store : Store) (views : List View) → AreViewsOf store views → length views ≡ length store.pages
-as_many store views are = alike store store.pages views are
 
 -- ---- an origin
 

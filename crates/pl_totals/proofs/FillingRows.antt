@@ -7,7 +7,8 @@ use Rattle.pl_totals.specs.Filling.{best_group, group_names, is_better}
 abbrev secure : List ℕ → ℤ → Scored
 secure host frecency = ((codes "https://", host), frecency)
 
--- the groups have 100, 100, 160 and 40, and the mean of the five origins is 80; the mail address is in none
+-- the groups have 100, 100, 160 and 40, and the mean of the five origins is 80; the mail address is
+-- in none
 abbrev pages : List Scored
 pages =
     secure (codes "dog.example") (pos 100) ∷ secure (codes "cat.example") (pos 100)

@@ -1,4 +1,5 @@
--- The children of an item, counted: the one at a place, the first so many, and that there are fewer than ids.
+-- The children of an item, counted: the one at a place, the first so many, and that there are fewer
+-- than ids.
 use Rattle.std.proofs.Common.{◌≡◌, ◌≢◌, ◌∙◌, ◌+◌, ◌<◌, ◌≤◌, ◌++◌, ◌==◌, ◌||◌, ℕ, Bool, true, false, List, [], ◌∷◌}
 use Rattle.std.proofs.Common.{Option, Some, None, ap, arith, eq-eqb, filter}
 use Rattle.std.proofs.Common.{if◌then◌else◌, inl, inr, length, map, min}

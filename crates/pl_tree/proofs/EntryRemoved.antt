@@ -1,4 +1,5 @@
--- Without an entry, and without its tag folder where it was the last one, the items are those of a good store.
+-- Without an entry, and without its tag folder where it was the last one, the items are those of a
+-- good store.
 use Rattle.std.proofs.Common.{◌≡◌, ◌≢◌, ◌==◌, ◌∷◌, ◌∙◌, inl, inr, true, List, []}
 use Rattle.std.proofs.Common.{Some, ap, arith, eq-eqb, refl, subst, sym}
 use Rattle.std.proofs.lemmas.Bool.{both_ways, cases_eq, eqb-true}
@@ -10,9 +11,11 @@ use Rattle.pl_base.specs.Store.{Item, Store}
 use Rattle.pl_base.specs.Tags.{tags_root}
 use Rattle.pl_base.specs.Tree.{child_items, children_of, has_item, item_at, parent_of, removed}
 use Rattle.pl_base.proofs.ItemLaws.{bare}
-use Rattle.pl_base.proofs.Among.{In, in_map}
+use Rattle.pl_base.proofs.Among.{In, in_map, not_empty}
 use Rattle.pl_base.proofs.ItemLookUps.{same_item_number}
 use Rattle.pl_base.proofs.KeyCounts.{Ascends}
+use Rattle.pl_base.proofs.Truths.{no_elements}
+use Rattle.pl_tree.specs.Tagged.{if_none_left}
 use Rattle.pl_tree.proofs.ChildLists.{left_other, without_other}
 use Rattle.pl_tree.proofs.GoodEntered.{no_tags_root}
 use Rattle.pl_tree.proofs.GoodRows.{HasGoodRows, good_rows, with_tags}
@@ -23,15 +26,10 @@ use Rattle.pl_tree.proofs.LookedUp.{in_child_ids, item_key, one_parent, parent_o
 use Rattle.pl_tree.proofs.RemovedChildren.{ascends_left, children_left, from_left}
 use Rattle.pl_tree.proofs.RemovedRows.{removed_rows}
 use Rattle.pl_tree.proofs.RootItems.{IsNoRoot, no_root_below, no_tags}
-use Rattle.pl_tree.proofs.TagItems.{Bookmark≢Folder, not_empty}
+use Rattle.pl_tree.proofs.TagItems.{Bookmark≢Folder}
 use Rattle.pl_tree.proofs.TagRows.{AreUsed, HasTagRows, are_used, child_at, has_tags, tag_rows}
 use Rattle.pl_tree.proofs.TreeLaws.{child_known, child_once}
 use Rattle.pl_tree.proofs.UntaggedRows.{rows_without}
-
--- as `without_unused` has it
-abbrev pub if_none_left : List ItemId → List Item → List Item → List Item
-if_none_left [] without with_it = without
-if_none_left (c ∷ cs) without with_it = with_it
 
 -- a removal of an item without children
 pub leaf_removed : (old : Store) (item : ItemId) → Ascends item_key old.items → HasGoodRows old
@@ -54,10 +52,6 @@ leaf_removed old item up good there no_root leaf =
               absurd (subst (In c) none r.3);
           parent = λ c within other. absurd (both_ways (c.0 == item.0) other within);
         }
-
-no_ids : (ids : List ItemId) → (ids ≢ [] → ⊥) → ids ≡ []
-no_ids [] none = refl
-no_ids (c ∷ ids) none = absurd (none (λ same. absurd (cc)))
 
 module _ (old : Store) (up : Ascends item_key old.items) (good : HasGoodItems old) (tag entry : Item)
     (tagged : In tag (child_items old.items tags_root)) (entered : In entry (child_items old.items tag.id)) where
@@ -94,7 +88,7 @@ module _ (old : Store) (up : Ascends item_key old.items) (good : HasGoodItems ol
       let same : i ≡ entry =
       same_Some i entry (sym (at_id items i entry.id up h e) ∙ (child_at items tag.id entry entered).1)
       in
-      no_ids i.children (λ some.
+      no_elements i.children (λ some.
       Bookmark≢Folder
       (sym (ap (λ (k : Item). k.kind) same ∙ entry_kind) ∙ (good_item old i good.items h).children some))
 

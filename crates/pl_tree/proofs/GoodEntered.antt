@@ -1,4 +1,5 @@
--- A new entry in a tag folder keeps the items those of a good store, where the other tag folders have entries.
+-- A new entry in a tag folder keeps the items those of a good store, where the other tag folders
+-- have entries.
 use Rattle.std.proofs.Common.{◌≡◌, ◌≢◌, ◌<◌, ◌≤◌, inl, inr, List, [], Some, arith, refl, subst, sym}
 use Rattle.std.specs.Prelude.{IsTrue}
 use Rattle.std.proofs.lemmas.Bool.{cases_eq, ne_eqb}
@@ -13,7 +14,7 @@ use Rattle.pl_base.specs.Store.{Item, Store}
 use Rattle.pl_base.specs.Tags.{tags_root}
 use Rattle.pl_base.specs.Tree.{child_items, children_of, item_at}
 use Rattle.pl_base.proofs.ItemLaws.{bare}
-use Rattle.pl_base.proofs.Among.{In, in_map}
+use Rattle.pl_base.proofs.Among.{In, in_map, not_empty}
 use Rattle.pl_base.proofs.ItemLookUps.{same_item_number}
 use Rattle.pl_tree.specs.declared.place.Place.TheVariants.{End}
 use Rattle.pl_tree.specs.Changes.{item_of, put, with_new}
@@ -27,7 +28,6 @@ use Rattle.pl_tree.proofs.LookedUp.{item_key}
 use Rattle.pl_tree.proofs.MappedItems.{changed_other}
 use Rattle.pl_tree.proofs.PutPlaces.{row_of_new}
 use Rattle.pl_tree.proofs.RootItems.{no_root_below, no_tags, top_folder}
-use Rattle.pl_tree.proofs.TagItems.{not_empty}
 use Rattle.pl_tree.proofs.TaggedRows.{rows_with_entry}
 use Rattle.pl_tree.proofs.TagRows.{AreUsed, HasTagRows, child_at, child_rows, has_tags}
 use Rattle.pl_tree.proofs.TreeLaws.{child_below}

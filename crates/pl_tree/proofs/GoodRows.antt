@@ -1,4 +1,5 @@
--- The items are those of a good store but for the tags, and with tags that are in order they are those of one.
+-- The items are those of a good store but for the tags, and with tags that are in order they are
+-- those of one.
 use Rattle.std.specs.List.{All}
 use Rattle.pl_base.specs.Good.{HasGoodItems, HasRoots, HasTags, IsGoodItem, IsTree}
 use Rattle.pl_base.specs.Store.{Store}

@@ -1,4 +1,5 @@
--- What an item at the end of a folder and a tag for a page keep of a good store, whatever id is next.
+-- What an item at the end of a folder and a tag for a page keep of a good store, whatever id is
+-- next.
 use Rattle.std.proofs.Common.{◌≡◌, ◌≢◌, ◌<◌, ◌+◌, ◌++◌, ◌==◌, ◌∙◌, ◌⊎◌, inl, inr, ℕ, All, true, false}
 use Rattle.std.proofs.Common.{List, [], ◌∷◌, Some, None, ap, arith, eq-eqb, if◌then◌else◌, is_some}
 use Rattle.std.proofs.Common.{length, map, refl, subst, sym}
@@ -174,7 +175,7 @@ module _ (old : Store) (next : ℕ) (good : HasGoodItems old)
     put_below =
         All-from_recursion (λ (i : Item). i.id.0 < next + 1) (with_last next parent row title items)
         (all_from_in (λ (i : Item). i.id.0 < next + 1) (with_last next parent row title items)
-        (fresh_more items id parent new refl refl up fresh known))
+        (fresh_more items id parent new refl fresh))
 
     pub put_takes : (folder : ItemId) → parent_refusal old.items folder ≡ None
         → parent_refusal (with_last next parent row title old.items) folder ≡ None

@@ -18,25 +18,25 @@ use Rattle.pl_base.specs.Good.{HasGoodItems, IsTagName, IsTitle, child_ids, end_
 use Rattle.pl_base.specs.Rows.{IsWellKept, Kept, has_page, store_of, with_items}
 use Rattle.pl_base.specs.Store.{Item, Store, item_id}
 use Rattle.pl_base.specs.Tags.{tags_root}
-use Rattle.pl_base.specs.Tree.{child_items, children_of, is_page, item_at, removed}
+use Rattle.pl_base.specs.Tree.{child_items, is_page, item_at}
 use Rattle.pl_base.proofs.ItemLaws.{bare}
-use Rattle.pl_base.proofs.Among.{In, from_map, in_back, in_either, in_front, in_map}
+use Rattle.pl_base.proofs.Among.{In, from_found, from_map, in_back, in_either, in_front, in_map}
 use Rattle.pl_base.proofs.Truths.{is_none_at}
 use Rattle.pl_tree.specs.declared.place.Place.TheVariants.{End}
 use Rattle.pl_tree.specs.Changes.{item_of, put, with_new}
 use Rattle.pl_tree.specs.Refused.{tag_refusal, untag_refusal}
 use Rattle.pl_tree.specs.Tagged.{entry_in, new_entry, new_items, new_tag, tag_entry, tag_named, untagged_items}
-use Rattle.pl_tree.specs.Tagged.{with_tagged}
+use Rattle.pl_tree.specs.Tagged.{with_tagged, without_entry}
 use Rattle.pl_base.proofs.KeyCounts.{Ascends}
 use Rattle.pl_tree.proofs.Causes.{if_none}
 use Rattle.pl_tree.proofs.ChildLists.{grown, grown_id, grown_new}
-use Rattle.pl_tree.proofs.EntryRemoved.{if_none_left, unused_good}
+use Rattle.pl_tree.proofs.EntryRemoved.{unused_good}
 use Rattle.pl_tree.proofs.GoodChanges.{below_next, page_there}
 use Rattle.pl_tree.proofs.GoodEntered.{entered_good, no_tags_root}
 use Rattle.pl_tree.proofs.GoodRows.{HasGoodRows, good_rows}
 use Rattle.pl_tree.proofs.InsertedChildren.{ascends_new, from_children, rows_new}
 use Rattle.pl_tree.proofs.InsertedRows.{inserted_rows}
-use Rattle.pl_tree.proofs.LookedUp.{found_at, found_in, id_key, item_key, none_found}
+use Rattle.pl_tree.proofs.LookedUp.{found_at, id_key, item_key, none_found}
 use Rattle.pl_tree.proofs.MappedItems.{changed_other}
 use Rattle.pl_tree.proofs.PutPlaces.{row_of_new}
 use Rattle.pl_tree.proofs.RootItems.{top_folder}
@@ -89,7 +89,7 @@ module _ (old : Store) (ids : Ids) (next : ℕ) (page : PageId) (name : List ℕ
   entered tag is none id above =
       entered_good old ids id page date tag up (good_rows old good) (tag_rows old good.tags)
       (λ i h. let below = fresh i h in omega arith) (omega arith)
-      (found_in (λ (t : Item). bytes_eq (folded t.title) (folded name)) (child_items items tags_root) tag is).0
+      (from_found (λ (t : Item). bytes_eq (folded t.title) (folded name)) (child_items items tags_root) tag is).0
       (no_page items page tag none) (λ t h _. are_used old good.tags t h) dated has
 
   -- ---- the tag is new
@@ -198,14 +198,6 @@ good_tagged kept page name date h good named dated has none =
 
 -- ---- a page loses a tag
 
--- as `untagged_items` has it
-abbrev without_entry : Option Item → Option Item → List Item → List Item
-without_entry None entry items = items
-without_entry (Some tag) None items = items
-without_entry (Some tag) (Some entry) items =
-    if_none_left (children_of (removed entry.id items) tag.id) (removed tag.id (removed entry.id items))
-    (removed entry.id items)
-
 pub good_untagged : (kept : Kept) (page : PageId) (name : List ℕ) → IsWellKept kept → HasGoodItems (store_of kept)
     → untag_refusal page name kept.items ≡ None
     → HasGoodItems (store_of (with_items (untagged_items page name kept.items) kept))
@@ -221,8 +213,8 @@ good_untagged kept page name h good none =
     found tag is None at some = absurd (both_ways true some refl)
     found tag is (Some entry) at some =
         unused_good (store_of kept) (ids_ascend items h.item_ids.ascending) good tag entry
-        (found_in (λ (t : Item). bytes_eq (folded t.title) (folded name)) (child_items items tags_root) tag is).0
-        (found_in (λ (i : Item). is_page page i.page) (child_items items tag.id) entry at).0
+        (from_found (λ (t : Item). bytes_eq (folded t.title) (folded name)) (child_items items tags_root) tag is).0
+        (from_found (λ (i : Item). is_page page i.page) (child_items items tag.id) entry at).0
 
     choose : (o : Option Item) → tag_named name items ≡ o
         → is_none (option_and_then (entry_in items page) o) ≡ false

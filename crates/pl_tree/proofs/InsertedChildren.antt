@@ -12,12 +12,12 @@ use Rattle.pl_base.specs.Good.{child_ids}
 use Rattle.pl_base.specs.Store.{Item}
 use Rattle.pl_base.specs.Tree.{child_items, children_of, item_at}
 use Rattle.pl_base.proofs.ItemLaws.{bare}
-use Rattle.pl_base.proofs.Among.{In, from_map, in_either}
+use Rattle.pl_base.proofs.Among.{In, from_filter_map, from_map, in_either}
 use Rattle.pl_tree.specs.declared.place.Place.TheVariants.{End}
 use Rattle.pl_tree.specs.Changes.{put}
 use Rattle.pl_base.proofs.KeyCounts.{Ascends}
 use Rattle.pl_tree.proofs.ChildLists.{bare_grown, from_grown, grown, grown_id}
-use Rattle.pl_tree.proofs.LookedUp.{child_of, children_in, filter_map-alike, found_at, from_filter_map, id_key}
+use Rattle.pl_tree.proofs.LookedUp.{child_of, children_in, filter_map-alike, found_at, id_key}
 use Rattle.pl_tree.proofs.LookedUp.{in_child_ids, item_key}
 use Rattle.pl_tree.proofs.MappedItems.{ascends_map, at_map, at_push, bare_at, changed_here, changed_other, same_at}
 use Rattle.pl_tree.proofs.TagItems.{among_children}

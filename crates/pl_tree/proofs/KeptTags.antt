@@ -12,10 +12,10 @@ use Rattle.pl_base.specs.Good.{HasTags, IsTagFolder, child_ids}
 use Rattle.pl_base.specs.Store.{Item, Store}
 use Rattle.pl_base.specs.Tags.{is_tags_root, tags_of, tags_root}
 use Rattle.pl_base.specs.Tree.{child_items, children_of, item_at, parent_of}
-use Rattle.pl_base.proofs.Among.{In, all_from_in, at_in}
+use Rattle.pl_base.proofs.Among.{In, all_from_in, at_in, from_filter_map}
 use Rattle.pl_tree.specs.Refused.{is_entry, is_tag}
 use Rattle.pl_base.proofs.KeyCounts.{Once}
-use Rattle.pl_tree.proofs.LookedUp.{children_in, filter_map-alike, found_at, from_filter_map, id_key, parent_of_child}
+use Rattle.pl_tree.proofs.LookedUp.{children_in, filter_map-alike, found_at, id_key, parent_of_child}
 
 -- the item is the tags root, a tag folder or in one
 abbrev pub is_of_tags : List Item → ItemId → Bool

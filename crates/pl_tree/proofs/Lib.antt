@@ -20,9 +20,9 @@ mod Insides
 mod KeptItems
 mod KeptRoots
 mod KeptTags
-mod LookedUp
+pub mod LookedUp
 mod MappedItems
-mod MoreItems
+pub mod MoreItems
 mod MoreTags
 mod PageOrder
 mod PutPlaces
@@ -33,7 +33,7 @@ mod RemovedChildren
 mod RemovedRows
 mod RootItems
 pub mod StoreItems
-mod TagItems
+pub mod TagItems
 mod TagRows
 mod TagSteps
 mod TagWalks

@@ -1,4 +1,5 @@
--- Items that are looked up by their ids, which ascend, and by their children, each of which has one parent.
+-- Items that are looked up by their ids, which ascend, and by their children, each of which has one
+-- parent.
 use Rattle.std.proofs.Common.{◌≡◌, ◌<◌, ◌||◌, ◌==◌, ◌∙◌, inl, inr, ℕ, Bool, true, false}
 use Rattle.std.proofs.Common.{List, [], ◌∷◌, Option, Some, None, ap, sym, subst, arith, refl, find}
 use Rattle.std.proofs.Common.{if◌then◌else◌, eq-eqb}
@@ -11,7 +12,7 @@ use Rattle.pl_base.specs.declared.item.ItemKind.TheVariants.{Folder}
 use Rattle.pl_base.specs.Good.{child_ids}
 use Rattle.pl_base.specs.Store.{Item}
 use Rattle.pl_base.specs.Tree.{IsFolder, children_of, has_child, has_item, item_at, parent_of}
-use Rattle.pl_base.proofs.Among.{In, at_in, from_flat_map, in_flat_map}
+use Rattle.pl_base.proofs.Among.{In, at_in, from_flat_map, from_found, in_flat_map}
 use Rattle.pl_base.proofs.ItemLookUps.{same_item_number}
 use Rattle.pl_base.proofs.KeyCounts.{Ascends, Once, count-append, counted}
 
@@ -41,17 +42,6 @@ among_in (c ∷ cs) id some = choose (c.0 == id.0) refl some (among_in cs id)
 
 -- ---- what is found
 
-pub found_in : {X : Type 0} (test : X → Bool) (xs : List X) (x : X) → find test xs ≡ Some x → In x xs × (test x ≡ true)
-found_in test [] x found = absurd (cc)
-found_in test (y ∷ ys) x found = choose (test y) refl found (found_in test ys x)
-  where
-    choose : (b : Bool) → test y ≡ b → (if b then Some y else find test ys) ≡ Some x
-        → (find test ys ≡ Some x → In x ys × (test x ≡ true)) → In x (y ∷ ys) × (test x ≡ true)
-    choose true is here rest =
-        let same : y ≡ x = same_Some y x here in
-        (inl (sym same), ap test (sym same) ∙ is)
-    choose false is here rest = let r = rest here in (inr r.0, r.1)
-
 pub none_found : {X : Type 0} (test : X → Bool) (xs : List X) (x : X) → find test xs ≡ None → In x xs → test x ≡ false
 none_found test [] x none h = absurd h
 none_found test (y ∷ ys) x none h = choose (test y) refl none h (none_found test ys x)
@@ -64,7 +54,7 @@ none_found test (y ∷ ys) x none h = choose (test y) refl none h (none_found te
 
 pub found_at : (items : List Item) (id : ItemId) (i : Item) → item_at items id ≡ Some i → In i items × (i.id ≡ id)
 found_at items id i is =
-    let r = found_in (λ (j : Item). j.id.0 == id.0) items i is in
+    let r = from_found (λ (j : Item). j.id.0 == id.0) items i is in
     (r.0, same_item_number i.id id (eqb-true i.id.0 id.0 r.1))
 
 pub folder_at : (items : List Item) (id : ItemId) (i : Item) → item_at items id ≡ Some i → i.kind ≡ Folder
@@ -166,29 +156,10 @@ has_parent items c p is = choose (find (has_child c) items) refl is
         → (i : Item) × In i items × (i.id ≡ p) × In c i.children
     choose None found is = absurd (cc)
     choose (Some i) found is =
-        let r = found_in (has_child c) items i found in
+        let r = from_found (has_child c) items i found in
         (i, r.0, same_Some i.id p is, among_in i.children c r.1)
 
 -- ---- items that were looked up
-
--- the item was looked up by one of the ids
-abbrev pub IsMade : (ItemId → Option Item) → List ItemId → Item → Type 0
-IsMade at ids i = (c : ItemId) × In c ids × (at c ≡ Some i)
-
-pub from_filter_map : (at : ItemId → Option Item) (ids : List ItemId) (i : Item) → In i (filter_map at ids)
-    → IsMade at ids i
-from_filter_map at [] i h = absurd h
-from_filter_map at (c ∷ cs) i h =
-    choose (at c) refl (λ g. let r = from_filter_map at cs i g in (r.0, inr r.1, r.2))
-  where
-    first : (j : Item) → at c ≡ Some j → In i (j ∷ filter_map at cs) → (In i (filter_map at cs) → IsMade at (c ∷ cs) i)
-        → IsMade at (c ∷ cs) i
-    first j is (inl e) later = (c, inl refl, is ∙ ap (λ (k : Item). Some k) (sym e))
-    first j is (inr g) later = later g
-
-    choose : (o : Option Item) → at c ≡ o → (In i (filter_map at cs) → IsMade at (c ∷ cs) i) → IsMade at (c ∷ cs) i
-    choose None is later = later (rw is at h)
-    choose (Some j) is later = first j is (rw is at h) later
 
 pub filter_map-alike : (f g : ItemId → Option Item) (ids : List ItemId) → ((c : ItemId) → In c ids → f c ≡ g c)
     → filter_map f ids ≡ filter_map g ids

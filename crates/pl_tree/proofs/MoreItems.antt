@@ -1,4 +1,5 @@
--- What folders take items, and what the tags are, where there is one more item at the end of a folder.
+-- What folders take items, and what the tags are, where there is one more item at the end of a
+-- folder.
 use Rattle.std.proofs.Common.{◌≡◌, ◌≢◌, ◌<◌, ◌+◌, ◌++◌, ◌==◌, ◌∙◌, inl, inr, ℕ, false, List, [], ◌∷◌, Option, Some}
 use Rattle.std.proofs.Common.{ap, arith, eq-eqb, if◌then◌else◌, map, refl, subst, sym}
 use Rattle.std.specs.Option.{option_map}
@@ -70,6 +71,20 @@ still_takes olds news p folder once up t there kind back =
 
 -- ---- an item more
 
+-- the ids lie below the one behind the new one
+pub fresh_more : (items : List Item) (id parent : ItemId) (row : Item) → row.id ≡ id
+    → ((i : Item) → In i items → i.id.0 < id.0) → (i : Item)
+    → In i (map (grown parent End id) items ++ row ∷ []) → i.id.0 < id.0 + 1
+fresh_more items id parent row own fresh i h =
+    elim (in_either (map (grown parent End id) items) (row ∷ []) i h) as (λ _. i.id.0 < id.0 + 1) [
+      | inl g ↦
+          let r = from_map (grown parent End id) items i g in
+          let below = fresh r.0 r.1 in
+          omega (arith, ap item_key r.2, ap id_key (grown_id parent End id r.0))
+      | inr (inl e) ↦ omega (arith, ap item_key e, ap id_key own)
+      | inr (inr g) ↦ absurd g
+    ]
+
 module _ (items : List Item) (id parent : ItemId) (row : Item) (own : row.id ≡ id) (leaf : row.children ≡ [])
     (up : Ascends item_key items) (fresh : (i : Item) → In i items → i.id.0 < id.0)
     (known : (c : ItemId) → In c (child_ids items) → c.0 < id.0) where
@@ -85,17 +100,6 @@ module _ (items : List Item) (id parent : ItemId) (row : Item) (own : row.id ≡
       ∙ ap (λ (ns : List ℕ). ns ++ row.id.0 ∷ [])
       (ids_changed parent (λ (i : Item). record i { children = put End id i.children }) items (λ i. refl))
       ∙ ap (λ (n : ℕ). map item_key items ++ n ∷ []) (ap id_key own)
-
-  pub fresh_more : (i : Item) → In i news → i.id.0 < id.0 + 1
-  fresh_more i h =
-      elim (in_either (map grow items) (row ∷ []) i h) as (λ _. i.id.0 < id.0 + 1) [
-        | inl g ↦
-            let r = from_map grow items i g in
-            let below = fresh r.0 r.1 in
-            omega (arith, ap item_key r.2, ap id_key (grown_id parent End id r.0))
-        | inr (inl e) ↦ omega (arith, ap item_key e, ap id_key own)
-        | inr (inr g) ↦ absurd g
-      ]
 
   pub known_more : (c : ItemId) → In c (child_ids news) → c.0 < id.0 + 1
   known_more c h =

@@ -14,7 +14,7 @@ use Rattle.pl_base.specs.Good.{HasGoodItems, child_ids}
 use Rattle.pl_base.specs.Store.{Item, Store, item_id}
 use Rattle.pl_base.specs.Tags.{tags_root}
 use Rattle.pl_base.specs.Tree.{child_items, children_of, item_at}
-use Rattle.pl_base.proofs.Among.{In, in_either}
+use Rattle.pl_base.proofs.Among.{In, from_found, in_either}
 use Rattle.pl_base.proofs.ItemLookUps.{same_item_number}
 use Rattle.pl_tree.specs.declared.place.Place.TheVariants.{End}
 use Rattle.pl_tree.specs.Changes.{item_of, with_new}
@@ -27,7 +27,7 @@ use Rattle.pl_tree.proofs.GoodEntered.{no_tags_root}
 use Rattle.pl_tree.proofs.GoodRows.{good_rows}
 use Rattle.pl_tree.proofs.InsertedChildren.{ascends_new, at_new, ids_other, ids_parent}
 use Rattle.pl_tree.proofs.KeptTags.{tag_is}
-use Rattle.pl_tree.proofs.LookedUp.{children_in, found_at, found_in, id_key, in_child_ids, item_key}
+use Rattle.pl_tree.proofs.LookedUp.{children_in, found_at, id_key, in_child_ids, item_key}
 use Rattle.pl_tree.proofs.MoreItems.{found_more, fresh_more, ids_more, kind_more, known_more, lists_apart, lists_entry}
 use Rattle.pl_tree.proofs.MoreItems.{lists_folder, still_takes, tag_lists, takes_below, with_entry}
 use Rattle.pl_tree.proofs.RootItems.{top_folder}
@@ -120,7 +120,7 @@ module _ (old : Store) (next : ℕ) (page : PageId) (name : List ℕ) (date : Mi
     known_ids = ids_more items (item_id next) tag.id (entry_at next page date) refl refl up fresh known
 
     pub known_fresh : (i : Item) → In i known_now → i.id.0 < next + 1
-    known_fresh = fresh_more items (item_id next) tag.id (entry_at next page date) refl refl up fresh known
+    known_fresh = fresh_more items (item_id next) tag.id (entry_at next page date) refl fresh
 
   -- ---- the tag is new
 
@@ -143,7 +143,7 @@ module _ (old : Store) (next : ℕ) (page : PageId) (name : List ℕ) (date : Mi
   mid_up = ascends_new items folder_id tags_root new_folder refl refl up fresh known
 
   mid_fresh : (i : Item) → In i mid → i.id.0 < next + 1
-  mid_fresh = fresh_more items folder_id tags_root new_folder refl refl up fresh known
+  mid_fresh = fresh_more items folder_id tags_root new_folder refl fresh
 
   mid_known : (c : ItemId) → In c (child_ids mid) → c.0 < next + 1
   mid_known = known_more items folder_id tags_root new_folder refl refl up fresh known
@@ -214,7 +214,7 @@ module _ (old : Store) (next : ℕ) (page : PageId) (name : List ℕ) (date : Mi
       (ids_more items folder_id tags_root new_folder refl refl up fresh known)
 
   pub new_fresh : (i : Item) → In i new_now → i.id.0 < next + 1 + 1
-  new_fresh = fresh_more mid last folder_id (entry_at (next + 1) page date) refl refl mid_up mid_fresh mid_known
+  new_fresh = fresh_more mid last folder_id (entry_at (next + 1) page date) refl mid_fresh
 
 -- ---- either
 
@@ -228,7 +228,7 @@ known_is next page name date tag items =
 pub tag_among : (name : List ℕ) (items : List Item) (tag : Item) → tag_named name items ≡ Some tag
     → In tag (child_items items tags_root)
 tag_among name items tag is =
-    (found_in (λ (i : Item). bytes_eq (folded i.title) (folded name)) (child_items items tags_root) tag is).0
+    (from_found (λ (i : Item). bytes_eq (folded i.title) (folded name)) (child_items items tags_root) tag is).0
 
 -- what holds where the tag is there and where it is new
 pub each_tag : (next : ℕ) (page : PageId) (name : List ℕ) (date : Micros) (items : List Item)

@@ -19,14 +19,14 @@ use Rattle.pl_base.specs.Tree.{item_at, leaving, lies_in, parent_of, removed}
 use Rattle.pl_base.proofs.ListLaws.{found_in as found_where, list_any-alike}
 use Rattle.pl_base.proofs.LookUps.{found_some}
 use Rattle.pl_base.proofs.ItemLookUps.{same_item}
-use Rattle.pl_base.proofs.Among.{In, all_from_in, from_filter, in_filter}
+use Rattle.pl_base.proofs.Among.{In, all_from_in, from_filter, from_found, in_filter}
 use Rattle.pl_tree.specs.Changes.{loses_item, with_removed}
 use Rattle.pl_tree.specs.LostPages.{has_lost, has_page_of, page_in}
 use Rattle.pl_base.proofs.KeyCounts.{Ascends}
 use Rattle.pl_tree.proofs.AncestorLaws.{child_there, climbed, left_above, less_above, lies_in_child}
 use Rattle.pl_tree.proofs.AncestorLaws.{lies_in_parent, lies_in_self}
 use Rattle.pl_tree.proofs.CountedChildren.{fewer}
-use Rattle.pl_tree.proofs.LookedUp.{among_in, at_id, children_in, found_at, found_in, item_key, one_of_id}
+use Rattle.pl_tree.proofs.LookedUp.{among_in, at_id, children_in, found_at, item_key, one_of_id}
 use Rattle.pl_tree.proofs.LookedUp.{parent_is, parent_of_child}
 use Rattle.pl_tree.proofs.Remaining.{all_remain, and_gone, at_remaining, children_remaining, cleared}
 use Rattle.pl_tree.proofs.Remaining.{has_remaining, none_gone}
@@ -174,7 +174,7 @@ module _ (old : Kept) (item : ItemId) (up : Ascends item_key old.items) (tree : 
           → In c (children_of items p)
       choose None found is = absurd (cc)
       choose (Some q) found is =
-          let f = found_in (has_child c) items q found in
+          let f = from_found (has_child c) items q found in
           let same : q.id ≡ p = cc in
           subst (In c) (sym (ap children_in (at_id items q p up f.0 same))) (among_in q.children c f.1)
 

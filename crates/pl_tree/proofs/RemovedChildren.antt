@@ -10,10 +10,10 @@ use Rattle.pl_base.specs.Store.{Item}
 use Rattle.pl_base.specs.Tree.{child_items, children_of, item_at, leaving, removed, without_id}
 use Rattle.pl_base.proofs.ItemLaws.{bare}
 use Rattle.pl_base.proofs.ListLaws.{all-filter}
-use Rattle.pl_base.proofs.Among.{In, from_filter, from_map}
+use Rattle.pl_base.proofs.Among.{In, from_filter, from_filter_map, from_map}
 use Rattle.pl_base.proofs.KeyCounts.{Ascends}
 use Rattle.pl_tree.proofs.ChildLists.{from_without}
-use Rattle.pl_tree.proofs.LookedUp.{child_of, children_in, found_at, from_filter_map, id_key, item_key}
+use Rattle.pl_tree.proofs.LookedUp.{child_of, children_in, found_at, id_key, item_key}
 use Rattle.pl_tree.proofs.MappedItems.{ascends_map, at_filter, at_map}
 use Rattle.pl_tree.proofs.TagItems.{among_children}
 use Rattle.pl_tree.proofs.TagRows.{child_rows}

@@ -1,4 +1,5 @@
--- Each change of the tree, where it is not refused, keeps the items of any store those of a good one.
+-- Each change of the tree, where it is not refused, keeps the items of any store those of a good
+-- one.
 use Rattle.std.proofs.Common.{◌≡◌, ◌<◌, ◌≤◌, ℕ, All, List, Option, Some, None, length, map, refl}
 use Rattle.std.specs.Prelude.{◌↔◌, IsTrue, bytes_eq}
 use Rattle.std.specs.List.Sorted.{IsStrictlyIncreasing}
@@ -15,7 +16,7 @@ use Rattle.pl_base.specs.Good.{HasGoodItems, IsTitle, has_page_at}
 use Rattle.pl_base.specs.Store.{Item, Store, item_id}
 use Rattle.pl_base.specs.Tags.{tags_root}
 use Rattle.pl_base.specs.Tree.{child_items, children_of, is_page, lies_in, retitled, without_id}
-use Rattle.pl_base.proofs.Among.{at_in}
+use Rattle.pl_base.proofs.Among.{at_in, from_found}
 use Rattle.pl_tree.specs.declared.new_item.NewItem.{NewItem}
 use Rattle.pl_tree.specs.declared.place.Place.{Place}
 use Rattle.pl_tree.specs.declared.tree_change.TreeChange.TheVariants.{Insert, Move, Remove, Retitle}
@@ -31,7 +32,7 @@ use Rattle.pl_tree.proofs.GoodRemoved.{removed_good}
 use Rattle.pl_tree.proofs.GoodRetitled.{retitled_good}
 use Rattle.pl_tree.proofs.Insides.{LiesLaws}
 use Rattle.pl_base.proofs.KeyCounts.{Ascends}
-use Rattle.pl_tree.proofs.LookedUp.{found_in, item_key}
+use Rattle.pl_tree.proofs.LookedUp.{item_key}
 use Rattle.pl_tree.proofs.PutPlaces.{row_of_new}
 use Rattle.pl_tree.proofs.TreeLaws.{ids_ascend}
 pub use Rattle.pl_tree.proofs.Causes.{if_none, or_none}
@@ -98,8 +99,8 @@ module _ (old : Store) (good : HasGoodItems old)
       found tag is None at = good
       found tag is (Some entry) at =
           unused_good old up good tag entry
-          (found_in (λ (t : Item). bytes_eq (folded t.title) (folded name)) (child_items items tags_root) tag is).0
-          (found_in (λ (i : Item). is_page page i.page) (child_items items tag.id) entry at).0
+          (from_found (λ (t : Item). bytes_eq (folded t.title) (folded name)) (child_items items tags_root) tag is).0
+          (from_found (λ (i : Item). is_page page i.page) (child_items items tag.id) entry at).0
 
       choose : (o : Option Item) → tag_named name items ≡ o
           → HasGoodItems (record old { items = without_entry o (option_and_then (entry_in items page) o) items })

@@ -1,7 +1,6 @@
 -- What the tag folders and the items in them are.
-use Rattle.std.proofs.Common.{◌≡◌, ◌≢◌, ◌==◌, ◌||◌, ◌⊎◌, ◌∙◌, inl, inr, true, false, List, [], ◌∷◌}
+use Rattle.std.proofs.Common.{◌≡◌, ◌≢◌, ◌==◌, ◌||◌, ◌⊎◌, ◌∙◌, inl, inr, true, false, List, []}
 use Rattle.std.proofs.Common.{Option, Some, None, ap, arith, sym, subst, refl}
-use Rattle.std.specs.List.{filter_map}
 use Rattle.std.specs.Option.{option_and_then}
 use Rattle.std.proofs.lemmas.Bool.{both_ways, eqb-true, or_cases}
 use Rattle.std.proofs.lemmas.List.Elements.{recursion_from_All}
@@ -11,28 +10,16 @@ use Rattle.pl_base.specs.Good.{HasGoodItems, HasTags, IsTagFolder, child_ids}
 use Rattle.pl_base.specs.Store.{Item, Store}
 use Rattle.pl_base.specs.Tags.{is_tags_root, tags_of, tags_root}
 use Rattle.pl_base.specs.Tree.{child_items, children_of, item_at, parent_of}
-use Rattle.pl_base.proofs.Among.{In, at_in}
+use Rattle.pl_base.proofs.Among.{In, at_in, in_filter_map, not_empty}
 use Rattle.pl_base.proofs.ItemLookUps.{same_item_number}
 use Rattle.pl_tree.specs.Refused.{is_entry, is_tag}
 use Rattle.pl_base.proofs.KeyCounts.{Ascends}
 use Rattle.pl_tree.proofs.Causes.{MayChange, Takes}
 use Rattle.pl_tree.proofs.KeptItems.{good_item}
 use Rattle.pl_tree.proofs.KeptTags.{is_of_tags}
-use Rattle.pl_tree.proofs.LookedUp.{at_its_id, children_in, found_at, has_parent, in_child_ids, item_key}
-use Rattle.pl_tree.proofs.LookedUp.{parent_is}
+use Rattle.pl_tree.proofs.LookedUp.{at_its_id, children_in, found_at, has_parent, in_child_ids}
+use Rattle.pl_tree.proofs.LookedUp.{item_key, parent_is}
 use Rattle.pl_tree.proofs.TreeLaws.{child_once}
-
-in_filter_map : (at : ItemId → Option Item) (ids : List ItemId) (c : ItemId) (i : Item) → In c ids → at c ≡ Some i
-    → In i (filter_map at ids)
-in_filter_map at [] c i h is = absurd h
-in_filter_map at (d ∷ ds) c i (inl e) is =
-    let here : at d ≡ Some i = ap at (sym e) ∙ is in
-    rw here (inl refl)
-in_filter_map at (d ∷ ds) c i (inr h) is = choose (at d) refl (in_filter_map at ds c i h is)
-  where
-    choose : (o : Option Item) → at d ≡ o → In i (filter_map at ds) → In i (filter_map at (d ∷ ds))
-    choose None here rest = rw here rest
-    choose (Some j) here rest = rw here (inr rest)
 
 -- a child that was looked up
 pub among_children : (items : List Item) (p i : Item) → Ascends item_key items → In p items → In i items
@@ -147,10 +134,6 @@ takes_apart store parent x up tags t is same =
           let kind = entry_kind store t.folder up tags found.0 (ap (is_entry items) (found.1 ∙ sym one) ∙ entry) in
           Bookmark≢Folder (sym kind ∙ t.kind)
     ]
-
-pub not_empty : (ids : List ItemId) (c : ItemId) → In c ids → ids ≢ []
-not_empty [] c h same = absurd h
-not_empty (d ∷ ds) c h same = absurd (cc)
 
 -- none of them has as a child an item that may change
 pub no_child_of_tags : (store : Store) (item : ItemId) (i : Item) → Ascends item_key store.items → HasGoodItems store

@@ -1,4 +1,5 @@
--- The tags by their rows alone, without the children of each row: that a tag folder is not empty is told apart.
+-- The tags by their rows alone, without the children of each row: that a tag folder is not empty is
+-- told apart.
 use Rattle.std.proofs.Common.{◌≡◌, ◌≢◌, List, [], Some, map, subst, sym}
 use Rattle.std.specs.List.{AllPairs}
 use Rattle.std.proofs.lemmas.List.Elements.{All-from_recursion, recursion_from_All}
@@ -11,8 +12,8 @@ use Rattle.pl_base.specs.Tags.{tags_of, tags_root}
 use Rattle.pl_base.specs.Tree.{child_items, children_of, item_at}
 use Rattle.pl_base.proofs.ItemLaws.{bare}
 use Rattle.pl_base.proofs.ListLaws.{AllPairs-from_map, AllPairs-map}
-use Rattle.pl_base.proofs.Among.{In, all_from_in, at_in, from_map, in_map}
-use Rattle.pl_tree.proofs.LookedUp.{found_at, from_filter_map}
+use Rattle.pl_base.proofs.Among.{In, all_from_in, at_in, from_filter_map, from_map, in_map}
+use Rattle.pl_tree.proofs.LookedUp.{found_at}
 
 -- the children of an item, without their own
 abbrev pub child_rows : List Item → ItemId → List Item

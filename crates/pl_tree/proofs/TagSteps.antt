@@ -16,7 +16,7 @@ use Rattle.pl_base.specs.Rows.{Kept, store_of}
 use Rattle.pl_base.specs.Store.{Item, item_id}
 use Rattle.pl_base.specs.Tags.{tags_root}
 use Rattle.pl_base.specs.Tree.{IsFolder, child_items, children_of, is_page, item_at}
-use Rattle.pl_base.proofs.Among.{at_in}
+use Rattle.pl_base.proofs.Among.{at_in, from_filter_map, from_found}
 use Rattle.pl_tree.specs.declared.new_item.NewItem.{NewItem}
 use Rattle.pl_tree.specs.declared.place.Place.{Place}
 use Rattle.pl_tree.specs.declared.place.Place.TheVariants.{End}
@@ -24,7 +24,7 @@ use Rattle.pl_tree.specs.Changes.{item_of, put, with_child, with_inserted, with_
 use Rattle.pl_tree.specs.Refused.{tag_refusal}
 use Rattle.pl_tree.specs.Tagged.{entry_in, new_entry, new_tag, tag_entry, tag_named, with_tagged}
 use Rattle.pl_tree.proofs.ChildSlots.{slots_child}
-use Rattle.pl_tree.proofs.LookedUp.{folder_at, found_at, found_in, from_filter_map}
+use Rattle.pl_tree.proofs.LookedUp.{folder_at, found_at}
 
 -- the id of an item
 abbrev pub its_id : Option Item → Option ItemId
@@ -56,7 +56,7 @@ folder_there kept name folder tags is = choose (tag_named name kept.items) refl 
     choose None named is = absurd (cc)
     choose (Some t) named is =
         let same : folder ≡ t.id = cc in
-        let found = found_in (λ (i : Item). bytes_eq (folded i.title) (folded name)) (child_items items tags_root) t
+        let found = from_found (λ (i : Item). bytes_eq (folded i.title) (folded name)) (child_items items tags_root) t
         named in
         let made = from_filter_map (item_at items) (children_of items tags_root) t found.0 in
         let at = found_at items made.0 t made.2 in

@@ -13,14 +13,15 @@ use Rattle.pl_base.specs.Rows.{IsWellKept, Kept, store_of, with_items}
 use Rattle.pl_base.specs.Store.{Item}
 use Rattle.pl_base.specs.Tags.{tags_root}
 use Rattle.pl_base.specs.Tree.{child_items, children_of, first_item, has_item, is_page, item_at, removed}
-use Rattle.pl_base.proofs.Among.{In}
+use Rattle.pl_base.proofs.Among.{In, from_found}
 use Rattle.pl_tree.specs.Refused.{untag_refusal}
-use Rattle.pl_tree.specs.Tagged.{entry_in, tag_entry, tag_named, untagged_items}
+use Rattle.pl_tree.specs.Tagged.{entry_in, if_none_left, tag_entry, tag_named, untagged_items}
+use Rattle.pl_tree.specs.Tagged.{without_entry}
 use Rattle.pl_base.proofs.KeyCounts.{Ascends}
-use Rattle.pl_tree.proofs.EntryRemoved.{entry_child, has_child, if_none_left, mid_child, mid_good, no_children}
+use Rattle.pl_tree.proofs.EntryRemoved.{entry_child, has_child, mid_child, mid_good, no_children}
 use Rattle.pl_tree.proofs.GoodRows.{good_rows}
 use Rattle.pl_tree.proofs.GoodTagged.{good_untagged}
-use Rattle.pl_tree.proofs.LookedUp.{children_in, found_at, found_in, item_key}
+use Rattle.pl_tree.proofs.LookedUp.{children_in, found_at, item_key}
 use Rattle.pl_tree.proofs.TagRows.{child_at}
 use Rattle.pl_tree.proofs.TagSteps.{entry_told, its_id}
 use Rattle.pl_tree.proofs.TreeLaws.{ids_ascend}
@@ -77,11 +78,11 @@ module _ (kept : Kept) (page : PageId) (name : List ℕ) (folder entry : ItemId)
 
   tagged : In e.tag (child_items kept.items tags_root)
   tagged =
-      (found_in (λ (t : Item). bytes_eq (folded t.title) (folded name)) (child_items kept.items tags_root) e.tag
+      (from_found (λ (t : Item). bytes_eq (folded t.title) (folded name)) (child_items kept.items tags_root) e.tag
       e.named).0
 
   entered : In e.item (child_items kept.items e.tag.id)
-  entered = (found_in (λ (i : Item). is_page page i.page) (child_items kept.items e.tag.id) e.item e.found).0
+  entered = (from_found (λ (i : Item). is_page page i.page) (child_items kept.items e.tag.id) e.item e.found).0
 
   pub entry_there : has_item kept.items entry ≡ true
   entry_there =
@@ -106,14 +107,6 @@ module _ (kept : Kept) (page : PageId) (name : List ℕ) (folder entry : ItemId)
       (record (store_of kept) { items = removed e.item.id kept.items }) tags_root e.tag.id
       (mid_good (store_of kept) up good e.tag e.item tagged entered)
       (mid_child (store_of kept) up good e.tag e.item tagged entered)
-
-  -- as `untagged_items` has it
-  abbrev without_entry : Option Item → Option Item → List Item → List Item
-  without_entry None entry items = items
-  without_entry (Some tag) None items = items
-  without_entry (Some tag) (Some entry) items =
-      if_none_left (children_of (removed entry.id items) tag.id) (removed tag.id (removed entry.id items))
-      (removed entry.id items)
 
   unused : untagged_items page name kept.items
       ≡ if_none_left (children_of (removed entry kept.items) folder) (removed folder (removed entry kept.items))

@@ -74,7 +74,7 @@ with_tagged page name date kept =
 -- ---- a page loses a tag
 
 -- the one where there is no id, else the other
-abbrev if_none_left : List ItemId → List Item → List Item → List Item
+abbrev pub if_none_left : List ItemId → List Item → List Item → List Item
 if_none_left [] without with_it = without
 if_none_left (c ∷ cs) without with_it = with_it
 

@@ -1,4 +1,5 @@
--- The rows on a new day, and the changes of views, once some of the pages that are due have the frecency of the day.
+-- The rows on a new day, and the changes of views, once some of the pages that are due have the
+-- frecency of the day.
 use Rattle.std.proofs.Common.{◌≡◌, ◌+◌, ◌<◌, ◌≤◌, ◌++◌, ◌∙◌, false, true, ℕ, List, [], ◌∷◌, Option, Some}
 use Rattle.std.proofs.Common.{None, add-one, ap, Bor, arith, count_by, drop, drop-cons, get_or, length, map}
 use Rattle.std.proofs.Common.{nat_le, refl, subst, sym, take}
@@ -66,7 +67,8 @@ is_change kept old was new aged has due copied made =
 
 -- ---- one page after another
 
--- so many of the pages that are due have the frecency of the day, and these are the changes of their views
+-- so many of the pages that are due have the frecency of the day, and these are the changes of
+-- their views
 pub record AreAged (day : Day) (due : List PageId) (views : List View) (old now : Kept) (count : ℕ)
     (changes : List Change) : Type 0 where
   pub store : store_of now ≡ on_day day (store_of old)

@@ -18,7 +18,7 @@ use Rattle.pl_base.specs.Date.{IsDay}
 use Rattle.pl_base.specs.Days.{on_day}
 use Rattle.pl_base.specs.Store.{Page, Store}
 use Rattle.pl_base.specs.View.{AreViews, AreViewsOf, IsViewOf}
-use Rattle.pl_base.proofs.Among.{In, from_filter, from_map, in_filter, in_map}
+use Rattle.pl_base.proofs.Among.{In, contains_from_in, from_filter, from_map, in_filter, in_from_contains, in_map}
 use Rattle.pl_base.proofs.KeyCounts.{tick}
 use Rattle.pl_base.proofs.ListLaws.{map-map}
 use Rattle.pl_base.proofs.Truths.{no_test}
@@ -31,7 +31,6 @@ use Rattle.pl_marks.specs.Alike.{is_one_of}
 use Rattle.pl_history.specs.Aging.{HadPageOf}
 use Rattle.pl_history.proofs.NewDay.{AreStill}
 use Rattle.pl_history.proofs.NotDue.{IsStill, still_by_due}
-use Rattle.pl_changes.proofs.Elements.{contained, is_in}
 use Rattle.pl_changes.proofs.NewViews.{page_of, view_of_page}
 use Rattle.pl_changes.proofs.Seen.{in_seen}
 use Rattle.pl_visiting.specs.NewDay.{is_page_due, pages_due}
@@ -50,7 +49,7 @@ still_by_view day store p view within is none =
 
 one_of : (ids : List PageId) (id : PageId) → In id ids → is_one_of ids id ≡ true
 one_of ids id h =
-    let at = contained ids id h in
+    let at = contains_from_in ids id h in
     list_any-from_Any (λ (other : PageId). id.0 == other.0) ids (at.0, id, at.1, at.2, eq-eqb id.0 id.0 refl)
 
 -- a page that is due by the day, and its view
@@ -65,7 +64,7 @@ module _ (day : Day) (store : Store) (views : List View) (are : AreViewsOf store
   had_page : (view : View) → In view views → HadPageOf (on_day day store) view
   had_page view h =
       let p = page_of store store.pages views are view h in
-      (store.day, record { page = p.0; there = contained store.pages p.0 p.1; seen = p.2 })
+      (store.day, record { page = p.0; there = contains_from_in store.pages p.0 p.1; seen = p.2 })
 
   pub due_view : (i : ℕ) (d : PageId) → i < length (due_pages day views)
       → (view : View) × IsDueView day store views (get_or (due_pages day views) i d) view
@@ -73,7 +72,7 @@ module _ (day : Day) (store : Store) (views : List View) (are : AreViewsOf store
       let page : PageId = get_or (due_pages day views) i d in
       let m =
       from_map (λ (v : View). v.id) (filter (is_due_by day) views) page
-      (is_in (due_pages day views) page (All-contains_itself (due_pages day views) i d within)) in
+      (in_from_contains (due_pages day views) page (All-contains_itself (due_pages day views) i d within)) in
       let f = from_filter (is_due_by day) views m.0 m.1 in (
         m.0,
         record {
@@ -88,7 +87,7 @@ module _ (day : Day) (store : Store) (views : List View) (are : AreViewsOf store
 
   pub others_still : IsDay day → AreStill (due_pages day views) day store
   others_still within p there other =
-      let v = view_of_page store store.pages views are p (is_in store.pages p there) in
+      let v = view_of_page store store.pages views are p (in_from_contains store.pages p there) in
       still_by_view day store p v.0 within v.2 (no_test (is_due_by day v.0) (λ due.
       false≢true (sym other ∙ listed v.0 v.1 v.2 due)))
     where

@@ -20,7 +20,7 @@ use Rattle.pl_step.specs.declared.reply.Reply.TheVariants.{Done, Refused}
 use Rattle.pl_step.specs.Step.{is_full}
 use Rattle.pl_visiting.specs.Titled.{within_slots}
 use Rattle.pl_base.proofs.ListLaws.{AllPairs-from_map, sum_by-map}
-use Rattle.pl_base.proofs.LookUps.{apart_ascending, found_one}
+use Rattle.pl_base.proofs.LookUps.{apart_increasing, found_one}
 use Rattle.pl_base.proofs.OneChanged.{sum_changed}
 
 -- ---- the title that stands
@@ -51,8 +51,7 @@ same_title kept id title h is =
     let one : All (λ (p : KeptPage). (p.page.id.0 == id.0) ≡ true → p ≡ t.page) kept.pages =
     All-from_recursion (λ (p : KeptPage). (p.page.id.0 == id.0) ≡ true → p ≡ t.page) kept.pages
     (found_one (λ (p : KeptPage). p.page.id.0) id.0 kept.pages t.page
-    (apart_ascending (λ (p : KeptPage). p.page.id.0) kept.pages
-    (AllPairs-from_increasing (map (λ (p : KeptPage). p.page.id.0) kept.pages) h.page_ids.ascending)) t.at) in
+    (apart_increasing (λ (p : KeptPage). p.page.id.0) kept.pages h.page_ids.ascending) t.at) in
     ap (λ (pages : List KeptPage). record kept { pages = pages })
     (map_fixed (retitled id title) kept.pages
     (λ j d within.

@@ -13,7 +13,7 @@ use Rattle.pl_base.specs.Days.{on_day, pages_moved}
 use Rattle.pl_base.specs.Frecency.{frecency_of}
 use Rattle.pl_base.specs.Store.{Page, Store}
 use Rattle.pl_base.specs.View.{AreViews, AreViewsOf, IsViewOf}
-use Rattle.pl_base.proofs.Among.{In}
+use Rattle.pl_base.proofs.Among.{In, contains_from_in}
 use Rattle.pl_base.proofs.KeyCounts.{tick}
 use Rattle.pl_calendar.specs.Days.{due_pages, is_due_by}
 use Rattle.pl_follow.specs.Changes.{AreInOrder}
@@ -23,7 +23,6 @@ use Rattle.pl_history.proofs.NotDue.{frecency_still}
 use Rattle.pl_history.proofs.OthersAlike.{AreOnce}
 use Rattle.pl_changes.specs.Brings.{HasView, IsChangeTo, IsViewAt}
 use Rattle.pl_changes.proofs.Brought.{Brought, kept, moved, nothing}
-use Rattle.pl_changes.proofs.Elements.{contained}
 use Rattle.pl_changes.proofs.NewViews.{no_page}
 use Rattle.pl_changes.proofs.Seen.{in_seen}
 use Rattle.pl_visiting.specs.NewDay.{is_moved}
@@ -71,7 +70,7 @@ module _ (day : Day) (store : Store) (views : List View) (within : IsDay day) (l
   scored p page view h same has =
       has.seen.frecency
       ∙ ap (frecency_of (on_day day store))
-      (once p has.element (contained store.pages p h) has.there (has.named ∙ sym same))
+      (once p has.element (contains_from_in store.pages p h) has.there (has.named ∙ sym same))
 
   still : (p : Page) (view : View) → In p store.pages → IsViewOf store p view
       → IsViewAt (on_day day store) view.id (Some view) → moves p ≡ false

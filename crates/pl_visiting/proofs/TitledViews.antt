@@ -27,7 +27,7 @@ use Rattle.pl_known.specs.declared.known.Known.{Known}
 use Rattle.pl_known.specs.Changes.{IsOfOnePage, LeadTo}
 use Rattle.pl_known.specs.Known.{Knows, shares}
 use Rattle.pl_known.proofs.PutViews.{put_over}
-use Rattle.pl_known.proofs.ViewLookUps.{none_left}
+use Rattle.pl_follow.proofs.RanksChange.{none_left}
 use Rattle.pl_visiting.specs.Titled.{titling}
 
 -- ---- the page of a view

@@ -1,4 +1,4 @@
-mod AsciiFolds
+pub mod AsciiFolds
 mod BarRows
 mod FoldRows
 pub mod FoundLaws
@@ -11,3 +11,4 @@ pub mod TagListLaws
 pub mod TagNames
 mod TagRows
 pub mod TagTests
+pub mod WrittenBytes

@@ -21,8 +21,8 @@ use Rattle.places.proofs.ProgressLemmas.{taken_further}
 use Rattle.places.proofs.StopLemmas.{shows_here, shows_later, shows_taken}
 
 module _ {D : Type 0} (desk : Ghosts D) where
-  -- the run stands behind the bytes taken so far, a stop since the start shows some of the whole piece's answers, and no
-  -- more was written than the answers so far may write
+  -- the run stands behind the bytes taken so far, a stop since the start shows some of the whole
+  -- piece's answers, and no more was written than the answers so far may write
   pub record Taken (begun_run : ScriptRun) (piece : List ℕ) (i : ℕ) (run : ScriptRun) (old now : D) : Type 0 where
     pub at : (start : Store) (bytes : List ℕ) (begun : Option (List ℕ))
         → IsAt start bytes begun begun_run (desk.said old)

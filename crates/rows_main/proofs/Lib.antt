@@ -1,2 +1,1 @@
-mod KnownRows
 mod PageBack

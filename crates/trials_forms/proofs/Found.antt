@@ -1,8 +1,6 @@
 -- What is there, by what the rows tell of it.
-use Rattle.std.proofs.Common.{◌≡◌, ◌∙◌, Bool, true, false, List, Option, Some, None, ap, find, is_some, not, sym}
-use Rattle.std.specs.Option.{option_map}
-use Rattle.std.specs.List.{list_any}
-use Rattle.std.proofs.lemmas.Bool.{false≢true, or_parts}
+use Rattle.std.proofs.Common.{◌≡◌, ◌∙◌, Bool, true, false, Option, ap, is_some, not, sym}
+use Rattle.std.proofs.lemmas.Bool.{or_parts}
 use Rattle.pl_base.specs.declared.id.ItemId.{ItemId}
 use Rattle.pl_base.specs.declared.id.PageId.{PageId}
 use Rattle.pl_base.specs.declared.id.VisitId.{VisitId}
@@ -10,14 +8,7 @@ use Rattle.pl_base.specs.Good.{is_visited}
 use Rattle.pl_base.specs.Marks.{is_referenced}
 use Rattle.pl_base.specs.Rows.{Kept, first_id, page_visits, store_of}
 use Rattle.pl_base.specs.Tree.{first_item, references}
-use Rattle.pl_base.proofs.LookUps.{there_told}
 use Rattle.pl_history.proofs.StandingPages.{stands_by_item}
-
--- something is told of it
-pub there : {A B : Type 0} (p : A → Bool) (f : A → B) (xs : List A) (told : Option B) (some : Bool)
-    → told ≡ option_map f (find p xs) → some ≡ is_some told → some ≡ true → list_any p xs ≡ true
-there p f xs None some is of true_is = absurd (false≢true (sym of ∙ true_is))
-there p f xs (Some y) some is of true_is = there_told p f xs y is
 
 none_some : (told : Option ItemId) (none : Bool) → is_some told ≡ not none → none ≡ true → false ≡ is_some told
 none_some told none is true_is = sym (is ∙ ap not true_is)

@@ -1,22 +1,20 @@
 -- A change of pages or visits leaves the items those of a good store.
-use Rattle.std.proofs.Common.{◌≡◌, ◌≢◌, ◌∙◌, ◌==◌, ◌&&◌, Bool, true, false, ℕ, IfSome, IsTrue, List, [], ◌∷◌, Option}
-use Rattle.std.proofs.Common.{Some, None, ap, if◌then◌else◌, map, refl, subst, sym}
-use Rattle.std.specs.List.{AllByRecursion, list_any}
-use Rattle.std.proofs.lemmas.Bool.{eqb-false, eqb-true, false_from_ne_true}
+use Rattle.std.proofs.Common.{◌≡◌, ◌∙◌, ◌==◌, Bool, true, false, ℕ, IfSome, IsTrue, List, [], ◌∷◌}
+use Rattle.std.proofs.Common.{Some, None, ap, if◌then◌else◌, refl, subst, sym}
+use Rattle.std.specs.List.{AllByRecursion}
 use Rattle.std.proofs.lemmas.List.Elements.{All-from_recursion, recursion_from_All}
-use Rattle.std.proofs.lemmas.List.Kept.{AllPairs-from_increasing}
 use Rattle.pl_base.specs.declared.date.Micros.{Micros}
 use Rattle.pl_base.specs.declared.id.ItemId.{ItemId}
 use Rattle.pl_base.specs.declared.id.PageId.{PageId}
 use Rattle.pl_base.specs.Date.{IsDate}
 use Rattle.pl_base.specs.Good.{HasGoodItems, IsGoodItem, has_page_at}
 use Rattle.pl_base.specs.Marks.{is_referenced}
-use Rattle.pl_base.specs.Rows.{IsWellKept, Kept, KeptPage, WithoutPage, has_page, next_page, other_pages, store_of}
-use Rattle.pl_base.specs.Rows.{titled, unnamed, with_items, with_new_page, with_origin, with_title}
-use Rattle.pl_base.specs.Store.{Item, Store}
+use Rattle.pl_base.specs.Rows.{IsWellKept, Kept, KeptPage, WithoutPage, has_page, next_page, store_of}
+use Rattle.pl_base.specs.Rows.{titled, with_items, with_new_page, with_origin, with_title}
+use Rattle.pl_base.specs.Store.{Item}
 use Rattle.pl_base.specs.Tree.{has_item, is_page, redated, retitled}
 use Rattle.pl_base.proofs.ListLaws.{list_any-alike, list_any-map, list_any_push}
-use Rattle.pl_base.proofs.LookUps.{apart_ascending, both, found_holds, found_one, none_pass}
+use Rattle.pl_base.proofs.LookUps.{apart_increasing, both, found_holds, found_one, none_pass}
 use Rattle.pl_tree.specs.declared.tree_change.TreeChange.TheVariants.{Retitle}
 use Rattle.pl_tree.specs.Refused.{refusal}
 use Rattle.pl_tree.proofs.GoodChanges.{good_retitled}
@@ -24,7 +22,7 @@ use Rattle.pl_history.specs.declared.find.Target.{Target}
 use Rattle.pl_history.specs.declared.find.Target.TheVariants.{Known, New}
 use Rattle.pl_history.specs.Target.{WithTarget}
 use Rattle.pl_graft.proofs.TagsKept.{has_by_store}
-use Rattle.pl_history.proofs.Dropped.{any_left, not_both}
+use Rattle.pl_history.proofs.Dropped.{item_page_left, page_left}
 use Rattle.pl_history.proofs.GoodRows.{items_still, items_with}
 use Rattle.pl_record.proofs.NamedSlots.{found_of}
 
@@ -69,34 +67,6 @@ has_titled kept page title id =
 
 -- ---- a page that goes
 
--- each other page is still there
-page_left : (page id : PageId) (old new : List KeptPage) → map unnamed new ≡ map unnamed (other_pages page old)
-    → page.0 ≢ id.0
-    → list_any (λ (p : KeptPage). p.page.id.0 == id.0) new ≡ list_any (λ (p : KeptPage). p.page.id.0 == id.0) old
-page_left page id old new same other =
-    let test : KeptPage → Bool = λ (p : KeptPage). p.page.id.0 == id.0 in
-    sym (list_any-map test unnamed new) ∙ ap (list_any test) same
-    ∙ list_any-map test unnamed (other_pages page old)
-    ∙ any_left (λ (p : KeptPage). p.page.id.0 == page.0) test old (each old)
-  where
-    each : (ps : List KeptPage)
-        → AllByRecursion (λ (p : KeptPage). ((p.page.id.0 == page.0) && (p.page.id.0 == id.0)) ≡ false) ps
-    each [] = tt
-    each (p ∷ ps) = (
-      not_both (p.page.id.0 == page.0) (p.page.id.0 == id.0)
-          (λ same. false_from_ne_true (p.page.id.0 == id.0)
-          (λ is. other (sym (eqb-true p.page.id.0 page.0 same) ∙ eqb-true p.page.id.0 id.0 is))),
-      each ps,
-    )
-
--- the page of an item is not the one that goes
-of_item : (page : PageId) (old new : Store) (of : Option PageId) → is_page page of ≡ false
-    → ((id : PageId) → page.0 ≢ id.0 → IsTrue (has_page_at old id) → IsTrue (has_page_at new id))
-    → IfSome of (λ id. IsTrue (has_page_at old id)) → IfSome of (λ id. IsTrue (has_page_at new id))
-of_item page old new None other stays there = tt
-of_item page old new (Some id) other stays there =
-    stays id (λ same. eqb-false id.0 page.0 other (sym same)) there
-
 pub good_left : (page : PageId) (old new : Kept) → WithoutPage page old new
     → is_referenced (store_of old) page ≡ false → HasGoodItems (store_of old) → HasGoodItems (store_of new)
 good_left page old new left none good =
@@ -105,7 +75,7 @@ good_left page old new left none good =
     (All-from_recursion P old.items
     (both (IsGoodItem (store_of old)) (λ (i : Item). is_page page i.page ≡ false) P old.items
     (λ i fine other.
-    of_item page (store_of old) (store_of new) i.page other
+    item_page_left page (store_of old) (store_of new) i.page other
     (λ id apart there.
     has_by_store new id ∙ page_left page id old.pages new.pages left.pages apart ∙ sym (has_by_store old id) ∙ there)
     fine.page)
@@ -143,5 +113,5 @@ good_redated kept item date h there none dated good =
     subst (λ (items : List Item). HasGoodItems (store_of (with_items items kept)))
     (sym (same_title item date one.0 kept.items
     (found_one number item.0 kept.items one.0
-    (apart_ascending number kept.items (AllPairs-from_increasing (map number kept.items) h.item_ids.ascending)) one.1)))
+    (apart_increasing number kept.items h.item_ids.ascending) one.1)))
     (good_retitled kept item one.0.title date h good fine.title dated none)

@@ -1,13 +1,10 @@
 -- What a page, a title or an item takes of the slots that are left.
-use Rattle.std.proofs.Common.{◌≡◌, ◌+◌, ◌≤◌, ◌<◌, ◌==◌, ℕ, Bool, true, false, List, [], ◌∷◌}
+use Rattle.std.proofs.Common.{◌≡◌, ◌+◌, ◌≤◌, ◌==◌, ℕ, Bool, true, false, List, [], ◌∷◌}
 use Rattle.std.proofs.Common.{ap, arith, if◌then◌else◌, map, refl}
-use Rattle.std.specs.List.{list_any}
 use Rattle.std.proofs.lemmas.List.{length-map}
 use Rattle.pl_base.specs.declared.date.Micros.{Micros}
 use Rattle.pl_base.specs.declared.id.ItemId.{ItemId}
 use Rattle.pl_base.specs.declared.id.PageId.{PageId}
-use Rattle.pl_base.specs.Address.{same_origin}
-use Rattle.pl_base.specs.Good.{end_of_ids}
 use Rattle.pl_base.specs.Live.{chunks, live_slots, origin_count, slot_limit}
 use Rattle.pl_base.specs.Rows.{IsWellKept, Kept, KeptPage, has_page, live_with_item_title, live_with_title, store_of}
 use Rattle.pl_base.specs.Rows.{titled}
@@ -16,28 +13,7 @@ use Rattle.pl_base.specs.Tree.{has_item}
 use Rattle.pl_base.proofs.ItemLaws.{once}
 use Rattle.pl_base.proofs.ListLaws.{sum_by-map}
 use Rattle.pl_base.proofs.OneChanged.{once_by_number, sum_changed}
-use Rattle.pl_history.specs.declared.find.Target.{Target}
-use Rattle.pl_history.specs.declared.find.Target.TheVariants.{Known, New}
-use Rattle.pl_history.specs.Target.{HasRoom}
-use Rattle.pl_history.proofs.LiveAfter.{live_page}
 use Rattle.pl_record.proofs.NamedSlots.{found_of}
-
-pub room_page : (url : List ℕ) (target : Target) (kept : Kept) → kept.ids.page < end_of_ids
-    → live_slots (store_of kept) + (chunks url + 2) ≤ slot_limit → HasRoom url target kept
-room_page url (Known page) kept id room = tt
-room_page url (New origin) kept id room = (
-  id,
-  omega (
-    arith,
-    live_page kept url,
-    at_most (list_any (λ (p : KeptPage). same_origin p.page.url url) kept.pages),
-    room,
-  ),
-)
-  where
-    at_most : (b : Bool) → (if b then 0 else 1) ≤ 1
-    at_most true = omega arith
-    at_most false = omega arith
 
 -- the URLs are the same whatever the titles
 same_urls : (id : PageId) (title : List ℕ) (ps : List KeptPage)

@@ -1,30 +1,21 @@
 -- What the calls of items tell of an item that was asked for, and that a new title has its slots.
 use Rattle.std.proofs.Common.{◌≡◌, ◌∙◌, ◌<◌, ◌≤◌, ◌==◌, ℕ, List, Option, Some, None, ap, arith, length}
-use Rattle.std.proofs.Common.{Bool, false, refl, suc, sym, true, zero}
+use Rattle.std.proofs.Common.{Bool, false, refl, suc, sym, zero}
 use Rattle.std.specs.List.{list_any}
-use Rattle.std.specs.Option.{IsSomeAnd, is_some, option_map}
+use Rattle.std.specs.Option.{IsSomeAnd, option_map}
 use Rattle.pl_base.specs.declared.date.Micros.{Micros}
 use Rattle.pl_base.specs.declared.id.ItemId.{ItemId}
-use Rattle.pl_base.specs.declared.id.PageId.{PageId}
 use Rattle.pl_base.specs.declared.item.ItemKind.TheVariants.{Folder}
 use Rattle.pl_base.specs.declared.item.ItemRow.{ItemRow}
-use Rattle.pl_base.specs.declared.row.Mark.{Mark}
 use Rattle.pl_base.specs.Good.{longest_title}
 use Rattle.pl_base.specs.Live.{live_slots, slot_limit}
-use Rattle.pl_base.specs.Rows.{Kept, has_page, live_with_item, live_with_item_title, mark_of, page_at}
+use Rattle.pl_base.specs.Rows.{Kept, live_with_item, live_with_item_title}
 use Rattle.pl_base.specs.Rows.{store_of}
 use Rattle.pl_base.specs.Store.{Item}
 use Rattle.pl_base.specs.Tree.{IsFolder, ancestors, item_at, item_row}
 use Rattle.pl_base.proofs.ItemLookUps.{parent_told}
 use Rattle.pl_plain.specs.FlatRows.{IsFlat}
 use Rattle.pl_plain.proofs.ItemChanges.{slots_retitled, slots_with_item}
-use Rattle.pl_base.proofs.PageLaws.{page_there}
-
-pub page_known : (kept : Kept) (page : PageId) (told : Option Mark)
-    → told ≡ option_map mark_of (page_at kept page) → is_some told ≡ true → has_page kept page ≡ true
-page_known kept page None is some = absurd (cc)
-page_known kept page (Some mark) is some =
-    page_there kept page mark is
 
 -- what the rows tell of a folder
 pub folder_told : (items : List Item) (id : ItemId) (row : ItemRow)

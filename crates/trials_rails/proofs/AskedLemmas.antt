@@ -3,6 +3,7 @@ use Rattle.std.proofs.Common.{◌≡◌, ◌≢◌, ◌∙◌, ◌∷◌, [], �
 use Rattle.std.proofs.Common.{inl, inr, IsSome, is_some, None, Option, refl, Some, subst, sym, true}
 use Rattle.std.specs.Option.{option_and_then, option_map}
 use Rattle.std.proofs.lemmas.Bool.{cases_Bool}
+use Rattle.std.proofs.lemmas.Option.{same_Some}
 use Rattle.pl_base.specs.declared.id.Slot.{Slot}
 use Rattle.pl_rail.specs.declared.owner.Owner.{Owner}
 use Rattle.pl_rail.specs.declared.owner.Side.{Side}
@@ -10,7 +11,7 @@ use Rattle.pl_rail.specs.declared.owner.Side.TheVariants.{Before, Behind}
 use Rattle.pl_rail.specs.Rails.{HasPlace, Lists, is_in, is_member, last_from, none, side_link}
 use Rattle.pl_rail.proofs.ChainLaws.{stands}
 use Rattle.pl_rail.proofs.Membership.{parts_of}
-use Rattle.pl_rail.proofs.ListLaws.{before_in, behind_in, member_link, member_some, same_slot}
+use Rattle.pl_rail.proofs.ListLaws.{before_in, behind_in, member_link, member_some}
 use Rattle.pl_rail.proofs.SideLaws.{at_link, numbered, other_number}
 use Rattle.pl_rail.proofs.Walks.{last_of_added}
 use Rattle.pl_sheets.specs.Sheets.{Pages}
@@ -81,8 +82,8 @@ never_in rail slot pages some previous next o slots lists among =
     let back : before_in rail o pages slot ≡ Some slot = at_link Before rail o pages slot zero_not ∙ previous in
     let forth : behind_in rail o pages slot ≡ Some none = at_link Behind rail o pages slot zero_not ∙ next in
     let same : last_from none parts.front ≡ slot =
-    same_slot (last_from none parts.front) slot (sym stood.forth_back ∙ back) in
-    some (same_slot slot none (sym (ap (behind_in rail o pages) (sym same) ∙ stood.forth) ∙ forth))
+    same_Some (last_from none parts.front) slot (sym stood.forth_back ∙ back) in
+    some (same_Some slot none (sym (ap (behind_in rail o pages) (sym same) ∙ stood.forth) ∙ forth))
 
 pub apart : (rail : Rail) (owner : Owner) (slot before behind : Slot) (pages : Pages)
     → is_member rail owner pages slot ≡ true → link_at rail Previous slot.0 pages ≡ Some before

@@ -1,5 +1,5 @@
--- Worked rows of the address bar: which title is searched, which pages are candidates, where the tiers end, and which
--- group is filled in.
+-- Worked rows of the address bar: which title is searched, which pages are candidates, where the
+-- tiers end, and which group is filled in.
 use Rattle.std.proofs.Common.{◌≡◌, ◌==◌, ◌++◌, ℕ, Bool, true, false, List, [], ◌∷◌, None, Some}
 use Rattle.std.proofs.Common.{if◌then◌else◌, map, refl}
 use Rattle.std.specs.Prelude.{codes, pos, ℤ}
@@ -69,9 +69,9 @@ abbrev marked : List Item
 marked =
     map (λ (i : Item). if i.id.0 == 2 then record i { children = map item_id (7 ∷ 8 ∷ 9 ∷ 10 ∷ 11 ∷ []) } else i) roots
 
--- Page 1 has a bookmark with a title and a fresher one without. Of the bookmarks of page 2 the one with the lesser id
--- is fresher. Page 3 is a query, and so hidden. Page 4 has a bookmark and was reloaded, which does not count. They have
--- 175, 175, 100 and 140.
+-- Page 1 has a bookmark with a title and a fresher one without. Of the bookmarks of page 2 the one
+-- with the lesser id is fresher. Page 3 is a query, and so hidden. Page 4 has a bookmark and was
+-- reloaded, which does not count. They have 175, 175, 100 and 140.
 abbrev some : Store
 some =
     record opening {
@@ -87,7 +87,8 @@ some =
 abbrev ids : ℕ → List ℕ → List ℕ
 ids most text = map (λ (p : Page). p.id.0) (offered some text most)
 
--- the freshest bookmark has no title, so the page's own is searched, and that of an older bookmark is not
+-- the freshest bookmark has no title, so the page's own is searched, and that of an older bookmark
+-- is not
 without_a_title : map (ids 10) (codes "own" ∷ codes "older" ∷ []) ≡ (1 ∷ []) ∷ [] ∷ []
 unfolding caseless chars encode is_utf8 percent_decode url_on_literals utf8_error_len utf8_lossy utf8_valid_len
 without_a_title = refl
@@ -119,7 +120,8 @@ across_the_tiers = refl
 abbrev secure : List ℕ → ℤ → Scored
 secure host frecency = ((codes "https://", host), frecency)
 
--- three origins with 200 in all: the group `cow.example` has 160, and `dog.example` less than a third
+-- three origins with 200 in all: the group `cow.example` has 160, and `dog.example` less than a
+-- third
 abbrev pages : List Scored
 pages =
     secure (codes "cow.example") (pos 100) ∷ secure (codes "www.cow.example") (pos 60)
@@ -129,7 +131,8 @@ fills : map (filled pages) (codes "c" ∷ codes "WWW.Cow" ∷ codes "COW.EXAMPLE
     ≡ Some (codes "cow.example", 160) ∷ Some (codes "cow.example", 160) ∷ Some (codes "cow.example", 160) ∷ []
 fills = refl
 
--- nothing, nothing behind `www.`, one `www.` more, a name that goes on, and a group that does not pass
+-- nothing, nothing behind `www.`, one `www.` more, a name that goes on, and a group that does not
+-- pass
 fills_not :
     map (filled pages) ([] ∷ codes "www." ∷ codes "www.www.cow" ∷ codes "cow.example/" ∷ codes "d" ∷ [])
     ≡ None ∷ None ∷ None ∷ None ∷ None ∷ []

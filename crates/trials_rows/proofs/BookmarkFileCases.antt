@@ -1,4 +1,5 @@
--- Worked rows of bookmark files: tokens and references at their edges, which folder is whose, and what is written.
+-- Worked rows of bookmark files: tokens and references at their edges, which folder is whose, and
+-- what is written.
 use Rattle.std.proofs.Common.{◌≡◌, ◌++◌, ℕ, List, [], ◌∷◌, None, Some, map, refl}
 use Rattle.std.specs.Prelude.{codes}
 use Rattle.std.specs.Fmt.{digits}
@@ -17,7 +18,8 @@ use Rattle.pl_nbwrite.specs.BookmarkText.{escaped, file_text, seconds}
 abbrev attribute : List ℕ → List ℕ → Attribute
 attribute name value = record { name = name; value = value }
 
--- a value without quotes may begin with `=` and have quotes within, and blanks may stand around the `=` before it
+-- a value without quotes may begin with `=` and have quotes within, and blanks may stand around the
+-- `=` before it
 odd_values : tokens (codes "<a b==c d = e=f\"g'>") ≡
     Open (codes "a") (attribute (codes "b") (codes "=c") ∷ attribute (codes "d") (codes "e=f\"g'") ∷ []) ∷ []
 odd_values = refl

@@ -15,7 +15,8 @@ nothing : most (codes "frob\nvisit\tdata:,\t1\t0\ntitle\thttps://a.example/\tA\n
 unfolding url_on_literals
 nothing = refl
 
--- two visits of new pages whose URLs take a slot each, 133,658 each, and one more of the first page, 131,602
+-- two visits of new pages whose URLs take a slot each, 133,658 each, and one more of the first
+-- page, 131,602
 visits : most (codes "visit\thttps://a.example/\t2\t0\nvisit\thttps://b.example/\t5\t1\t1\n"
     ++ codes "page\thttps://a.example/\nvisit\thttps://a.example/\t1\t2\n")
     ≡ Some 398_918

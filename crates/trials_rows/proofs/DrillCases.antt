@@ -14,7 +14,8 @@ behind_numbers : map next_random (0 ∷ 18_446_744_073_709_551_615 ∷ [])
     ≡ 1_442_695_040_888_963_407 ∷ 13_525_302_890_751_722_018 ∷ []
 behind_numbers = refl
 
--- 33 bits are dropped, and the rest is taken below the bound: 2 ^ 33 - 1, 2 ^ 33, 50 times 2 ^ 33 but one, and 50 times
+-- 33 bits are dropped, and the rest is taken below the bound: 2 ^ 33 - 1, 2 ^ 33, 50 times 2 ^ 33
+-- but one, and 50 times
 dropped_bits : map (drawn 50) (8_589_934_591 ∷ 8_589_934_592 ∷ 429_496_729_599 ∷ 429_496_729_600 ∷ [])
     ≡ 0 ∷ 1 ∷ 49 ∷ 0 ∷ []
 dropped_bits = refl

@@ -1,4 +1,5 @@
--- Cases of the days on which visits weigh anew: the definitions compute to days that were worked out by hand.
+-- Cases of the days on which visits weigh anew: the definitions compute to days that were worked
+-- out by hand.
 use Rattle.std.proofs.Common.{◌≡◌, ◌*◌, ℕ, List, [], ◌∷◌, map, refl}
 use Rattle.std.specs.List.{filter, range_with_len}
 use Rattle.pl_base.specs.declared.date.Micros.{Micros}
@@ -53,7 +54,8 @@ days_of_two :
     ≡ 105 ∷ 115 ∷ 125 ∷ 132 ∷ 142 ∷ 191 ∷ 201 ∷ []
 days_of_two = refl
 
--- a visit of the last day of all weighs anew on none of the days up to it, and one of day 0 on none before day 5
+-- a visit of the last day of all weighs anew on none of the days up to it, and one of day 0 on none
+-- before day 5
 days_of_late : filter (λ day. weighs_anew day (date (last_day * micros_per_day))) (range_with_len 2_932_800 97) ≡ []
 days_of_late = refl
 

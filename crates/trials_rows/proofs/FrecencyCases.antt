@@ -1,4 +1,5 @@
--- Cases of weights, bonuses, samples and frecencies: the definitions compute to values that were worked out by hand.
+-- Cases of weights, bonuses, samples and frecencies: the definitions compute to values that were
+-- worked out by hand.
 use Rattle.std.proofs.Common.{◌≡◌, ◌++◌, ℕ, List, [], ◌∷◌, map, Some, None, true, false, refl}
 use Rattle.std.specs.Prelude.{pos, negsuc, codes}
 use Rattle.std.specs.List.{range_with_len}

@@ -9,8 +9,8 @@ use Rattle.pl_gate.specs.Recovery.{recovery_bytes}
 abbrev filled : ℕ → List ℕ
 filled b = replicate 1_024 b
 
--- a gate, and what the 16 bytes from byte 8 on tell: where the journal begins, in steps of 256 bytes, its entries, and
--- the store's length
+-- a gate, and what the 16 bytes from byte 8 on tell: where the journal begins, in steps of 256
+-- bytes, its entries, and the store's length
 abbrev gate_page : ℕ → ℕ → ℕ → ℕ → List ℕ
 gate_page gate start count after =
     gate ∷ replicate 7 90 ++ 0 ∷ start ∷ replicate 6 0 ++ count ∷ replicate 3 0 ++ after ∷ replicate 3 0
@@ -86,7 +86,8 @@ place = refl
 an_entry : entry_bytes (record { page = 258; image = filled 7 }) ≡ 2 ∷ 1 ∷ replicate 6 0 ++ filled 7
 an_entry = refl
 
--- an entry and an image for each page, and 18 bytes of the gate's page; a recovery writes images and the gate alone
+-- an entry and an image for each page, and 18 bytes of the gate's page; a recovery writes images
+-- and the gate alone
 commits : map commit_bytes (0 ∷ 1 ∷ 3 ∷ []) ≡ 18 ∷ 2_074 ∷ 6_186 ∷ []
 commits = refl
 

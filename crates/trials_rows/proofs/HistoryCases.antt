@@ -1,4 +1,5 @@
--- Cases of visits, of visits and pages that go, and of days: the definitions compute to values worked out by hand.
+-- Cases of visits, of visits and pages that go, and of days: the definitions compute to values
+-- worked out by hand.
 use Rattle.std.proofs.Common.{◌≡◌, ℕ, List, [], ◌∷◌, map, Some, None, true, false, refl, Bool}
 use Rattle.std.specs.Prelude.{codes, pos}
 use Rattle.url.proofs.OnLiterals.{url_on_literals}
@@ -146,7 +147,8 @@ earlier = refl
 nothing_to_trim : trimmed 0 opening ≡ opening
 nothing_to_trim = refl
 
--- without bookmarks so many pages stay as are asked for; the visit that came from one that went has no source
+-- without bookmarks so many pages stay as are asked for; the visit that came from one that went has
+-- no source
 trimmed_to_one : trimmed 1 (record two { items = [] })
     ≡ record opening { pages = page 2 [] false ∷ []; visits = visit 2 2 0 Link None ∷ []; items = [] }
 trimmed_to_one = refl
@@ -156,8 +158,8 @@ trimmed_to_none = refl
 
 -- ---- days
 
--- a link, an embedded visit and a bookmark that was not visited: the link's page alone has another frecency, at once
--- two weights below, and on the same day none has
+-- a link, an embedded visit and a bookmark that was not visited: the link's page alone has another
+-- frecency, at once two weights below, and on the same day none has
 abbrev three : Store
 three =
     record opening {

@@ -1,4 +1,5 @@
--- Worked rows of imports and exports: the whole store that the worked file makes, its file again, and what is refused.
+-- Worked rows of imports and exports: the whole store that the worked file makes, its file again,
+-- and what is refused.
 use Rattle.std.proofs.Common.{◌≡◌, ℕ, false, true, List, [], ◌∷◌, Option, None, Some, map, refl, replicate}
 use Rattle.std.specs.Prelude.{codes}
 use Rattle.std.specs.Option.{option_map}
@@ -84,7 +85,8 @@ told : row_count read ∷ tags_made read opening ∷ [] ≡ 4 ∷ 2 ∷ []
 unfolding caseless chars encode
 told = refl
 
--- a tag's folder and entry have the date on which its bookmark was added, and a tag that the page has is passed over
+-- a tag's folder and entry have the date on which its bookmark was added, and a tag that the page
+-- has is passed over
 abbrev dated : Tree
 dated = record empty {
   mobile =

@@ -1,4 +1,5 @@
--- Worked rows of place texts: the numbers of what a query names, forms of values, and texts as they are written again.
+-- Worked rows of place texts: the numbers of what a query names, forms of values, and texts as they
+-- are written again.
 use Rattle.std.proofs.Common.{◌≡◌, ℕ, ◌++◌, true, false, List, [], ◌∷◌, None, Some, map, refl, replicate}
 use Rattle.std.specs.Prelude.{codes, negsuc, pos}
 use Rattle.std.specs.Fmt.{digits}

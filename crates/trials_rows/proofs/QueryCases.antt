@@ -1,4 +1,5 @@
--- Worked rows of answers to queries: each condition, what a row tells, and the orders by title, tags and frecency.
+-- Worked rows of answers to queries: each condition, what a row tells, and the orders by title,
+-- tags and frecency.
 use Rattle.std.proofs.Common.{◌≡◌, ℕ, true, false, List, [], ◌∷◌, Option, None, Some, map, refl}
 use Rattle.std.specs.Prelude.{codes, pos}
 use lib.Utf8.{encode}
@@ -70,8 +71,9 @@ bookmark id of title added =
 abbrev folder : ℕ → List ℕ → Item
 folder n ids = root_folder n (map item_id ids)
 
--- Page 1 has two visits and a bookmark in the menu. Page 2 has one that counts, a reload and the tag `Red`. Page 3 is a
--- query with a visit and a bookmark in the menu, and is hidden. Page 4 has a bookmark in the toolbar and no visit.
+-- Page 1 has two visits and a bookmark in the menu. Page 2 has one that counts, a reload and the
+-- tag `Red`. Page 3 is a query with a visit and a bookmark in the menu, and is hidden. Page 4 has a
+-- bookmark in the toolbar and no visit.
 abbrev some : Store
 some =
     record opening {
@@ -224,7 +226,8 @@ in_domains :
 unfolding plain url_on_literals
 in_domains = refl
 
--- words of the title, of the tags, of the address, and of two of them; a bookmark's own title has none
+-- words of the title, of the tags, of the address, and of two of them; a bookmark's own title has
+-- none
 with_words :
     map ids
     (record plain { terms = Some (codes "ALPHA"); terms_form = refl }
@@ -264,7 +267,8 @@ by_numbers :
 unfolding plain url_on_literals
 by_numbers = refl
 
--- page 1 has a frecency of 100, page 2, which is embedded, of 0, and page 3, whose redirect came from there, of -1
+-- page 1 has a frecency of 100, page 2, which is embedded, of 0, and page 3, whose redirect came
+-- from there, of -1
 abbrev three : Store
 three =
     record opening {

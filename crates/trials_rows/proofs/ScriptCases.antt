@@ -1,4 +1,5 @@
--- Worked rows of scripts: lines of days and of what goes, the ends of lines, the texts of replies, and whole runs.
+-- Worked rows of scripts: lines of days and of what goes, the ends of lines, the texts of replies,
+-- and whole runs.
 use Rattle.std.proofs.Common.{◌≡◌, ℕ, List, ◌++◌, map, refl, [], ◌∷◌, true, Ok, Err}
 use Rattle.std.specs.Prelude.{codes, negsuc}
 use Rattle.std.specs.Fmt.{digits}

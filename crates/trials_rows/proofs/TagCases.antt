@@ -105,8 +105,8 @@ not_there = refl
 
 -- ---- what refuses them
 
--- a tag that the page has, by any spelling, goes before an id that is not there; an entry takes the last id, and a
--- folder wants one more
+-- a tag that the page has, by any spelling, goes before an id that is not there; an entry takes the
+-- last id, and a folder wants one more
 tags_refused :
     tag_refusal (page 1) (codes "RED") (rows 4_294_967_295) ∷ tag_refusal (page 2) (codes "red") (rows 4_294_967_295)
     ∷ tag_refusal (page 2) (codes "red") (rows 4_294_967_294) ∷ tag_refusal (page 2) (codes "blue") (rows 4_294_967_294)

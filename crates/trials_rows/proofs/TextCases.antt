@@ -1,4 +1,5 @@
--- Cases of numbers in texts, of titles, of words and of the numbers of refusals, worked out by hand.
+-- Cases of numbers in texts, of titles, of words and of the numbers of refusals, worked out by
+-- hand.
 use Rattle.std.proofs.Common.{◌≡◌, ◌++◌, List, [], ◌∷◌, map, Some, None, true, false, refl}
 use Rattle.std.specs.Prelude.{codes, length, replicate}
 use Rattle.std.specs.Fmt.Cut.{floor_char_boundary}
@@ -64,7 +65,8 @@ asked : found true (codes "cat") (codes "scat") ∷ found false (codes "cat") (c
     ≡ false ∷ true ∷ true ∷ false ∷ []
 asked = refl
 
--- behind the prefix, on a boundary or anywhere; user names are part of it, and a text that is no URL has none
+-- behind the prefix, on a boundary or anywhere; user names are part of it, and a text that is no
+-- URL has none
 in_addresses :
     in_address false (codes "https") (codes "https://a.example/")
     ∷ in_address true (codes "a.ex") (codes "https://a.example/")
@@ -77,7 +79,8 @@ in_addresses = refl
 
 -- ---- tag names
 
--- blanks at both ends count for nothing; a comma, no byte at all, 101 bytes, and what is no text name no tag
+-- blanks at both ends count for nothing; a comma, no byte at all, 101 bytes, and what is no text
+-- name no tag
 tags_of_texts :
     map tag_named
     (codes " a b\t" ∷ (32 ∷ replicate 100 97) ∷ replicate 101 97 ∷ codes "a,b" ∷ [] ∷ codes " \n" ∷ (255 ∷ []) ∷ [])

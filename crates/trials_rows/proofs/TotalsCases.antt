@@ -1,4 +1,5 @@
--- Cases of the totals of origins and groups of hosts, and of the slots of a store, worked out by hand.
+-- Cases of the totals of origins and groups of hosts, and of the slots of a store, worked out by
+-- hand.
 use Rattle.std.proofs.Common.{◌≡◌, ◌+◌, ℕ, List, [], ◌∷◌, map, None, true, false, refl}
 use Rattle.std.specs.Prelude.{ℤ, pos, negsuc, codes, replicate}
 use Rattle.url.proofs.OnLiterals.{url_on_literals}

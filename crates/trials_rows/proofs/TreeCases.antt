@@ -126,7 +126,8 @@ leaf_gone = refl
 
 -- ---- what refuses a new item
 
--- no such folder, a bookmark, a separator, an entry of a tag, the root over all, the tags root, a tag
+-- no such folder, a bookmark, a separator, an entry of a tag, the root over all, the tags root, a
+-- tag
 parents_refused : map (λ n. refusal tree (Insert (item_id n) (Number 99))) (0 ∷ 13 ∷ 8 ∷ 9 ∷ 12 ∷ 1 ∷ 4 ∷ 11 ∷ [])
     ≡ Some (NoItem (item_id 0)) ∷ Some (NoItem (item_id 13)) ∷ Some (NotAFolder (item_id 8))
     ∷ Some (NotAFolder (item_id 9)) ∷ Some (NotAFolder (item_id 12)) ∷ Some (Fixed (item_id 1))
@@ -167,7 +168,8 @@ removals_refused = refl
 
 -- ---- what refuses a move
 
--- the item goes before the parent, what the parent is before what lies inside, and that before the place
+-- the item goes before the parent, what the parent is before what lies inside, and that before the
+-- place
 moves_refused :
     refusal tree (Move (item_id 13) (item_id 14) (Number 9)) ∷ refusal tree (Move (item_id 12) (item_id 14) (Number 9))
     ∷ refusal tree (Move (item_id 8) (item_id 14) (Number 9)) ∷ refusal tree (Move (item_id 8) (item_id 9) (Number 9))

@@ -26,8 +26,8 @@ bookmark n page title modified =
       modified = record { 0 = modified };
     }
 
--- page 1 has two bookmarks modified at one date, an older one and all three tags; page 2 a tag alone; page 3 a bookmark
--- without a title, and an older one with one; page 4 nothing
+-- page 1 has two bookmarks modified at one date, an older one and all three tags; page 2 a tag
+-- alone; page 3 a bookmark without a title, and an older one with one; page 4 nothing
 abbrev store : Store
 store =
     record opening {
@@ -39,8 +39,8 @@ store =
           ∷ bookmark 15 1 [] 9 ∷ bookmark 16 1 [] 9 ∷ bookmark 17 1 [] 9 ∷ bookmark 18 2 [] 9 ∷ [];
     }
 
--- the one modified last, of two the one with the greater id, whatever their order in the folder; entries of tags are no
--- bookmarks; an empty title is the one that is told
+-- the one modified last, of two the one with the greater id, whatever their order in the folder;
+-- entries of tags are no bookmarks; an empty title is the one that is told
 titles_of_bookmarks : map (λ n. mark_title store (record { 0 = n })) (1 ∷ 2 ∷ 3 ∷ 4 ∷ [])
     ≡ codes "greater" ∷ [] ∷ [] ∷ [] ∷ []
 titles_of_bookmarks = refl
@@ -51,7 +51,8 @@ bookmarked = refl
 tagged : map (λ n. is_tagged store (record { 0 = n })) (1 ∷ 2 ∷ 3 ∷ 4 ∷ []) ≡ true ∷ true ∷ false ∷ false ∷ []
 tagged = refl
 
--- by the bytes of their folds, where `B` stands behind `a` and a name before the longer one that begins with it
+-- by the bytes of their folds, where `B` stands behind `a` and a name before the longer one that
+-- begins with it
 tags_by_their_folds : map (λ n. tag_text store (record { 0 = n })) (1 ∷ 2 ∷ 3 ∷ [])
     ≡ codes "a,ab,B" ∷ codes "B" ∷ [] ∷ []
 unfolding caseless chars encode

@@ -1,4 +1,5 @@
--- Worked rows of runs: words and what they ask for, statuses, lines that ended, and what is said of whole tasks.
+-- Worked rows of runs: words and what they ask for, statuses, lines that ended, and what is said of
+-- whole tasks.
 use Rattle.std.proofs.Common.{◌≡◌, ◌++◌, true, false, [], ◌∷◌, None, Some, Ok, map, refl}
 use Rattle.std.specs.Prelude.{codes}
 use Rattle.std.specs.Fmt.{digits}
@@ -118,8 +119,8 @@ refused_day : summary later 1 1
 unfolding later url_on_literals digits
 refused_day = refl
 
--- A typed visit, the address bar, a bookmark, a redirect that came from the visit, a day more, and no visit so old:
--- pages of 25, 140 and 2,000.
+-- A typed visit, the address bar, a bookmark, a redirect that came from the visit, a day more, and
+-- no visit so old: pages of 25, 140 and 2,000.
 drill_of_six : summary opening 5 6
     ≡ codes "drill\t6\trefused\t0\nstats\tpages\t3\tvisits\t2\titems\t7\torigins\t3\tsum\t2165\tslots\t19\n"
 unfolding url_on_literals digits

@@ -1,24 +1,15 @@
 -- What is there, by what the rows tell of it, and that a page has its slots.
-use Rattle.std.proofs.Common.{◌≡◌, ◌∙◌, ◌+◌, ◌<◌, ◌≤◌, ℕ, Bool, true, false, List, Option, Some, None, arith, find}
-use Rattle.std.proofs.Common.{if◌then◌else◌, is_some, sym}
+use Rattle.std.proofs.Common.{◌+◌, ◌<◌, ◌≤◌, ℕ, Bool, true, false, List, arith}
+use Rattle.std.proofs.Common.{if◌then◌else◌}
 use Rattle.std.specs.List.{list_any}
-use Rattle.std.specs.Option.{option_map}
-use Rattle.std.proofs.lemmas.Bool.{false≢true}
 use Rattle.pl_base.specs.Address.{same_origin}
 use Rattle.pl_base.specs.Good.{end_of_ids}
 use Rattle.pl_base.specs.Live.{chunks, live_slots, slot_limit}
 use Rattle.pl_base.specs.Rows.{Kept, KeptPage, store_of}
-use Rattle.pl_base.proofs.LookUps.{there_told}
 use Rattle.pl_history.specs.declared.find.Target.{Target}
 use Rattle.pl_history.specs.declared.find.Target.TheVariants.{Known, New}
 use Rattle.pl_history.specs.Target.{HasRoom}
 use Rattle.pl_history.proofs.LiveAfter.{live_page}
-
--- something is told of it
-pub there : {A B : Type 0} (p : A → Bool) (f : A → B) (xs : List A) (told : Option B) (some : Bool)
-    → told ≡ option_map f (find p xs) → some ≡ is_some told → some ≡ true → list_any p xs ≡ true
-there p f xs None some is of true_is = absurd (false≢true (sym of ∙ true_is))
-there p f xs (Some y) some is of true_is = there_told p f xs y is
 
 pub room_page : (url : List ℕ) (target : Target) (kept : Kept) → kept.ids.page < end_of_ids
     → live_slots (store_of kept) + (chunks url + 2) ≤ slot_limit → HasRoom url target kept

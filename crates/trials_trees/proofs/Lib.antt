@@ -1,3 +1,3 @@
-mod Asked
+pub mod Asked
 mod SameOrigin
 mod SearchedPages

@@ -1,4 +1,5 @@
--- A walk over the pages of rows for a URL that passes a test: the page that it finds, and that page's origin.
+-- A walk over the pages of rows for a URL that passes a test: the page that it finds, and that
+-- page's origin.
 use Rattle.std.proofs.Common.{◌≡◌, ◌&&◌, ◌++◌, ◌==◌, ◌∙◌, ℕ, Bool, true, false, List, [], ◌∷◌}
 use Rattle.std.proofs.Common.{Option, Some, None, ap, eq-eqb, find, map, refl, sym}
 use Rattle.std.specs.List.{AllByRecursion}

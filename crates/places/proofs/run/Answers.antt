@@ -1,6 +1,6 @@
 use Rattle.std.proofs.Common.{◌≡◌, ◌∙◌, Some, Option, ap, false, refl, subst, sym, true}
 use Rattle.pl_base.specs.Store.{opening}
-use Rattle.pl_desk.proofs.Told.{value}
+use Rattle.pl_base.proofs.Truths.{some_there}
 use Rattle.pl_task.specs.declared.task.Task.{Task}
 use Rattle.pl_task.specs.declared.task.Task.TheVariants as tasks
 use Rattle.places.specs.Ending.{BeginsWith}
@@ -96,7 +96,7 @@ returns-in-Try-clause-complete g c = λ task wanted nothing.
     c.try_script.new.input new asked wanted nothing in
     let say = none_failed (desk.line_faults old) (desk.line_faults new) did.counted.says fails.says in
     let call = none_failed (desk.device_faults old) (desk.device_faults new) did.counted.device fails.calls in
-    let said = value (desk.said old) fails.told in
+    let said = some_there (desk.said old) fails.told in
     let read = none_failed (source.faults c.args.input.now) (source.faults c.try_script.new.input) did.reads_counted
     fails.reads in
     let left = source.left c.try_script.new.input in let script = fails.needs in
@@ -127,7 +127,7 @@ returns-in-Run-clause-complete g c = λ task wanted nothing.
     c.run_stored.new.input new asked wanted nothing in
     let say = none_failed (desk.line_faults old) (desk.line_faults new) did.counted.says fails.says in
     let call = none_failed (desk.device_faults old) (desk.device_faults new) did.counted.device fails.calls in
-    let said = value (desk.said old) fails.told in
+    let said = some_there (desk.said old) fails.told in
     let read = none_failed (source.faults c.args.input.now) (source.faults c.run_stored.new.input) did.reads_counted
     fails.reads in
     let left = source.left c.run_stored.new.input in let script = fails.needs.0 in
@@ -147,7 +147,7 @@ returns-in-Import-clause-complete g c = λ task wanted nothing.
     c.import_stored.new.input new asked wanted nothing in
     let say = none_failed (desk.line_faults old) (desk.line_faults new) did.counted.says fails.says in
     let call = none_failed (desk.device_faults old) (desk.device_faults new) did.counted.device fails.calls in
-    let said = value (desk.said old) fails.told in
+    let said = some_there (desk.said old) fails.told in
     let read = none_failed (source.faults c.args.input.now) (source.faults c.import_stored.new.input) did.reads_counted
     fails.reads in
     let left = source.left c.import_stored.new.input in let start = fails.needs.0 in let held = fails.needs.1 in
@@ -165,7 +165,7 @@ returns-in-Export-clause-complete g c = λ task wanted nothing.
     c.args.input.now new asked wanted nothing in
     let say = none_failed (desk.line_faults old) (desk.line_faults new) did.counted.says fails.says in
     let call = none_failed (desk.device_faults old) (desk.device_faults new) did.counted.device fails.calls in
-    let said = value (desk.said old) fails.told in
+    let said = some_there (desk.said old) fails.told in
     let start = fails.needs.0 in let held = fails.needs.1 in
     export_done desk c.export_stored.result old start said.0 new say call
     (did.ends held.0 start said.0 held.1 held.2 said.1)
@@ -180,7 +180,7 @@ returns-in-Drill-clause-complete g c = λ task wanted nothing.
     c.args.input.now new asked wanted nothing in
     let say = none_failed (desk.line_faults old) (desk.line_faults new) did.counted.says fails.says in
     let call = none_failed (desk.device_faults old) (desk.device_faults new) did.counted.device fails.calls in
-    let said = value (desk.said old) fails.told in
+    let said = some_there (desk.said old) fails.told in
     let start = fails.needs.0 in let held = fails.needs.1 in
     drill_done desk c.drill_stored.result c.in-Drill.count c.in-Drill.seed old start said.0 new say call
     (did.ends held.0 start said.0 held.1 held.2 said.1)

@@ -3,7 +3,8 @@ use Rattle.pl_base.specs.Marks.{visit_count}
 use Rattle.pl_base.specs.Rows.{Kept, KeptPage, mark_of, store_of}
 use Rattle.pl_base.specs.Tags.{is_bookmarked, is_tagged}
 use Rattle.pl_base.proofs.LookUps.{found_where}
-use Rattle.pl_bar.proofs.PagesKept.{count_told, not_asked, not_visited, visited}
+use Rattle.pl_marks.proofs.PageRows.{count_at}
+use Rattle.pl_bar.proofs.PagesKept.{not_asked, not_visited, visited}
 use Rattle.pl_bar.proofs.tiers.is_kept.Goals as goal
 use Rattle.pl_bar.proofs.tiers.is_kept.Goals.{else-marks-via-else-marks, else-marks-via-then-marks+else-unwrap-eq0}
 
@@ -18,7 +19,7 @@ returns-then-unwrap-eq0-clause-kept g c =
     not_visited c.args.marks.history c.unwrap.result.count (visit_count (store_of kept) c.args.page)
     ((not c.args.marks.bookmark || is_bookmarked (store_of kept) c.args.page)
     && (not c.args.marks.tag || is_tagged (store_of kept) c.args.page)) c.if-marks.true
-    (count_told kept c.args.page c.unwrap.result c.requires.right
+    (count_at kept c.args.page c.unwrap.result c.requires.right
     (sym c.unwrap.ensures ∙ c.page_at.ensures.mark)) c.if-unwrap-eq0.true
 
 pub returns-clause-kept : goal.returns-clause-kept
@@ -31,7 +32,7 @@ returns-clause-kept g c =
     ∙ elim c.else-marks.branch [
       | else-marks-via-then-marks+else-unwrap-eq0 w ↦
           visited c.args.marks.history w.unwrap.result.count visits rest
-          (count_told kept c.args.page w.unwrap.result c.requires.right
+          (count_at kept c.args.page w.unwrap.result c.requires.right
           (sym w.unwrap.ensures ∙ w.page_at.ensures.mark)) w.if-unwrap-eq0.false
       | else-marks-via-else-marks w ↦ not_asked c.args.marks.history visits rest w.if-marks.false
     ]

@@ -10,7 +10,7 @@ use Rattle.pl_editing.proofs.BookmarkAllowed.{bookmark_done, bookmark_refused, i
 use Rattle.pl_editing.proofs.BookmarkAllowed.{room_item, room_page}
 use Rattle.pl_editing.proofs.ItemChanges.{bookmark_came}
 use Rattle.pl_editing.proofs.PageSlots.{are_slots}
-use Rattle.pl_done.proofs.PlaceUrls.{place_told}
+use Rattle.pl_link.proofs.PlaceUrls.{place_told}
 use Rattle.pl_editing.proofs.bookmarks.bookmark.Goals as goal
 
 pub returns-in-Some-room_refusal : goal.returns-in-Some-room_refusal

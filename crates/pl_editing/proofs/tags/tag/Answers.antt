@@ -2,7 +2,7 @@ use Rattle.std.proofs.Common.{◌∙◌, rules, sym}
 use Rattle.pl_base.specs.Rows.{store_of}
 use Rattle.pl_history.proofs.GoodRows.{items_of}
 use Rattle.pl_history.proofs.ReadyPage.{ready}
-use Rattle.pl_done.proofs.PlaceUrls.{place_told}
+use Rattle.pl_link.proofs.PlaceUrls.{place_told}
 use Rattle.pl_editing.proofs.ItemChanges.{tag_came}
 use Rattle.pl_editing.proofs.TagAllowed.{tag_allowed, tag_done, tag_live, tag_page}
 use Rattle.pl_editing.proofs.tags.tag.Goals as goal

@@ -3,7 +3,8 @@ use Rattle.std.proofs.lemmas.Int.{to_z-of_z}
 use Rattle.pl_base.specs.Rows.{page_visits, store_of}
 use Rattle.pl_base.specs.Totals.{most_share, share}
 use Rattle.pl_marks.proofs.PageDue.{due_is}
-use Rattle.pl_marks.proofs.PageScore.{sample_filled, score_is, score_small, small_bonuses}
+use Rattle.pl_score.proofs.StoreSamples.{small_bonuses}
+use Rattle.pl_marks.proofs.PageScore.{sample_filled, score_is, score_small}
 use Rattle.pl_marks.proofs.mark.aged_page.Goals as goal
 
 pub score-requires-clause-bonuses : goal.score-requires-clause-bonuses

@@ -3,9 +3,9 @@ use Rattle.std.proofs.lemmas.Iterator.{YieldsList-from_chars}
 use Rattle.std.proofs.lemmas.Iterator.Consumers.{YieldsList-end}
 use Rattle.std.specs.Prelude.{encode_utf8, encode_utf8_all}
 use Rattle.std.specs.String.{string_bytes}
-use Rattle.pl_nbwrite.specs.BookmarkText.{escaped}
+use Rattle.pl_nbwrite.specs.BookmarkText.{escape, escaped}
 use Rattle.pl_nbwrite.proofs.Appended.{both}
-use Rattle.pl_nbwrite.proofs.EscapeSteps.{escaped-chars, escaped-push}
+use Rattle.pl_words.proofs.WrittenBytes.{written-chars, written-push}
 use Rattle.pl_nbwrite.proofs.escape.push_escaped.Goals as goal
 
 pub loop-c-preserved : goal.loop-c-preserved
@@ -13,7 +13,7 @@ loop-c-preserved c =
     both (string_bytes c.args.file.now) (string_bytes c.loop-c.file) (string_bytes c.push_char.new.file)
     (escaped (encode_utf8_all c.loop-c.yielded)) (escaped (encode_utf8 c.in-Some.c)) c.loop-c.invariant
     c.in_ok-push_char.ensures
-    ∙ ap (λ (x : List ℕ). string_bytes c.args.file.now ++ x) (sym (escaped-push c.loop-c.yielded c.in-Some.c))
+    ∙ ap (λ (x : List ℕ). string_bytes c.args.file.now ++ x) (sym (written-push escape c.loop-c.yielded c.in-Some.c))
 
 pub returns : goal.returns
 returns c =
@@ -22,4 +22,4 @@ returns c =
     c.in-None.is c.next.ensures.steps in
     c.loop-c.invariant
     ∙ ap (λ (x : List ℕ). string_bytes c.args.file.now ++ x)
-    (escaped-chars c.args.text.now c.loop-c.yielded c.utf8.text all.0)
+    (written-chars escape c.args.text.now c.loop-c.yielded c.utf8.text all.0)

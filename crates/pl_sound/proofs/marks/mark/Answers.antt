@@ -9,7 +9,9 @@ use Rattle.pl_base.specs.Visits.{sample_of, sample_size}
 use Rattle.pl_score.specs.Sample.{points_of, sampled_of}
 use Rattle.pl_sound.specs.Marks.{are_unseen, told_sample}
 use Rattle.pl_sound.specs.Visits.{of_page}
-use Rattle.pl_sound.proofs.RightMarks.{count_is, few_own, hidden_is, place_is, sample_is, score_is, small_bonuses}
+use Rattle.pl_link.proofs.PlaceUrls.{place_told}
+use Rattle.pl_score.proofs.StoreSamples.{small_bonuses}
+use Rattle.pl_sound.proofs.RightMarks.{count_is, few_own, hidden_is, sample_is, score_is}
 use Rattle.pl_stored.specs.declared.stored.StoredPage.{StoredPage}
 use Rattle.pl_stored.specs.declared.stored.StoredVisit.{StoredVisit}
 use Rattle.pl_stored.specs.Stored.{Stored, stored_page, stored_store}
@@ -57,7 +59,7 @@ returns c =
     let rows : Stored = c.args.rows.now in
     let p : StoredPage = c.args.page.now in
     let place : c.is_place-is_place.result ≡ is_place_url p.url =
-    place_is p.url c.is_place-is_place.result c.is_place-is_place.ensures in
+    place_told p.url c.is_place-is_place.result c.is_place-is_place.ensures in
     let frecency : to_z w64 (of_z w64 c.score-frecency.result) ≡ frecency_of (stored_store rows) (stored_page p) =
     to_z-of_z w64 c.score-frecency.result (search rules)
     ∙ c.score-frecency.ensures

@@ -4,7 +4,8 @@ use Rattle.pl_base.specs.Rows.{store_of}
 use Rattle.pl_base.specs.Store.{Store}
 use Rattle.pl_base.specs.Totals.{origins_with_total, scored_pages, sum_of_totals}
 use Rattle.pl_base.specs.View.{scored_views}
-use Rattle.pl_told.proofs.Views.{as_many, scored_same}
+use Rattle.pl_known.proofs.KnownPages.{as_many}
+use Rattle.pl_told.proofs.Views.{scored_same}
 use Rattle.pl_told.proofs.origins.stats.Goals as goal
 
 pub overflow_cast-result : goal.overflow_cast-result

@@ -17,7 +17,7 @@ use Rattle.pl_done.proofs.ByChanges.{by_changes}
 use Rattle.pl_visiting.proofs.FewPages.{few_pages}
 use Rattle.pl_visiting.proofs.VisitAllowed.{has_id, has_room, has_slot, has_source}
 use Rattle.pl_done.proofs.CameFrom.{came_from}
-use Rattle.pl_done.proofs.PlaceUrls.{place_told}
+use Rattle.pl_link.proofs.PlaceUrls.{place_told}
 use Rattle.pl_visiting.proofs.VisitStep.{step_after}
 use Rattle.pl_visiting.proofs.visits.visit.Goals as goal
 

@@ -12,8 +12,9 @@ use Rattle.places.specs.Stops.{ShowsAnswered}
 use Rattle.places.proofs.EndingLemmas.{IsBehind}
 use Rattle.places.proofs.run_script.run_script.Given as goal
 
--- the bytes read so far are a front of the input, the run stands behind them, a stop since the start shows some of the
--- script's answers, and no more was written than the answers so far may write
+-- the bytes read so far are a front of the input, the run stands behind them, a stop since the
+-- start shows some of the script's answers, and no more was written than the answers so far may
+-- write
 abbrev pub invariant-loop-read : goal.invariant-loop-read
 invariant-loop-read g l = let input = g.S.Source in let desk = g.D.Desk in let keeper = l.initial.run.keeper in record {
   told : IfTold (input.left l.initial.input) (desk.said l.initial.desk)

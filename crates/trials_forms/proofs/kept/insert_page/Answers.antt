@@ -1,5 +1,5 @@
 use Rattle.trials_forms.proofs.GoodItems.{good_target}
-use Rattle.trials_forms.proofs.Room.{room_page}
+use Rattle.trials_trees.proofs.Asked.{room_page}
 use Rattle.trials_forms.proofs.kept.insert_page.Goals as goal
 
 pub page_for-requires-clause-room : goal.page_for-requires-clause-room

@@ -1,6 +1,6 @@
 use Rattle.std.proofs.Common.{◌≡◌, ◌++◌, IsSome, inr, refl, true, sym, subst}
 use Rattle.pl_base.specs.Live.{slot_limit}
-use Rattle.pl_desk.proofs.Told.{value}
+use Rattle.pl_base.proofs.Truths.{some_there}
 use Rattle.pl_desk.proofs.AnyMoment.{held_left}
 use Rattle.pl_step.specs.Run.{replies, after}
 use Rattle.places.specs.Ending.{LeavesAtEnd}
@@ -17,13 +17,13 @@ returns-in-DeviceFault g c = record {
       let new = c.run-in-DeviceFault.new.desk in
       let left = g.S.Source.left in
       let some : IsSome (desk.said old) = subst IsSome (sym begun) refl in
-      let file = value (desk.held old) ((g.met.D.Desk.told_together old).1 some) in
+      let file = some_there (desk.held old) ((g.met.D.Desk.told_together old).1 some) in
       let in_first = held_left desk g.met.D.Desk.only_now g.met.D.Desk.shown_now old file.0 some file.1 in
       let ends : LeavesAtEnd desk status.DeviceFault true old start one before (left c.run.new.input) mid =
       rw c.in-DeviceFault.is at (c.run.ensures.ends true start
       (inr (refl, refl, (file.0, file.1, stands file.0 in_first))) one before told begun) in
       let some_mid = said_by desk old start one before (left c.run.new.input) mid ends in
-      let later = value (desk.held mid) ((g.met.D.Desk.told_together mid).1 some_mid) in
+      let later = some_there (desk.held mid) ((g.met.D.Desk.told_together mid).1 some_mid) in
       let in_mid = held_left desk g.met.D.Desk.only_now g.met.D.Desk.shown_now mid later.0 some_mid later.1 in
       let here = left_by desk old start one before (left c.run.new.input) mid stands ends later.0 in_mid in
       let line = before ++ texts (replies slot_limit start here.answered) in

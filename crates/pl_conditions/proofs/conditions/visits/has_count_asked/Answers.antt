@@ -1,8 +1,8 @@
 use Rattle.std.proofs.Common.{◌==◌, ◌∙◌, ap, sym}
 use Rattle.pl_base.specs.Rows.{KeptPage, mark_of}
 use Rattle.pl_base.proofs.LookUps.{found_where}
+use Rattle.pl_marks.proofs.PageRows.{count_at}
 use Rattle.pl_conditions.specs.AskedParts.{is_count_asked}
-use Rattle.pl_conditions.proofs.MarkLaws.{count_at}
 use Rattle.pl_conditions.proofs.conditions.visits.has_count_asked.Goals as goal
 
 pub unwrap-mark-requires : goal.unwrap-mark-requires

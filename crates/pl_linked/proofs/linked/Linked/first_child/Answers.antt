@@ -9,12 +9,12 @@ use Rattle.pl_linked.proofs.linked.Linked.first_child.Goals as goal
 
 pub returns-in_err-slot-clause-first : goal.returns-in_err-slot-clause-first
 returns-in_err-slot-clause-first g c =
-    let s = c.args.self.now in
+    let s = c.args.self.now.slots in
     c.from_residual.ensures ∙ sym (ap first_item (no_children s.arena s.pages.entries s.visits.entries s.items.entries s.rows c.args.item (sym c.slot_at.ensures ∙ c.in_err-slot.was)))
 
 pub first-child-requires : goal.first-child-requires
 first-child-requires g c =
-    let s = c.args.self.now in
+    let s = c.args.self.now.slots in
     record {
       owner =
           link_there Children First c.in_ok-slot.slot.0 kinds.Item 28 s.arena
@@ -23,7 +23,7 @@ first-child-requires g c =
 
 pub id_in-requires : goal.id_in-requires
 id_in-requires g c =
-    let s = c.args.self.now in
+    let s = c.args.self.now.slots in
     record {
       item = first_child_told_kind s.arena s.pages.entries s.visits.entries s.items.entries s.rows c.args.item c.in_ok-slot.slot c.first-child.result (sym c.slot_at.ensures ∙ c.in_ok-slot.was)
           c.first-child.ensures.first;
@@ -31,7 +31,7 @@ id_in-requires g c =
 
 pub returns-clause-first : goal.returns-clause-first
 returns-clause-first g c =
-    let s = c.args.self.now in
+    let s = c.args.self.now.slots in
     c.id_in.ensures.id
     ∙ first_child_told_named s.arena s.pages.entries s.visits.entries s.items.entries s.rows c.args.item c.in_ok-slot.slot c.first-child.result (sym c.slot_at.ensures ∙ c.in_ok-slot.was)
     c.first-child.ensures.first

@@ -9,14 +9,14 @@ use Rattle.pl_linked.proofs.linked.Linked.first_reference.Goals as goal
 
 pub returns-in_err-slot-clause-first : goal.returns-in_err-slot-clause-first
 returns-in_err-slot-clause-first g c =
-    let s = c.args.self.now in
+    let s = c.args.self.now.slots in
     c.from_residual.ensures
     ∙ sym (ap first_item (no_references s.arena s.pages.entries s.visits.entries s.items.entries s.rows c.args.page
     (no_page s.arena s.pages.entries s.visits.entries s.items.entries s.rows c.args.page (sym c.slot_at.ensures ∙ c.in_err-slot.was))))
 
 pub first-item-requires : goal.first-item-requires
 first-item-requires g c =
-    let s = c.args.self.now in
+    let s = c.args.self.now.slots in
     record {
       owner =
           link_there References First c.in_ok-slot.slot.0 kinds.Place 36 s.arena
@@ -25,7 +25,7 @@ first-item-requires g c =
 
 pub id_in-requires : goal.id_in-requires
 id_in-requires g c =
-    let s = c.args.self.now in
+    let s = c.args.self.now.slots in
     record {
       item = first_reference_told_kind s.arena s.pages.entries s.visits.entries s.items.entries s.rows c.args.page c.in_ok-slot.slot c.first-item.result (sym c.slot_at.ensures ∙ c.in_ok-slot.was)
           c.first-item.ensures.first;
@@ -33,7 +33,7 @@ id_in-requires g c =
 
 pub returns-clause-first : goal.returns-clause-first
 returns-clause-first g c =
-    let s = c.args.self.now in
+    let s = c.args.self.now.slots in
     c.id_in.ensures.id
     ∙ first_reference_told_named s.arena s.pages.entries s.visits.entries s.items.entries s.rows c.args.page c.in_ok-slot.slot c.first-item.result (sym c.slot_at.ensures ∙ c.in_ok-slot.was)
     c.first-item.ensures.first

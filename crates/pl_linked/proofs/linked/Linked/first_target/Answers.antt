@@ -8,12 +8,12 @@ use Rattle.pl_linked.proofs.linked.Linked.first_target.Goals as goal
 
 pub returns-in_err-slot-clause-first : goal.returns-in_err-slot-clause-first
 returns-in_err-slot-clause-first g c =
-    let s = c.args.self.now in
+    let s = c.args.self.now.slots in
     c.from_residual.ensures ∙ sym (no_first_target s.arena s.pages.entries s.visits.entries s.items.entries s.rows c.args.visit (sym c.slot_at.ensures ∙ c.in_err-slot.was))
 
 pub first-target-requires : goal.first-target-requires
 first-target-requires g c =
-    let s = c.args.self.now in
+    let s = c.args.self.now.slots in
     record {
       owner =
           link_there Targets First c.in_ok-slot.slot.0 kinds.Visit 40 s.arena
@@ -22,7 +22,7 @@ first-target-requires g c =
 
 pub id_in-requires : goal.id_in-requires
 id_in-requires g c =
-    let s = c.args.self.now in
+    let s = c.args.self.now.slots in
     record {
       visit = first_target_told_kind s.arena s.pages.entries s.visits.entries s.items.entries s.rows c.args.visit c.in_ok-slot.slot c.first-target.result (sym c.slot_at.ensures ∙ c.in_ok-slot.was)
           c.first-target.ensures.first;
@@ -30,7 +30,7 @@ id_in-requires g c =
 
 pub returns-clause-first : goal.returns-clause-first
 returns-clause-first g c =
-    let s = c.args.self.now in
+    let s = c.args.self.now.slots in
     c.id_in.ensures.id
     ∙ first_target_told_named s.arena s.pages.entries s.visits.entries s.items.entries s.rows c.args.visit c.in_ok-slot.slot c.first-target.result (sym c.slot_at.ensures ∙ c.in_ok-slot.was)
     c.first-target.ensures.first

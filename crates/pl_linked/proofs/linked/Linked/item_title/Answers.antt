@@ -9,19 +9,19 @@ use Rattle.pl_linked.proofs.linked.Linked.item_title.Goals as goal
 
 pub load-requires-clause-text : goal.load-requires-clause-text
 load-requires-clause-text g c =
-    let s = c.args.self.now in
+    let s = c.args.self.now.slots in
     let h = some_and (λ slot. row_in slot s.arena ≡ Some (item_row c.row_of.result)) (slot_at s.items.entries c.args.item.0) c.row_of.ensures.row in
     item_title_text s.arena s.pages.entries s.visits.entries s.items.entries s.rows c.args.item h.0 c.row_of.result h.1 h.2
 
 pub load-requires-clause-utf8 : goal.load-requires-clause-utf8
 load-requires-clause-utf8 g c =
-    let s = c.args.self.now in
+    let s = c.args.self.now.slots in
     let h = some_and (λ slot. row_in slot s.arena ≡ Some (item_row c.row_of.result)) (slot_at s.items.entries c.args.item.0) c.row_of.ensures.row in
     item_title_utf8 s.arena s.pages.entries s.visits.entries s.items.entries s.rows c.args.item h.0 c.row_of.result h.1 h.2
 
 pub returns : goal.returns
 returns g c =
-    let s = c.args.self.now in
+    let s = c.args.self.now.slots in
     let h = some_and (λ slot. row_in slot s.arena ≡ Some (item_row c.row_of.result)) (slot_at s.items.entries c.args.item.0) c.row_of.ensures.row in
     record {
       title =

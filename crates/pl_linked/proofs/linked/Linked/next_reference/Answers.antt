@@ -11,26 +11,26 @@ use Rattle.pl_linked.proofs.linked.Linked.next_reference.Goals as goal
 
 pub returns-in_err-slot-clause-next : goal.returns-in_err-slot-clause-next
 returns-in_err-slot-clause-next g c =
-    let s = c.args.self.now in
+    let s = c.args.self.now.slots in
     c.from_residual.ensures
     ∙ sym (ap (option_and_then (λ (i : Item). option_and_then (λ p. item_behind c.args.item (references s.rows.kept.items p)) i.page))
     (no_item s.arena s.pages.entries s.visits.entries s.items.entries s.rows c.args.item (sym c.slot_at.ensures ∙ c.in_err-slot.was)))
 
 pub read_item-requires : goal.read_item-requires
 read_item-requires g c =
-    let s = c.args.self.now in
+    let s = c.args.self.now.slots in
     record { item = item_kind s.arena s.pages.entries s.visits.entries s.items.entries s.rows c.args.item c.in_ok-slot.slot (sym c.slot_at.ensures ∙ c.in_ok-slot.was) }
 
 pub returns-in_err-named-clause-next : goal.returns-in_err-named-clause-next
 returns-in_err-named-clause-next g c =
-    let s = c.args.self.now in
+    let s = c.args.self.now.slots in
     c.from_residual-in_err-named.ensures
     ∙ sym (no_reference s.arena s.pages.entries s.visits.entries s.items.entries s.rows c.args.item c.in_ok-slot.slot c.read_item.result (sym c.slot_at.ensures ∙ c.in_ok-slot.was)
     c.read_item.ensures.row (sym c.named.ensures ∙ c.in_err-named.was))
 
 pub next-other-requires : goal.next-other-requires
 next-other-requires g c =
-    let s = c.args.self.now in
+    let s = c.args.self.now.slots in
     record {
       member =
           link_there References Next c.in_ok-slot.slot.0 kinds.Item 44 s.arena
@@ -39,7 +39,7 @@ next-other-requires g c =
 
 pub id_in-requires : goal.id_in-requires
 id_in-requires g c =
-    let s = c.args.self.now in
+    let s = c.args.self.now.slots in
     record {
       item = next_reference_told_kind s.arena s.pages.entries s.visits.entries s.items.entries s.rows c.args.item c.in_ok-slot.slot c.read_item.result c.next-other.result (sym c.slot_at.ensures ∙ c.in_ok-slot.was)
           c.read_item.ensures.row (ap is_some (sym c.named.ensures ∙ c.in_ok-named.was)) c.next-other.ensures.next;
@@ -47,7 +47,7 @@ id_in-requires g c =
 
 pub returns-clause-next : goal.returns-clause-next
 returns-clause-next g c =
-    let s = c.args.self.now in
+    let s = c.args.self.now.slots in
     c.id_in.ensures.id
     ∙ next_reference_told_named s.arena s.pages.entries s.visits.entries s.items.entries s.rows c.args.item c.in_ok-slot.slot c.read_item.result c.next-other.result (sym c.slot_at.ensures ∙ c.in_ok-slot.was)
     c.read_item.ensures.row (ap is_some (sym c.named.ensures ∙ c.in_ok-named.was)) c.next-other.ensures.next

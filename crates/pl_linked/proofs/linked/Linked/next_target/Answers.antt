@@ -11,26 +11,26 @@ use Rattle.pl_linked.proofs.linked.Linked.next_target.Goals as goal
 
 pub returns-in_err-slot-clause-next : goal.returns-in_err-slot-clause-next
 returns-in_err-slot-clause-next g c =
-    let s = c.args.self.now in
+    let s = c.args.self.now.slots in
     c.from_residual.ensures
     ∙ sym (ap (option_and_then (λ (v : Visit). option_and_then (λ t. id_behind c.args.visit (s.rows.targets t)) v.source))
     (no_visit s.arena s.pages.entries s.visits.entries s.items.entries s.rows c.args.visit (sym c.slot_at.ensures ∙ c.in_err-slot.was)))
 
 pub read_visit-requires : goal.read_visit-requires
 read_visit-requires g c =
-    let s = c.args.self.now in
+    let s = c.args.self.now.slots in
     record { visit = visit_kind s.arena s.pages.entries s.visits.entries s.items.entries s.rows c.args.visit c.in_ok-slot.slot (sym c.slot_at.ensures ∙ c.in_ok-slot.was) }
 
 pub returns-in_err-named-clause-next : goal.returns-in_err-named-clause-next
 returns-in_err-named-clause-next g c =
-    let s = c.args.self.now in
+    let s = c.args.self.now.slots in
     c.from_residual-in_err-named.ensures
     ∙ sym (no_target s.arena s.pages.entries s.visits.entries s.items.entries s.rows c.args.visit c.in_ok-slot.slot c.read_visit.result (sym c.slot_at.ensures ∙ c.in_ok-slot.was)
     c.read_visit.ensures.row (sym c.named.ensures ∙ c.in_err-named.was))
 
 pub next-target-requires : goal.next-target-requires
 next-target-requires g c =
-    let s = c.args.self.now in
+    let s = c.args.self.now.slots in
     record {
       member =
           link_there Targets Next c.in_ok-slot.slot.0 kinds.Visit 36 s.arena
@@ -39,7 +39,7 @@ next-target-requires g c =
 
 pub id_in-requires : goal.id_in-requires
 id_in-requires g c =
-    let s = c.args.self.now in
+    let s = c.args.self.now.slots in
     record {
       visit = target_told_kind s.arena s.pages.entries s.visits.entries s.items.entries s.rows c.args.visit c.in_ok-slot.slot c.read_visit.result c.next-target.result (sym c.slot_at.ensures ∙ c.in_ok-slot.was)
           c.read_visit.ensures.row (ap is_some (sym c.named.ensures ∙ c.in_ok-named.was)) c.next-target.ensures.next;
@@ -47,7 +47,7 @@ id_in-requires g c =
 
 pub returns-clause-next : goal.returns-clause-next
 returns-clause-next g c =
-    let s = c.args.self.now in
+    let s = c.args.self.now.slots in
     c.id_in.ensures.id
     ∙ target_told_named s.arena s.pages.entries s.visits.entries s.items.entries s.rows c.args.visit c.in_ok-slot.slot c.read_visit.result c.next-target.result (sym c.slot_at.ensures ∙ c.in_ok-slot.was)
     c.read_visit.ensures.row (ap is_some (sym c.named.ensures ∙ c.in_ok-named.was)) c.next-target.ensures.next

@@ -7,7 +7,7 @@ use Rattle.pl_linked.proofs.linked.Linked.page_after.Goals.{in-Some, in-None}
 
 pub returns-in-Some-id_behind-clause-next : goal.returns-in-Some-id_behind-clause-next
 returns-in-Some-id_behind-clause-next g c =
-    let s = c.args.self.now in
+    let s = c.args.self.now.slots in
     ap (option_map page_numbered) (sym c.in-Some-id_behind.is ∙ c.id_behind.ensures)
     ∙ elim c.match-page.branch [
       | in-Some w ↦
@@ -20,7 +20,7 @@ returns-in-Some-id_behind-clause-next g c =
 
 pub returns-in-None-id_behind-clause-next : goal.returns-in-None-id_behind-clause-next
 returns-in-None-id_behind-clause-next g c =
-    let s = c.args.self.now in
+    let s = c.args.self.now.slots in
     ap (option_map page_numbered) (sym c.in-None-id_behind.is ∙ c.id_behind.ensures)
     ∙ elim c.match-page.branch [
       | in-Some w ↦

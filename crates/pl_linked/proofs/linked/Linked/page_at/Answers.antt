@@ -6,7 +6,7 @@ use Rattle.pl_linked.proofs.linked.Linked.page_at.Goals as goal
 
 pub returns-in_err-slot-clause-mark : goal.returns-in_err-slot-clause-mark
 returns-in_err-slot-clause-mark g c =
-    let s = c.args.self.now in
+    let s = c.args.self.now.slots in
     c.from_residual.ensures
     ∙ sym (ap (option_map mark_of)
     (no_page s.arena s.pages.entries s.visits.entries s.items.entries s.rows c.args.page
@@ -14,7 +14,7 @@ returns-in_err-slot-clause-mark g c =
 
 pub read_place-requires : goal.read_place-requires
 read_place-requires g c =
-    let s = c.args.self.now in
+    let s = c.args.self.now.slots in
     record {
       place =
           page_kind s.arena s.pages.entries s.visits.entries s.items.entries s.rows c.args.page c.in_ok-slot.slot
@@ -23,6 +23,6 @@ read_place-requires g c =
 
 pub returns-clause-mark : goal.returns-clause-mark
 returns-clause-mark g c =
-    let s = c.args.self.now in
+    let s = c.args.self.now.slots in
     mark_told s.arena s.pages.entries s.visits.entries s.items.entries s.rows c.args.page c.in_ok-slot.slot
     c.read_place.result (sym c.slot_at.ensures ∙ c.in_ok-slot.was) c.read_place.ensures.row

@@ -9,19 +9,19 @@ use Rattle.pl_linked.proofs.linked.Linked.url.Goals as goal
 
 pub load-requires-clause-text : goal.load-requires-clause-text
 load-requires-clause-text g c =
-    let s = c.args.self.now in
+    let s = c.args.self.now.slots in
     let h = some_and (λ slot. row_in slot s.arena ≡ Some (place_row c.place_of.result)) (slot_at s.pages.entries c.args.page.0) c.place_of.ensures.row in
     url_text s.arena s.pages.entries s.visits.entries s.items.entries s.rows c.args.page h.0 c.place_of.result h.1 h.2
 
 pub load-requires-clause-utf8 : goal.load-requires-clause-utf8
 load-requires-clause-utf8 g c =
-    let s = c.args.self.now in
+    let s = c.args.self.now.slots in
     let h = some_and (λ slot. row_in slot s.arena ≡ Some (place_row c.place_of.result)) (slot_at s.pages.entries c.args.page.0) c.place_of.ensures.row in
     url_utf8 s.arena s.pages.entries s.visits.entries s.items.entries s.rows c.args.page h.0 c.place_of.result h.1 h.2
 
 pub returns : goal.returns
 returns g c =
-    let s = c.args.self.now in
+    let s = c.args.self.now.slots in
     let h = some_and (λ slot. row_in slot s.arena ≡ Some (place_row c.place_of.result)) (slot_at s.pages.entries c.args.page.0) c.place_of.ensures.row in
     record {
       url =

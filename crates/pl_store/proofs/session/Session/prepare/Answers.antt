@@ -6,7 +6,7 @@ use Rattle.std.proofs.lemmas.List.{length-map}
 use Rattle.pl_base.specs.Rows.{store_of}
 use Rattle.pl_base.specs.Touched.{MayDiffer, PageImage, page_of, page_numbers}
 use Rattle.pl_linked.specs.declared.linked.Linked.{Linked}
-use Rattle.pl_linked.specs.Linked.{IsBase, bytes_of, kept_of}
+use Rattle.pl_linked.specs.Linked.{IsBase, bytes_of, kept_of, sheets_of}
 use Rattle.pl_record.specs.Form.{StandsFor}
 use Rattle.pl_record.specs.LinkedRows.{changes}
 use Rattle.pl_store.specs.Bounds.{most_pages}
@@ -69,9 +69,9 @@ returns-clause-few c =
     let command = c.args.command.now in let store = session_store c.args.self in
     let mid = c.in_ok-engine.engine.rows in
     let pages : ℕ = pages_of_change c.of-change.result in
-    let listed : changes mid.arena ≡ pages = sym (c.of-change.ensures.pages ∙ c.in_ok-touched.ensures.listed) in
+    let listed : changes (sheets_of mid) ≡ pages = sym (c.of-change.ensures.pages ∙ c.in_ok-touched.ensures.listed) in
     subst (λ (n : ℕ). IfSome (most_pages command store) (λ most. n ≤ most)) listed
-    (few_listed command store (changes c.args.self.engine.rows.arena) (changes mid.arena)
+    (few_listed command store (changes (sheets_of c.args.self.engine.rows)) (changes (sheets_of mid))
     (none_pending c.args.self.engine.rows c.args.self.base) c.in_ok-engine.ensures.pages)
 
 -- no page differs from itself

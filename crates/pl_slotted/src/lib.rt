@@ -1,0 +1,11 @@
+//! The rows of a store in linked slots, and their changes: three maps name the slots of pages,
+//! visits and items by their ids, and chains link what belongs together.
+#![tactic(auto)]
+
+mod items;
+mod pages;
+mod slotted;
+mod visits;
+mod whole;
+
+pub use slotted::Slotted;
