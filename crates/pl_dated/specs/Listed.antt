@@ -1,0 +1,56 @@
+-- The visits that a query of history lists, by the views of their pages.
+use Rattle.std.specs.Prelude.{◌==◌, ◌&&◌, ◌≡◌, ◌<◌, Bool, List, [], Some, length, map, if◌then◌else◌}
+use Rattle.std.specs.List.{filter, flat_map}
+use Rattle.pl_base.specs.declared.view.View.{View}
+use Rattle.pl_base.specs.Rows.{Kept, page_visits, store_of}
+use Rattle.pl_base.specs.Store.{Visit}
+use Rattle.pl_conditions.specs.Conditions.{in_times}
+use Rattle.pl_place.specs.declared.kinds.QueryType.TheVariants.{History}
+use Rattle.pl_place.specs.declared.kinds.ResultType.TheVariants.{Visits}
+use Rattle.pl_place.specs.declared.query.Query.{Query}
+use Rattle.pl_place.specs.declared.sort.Direction.TheVariants.{Descending}
+use Rattle.pl_place.specs.declared.sort.Sort.TheVariants.{By}
+use Rattle.pl_place.specs.declared.sort.SortKey.TheVariants.{Date}
+use Rattle.pl_query.specs.declared.result_row.ResultRow.{ResultRow}
+use Rattle.pl_query.specs.Decides.{decides}
+use Rattle.pl_dated.specs.Latest.{Seen}
+
+-- the latest visits are asked for, of pages without regard to transitions and folders
+pub record AsksForLatest (q : Query) : Type 0 where
+  pub history : q.query_type ≡ History
+  pub visits : q.result_type ≡ Visits
+  pub transitions : q.transitions ≡ []
+  pub parents : q.parents ≡ []
+  pub sort : q.sort ≡ By Date Descending
+  pub few : 0 < q.max_results
+
+-- a visit to the page of a view
+abbrev pub seen_of : View → Visit → Seen
+seen_of view v = record { view = view; visit = v.id; date = v.date }
+
+-- of these visits to the page of a view those within the times
+abbrev pub timed : Kept → Query → View → List Visit → List Seen
+timed kept q view visits =
+    map (seen_of view) (filter (λ (v : Visit). in_times (store_of kept) q v.date) visits)
+
+-- the visits to the page of a view that a query lists
+abbrev pub part_of : Kept → Query → View → List Seen
+part_of kept q view =
+    if decides q view then timed kept q view (page_visits kept view.id) else []
+
+-- those to the pages of these views
+abbrev pub parts_of : Kept → Query → List View → List Seen
+parts_of kept q views = flat_map (part_of kept q) views
+
+-- what is told of a visit
+abbrev pub row_of_seen : Seen → ResultRow
+row_of_seen s =
+    record {
+      id = s.visit.0;
+      url = s.view.url;
+      title = s.view.title;
+      date = Some s.date;
+      count = s.view.count;
+      frecency = s.view.frecency;
+      tags = s.view.tags;
+    }
