@@ -16,7 +16,8 @@ use Rattle.std.proofs.lemmas.Map.Keys.{apart_from_distinct, sorted_from_all_adja
 use Rattle.std.proofs.lemmas.Map.Text.{is_eq-slice_cmp}
 use Rattle.std.proofs.lemmas.Slice.Eq.{bytes_eq-Decides}
 use Rattle.pl_base.proofs.ListLaws.{AllPairs-from_map, AllPairs-map}
-use Rattle.pl_check.specs.Tags.{AreDistinct, hash_of, targets}
+use Rattle.pl_check.specs.Tags.{AreDistinct, targets}
+use Rattle.pl_digest.specs.Digest.{digest_of}
 
 is_less : (r : Ordering) → true ≡ is_lt r → r ≡ Less
 is_less Less h = refl
@@ -110,6 +111,6 @@ texts_apart r refs means = (
 )
 
 -- texts of different hashes differ
-pub apart_by_hashes : (texts : List (List ℕ)) → AreDistinct (map hash_of texts) → AreDistinct texts
+pub apart_by_hashes : (texts : List (List ℕ)) → AreDistinct (map digest_of texts) → AreDistinct texts
 apart_by_hashes texts apart i j d before within same =
-    AllPairs-from_map (λ (m n : ℕ). m ≢ n) hash_of texts apart i j d before within (ap hash_of same)
+    AllPairs-from_map (λ (m n : ℕ). m ≢ n) digest_of texts apart i j d before within (ap digest_of same)

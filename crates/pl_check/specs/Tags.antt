@@ -2,7 +2,6 @@
 use Rattle.std.specs.Prelude.{◌≡◌, ◌≢◌, ◌==◌, ◌&&◌, ℕ, Bool, true, List, [], length, map}
 use Rattle.std.specs.Prelude.{Option, Some, None}
 use Rattle.std.specs.Borrow.{Bor}
-use Rattle.std.specs.Hash.FoldHasher as hasher
 use Rattle.std.specs.List.{All, AllPairs, list_all}
 use Rattle.pl_base.specs.declared.id.PageId.{PageId}
 use Rattle.pl_base.specs.declared.item.ItemKind.TheVariants.{Folder}
@@ -16,10 +15,6 @@ use Rattle.pl_check.specs.Items.{is_bookmark}
 -- what the references point to
 abbrev pub targets : {X : Type 0} → List (Bor X) → List X
 targets {X} refs = map (λ (r : Bor X). r.now) refs
-
--- by the hasher of std's maps
-abbrev pub hash_of : List ℕ → ℕ
-hash_of text = hasher.finish (hasher.write hasher.initial text)
 
 -- the number of a page, and 0 of none
 abbrev pub number_of : Option PageId → ℕ

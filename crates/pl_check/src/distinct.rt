@@ -1,10 +1,11 @@
 // Whether no two of some values are the same.
 ghost use Rattle.std.specs.Prelude.{◌≡◌, ◌↔◌, map, IfOk, IsTrue};
-ghost use Rattle.pl_check.specs.Tags.{AreDistinct, hash_of, targets};
+ghost use Rattle.pl_check.specs.Tags.{AreDistinct, targets};
+ghost use Rattle.pl_digest.specs.Digest.{digest_of};
 
 use pl_base::NoMemory;
+use pl_digest::digest;
 use std::alloc::Global;
-use std::hash::{FoldHasher, Hasher};
 
 pub fn are_distinct(mut numbers: Vec<u32>) -> bool
     ensures { IsTrue result ↔ AreDistinct numbers.items }
@@ -29,15 +30,7 @@ pub fn are_distinct_texts(mut texts: Vec<&str>) -> bool
 }
 
 pub fn hashes(alloc: Global, texts: &[&str]) -> Result<Vec<u64>, NoMemory>
-    ensures { IfOk result (λ hashes. hashes.items ≡ map hash_of (targets texts.now)) }
+    ensures { IfOk result (λ hashes. hashes.items ≡ map digest_of (targets texts.now)) }
 {
-    Ok(texts.iter().map(|text| hash(text)).collect(alloc)?)
-}
-
-fn hash(text: &str) -> u64
-    ensures { result ≡ hash_of text.now }
-{
-    let mut hasher = FoldHasher::default();
-    hasher.write(text.as_bytes());
-    hasher.finish()
+    Ok(texts.iter().map(|text| digest(text)).collect(alloc)?)
 }

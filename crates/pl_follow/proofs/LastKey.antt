@@ -35,7 +35,7 @@ module _ {R : Type 0} where
       sym (ap (λ zs. slice_get (reverse zs) 0) takes
       ∙ ap (λ zs. slice_get zs 0) (reverse-append rest (x.now ∷ [])))
 
-  pub all_kept : (xs : List R) → filter (λ _. true) xs ≡ xs
+  all_kept : (xs : List R) → filter (λ _. true) xs ≡ xs
   all_kept [] = refl
   all_kept (x ∷ xs) = ap (λ zs. x ∷ zs) (all_kept xs)
 

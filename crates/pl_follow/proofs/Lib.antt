@@ -1,5 +1,6 @@
 pub mod ChangedLists
-pub mod FirstKey
+pub mod EntriesFollow
+pub mod EntryLists
 pub mod LastKey
 pub mod OneByOne
 pub mod Parted
@@ -8,5 +9,6 @@ pub mod RankParts
 pub mod RanksChange
 pub mod TextsFollow
 pub mod Told
+pub mod UrlMaps
 pub mod UrlsFollow
 pub mod ViewRanks

@@ -11,7 +11,7 @@ use Rattle.std.specs.Ordering.{is_eq, is_gt, is_lt, match_ordering, ordering_rev
 use Rattle.std.specs.Set.{remove_key}
 use Rattle.std.specs.declared.cmp.Ordering.{Ordering}
 use Rattle.std.specs.declared.cmp.Ordering.TheVariants.{Equal, Greater, Less}
-use Rattle.std.proofs.lemmas.Cmp.{back_total, tied_itself}
+use Rattle.std.proofs.lemmas.Cmp.{tied_itself}
 use Rattle.std.proofs.lemmas.List.{get_or-reverse, length-reverse}
 use Rattle.std.proofs.lemmas.List.Elements.{recursion_from_All}
 use Rattle.std.proofs.lemmas.List.Sorted.{IsPermutation-reverse, IsPermutation-sym, IsPermutation-trans}
@@ -97,34 +97,32 @@ module _ {R : Type 0} (cmp : R → R → Ordering) (total : IsTotalOrder cmp) wh
 
   -- ---- the place of a rank in the list does not matter
 
+  turned : (o : Ordering) (x y : R) → cmp x y ≡ o → cmp y x ≡ ordering_reverse o
+  turned o x y is = total.antisymm y x ∙ ap ordering_reverse is
+
   -- two ranks that go before all others
-  pair : IsExact cmp → (x y : R) (ys : List R) → put_in_place (is_below cmp) x ys ≡ x ∷ ys
+  pair : (x y : R) (ys : List R) → cmp y x ≢ Equal → put_in_place (is_below cmp) x ys ≡ x ∷ ys
       → put_in_place (is_below cmp) y ys ≡ y ∷ ys
       → put_in_place (is_below cmp) x (y ∷ ys) ≡ put_in_place (is_below cmp) y (x ∷ ys)
-  pair exact x y ys first_x first_y = choose (cmp x y) refl
+  pair x y ys differ first_x first_y = choose (cmp x y) refl
     where
-      turned : (o : Ordering) → cmp x y ≡ o → cmp y x ≡ ordering_reverse o
-      turned o is = total.antisymm y x ∙ ap ordering_reverse is
-
       choose : (o : Ordering) → cmp x y ≡ o
           → put_in_place (is_below cmp) x (y ∷ ys) ≡ put_in_place (is_below cmp) y (x ∷ ys)
       choose Less is =
           put_front x y ys (ap is_lt is)
-          ∙ sym (put_past y x ys (ap is_lt (turned Less is)) ∙ ap (λ zs. x ∷ zs) first_y)
-      choose Equal is =
-          subst (λ w. put_in_place (is_below cmp) x (w ∷ ys) ≡ put_in_place (is_below cmp) w (x ∷ ys)) (exact x y is)
-          refl
+          ∙ sym (put_past y x ys (ap is_lt (turned Less x y is)) ∙ ap (λ zs. x ∷ zs) first_y)
+      choose Equal is = absurd (differ (turned Equal x y is))
       choose Greater is =
           put_past x y ys (ap is_lt is) ∙ ap (λ zs. y ∷ zs) first_x
-          ∙ sym (put_front y x ys (ap is_lt (turned Greater is)))
+          ∙ sym (put_front y x ys (ap is_lt (turned Greater x y is)))
 
   -- two ranks are put in, one first or the other
-  swapped : IsExact cmp → (x y : R) (ys : List R)
+  swapped : (x y : R) (ys : List R) → cmp y x ≢ Equal
       → put_in_place (is_below cmp) x (put_in_place (is_below cmp) y ys)
       ≡ put_in_place (is_below cmp) y (put_in_place (is_below cmp) x ys)
-  swapped exact x y [] = pair exact x y [] refl refl
-  swapped exact x y (z ∷ zs) =
-      choose (is_below cmp x z) (is_below cmp y z) refl refl (swapped exact x y zs)
+  swapped x y [] differ = pair x y [] differ refl refl
+  swapped x y (z ∷ zs) differ =
+      choose (is_below cmp x z) (is_below cmp y z) refl refl (swapped x y zs differ)
     where
       -- one goes before the first and the other does not
       mixed : (u v : R) → is_below cmp u z ≡ true → is_below cmp v z ≡ false
@@ -146,7 +144,7 @@ module _ {R : Type 0} (cmp : R → R → Ordering) (total : IsTotalOrder cmp) wh
           ≡ put_in_place (is_below cmp) y (put_in_place (is_below cmp) x (z ∷ zs))
       choose true true is_x is_y rest =
           ap (put_in_place (is_below cmp) x) (put_front y z zs is_y)
-          ∙ pair exact x y (z ∷ zs) (put_front x z zs is_x) (put_front y z zs is_y)
+          ∙ pair x y (z ∷ zs) differ (put_front x z zs is_x) (put_front y z zs is_y)
           ∙ ap (put_in_place (is_below cmp) y) (sym (put_front x z zs is_x))
       choose true false is_x is_y rest = mixed x y is_x is_y
       choose false true is_x is_y rest = sym (mixed y x is_y is_x)
@@ -157,13 +155,13 @@ module _ {R : Type 0} (cmp : R → R → Ordering) (total : IsTotalOrder cmp) wh
           ∙ sym (put_past y z (put_in_place (is_below cmp) x zs) is_y)
           ∙ ap (put_in_place (is_below cmp) y) (sym (put_past x z zs is_x))
 
-  -- a rank among others is sorted as in front of them
-  pub moved : IsExact cmp → (front : List R) (x : R) (back : List R)
+  -- a rank among others, which ties with none in front of it, is sorted as in front of them
+  pub moved : (front : List R) (x : R) (back : List R) → AllByRecursion (λ y. cmp x y ≢ Equal) front
       → sorted_by (is_below cmp) (front ++ x ∷ back) ≡ sorted_by (is_below cmp) (x ∷ front ++ back)
-  moved exact [] x back = refl
-  moved exact (y ∷ front) x back =
-      ap (put_in_place (is_below cmp) y) (moved exact front x back)
-      ∙ swapped exact y x (sorted_by (is_below cmp) (front ++ back))
+  moved [] x back apart = refl
+  moved (y ∷ front) x back apart =
+      ap (put_in_place (is_below cmp) y) (moved front x back apart.1)
+      ∙ swapped y x (sorted_by (is_below cmp) (front ++ back)) apart.0
 
   -- ---- the walk
 
@@ -304,33 +302,3 @@ module _ {R : Type 0} (cmp : R → R → Ordering) (total : IsTotalOrder cmp) wh
       ap (λ zs. slice_get zs 0)
       (ap (filter (is_behind (is_above cmp) place)) (walked ks listed up is)
       ∙ kept_sorted (is_behind (is_above cmp) place) listed (listed_distinct ks listed up is))
-
--- ---- the walk from the least on
-
-module _ {R : Type 0} (cmp : R → R → Ordering) (total : IsTotalOrder cmp) where
-  turned_above : is_above (λ x y. cmp y x) ≡ is_below cmp
-  turned_above i x y = above_alike (λ x y. cmp y x) (back_total total) x y i
-
-  none_below_tie : (ks : List R) → IsStrictlySortedBy cmp ks → IsDistinct (ties (is_below cmp)) ks
-  none_below_tie ks up =
-      IsDistinct-from_apart (ties (is_below cmp)) ks
-      (λ i j d less within. rw (Less-from_sorted cmp ks i j d up less within) refl)
-
-  -- the first rank ahead of a place
-  pub first_up : (ks listed : List R) → IsStrictlySortedBy cmp ks → ks ≡ sorted_by (is_below cmp) listed
-      → (place : Option R)
-      → slice_get (filter (is_behind (is_below cmp) place) ks) 0 ≡ next_rank (is_below cmp) place listed
-  first_up ks listed up is place =
-      ap (λ zs. slice_get (filter (is_behind (is_below cmp) place) zs) 0) is
-      ∙ ap (λ zs. slice_get zs 0)
-      (subst
-      (λ before. filter test (sorted_by before listed) ≡ sorted_by before (filter test listed)) turned_above
-      (kept_sorted (λ x y. cmp y x) (back_total total) test listed
-      (subst (λ before. IsDistinct (ties before) listed) (sym turned_above)
-      (distinct_moved (is_below cmp) ks listed
-      (IsPermutation-sym listed ks
-      (subst (λ zs. IsPermutation listed zs) (sym is) (sorted_moves (is_below cmp) listed)))
-      (none_below_tie ks up)))))
-    where
-      test : R → Bool
-      test = is_behind (is_below cmp) place

@@ -2,16 +2,18 @@
 use Rattle.std.proofs.Common.{◌≡◌, ◌≢◌, ◌∙◌, ◌++◌, ◌==◌, ◌||◌, Bool, true, false, List, [], ◌∷◌, Option, Some}
 use Rattle.std.proofs.Common.{None, Ordering, ap, eq-eqb, if◌then◌else◌, map, not, refl, subst, sym}
 use Rattle.std.specs.Cmp.{IsTotalOrder}
-use Rattle.std.specs.List.{AllByRecursion, cons_option, filter_map}
+use Rattle.std.specs.List.{AllByRecursion, Contains, cons_option, filter_map}
 use Rattle.std.specs.Option.{option_and_then, option_map}
+use Rattle.std.specs.declared.cmp.Ordering.TheVariants.{Equal}
+use Rattle.std.proofs.lemmas.Cmp.{tied_itself}
 use Rattle.std.proofs.lemmas.List.Elements.{All-from_recursion, filter_map-append}
 use Rattle.pl_base.specs.declared.id.PageId.{PageId}
 use Rattle.pl_base.specs.declared.view.View.{View}
 use Rattle.pl_base.specs.Sorting.{sorted_by}
-use Rattle.pl_follow.specs.Changes.{AreInOrder, Suits, added, changed, has_view, removed, with_view, without_id}
+use Rattle.pl_base.proofs.ListLaws.{weaker}
+use Rattle.pl_follow.specs.Changes.{AreInOrder, Suits, changed, has_view, removed, with_view, without_id}
 use Rattle.pl_follow.specs.Order.{IsExact, IsOther, Replaces, is_below}
-use Rattle.pl_follow.proofs.ChangedLists.{old_parted}
-use Rattle.pl_follow.proofs.Parted.{Parted, added_parted}
+use Rattle.pl_follow.proofs.Parted.{Parted, added_parted, ascend, removed_parted}
 use Rattle.pl_follow.proofs.RankLists.{moved}
 
 -- each view has a rank of this kind
@@ -19,11 +21,6 @@ pub all_ranked : {A : Type 0} (f : View → A) (views : List View)
     → map f views ≡ filter_map (λ (v : View). Some (f v)) views
 all_ranked f [] = refl
 all_ranked f (v ∷ vs) = ap (λ rs. f v ∷ rs) (all_ranked f vs)
-
-pub some_ranked : {A : Type 0} (f : View → A) (view : Option View)
-    → option_map f view ≡ option_and_then (λ (v : View). Some (f v)) view
-some_ranked f None = refl
-some_ranked f (Some v) = refl
 
 -- no view has the id of one that was taken out
 pub none_left : (id : PageId) (views : List View) → has_view id (without_id id views) ≡ false
@@ -35,30 +32,88 @@ none_left id (v ∷ vs) = choose (v.id.0 == id.0) refl (none_left id vs)
     choose true is rest = rest
     choose false is rest = ap (λ b. b || has_view id (without_id id vs)) is ∙ rest
 
-module _ {N : Type 0} (cmp : N × PageId → N × PageId → Ordering) (total : IsTotalOrder cmp) (exact : IsExact cmp)
-    (rank : View → Option (N × PageId)) (ids : (v : View) (r : N × PageId) → rank v ≡ Some r → r.1 ≡ v.id) where
-  -- a view's rank is none of those of views with other ids
-  differs : (view : View) (r : N × PageId) → rank view ≡ Some r → (others : List View)
-      → has_view view.id others ≡ false → AllByRecursion (λ other. other ≢ r) (filter_map rank others)
+-- the elements of the front of a list are elements of it
+front_none : (id : PageId) (front back : List View) → has_view id (front ++ back) ≡ false → has_view id front ≡ false
+front_none id [] back none = refl
+front_none id (v ∷ vs) back none = choose (v.id.0 == id.0) none (front_none id vs back)
+  where
+    choose : (b : Bool) → (b || has_view id (vs ++ back)) ≡ false
+        → (has_view id (vs ++ back) ≡ false → has_view id vs ≡ false) → (b || has_view id vs) ≡ false
+    choose true none rest = absurd (cc)
+    choose false none rest = rest none
+
+-- ---- ranks of any kind, of which no two tie but those of one id
+
+-- views whose ranks tie have the same id
+abbrev pub TieById : {R : Type 0} → (R → R → Ordering) → (View → Option R) → Type 0
+TieById {R} cmp rank =
+    (v w : View) (r s : R) → rank v ≡ Some r → rank w ≡ Some s → cmp r s ≡ Equal → v.id.0 ≡ w.id.0
+
+module _ {R : Type 0} (cmp : R → R → Ordering) (total : IsTotalOrder cmp) (rank : View → Option R)
+    (tie : TieById cmp rank) where
+  -- a view's rank ties with none of those of views with other ids
+  pub differs : (view : View) (r : R) → rank view ≡ Some r → (others : List View)
+      → has_view view.id others ≡ false → AllByRecursion (λ other. cmp r other ≢ Equal) (filter_map rank others)
   differs view r is [] none = tt
   differs view r is (v ∷ vs) none = choose (v.id.0 == view.id.0) refl none (rank v) refl (differs view r is vs)
     where
-      choose : (b : Bool) → (v.id.0 == view.id.0) ≡ b → (b || has_view view.id vs) ≡ false → (o : Option (N × PageId))
+      choose : (b : Bool) → (v.id.0 == view.id.0) ≡ b → (b || has_view view.id vs) ≡ false → (o : Option R)
           → rank v ≡ o
-          → (has_view view.id vs ≡ false → AllByRecursion (λ other. other ≢ r) (filter_map rank vs))
-          → AllByRecursion (λ other. other ≢ r) (cons_option o (filter_map rank vs))
+          → (has_view view.id vs ≡ false → AllByRecursion (λ other. cmp r other ≢ Equal) (filter_map rank vs))
+          → AllByRecursion (λ other. cmp r other ≢ Equal) (cons_option o (filter_map rank vs))
       choose true same none o has rest = absurd (cc)
       choose false apart none None has rest = rest none
       choose false apart none (Some s) has rest =
-          let other : s ≢ r =
+          let other : cmp r s ≢ Equal =
           λ same.
-          let ids_same : v.id.0 ≡ view.id.0 =
-          ap (λ (p : PageId). p.0) (sym (ids v s has) ∙ ap (λ (t : N × PageId). t.1) same ∙ ids view r is) in
-          absurd (differ (v.id.0 == view.id.0) apart (eq-eqb v.id.0 view.id.0 ids_same)) in
+          absurd (differ (v.id.0 == view.id.0) apart (eq-eqb v.id.0 view.id.0 (sym (tie view v r s is has same)))) in
           (other, rest none)
         where
           differ : (b : Bool) → b ≡ false → b ≡ true → ⊥
           differ b is_false is_true = cc
+
+  -- the ranks of views are those of one and of the others
+  ranks_parted : (views others : List View) (view : View) → Parted views view others
+      → has_view view.id others ≡ false
+      → sorted_by (is_below cmp) (filter_map rank views)
+      ≡ sorted_by (is_below cmp) (cons_option (rank view) (filter_map rank others))
+  ranks_parted views others view p none =
+      ap (λ vs. sorted_by (is_below cmp) (filter_map rank vs)) p.whole
+      ∙ ap (sorted_by (is_below cmp)) (filter_map-append rank p.front (view ∷ p.back))
+      ∙ choose (rank view) refl
+      ∙ ap (λ rs. sorted_by (is_below cmp) (cons_option (rank view) rs))
+      (sym (ap (filter_map rank) p.rest ∙ filter_map-append rank p.front p.back))
+    where
+      choose : (o : Option R) → rank view ≡ o
+          → sorted_by (is_below cmp) (filter_map rank p.front ++ cons_option o (filter_map rank p.back))
+          ≡ sorted_by (is_below cmp) (cons_option o (filter_map rank p.front ++ filter_map rank p.back))
+      choose None is = refl
+      choose (Some r) is =
+          moved cmp total (filter_map rank p.front) r (filter_map rank p.back)
+          (differs view r is p.front
+          (front_none view.id p.front p.back (subst (λ vs. has_view view.id vs ≡ false) p.rest none)))
+
+  -- where one of the views goes
+  pub ranks_left : (old : View) (views : List View) → AreInOrder views → Contains views old
+      → sorted_by (is_below cmp) (filter_map rank views)
+      ≡ sorted_by (is_below cmp) (cons_option (rank old) (filter_map rank (without_id old.id views)))
+  ranks_left old views ordered has =
+      ranks_parted views (without_id old.id views) old (removed_parted old views (ascend views ordered) has)
+      (none_left old.id views)
+
+  -- where one more comes
+  pub ranks_come : (new : View) (others : List View) → has_view new.id others ≡ false
+      → sorted_by (is_below cmp) (filter_map rank (with_view new others))
+      ≡ sorted_by (is_below cmp) (cons_option (rank new) (filter_map rank others))
+  ranks_come new others none = ranks_parted (with_view new others) others new (added_parted new others) none
+
+-- ---- ranks that end with the id
+
+module _ {N : Type 0} (cmp : N × PageId → N × PageId → Ordering) (total : IsTotalOrder cmp) (exact : IsExact cmp)
+    (rank : View → Option (N × PageId)) (ids : (v : View) (r : N × PageId) → rank v ≡ Some r → r.1 ≡ v.id) where
+  tie : TieById cmp rank
+  tie v w r s is_r is_s same =
+      ap (λ (p : PageId). p.0) (sym (ids v r is_r) ∙ ap (λ (t : N × PageId). t.1) (exact r s same) ∙ ids w s is_s)
 
   other_rank : (view : View) (others : List View) → has_view view.id others ≡ false
       → IsOther (rank view) (filter_map rank others)
@@ -67,37 +122,22 @@ module _ {N : Type 0} (cmp : N × PageId → N × PageId → Ordering) (total : 
       choose : (o : Option (N × PageId)) → rank view ≡ o → IsOther o (filter_map rank others)
       choose None is = tt
       choose (Some r) is =
-          All-from_recursion (λ other. other ≢ r) (filter_map rank others) (differs view r is others none)
-
-  -- the ranks of views are those of one and of the others
-  ranks_parted : (views others : List View) (view : View) → Parted views view others
-      → sorted_by (is_below cmp) (filter_map rank views)
-      ≡ sorted_by (is_below cmp) (cons_option (rank view) (filter_map rank others))
-  ranks_parted views others view p =
-      ap (λ vs. sorted_by (is_below cmp) (filter_map rank vs)) p.whole
-      ∙ ap (sorted_by (is_below cmp)) (filter_map-append rank p.front (view ∷ p.back))
-      ∙ choose (rank view)
-      ∙ ap (λ rs. sorted_by (is_below cmp) (cons_option (rank view) rs))
-      (sym (ap (filter_map rank) p.rest ∙ filter_map-append rank p.front p.back))
-    where
-      choose : (o : Option (N × PageId))
-          → sorted_by (is_below cmp) (filter_map rank p.front ++ cons_option o (filter_map rank p.back))
-          ≡ sorted_by (is_below cmp) (cons_option o (filter_map rank p.front ++ filter_map rank p.back))
-      choose None = refl
-      choose (Some r) = moved cmp total exact (filter_map rank p.front) r (filter_map rank p.back)
+          All-from_recursion (λ other. other ≢ r) (filter_map rank others)
+          (weaker (λ other. cmp r other ≢ Equal) (λ other. other ≢ r) (filter_map rank others)
+          (λ other apart same. apart (ap (cmp r) same ∙ tied_itself total r))
+          (differs cmp total rank tie view r is others none))
 
   ranks_before : (old new : Option View) (views : List View) → AreInOrder views → Suits old new views
       → sorted_by (is_below cmp) (filter_map rank views)
       ≡ sorted_by (is_below cmp) (cons_option (option_and_then rank old) (filter_map rank (removed old views)))
   ranks_before None new views ordered suits = refl
-  ranks_before (Some old) new views ordered suits =
-      ranks_parted views (without_id old.id views) old (old_parted old new views ordered suits)
+  ranks_before (Some old) new views ordered suits = ranks_left cmp total rank tie old views ordered suits.goes
 
-  ranks_after : (new : Option View) (others : List View)
-      → sorted_by (is_below cmp) (filter_map rank (added new others))
-      ≡ sorted_by (is_below cmp) (cons_option (option_and_then rank new) (filter_map rank others))
-  ranks_after None others = refl
-  ranks_after (Some new) others = ranks_parted (with_view new others) others new (added_parted new others)
+  ranks_after : (old new : Option View) (views : List View) → Suits old new views
+      → sorted_by (is_below cmp) (filter_map rank (changed old new views))
+      ≡ sorted_by (is_below cmp) (cons_option (option_and_then rank new) (filter_map rank (removed old views)))
+  ranks_after old None views suits = refl
+  ranks_after old (Some new) views suits = ranks_come cmp total rank tie new (removed old views) suits.comes
 
   leaving_other : (old : Option View) (views : List View)
       → IsOther (option_and_then rank old) (filter_map rank (removed old views))
@@ -123,4 +163,4 @@ module _ {N : Type 0} (cmp : N × PageId → N × PageId → Ordering) (total : 
       (stood ∙ ranks_before old new views ordered suits
       ∙ ap (λ r. sorted_by (is_below cmp) (cons_option r others)) (sym is_old))
       ∙ ap (λ r. sorted_by (is_below cmp) (cons_option r others)) is_new
-      ∙ sym (ranks_after new (removed old views))
+      ∙ sym (ranks_after old new views suits)

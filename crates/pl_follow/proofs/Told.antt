@@ -48,6 +48,12 @@ parted_find test views others view p only = ap (find test) p.whole ∙ choose (t
         skipped p.front (front (λ (w : View). test w ≡ false) p.front p.back none) is
     choose false fails = stays p.front fails ∙ ap (find test) (sym p.rest)
 
+-- where a view passes the test, none of the others is found
+pub none_told : {B : Type 0} (test : View → Bool) (f : View → B) (others : List View) (view : View)
+    → IsOnly test view others → test view ≡ true → told test f others ≡ None
+none_told test f others view only passes =
+    ap (option_map f) (none_found test others (none_pass test others view only passes))
+
 -- a view goes
 pub told_others : {B : Type 0} (test : View → Bool) (f : View → B) (views others : List View) (view : View)
     (before after : Option B) → Parted views view others → IsOnly test view others → before ≡ told test f views

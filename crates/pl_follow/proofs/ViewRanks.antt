@@ -14,10 +14,10 @@ use Rattle.pl_base.specs.declared.id.PageId.{PageId}
 use Rattle.pl_base.specs.declared.view.View.{View}
 use Rattle.pl_base.specs.Sorting.{sorted_by}
 use Rattle.pl_follow.specs.Changes.{AreInOrder, Suits, changed}
-use Rattle.pl_follow.specs.Order.{IsExact, Replaces, frecency_ranks, is_above, is_ahead, is_below, is_later}
-use Rattle.pl_follow.specs.Order.{next_rank, rank_of, visit_rank_of, visit_ranks}
+use Rattle.pl_follow.specs.Order.{IsExact, Replaces, is_above, is_ahead, is_below, is_later}
+use Rattle.pl_follow.specs.Order.{next_rank, visit_rank_of, visit_ranks}
 use Rattle.pl_follow.proofs.RankLists.{above_alike}
-use Rattle.pl_follow.proofs.RanksChange.{all_ranked, follows, some_ranked}
+use Rattle.pl_follow.proofs.RanksChange.{follows}
 
 -- ---- the comparisons
 
@@ -108,21 +108,11 @@ pub next_ahead : (place : Option (ℤ × PageId)) (ranks : List (ℤ × PageId))
     → next_rank (is_above frecency_cmp) place ranks ≡ next_rank is_ahead place ranks
 next_ahead place ranks = ap (λ before. next_rank before place ranks) ahead_above
 
-pub next_below : (place : Option (ℤ × PageId)) (ranks : List (ℤ × PageId))
-    → next_rank (is_below frecency_cmp) place ranks ≡ next_rank (λ x y. is_ahead y x) place ranks
-next_below place ranks = λ i. next_rank (λ x y. ahead_below y x i) place ranks
-
 pub next_later : (place : Option (Micros × PageId)) (ranks : List (Micros × PageId))
     → next_rank (is_above visit_cmp) place ranks ≡ next_rank is_later place ranks
 next_later place ranks = ap (λ before. next_rank before place ranks) later_above
 
 -- ---- a change
-
-abbrev frecency_rank : View → Option (ℤ × PageId)
-frecency_rank v = Some (rank_of v)
-
-frecency_ids : (v : View) (r : ℤ × PageId) → frecency_rank v ≡ Some r → r.1 ≡ v.id
-frecency_ids v r is = sym (ap (λ (o : Option (ℤ × PageId)). option_map_or (λ (x : ℤ × PageId). x.1) o v.id) is)
 
 visit_ids : (v : View) (r : Micros × PageId) → visit_rank_of v ≡ Some r → r.1 ≡ v.id
 visit_ids v r = choose v.last
@@ -131,19 +121,6 @@ visit_ids v r = choose v.last
     choose None is = absurd (cc)
     choose (Some date) is =
         sym (ap (λ (o : Option (Micros × PageId)). option_map_or (λ (x : Micros × PageId). x.1) o v.id) is)
-
-pub frecencies_follow : (old new : Option View) (views : List View) → AreInOrder views → Suits old new views
-    → (leaving coming : Option (ℤ × PageId)) → leaving ≡ option_map rank_of old → coming ≡ option_map rank_of new
-    → (before after : List (ℤ × PageId)) → Replaces frecency_cmp leaving coming before after
-    → before ≡ sorted_by (λ x y. is_ahead y x) (frecency_ranks views)
-    → after ≡ sorted_by (λ x y. is_ahead y x) (frecency_ranks (changed old new views))
-frecencies_follow old new views ordered suits leaving coming is_old is_new before after replaces stood =
-    follows frecency_cmp frecency_total frecency_exact frecency_rank frecency_ids old new views ordered suits leaving
-    coming (is_old ∙ some_ranked rank_of old) (is_new ∙ some_ranked rank_of new) before after replaces
-    (stood ∙ frecencies_below (frecency_ranks views)
-    ∙ ap (sorted_by (is_below frecency_cmp)) (all_ranked rank_of views))
-    ∙ ap (sorted_by (is_below frecency_cmp)) (sym (all_ranked rank_of (changed old new views)))
-    ∙ sym (frecencies_below (frecency_ranks (changed old new views)))
 
 pub visits_follow : (old new : Option View) (views : List View) → AreInOrder views → Suits old new views
     → (leaving coming : Option (Micros × PageId)) → leaving ≡ option_and_then visit_rank_of old

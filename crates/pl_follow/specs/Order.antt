@@ -1,6 +1,8 @@
 -- Two orders of the views, by frecency and by the latest visit, and how their ranks come and go.
+-- Beside each rank by frecency stands a sketch of the page's folded texts.
 use Rattle.std.specs.Prelude.{◌≡◌, ◌≢◌, ◌==◌, ◌&&◌, ◌||◌, ℤ, Bool, true, Option, Some, None, List}
 use Rattle.std.specs.Prelude.{IfSome, int_lt, map, nat_lt}
+use Rattle.std.specs.BTreeMap.{BTreeMap}
 use Rattle.std.specs.List.{All, cons_option, filter, filter_map, slice_get}
 use Rattle.std.specs.Option.{option_map}
 use Rattle.std.specs.Ordering.{int_eq, is_gt, is_lt}
@@ -10,8 +12,12 @@ use Rattle.pl_base.specs.declared.date.Micros.{Micros}
 use Rattle.pl_base.specs.declared.id.PageId.{PageId}
 use Rattle.pl_base.specs.declared.view.View.{View}
 use Rattle.pl_base.specs.Sorting.{sorted_by}
+use Rattle.pl_sketch.specs.declared.sketch.Sketch.{Sketch}
+use Rattle.pl_sketch.specs.Pairs.{sketch_of, union}
 use Rattle.pl_follow.specs.declared.order.OrderIndex.{OrderIndex}
+use Rattle.pl_follow.specs.declared.texts.Folded.{Folded}
 use Rattle.pl_follow.specs.Changes.{AreInOrder}
+use Rattle.pl_follow.specs.Texts.{folded_of}
 
 -- ---- ranks
 
@@ -31,11 +37,30 @@ frecency_ranks views = map rank_of views
 abbrev pub visit_ranks : List View → List (Micros × PageId)
 visit_ranks views = filter_map visit_rank_of views
 
+-- ---- sketches beside the ranks
+
+-- the sketch of the texts of a page, in which no pair stands across two of them
+abbrev pub sketch_of_texts : Folded → Sketch
+sketch_of_texts texts =
+    union (sketch_of texts.title) (union (sketch_of texts.address) (sketch_of texts.tags))
+
+-- the frecency of a view and its id, with the sketch of its folded texts
+abbrev pub entry_of : View → (ℤ × PageId) × Sketch
+entry_of v = (rank_of v, sketch_of_texts (folded_of v))
+
+-- those of the views
+abbrev pub entries_of : List View → List ((ℤ × PageId) × Sketch)
+entries_of views = map entry_of views
+
 -- ---- their order
 
 -- the first has the greater frecency, or the same and the greater id
 abbrev pub is_ahead : ℤ × PageId → ℤ × PageId → Bool
 is_ahead x y = int_lt y.0 x.0 || (int_eq x.0 y.0 && nat_lt y.1.0 x.1.0)
+
+-- the rank of the first is ahead
+abbrev pub leads : (ℤ × PageId) × Sketch → (ℤ × PageId) × Sketch → Bool
+leads x y = is_ahead x.0 y.0
 
 -- the first has the later date, or the same and the greater id
 abbrev pub is_later : Micros × PageId → Micros × PageId → Bool
@@ -61,11 +86,14 @@ is_below cmp x y = is_lt (cmp x y)
 
 -- ---- what is kept
 
--- the views are in the order of their ids, and the two sets have their ranks, from the last to the
--- first
-pub record Orders (index : OrderIndex) (views : List View) : Type 0 where
+-- the views are in the order of their ids, and the map has their entries, from the last to the first
+pub record KeepsEntries (kept : BTreeMap (ℤ × PageId) Sketch) (views : List View) : Type 0 where
   pub ordered : AreInOrder views
-  pub frecencies : index.frecencies.keys ≡ sorted_by (λ x y. is_ahead y x) (frecency_ranks views)
+  pub entries : kept.entries ≡ sorted_by (λ x y. leads y x) (entries_of views)
+
+-- the map has the entries of the views, and the set their ranks by visit, from the last to the first
+pub record Orders (index : OrderIndex) (views : List View) : Type 0 where
+  pub frecencies : KeepsEntries index.frecencies views
   pub visits : index.visits.keys ≡ sorted_by (λ x y. is_later y x) (visit_ranks views)
 
 -- no two ranks are equal but one and itself

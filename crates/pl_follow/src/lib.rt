@@ -1,6 +1,7 @@
 //! What is kept in memory of the views of a store, and follows each change of them.
 #![tactic(auto)]
 
+mod entries;
 mod follow;
 mod order;
 mod texts;

@@ -2,20 +2,23 @@
 ghost use Rattle.std.specs.Prelude.{◌≡◌, ℤ, [], List, OnOk, reverse};
 ghost use Rattle.std.specs.List.{filter};
 ghost use Rattle.std.specs.Iterator.Adapters.{rev_source};
-ghost use Rattle.std.specs.Map.Iter.{ShowsInReverse, deref};
+ghost use Rattle.std.specs.Map.Iter.{ShowsInOrder, ShowsInReverse, deref, deref_pair};
 ghost use Rattle.std.specs.Option.{option_and_then, option_copied, option_map};
 ghost use Rattle.pl_base.specs.declared.date.Micros.{Micros};
 ghost use Rattle.pl_base.specs.declared.id.PageId.{PageId};
 ghost use Rattle.pl_base.specs.declared.view.View.{View};
 ghost use Rattle.pl_base.specs.Sorting.{sorted_by};
-ghost use Rattle.pl_follow.specs.Order.{Gains, Loses, Orders, Replaces, frecency_ranks, is_above};
-ghost use Rattle.pl_follow.specs.Order.{is_ahead, is_below, is_later, next_rank, rank_of};
+ghost use Rattle.pl_sketch.specs.declared.sketch.Sketch.{Sketch};
+ghost use Rattle.pl_follow.specs.Order.{Gains, Loses, Orders, Replaces, entries_of, frecency_ranks};
+ghost use Rattle.pl_follow.specs.Order.{is_above, is_ahead, is_below, is_later, leads, next_rank};
 ghost use Rattle.pl_follow.specs.Order.{visit_rank_of, visit_ranks};
 
 use crate::Follow;
+use crate::entries::change_entry;
 use pl_base::{Micros, NoMemory, PageId, View};
+use pl_sketch::Sketch;
 use std::alloc::Global;
-use std::collections::{BTreeSet, btree_set};
+use std::collections::{BTreeMap, BTreeSet, btree_map, btree_set};
 use std::iter::Rev;
 use std::ops::Bound;
 
@@ -23,10 +26,14 @@ use std::ops::Bound;
 ///
 /// Each is walked from the greatest number on, and where the numbers are equal from the greatest
 /// id on. Frecencies are in points, and dates in microseconds since 1970-01-01T00:00:00Z.
+///
+/// Beside each frecency stands the sketch of the page's folded texts, so that a walk passes by the
+/// pages in which a word can't stand.
 #[derive(Debug, Drop)]
 pub struct OrderIndex {
-    // The frecency of each view and its id. Sets ascend, so they are walked from their ends.
-    frecencies: BTreeSet<(i64, PageId)>,
+    // The frecency of each view and its id. Maps and sets ascend, so they are walked from their
+    // ends.
+    frecencies: BTreeMap<(i64, PageId), Sketch>,
     // The date of the latest visit of each view that has one, and its id.
     visits: BTreeSet<(Micros, PageId)>,
 }
@@ -37,7 +44,7 @@ impl OrderIndex {
         ensures { Orders result [] }
     {
         OrderIndex {
-            frecencies: BTreeSet::new(alloc),
+            frecencies: BTreeMap::new(alloc),
             visits: BTreeSet::new(alloc),
         }
     }
@@ -50,19 +57,13 @@ impl OrderIndex {
         ensures { (views : List View) → Orders self.now views
             → result ≡ next_rank is_ahead place (frecency_ranks views) }
     {
-        next_below(&self.frecencies, place)
-    }
-
-    /// The frecency and the id of the view next ahead of a place by frecency, or of the last of all
-    /// where no place is given; `None` where no view is ahead of it. No view need stand at the
-    /// place.
-    ///
-    /// Takes time in the logarithm of the number of views, and no memory.
-    pub fn before(&self, place: Option<(i64, PageId)>) -> Option<(i64, PageId)>
-        ensures { (views : List View) → Orders self.now views
-            → result ≡ next_rank (λ x y. is_ahead y x) place (frecency_ranks views) }
-    {
-        next_above(&self.frecencies, place)
+        match place {
+            Some(place) => {
+                let (rank, _) = self.frecencies.range(..place).next_back()?;
+                Some(*rank)
+            }
+            None => self.frecencies.keys().next_back().copied(),
+        }
     }
 
     /// The date and the id of the view next behind a place by latest visit, or of the first of all
@@ -77,33 +78,42 @@ impl OrderIndex {
     }
 
     /// The frecencies and ids of all views, from the first by frecency to the last.
-    pub fn by_frecency(&self) -> Rev<btree_set::Iter<'_, (i64, PageId)>>
+    pub fn by_frecency(&self) -> Rev<btree_map::Keys<'_, (i64, PageId), Sketch>>
         ensures order { (views : List View) → Orders self.now views
             → reverse (rev_source result) ≡ sorted_by is_ahead (frecency_ranks views) }
         ensures runs { ShowsInReverse (deref {X = ℤ × PageId}) }
     {
-        self.frecencies.iter().rev()
+        self.frecencies.keys().rev()
     }
 
-    /// The frecencies and ids of the views that come before a place by frecency, from the first of
-    /// them to the last. No view need stand at the place.
-    pub fn ahead(&self, place: (i64, PageId)) -> Rev<btree_set::Range<'_, (i64, PageId)>>
+    /// The frecencies and ids of all views, from the last by frecency to the first.
+    pub fn upward(&self) -> btree_map::Keys<'_, (i64, PageId), Sketch>
+        ensures order { (views : List View) → Orders self.now views
+            → result ≡ sorted_by (λ x y. is_ahead y x) (frecency_ranks views) }
+        ensures runs { ShowsInOrder (deref {X = ℤ × PageId}) }
+    {
+        self.frecencies.keys()
+    }
+
+    /// The frecencies, ids and sketches of the views that come before a place by frecency, from the
+    /// first of them to the last. No view need stand at the place.
+    pub fn ahead(&self, place: (i64, PageId)) -> Rev<btree_map::Range<'_, (i64, PageId), Sketch>>
         ensures order { (views : List View) → Orders self.now views
             → reverse (rev_source result)
-            ≡ filter (λ rank. is_ahead rank place) (sorted_by is_ahead (frecency_ranks views)) }
-        ensures runs { ShowsInReverse (deref {X = ℤ × PageId}) }
+            ≡ filter (λ entry. is_ahead entry.0 place) (sorted_by leads (entries_of views)) }
+        ensures runs { ShowsInReverse (deref_pair {K = ℤ × PageId} {X = Sketch}) }
     {
         let from = (Bound::Excluded(place), Bound::Unbounded);
         self.frecencies.range(from).rev()
     }
 
-    /// The frecencies and ids of the views that come behind a place by frecency, from the first of
-    /// them to the last. No view need stand at the place.
-    pub fn behind(&self, place: (i64, PageId)) -> Rev<btree_set::Range<'_, (i64, PageId)>>
+    /// The frecencies, ids and sketches of the views that come behind a place by frecency, from the
+    /// first of them to the last. No view need stand at the place.
+    pub fn behind(&self, place: (i64, PageId)) -> Rev<btree_map::Range<'_, (i64, PageId), Sketch>>
         ensures order { (views : List View) → Orders self.now views
             → reverse (rev_source result)
-            ≡ filter (is_ahead place) (sorted_by is_ahead (frecency_ranks views)) }
-        ensures runs { ShowsInReverse (deref {X = ℤ × PageId}) }
+            ≡ filter (λ entry. is_ahead place entry.0) (sorted_by leads (entries_of views)) }
+        ensures runs { ShowsInReverse (deref_pair {K = ℤ × PageId} {X = Sketch}) }
     {
         self.frecencies.range(..place).rev()
     }
@@ -123,25 +133,13 @@ impl Follow for OrderIndex {
 
     fn change(
         &mut self,
-        _alloc: Global,
+        alloc: Global,
         old: Option<&View>,
         new: Option<&View>,
     ) -> Result<(), NoMemory> {
-        replace_rank(
-            &mut self.frecencies,
-            rank_by_frecency(old),
-            rank_by_frecency(new),
-        )?;
+        change_entry(alloc, &mut self.frecencies, old, new)?;
         replace_rank(&mut self.visits, rank_by_visit(old), rank_by_visit(new))
     }
-}
-
-// The frecency of a view and its id.
-fn rank_by_frecency(view: Option<&View>) -> Option<(i64, PageId)>
-    ensures { result ≡ option_map rank_of (option_copied view.entry) }
-{
-    let view = view?;
-    Some((view.frecency, view.id))
 }
 
 // The date of the latest visit of a view, if it has one, and its id.
@@ -197,19 +195,5 @@ fn next_below<K: Ord + Copy>(ranks: &BTreeSet<K>, place: Option<K>) -> Option<K>
     match place {
         Some(place) => ranks.range(..place).next_back().copied(),
         None => ranks.iter().next_back().copied(),
-    }
-}
-
-// The least of the ranks above a place, or of all.
-fn next_above<K: Ord + Copy>(ranks: &BTreeSet<K>, place: Option<K>) -> Option<K>
-    ensures { (listed : List K) → ranks.now.keys ≡ sorted_by (is_below K.cmp) listed
-        → result ≡ next_rank (is_below K.cmp) place listed }
-{
-    match place {
-        Some(place) => {
-            let from = (Bound::Excluded(place), Bound::Unbounded);
-            ranks.range(from).next().copied()
-        }
-        None => ranks.iter().next().copied(),
     }
 }

@@ -119,8 +119,8 @@ fn title_of(view: &View) -> &str
     view.mark_title.as_str()
 }
 
-// Whether the same texts of both are searched.
-fn have_same_texts(old: &View, new: &View) -> bool
+/// Whether the same texts of both are searched.
+pub fn have_same_texts(old: &View, new: &View) -> bool
     ensures { result ≡ true → folded_of old.now ≡ folded_of new.now }
 {
     title_of(old) == title_of(new) && has_same_address(old, new) && old.tags == new.tags
@@ -133,7 +133,8 @@ fn has_same_address(old: &View, new: &View) -> bool
     old.url == new.url && old.prefix == new.prefix
 }
 
-fn folded_texts(alloc: Global, view: &View) -> Result<Folded, NoMemory>
+/// What is searched of a page, folded.
+pub fn folded_texts(alloc: Global, view: &View) -> Result<Folded, NoMemory>
     requires prefix { starts_with nat_eq view.now.url view.now.prefix ≡ true }
     ensures { IfOk result (λ texts. texts ≡ folded_of view.now) }
 {

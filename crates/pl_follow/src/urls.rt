@@ -1,22 +1,37 @@
 // The ids of pages, found by their URLs.
 ghost use Rattle.std.specs.Prelude.{◌≡◌, ◌≢◌, [], List, None, OnOk, Some, false};
+ghost use Rattle.std.specs.BTreeMap.{get};
 ghost use Rattle.std.specs.List.{AllPairs, Contains};
+ghost use Rattle.std.specs.Ordering.{nat_cmp};
 ghost use Rattle.pl_base.specs.declared.view.View.{View};
 ghost use Rattle.pl_follow.specs.Changes.{Suits, changed, has_view, with_view, without_id};
-ghost use Rattle.pl_follow.specs.Urls.{IndexesUrls, id_of_url};
+ghost use Rattle.pl_follow.specs.Urls.{IndexesUrls, id_of_url, page_of};
 
 use crate::Follow;
 use pl_base::{NoMemory, PageId, View};
+use pl_digest::digest;
 use std::alloc::Global;
 use std::collections::BTreeMap;
+use std::collections::btree_map::Entry;
+
+// A URL, and the page that has it.
+#[derive(Debug, Drop)]
+struct UrlPage {
+    url: String,
+    page: PageId,
+}
 
 /// The ids of the pages by their URLs.
 ///
-/// The texts that a look-up or a change compares grow as the logarithm of the number of pages. A
-/// change under which a page keeps its URL and its id compares these alone.
+/// A look-up compares digests, and one text where no two URLs have one digest. Where a file was
+/// forged so that many have one, the texts that are compared grow as the logarithm of their number.
+/// A change under which a page keeps its URL and its id compares these alone.
 #[derive(Debug, Drop)]
 pub struct UrlIndex {
-    ids: BTreeMap<String, PageId>,
+    // By the digest of a URL, the first one that came with it.
+    hashed: BTreeMap<u64, UrlPage>,
+    // The URLs that came when another one of their digest was there.
+    others: BTreeMap<String, PageId>,
 }
 
 impl UrlIndex {
@@ -25,7 +40,8 @@ impl UrlIndex {
         ensures { IndexesUrls result [] }
     {
         UrlIndex {
-            ids: BTreeMap::new(alloc),
+            hashed: BTreeMap::new(alloc),
+            others: BTreeMap::new(alloc),
         }
     }
 
@@ -34,7 +50,21 @@ impl UrlIndex {
         ensures { (views : List View) → IndexesUrls self.now views
             → result ≡ id_of_url url.now views }
     {
-        self.ids.get(url).copied()
+        let page = self.find_hashed(digest(url), url);
+        if page.is_some() {
+            return page;
+        }
+        self.others.get(url).copied()
+    }
+
+    fn find_hashed(&self, hash: u64, url: &str) -> Option<PageId>
+        ensures { result ≡ page_of url.now (get nat_cmp self.now.hashed hash) }
+    {
+        let known = self.hashed.get(&hash)?;
+        if known.url.as_str() == url {
+            return Some(known.page);
+        }
+        None
     }
 
     fn replace(&mut self, alloc: Global, old: &View, new: &View) -> Result<(), NoMemory>
@@ -53,7 +83,13 @@ impl UrlIndex {
         ensures { (views : List View) → IndexesUrls self.old views → Contains views old.now
             → IndexesUrls self.new (without_id old.now.id views) }
     {
-        self.ids.remove(old.url.as_str());
+        let url = old.url.as_str();
+        let hash = digest(url);
+        if self.find_hashed(hash, url).is_some() {
+            self.hashed.remove(&hash);
+        } else {
+            self.others.remove(url);
+        }
     }
 
     fn put_in(&mut self, alloc: Global, new: &View) -> Result<(), NoMemory>
@@ -63,7 +99,14 @@ impl UrlIndex {
             → IndexesUrls self.new (with_view new.now views)) }
     {
         let url = String::from_str(alloc, new.url.as_str())?;
-        self.ids.insert(url, new.id)?;
+        match self.hashed.entry(digest(new.url.as_str()))? {
+            Entry::Vacant(entry) => {
+                entry.insert(UrlPage { url, page: new.id });
+            }
+            Entry::Occupied(_) => {
+                self.others.insert(url, new.id)?;
+            }
+        }
         Ok(())
     }
 }

@@ -6,4 +6,4 @@ pub returns-clause-order : goal.returns-clause-order
 returns-clause-order c =
     λ views orders.
     ap reverse (c.rev.ensures.source ∙ c.range.ensures.between tt)
-    ∙ behind_walk c.args.place c.args.self.now views orders c.range.ensures.ordered
+    ∙ behind_walk c.args.self.now views orders c.range.ensures.ordered c.args.place

@@ -5,5 +5,5 @@ use Rattle.pl_follow.proofs.order.OrderIndex.by_frecency.Goals as goal
 pub returns-clause-order : goal.returns-clause-order
 returns-clause-order c =
     λ views orders.
-    ap reverse (c.rev.ensures.source ∙ c.iter.ensures.rest)
-    ∙ whole_walk c.args.self.now views orders c.iter.ensures.ordered
+    ap reverse (c.rev.ensures.source ∙ c.keys.ensures.rest)
+    ∙ whole_walk c.args.self.now views orders c.keys.ensures.ordered

@@ -1,13 +1,13 @@
-use Rattle.std.proofs.Common.{List, None, string_bytes, subst, ℕ}
-use Rattle.std.specs.BTreeMap.{UpdatesBy}
-use Rattle.std.specs.Cmp.Lexicographic.{slice_cmp}
-use Rattle.std.specs.Ordering.{nat_cmp}
-use Rattle.std.specs.String.{string_cmp}
-use Rattle.pl_follow.proofs.UrlsFollow.{taken_out}
+use Rattle.std.proofs.Common.{rules}
+use Rattle.pl_base.proofs.Truths.{is_none_at}
+use Rattle.pl_follow.proofs.UrlsFollow.{taken_out_hashed, taken_out_other}
 use Rattle.pl_follow.proofs.urls.UrlIndex.take_out.Goals as goal
 
-pub returns : goal.returns
-returns c views =
-    taken_out c.args.self.now c.remove.new.self c.args.old.now views
-    (subst (λ (url : List ℕ). UpdatesBy string_cmp (λ k. slice_cmp nat_cmp url (string_bytes k)) c.args.self.now.ids
-    c.remove.new.self None) c.as_str.ensures c.remove.ensures.updates)
+pub returns-then-is_some : goal.returns-then-is_some
+returns-then-is_some c views =
+    taken_out_hashed c.args.self.now c.remove.new.self c.args.old.now views (search rules) (search rules)
+
+pub returns-else-is_some : goal.returns-else-is_some
+returns-else-is_some c views =
+    taken_out_other c.args.self.now c.remove-else-is_some.new.self c.args.old.now views (search rules)
+    (is_none_at _ (search rules))

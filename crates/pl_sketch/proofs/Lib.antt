@@ -1,0 +1,2 @@
+pub mod CoverLaws
+mod SketchSteps
