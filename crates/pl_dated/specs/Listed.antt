@@ -29,14 +29,14 @@ abbrev pub seen_of : View → Visit → Seen
 seen_of view v = record { view = view; visit = v.id; date = v.date }
 
 -- of these visits to the page of a view those within the times
-abbrev pub timed : Kept → Query → View → List Visit → List Seen
-timed kept q view visits =
+abbrev pub seen_visits : Kept → Query → View → List Visit → List Seen
+seen_visits kept q view visits =
     map (seen_of view) (filter (λ (v : Visit). in_times (store_of kept) q v.date) visits)
 
 -- the visits to the page of a view that a query lists
 abbrev pub part_of : Kept → Query → View → List Seen
 part_of kept q view =
-    if decides q view then timed kept q view (page_visits kept view.id) else []
+    if decides q view then seen_visits kept q view (page_visits kept view.id) else []
 
 -- those to the pages of these views
 abbrev pub parts_of : Kept → Query → List View → List Seen

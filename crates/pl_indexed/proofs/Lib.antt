@@ -1,13 +1,14 @@
-mod AlikeLists
+pub mod AlikeLists
 mod AnswerOfViews
 mod AskedTexts
 mod FirstPages
 mod FoundOrder
-mod KeyOrder
+pub mod KeyOrder
+mod NextAhead
 mod NextViews
-mod SortedParts
+pub mod SortedParts
 mod TakenViews
 mod ViewRows
-mod ViewsWalk
-mod WalkOrder
+pub mod ViewsWalk
+pub mod WalkOrder
 mod WatchableRows

@@ -12,12 +12,11 @@ use Rattle.pl_base.specs.declared.date.Micros.{Micros}
 use Rattle.pl_base.specs.declared.id.PageId.{PageId}
 use Rattle.pl_base.specs.declared.view.View.{View}
 use Rattle.pl_base.specs.Sorting.{sorted_by}
-use Rattle.pl_base.proofs.ListLaws.{all-filter, filter-map}
+use Rattle.pl_base.proofs.ListLaws.{all-filter, all_stay, everyone, filter-map}
 use Rattle.pl_base.proofs.SortLaws.{all_sorted, sorted_map}
 use Rattle.pl_follow.specs.Changes.{AreInOrder}
 use Rattle.pl_follow.specs.Order.{frecency_ranks, is_ahead, is_behind, is_later, next_rank, rank_of}
 use Rattle.pl_follow.specs.Order.{visit_rank_of, visit_ranks}
-use Rattle.pl_follow.proofs.LastKey.{all_kept}
 use Rattle.pl_follow.proofs.ViewRanks.{ahead_below}
 use Rattle.pl_known.specs.Known.{view_of}
 use Rattle.pl_query.specs.Order.{date_cmp}
@@ -27,6 +26,9 @@ use Rattle.pl_indexed.specs.Walk.{goes_ahead, next_in, stands_in}
 use Rattle.pl_indexed.proofs.TakenViews.{known_views}
 
 -- ---- ranks of members
+
+all_kept : (views : List View) → filter (λ (v : View). true) views ≡ views
+all_kept views = all_stay (λ (v : View). true) views (everyone (λ (v : View). true ≡ true) views (λ v. refl))
 
 -- the next rank is that of the next member
 next_mapped : {X R : Type 0} (rank : X → R) (ahead : R → R → Bool) (place : Option X) (xs : List X)

@@ -1,5 +1,6 @@
 -- The walk along a kept order of views, with the pages that are found on it.
-use Rattle.std.proofs.Common.{◌≡◌, ◌∙◌, ◌++◌, true, List, [], ◌∷◌, Option, Some, None, ap, map, subst, sym}
+use Rattle.std.proofs.Common.{◌≡◌, ◌≢◌, ◌∙◌, ◌++◌, true, List, [], ◌∷◌, Option, Some, None, ap, map, refl, subst}
+use Rattle.std.proofs.Common.{sym}
 use Rattle.std.specs.List.{AllByRecursion}
 use Rattle.std.specs.Option.{option_copied}
 use Rattle.std.proofs.lemmas.Option.{same_Some}
@@ -68,3 +69,8 @@ module _ (order : KeptOrder) (q : Query) (views : List View) (ordered : AreInOrd
         (joined q here.front here.element found new here.so_far
         (subst (λ (v : View). map seen new ≡ map seen found ++ map (seen_of q.sort) (taken q (v ∷ []))) (sym here.is)
         more))
+
+-- where the walk names no view, it is at its end
+pub no_view : (next : Option (Bor View)) → ((v : Bor View) → next ≢ Some v) → (v : View) → option_copied next ≢ Some v
+no_view None none v is = absurd (cc)
+no_view (Some w) none v is = none w refl

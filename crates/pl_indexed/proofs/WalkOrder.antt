@@ -169,7 +169,7 @@ module _ {X : Type 0} (cmp : X → X → Ordering) (total : IsTotalOrder cmp) wh
       choose Greater is most = absurd (most refl)
 
 -- where one comes ahead of another by both orders of ids, it does so by its key
-by_key : (o : Ordering) (m n : ℕ) → is_lt (ordering_then o (nat_cmp n m)) ≡ true
+pub by_key : (o : Ordering) (m n : ℕ) → is_lt (ordering_then o (nat_cmp n m)) ≡ true
     → is_lt (ordering_then o (nat_cmp m n)) ≡ true → o ≡ Less
 by_key Less m n one two = refl
 by_key Equal m n one two = absurd (never m n one two)

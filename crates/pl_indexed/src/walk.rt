@@ -3,7 +3,9 @@ ghost use Rattle.std.specs.Prelude.{◌≡◌, List, true, IfSome};
 ghost use Rattle.std.specs.Option.{option_and_then, option_copied, option_map};
 ghost use Rattle.pl_base.specs.declared.id.PageId.{PageId};
 ghost use Rattle.pl_base.specs.declared.view.View.{View};
-ghost use Rattle.pl_follow.specs.Order.{Orders, rank_of, visit_rank_of};
+ghost use Rattle.pl_follow.specs.Changes.{AreInOrder};
+ghost use Rattle.pl_follow.specs.Order.{Orders, frecency_ranks, is_ahead, next_rank, rank_of};
+ghost use Rattle.pl_follow.specs.Order.{visit_rank_of};
 ghost use Rattle.pl_known.specs.Known.{AreFollowed};
 ghost use Rattle.pl_indexed.specs.Found.{view_before};
 ghost use Rattle.pl_indexed.specs.Walk.{next_in, sort_of, stands_in};
@@ -39,7 +41,7 @@ pub fn kept_order(sort: Sort) -> Option<KeptOrder>
 
 // The frecency of a view and its id.
 fn place_by_frecency(view: Option<&View>) -> Option<(i64, PageId)>
-    ensures { result ≡ option_map rank_of (option_copied view) }
+    ensures { result ≡ option_map rank_of (option_copied view.entry) }
 {
     let view = view?;
     Some((view.frecency, view.id))
@@ -47,10 +49,25 @@ fn place_by_frecency(view: Option<&View>) -> Option<(i64, PageId)>
 
 // The date of the latest visit of a view, if it has one, and its id.
 fn place_by_visit(view: Option<&View>) -> Option<(Micros, PageId)>
-    ensures { result ≡ option_and_then visit_rank_of (option_copied view) }
+    ensures { result ≡ option_and_then visit_rank_of (option_copied view.entry) }
 {
     let view = view?;
     Some((view.last?, view.id))
+}
+
+// The frecency and the id of the view next ahead of a place by frecency, or of the last of all
+// where no place is given.
+fn next_ahead(kept: &OrderIndex, place: Option<(i64, PageId)>) -> Option<(i64, PageId)>
+    ensures { (views : List View) → AreInOrder views → Orders kept.now views
+        → result ≡ next_rank (λ x y. is_ahead y x) place (frecency_ranks views) }
+{
+    match place {
+        Some(place) => {
+            let (rank, _) = kept.ahead(place).next_back()?;
+            Some(*rank)
+        }
+        None => kept.upward().next().copied(),
+    }
 }
 
 // The page of a rank.
@@ -63,13 +80,14 @@ fn page_of<K: Copy>(rank: Option<(K, PageId)>) -> Option<PageId>
 
 // The id of the view next behind one in an order, or of the first of all.
 fn next_page(kept: &OrderIndex, order: KeptOrder, behind: Option<&View>) -> Option<PageId>
-    requires stands { IfSome (option_copied behind) (λ view. stands_in order view ≡ true) }
-    ensures { (views : List View) → Orders kept.now views
-        → result ≡ option_map (λ (v : View). v.id) (next_in order (option_copied behind) views) }
+    requires { IfSome (option_copied behind) (λ view. stands_in order view ≡ true) }
+    ensures { (views : List View) → AreInOrder views → Orders kept.now views
+        → result
+        ≡ option_map (λ (v : View). v.id) (next_in order (option_copied behind.entry) views) }
 {
     match order {
         KeptOrder::FrecencyFalling => page_of(kept.after(place_by_frecency(behind))),
-        KeptOrder::FrecencyRising => page_of(kept.before(place_by_frecency(behind))),
+        KeptOrder::FrecencyRising => page_of(next_ahead(kept, place_by_frecency(behind))),
         KeptOrder::LatestFirst => page_of(kept.visited_before(place_by_visit(behind))),
     }
 }
@@ -85,7 +103,7 @@ pub fn next_view<'a>(
     requires followed { AreFollowed known.now }
     requires stands { IfSome (option_copied behind) (λ view. stands_in order view ≡ true) }
     ensures { option_copied result
-        ≡ next_in order (option_copied behind) known.now.views.items }
+        ≡ next_in order (option_copied behind.entry) known.now.views.items }
 {
     let page = next_page(&known.order, order, behind)?;
     known.view(page)

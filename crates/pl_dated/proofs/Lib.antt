@@ -1,0 +1,4 @@
+mod FirstLaws
+mod SeenOrder
+mod SkipLaws
+mod VisitRows
