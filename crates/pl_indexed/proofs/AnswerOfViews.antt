@@ -13,7 +13,7 @@ use Rattle.pl_query.proofs.AnsweredRows.{limited_map}
 use Rattle.pl_indexed.specs.declared.found.Found.{Found}
 use Rattle.pl_indexed.specs.Answer.{Suffice, first_asked, row_of_view, taken}
 use Rattle.pl_indexed.specs.Found.{AreFound, view_before}
-use Rattle.pl_indexed.proofs.ByFrecency.{ids_differ}
+use Rattle.pl_indexed.proofs.WalkOrder.{ids_differ}
 use Rattle.pl_indexed.proofs.FoundOrder.{views_found}
 
 -- all pages are found that the query takes

@@ -1,14 +1,12 @@
--- The first pages by frecency that a query takes, as many as its answer has.
-use Rattle.std.proofs.Common.{◌≡◌, ◌≢◌, ◌∙◌, ◌-◌, ◌<◌, ◌<ℤ◌, ◌≤◌, ◌≤ℤ◌, ◌++◌, ◌==◌, ℕ, ℤ, Bool, true, false, List, []}
+-- The first pages in a kept order that a query takes, as many as its answer has.
+use Rattle.std.proofs.Common.{◌≡◌, ◌≢◌, ◌∙◌, ◌-◌, ◌<◌, ◌≤◌, ◌++◌, ◌==◌, ◌&&◌, ℕ, Bool, true, false, List, []}
 use Rattle.std.proofs.Common.{◌∷◌, IfSome, Ordering, ap, arith, filter, if◌then◌else◌, is_lt, length, map}
 use Rattle.std.proofs.Common.{nat_cmp, refl, subst, suc, sym, take, zero}
-use Rattle.std.specs.declared.cmp.Ordering.TheVariants.{Less, Equal, Greater}
+use Rattle.std.specs.declared.cmp.Ordering.TheVariants.{Less, Greater}
 use Rattle.std.specs.List.{AllByRecursion, AllPairs, IsDistinct, slice_get}
-use Rattle.std.specs.List.Sorted.{ties}
-use Rattle.std.specs.Ordering.{MatchOrdering, int_cmp, ordering_then}
-use Rattle.std.proofs.lemmas.Bool.{ne_eqb}
-use Rattle.std.proofs.lemmas.Cmp.{int_ranked}
-use Rattle.std.proofs.lemmas.Int.{ints}
+use Rattle.std.specs.List.Sorted.{IsPermutation, ties}
+use Rattle.std.specs.Ordering.{ordering_then}
+use Rattle.std.proofs.lemmas.Bool.{and_parts, false_from_ne_true, ne_eqb}
 use Rattle.std.proofs.lemmas.List.{append-nil, length-map, take-append-le}
 use Rattle.std.proofs.lemmas.List.Elements.{filter-append}
 use Rattle.std.proofs.lemmas.List.Kept.{AllPairs-filter}
@@ -21,19 +19,22 @@ use Rattle.pl_base.proofs.SortLaws.{Ascends, apart_sorted, none_tie, sorted_move
 use Rattle.pl_follow.specs.Changes.{AreInOrder}
 use Rattle.pl_follow.proofs.ChangedLists.{Pairs, all_pairs, pairs}
 use Rattle.pl_place.specs.declared.query.Query.{Query}
-use Rattle.pl_place.specs.declared.sort.Direction.TheVariants.{Descending}
 use Rattle.pl_place.specs.declared.sort.Sort.{Sort}
-use Rattle.pl_place.specs.declared.sort.Sort.TheVariants.{By}
-use Rattle.pl_place.specs.declared.sort.SortKey.TheVariants.{Frecency}
 use Rattle.pl_query.specs.Decides.{decides}
 use Rattle.pl_query.specs.QueryAnswer.{limited}
 use Rattle.pl_indexed.specs.declared.found.Found.{Found}
+use Rattle.pl_indexed.specs.declared.walk.KeptOrder.{KeptOrder}
+use Rattle.pl_indexed.specs.declared.walk.KeptOrder.TheVariants.{FrecencyFalling, FrecencyRising, LatestFirst}
 use Rattle.pl_indexed.specs.Answer.{AreEnough, Suffice, first_asked, taken}
 use Rattle.pl_indexed.specs.Found.{AreFound, place_of, seen, seen_of, view_before}
-use Rattle.pl_indexed.proofs.ByFrecency.{by_frecency, by_frecency_ascends, falls, ids_differ, not_greater}
+use Rattle.pl_indexed.specs.Walk.{goes_ahead, keys_cmp, sort_of, stands_in}
 use Rattle.pl_indexed.proofs.FoundOrder.{views_found}
 use Rattle.pl_indexed.proofs.KeyOrder.{places_rank, tied_ids}
-use Rattle.pl_indexed.proofs.SortedParts.{StandsAmong, filter_moves, same_sorted, sorted_parts, stands_among}
+use Rattle.pl_indexed.proofs.SortedParts.{StandsAmong, ascends_filter, ascends_front, filter_moves, front_ahead}
+use Rattle.pl_indexed.proofs.SortedParts.{same_sorted, sorted_parts, stands_among}
+use Rattle.pl_indexed.proofs.TakenViews.{visited_taken}
+use Rattle.pl_indexed.proofs.WalkOrder.{below_then, by_key, ids_differ, keys_ranked, not_behind, standing, then_below}
+use Rattle.pl_indexed.proofs.WalkOrder.{walked, walked_ascends}
 
 -- ---- lists
 
@@ -52,56 +53,109 @@ limited_front most xs ys some enough =
     not_none : (most == 0) ≡ false
     not_none = ne_eqb most 0 (λ same. omega (arith, some, same))
 
--- where the last of views by frecency lies above a frecency, so do all
-all_above : (f : ℤ) (vs : List View) (k : ℕ) → Ascends falls vs → length vs ≡ suc k
-    → IfSome (slice_get vs k) (λ (v : View). f <ℤ v.frecency) → AllByRecursion (λ (v : View). f <ℤ v.frecency) vs
-all_above f [] k up long last = tt
-all_above f (v ∷ []) zero up long last = (last, tt)
-all_above f (v ∷ []) (suc k) up long last = absurd (omega arith)
-all_above f (v ∷ w ∷ vs) zero up long last = absurd (omega arith)
-all_above f (v ∷ w ∷ vs) (suc k) up long last =
-    let rest : AllByRecursion (λ (u : View). f <ℤ u.frecency) (w ∷ vs) =
-    all_above f (w ∷ vs) k up.1 (omega arith) last in
-    let below : w.frecency ≤ℤ v.frecency = not_greater v w up.0.0 in
-    let above : f <ℤ w.frecency = rest.0 in
-    (omega (arith, ints, below, above), rest)
+last_view : (P : View → Type 0) (found : List Found) (k : ℕ)
+    → IfSome (slice_get found k) (λ (last : Found). P last.view.now)
+    → IfSome (slice_get (map (λ (p : Found). p.view.now) found) k) P
+last_view P [] k last = tt
+last_view P (p ∷ found) zero last = last
+last_view P (p ∷ found) (suc k) last = last_view P found k last
 
-last_view : (f : ℤ) (found : List Found) (k : ℕ)
-    → IfSome (slice_get found k) (λ (last : Found). f <ℤ last.view.now.frecency)
-    → IfSome (slice_get (map (λ (p : Found). p.view.now) found) k) (λ (v : View). f <ℤ v.frecency)
-last_view f [] k last = tt
-last_view f (p ∷ found) zero last = last
-last_view f (p ∷ found) (suc k) last = last_view f found k last
+-- ---- the end of a walk
 
--- some of the views by frecency stand by it too
-falls_filter : (test : View → Bool) (vs : List View) → Ascends falls vs → Ascends falls (filter test vs)
-falls_filter test [] up = tt
-falls_filter test (v ∷ vs) up = choose (test v) (falls_filter test vs up.1)
-  where
-    choose : (b : Bool) → Ascends falls (filter test vs)
-        → Ascends falls (if b then v ∷ filter test vs else filter test vs)
-    choose true rest = (all-filter (λ (w : View). falls v w ≡ true) test vs up.0, rest)
-    choose false rest = rest
+-- the views of one list come before those of another by a sort
+abbrev AllBefore : Sort → List View → List View → Type 0
+AllBefore sort vs ws = AllByRecursion (λ (u : View). AllByRecursion (λ (w : View). view_before sort u w ≡ true) ws) vs
 
-falls_front : (xs ys : List View) → Ascends falls (xs ++ ys) → Ascends falls xs
-falls_front [] ys up = tt
-falls_front (x ∷ xs) ys up = (front (λ (w : View). falls x w ≡ true) xs ys up.0, falls_front xs ys up.1)
+some_before : (sort : Sort) (test : View → Bool) (vs ws : List View) → AllBefore sort vs ws
+    → AllBefore sort (filter test vs) (filter test ws)
+some_before sort test vs ws all =
+    all-filter (λ (u : View). AllByRecursion (λ (w : View). view_before sort u w ≡ true) (filter test ws)) test vs
+    (weaker (λ (u : View). AllByRecursion (λ (w : View). view_before sort u w ≡ true) ws)
+    (λ (u : View). AllByRecursion (λ (w : View). view_before sort u w ≡ true) (filter test ws)) vs
+    (λ u each. all-filter (λ (w : View). view_before sort u w ≡ true) test ws each) all)
+
+-- where ids descend among those that are alike, and the last that was taken comes before the next view
+module _ (order : KeptOrder)
+    (falls : (v w : View) → goes_ahead order v w ≡ true → view_before (sort_of order) v w ≡ true
+    → keys_cmp order v w ≡ Less) where
+  all_above : (n : View) (vs : List View) (k : ℕ) → Ascends (goes_ahead order) vs
+      → AllByRecursion (λ (v : View). goes_ahead order v n ≡ true) vs → length vs ≡ suc k
+      → IfSome (slice_get vs k) (λ (v : View). view_before (sort_of order) v n ≡ true)
+      → AllByRecursion (λ (v : View). keys_cmp order v n ≡ Less) vs
+  all_above n [] k up ahead long last = tt
+  all_above n (v ∷ []) zero up ahead long last = (falls v n ahead.0 last, tt)
+  all_above n (v ∷ []) (suc k) up ahead long last = absurd (omega arith)
+  all_above n (v ∷ w ∷ vs) zero up ahead long last = absurd (omega arith)
+  all_above n (v ∷ w ∷ vs) (suc k) up ahead long last =
+      let rest : AllByRecursion (λ (u : View). keys_cmp order u n ≡ Less) (w ∷ vs) =
+      all_above n (w ∷ vs) k up.1 ahead.1 (omega arith) last in (
+        then_below (keys_cmp order) (keys_ranked order) v w n (not_behind order v w up.0.0) rest.0,
+        rest,
+      )
+
+less_before : (order : KeptOrder) (v w : View) → keys_cmp order v w ≡ Less → view_before (sort_of order) v w ≡ true
+less_before order v w less = ap (λ (o : Ordering). is_lt (ordering_then o (nat_cmp v.id.0 w.id.0))) less
+
+module _ (q : Query) (order : KeptOrder) (xs : List View) (v : View) (rest : List View)
+    (up : Ascends (goes_ahead order) (xs ++ v ∷ rest)) (k : ℕ) (long : length (taken q xs) ≡ suc k)
+    (last : IfSome (slice_get (taken q xs) k) (λ (u : View). view_before (sort_of order) u v ≡ true)) where
+  ahead : AllByRecursion (λ (u : View). AllByRecursion (λ (w : View). goes_ahead order u w ≡ true) (v ∷ rest)) xs
+  ahead = front_ahead (goes_ahead order) xs (v ∷ rest) up
+
+  none_behind : AllByRecursion (λ (w : View). keys_cmp order v w ≢ Greater) rest
+  none_behind =
+      let s : StandsAmong (goes_ahead order) xs v rest = stands_among (goes_ahead order) xs v rest up in
+      weaker (λ (w : View). goes_ahead order v w ≡ true) (λ (w : View). keys_cmp order v w ≢ Greater) rest
+      (λ w is. not_behind order v w is) s.ahead_of_all
+
+  falling : ((u w : View) → goes_ahead order u w ≡ true → view_before (sort_of order) u w ≡ true
+      → keys_cmp order u w ≡ Less)
+      → AllBefore (sort_of order) (taken q xs) (v ∷ rest)
+  falling falls =
+      weaker (λ (u : View). keys_cmp order u v ≡ Less)
+      (λ (u : View). AllByRecursion (λ (w : View). view_before (sort_of order) u w ≡ true) (v ∷ rest)) (taken q xs)
+      (λ u less. (
+        less_before order u v less,
+        weaker (λ (w : View). keys_cmp order v w ≢ Greater) (λ (w : View). view_before (sort_of order) u w ≡ true) rest
+            (λ w most.
+            less_before order u w (below_then (keys_cmp order) (keys_ranked order) u v w less most))
+            none_behind,
+      ))
+      (all_above order falls v (taken q xs) k
+      (ascends_filter (goes_ahead order) (decides q) xs (ascends_front (goes_ahead order) xs (v ∷ rest) up))
+      (all-filter (λ (u : View). goes_ahead order u v ≡ true) (decides q) xs
+      (weaker (λ (u : View). AllByRecursion (λ (w : View). goes_ahead order u w ≡ true) (v ∷ rest))
+      (λ (u : View). goes_ahead order u v ≡ true) xs (λ u each. each.0) ahead))
+      long last)
+
+right : (q : Query) (order : KeptOrder) (xs : List View) (v : View) (rest : List View)
+    → AllBefore (sort_of order) (taken q xs) (v ∷ rest) → AllBefore (sort_of order) (taken q xs) (taken q (v ∷ rest))
+right q order xs v rest all =
+    weaker (λ (u : View). AllByRecursion (λ (w : View). view_before (sort_of order) u w ≡ true) (v ∷ rest))
+    (λ (u : View). AllByRecursion (λ (w : View). view_before (sort_of order) u w ≡ true) (taken q (v ∷ rest)))
+    (taken q xs) (λ u each. all-filter (λ (w : View). view_before (sort_of order) u w ≡ true) (decides q) (v ∷ rest) each)
+    all
+
+-- then all that were taken come before all that are left
+found_first : (q : Query) (order : KeptOrder) (xs : List View) (v : View) (rest : List View)
+    → Ascends (goes_ahead order) (xs ++ v ∷ rest) → (k : ℕ) → length (taken q xs) ≡ suc k
+    → IfSome (slice_get (taken q xs) k) (λ (u : View). view_before (sort_of order) u v ≡ true)
+    → AllBefore (sort_of order) (taken q xs) (taken q (v ∷ rest))
+found_first q FrecencyFalling xs v rest up k long last =
+    right q FrecencyFalling xs v rest
+    (falling q FrecencyFalling xs v rest up k long last
+    (λ u w one two. by_key (keys_cmp FrecencyFalling u w) u.id.0 w.id.0 one two))
+found_first q FrecencyRising xs v rest up k long last =
+    some_before (sort_of FrecencyRising) (decides q) xs (v ∷ rest) (front_ahead (goes_ahead FrecencyRising) xs (v ∷ rest) up)
+found_first q LatestFirst xs v rest up k long last =
+    right q LatestFirst xs v rest
+    (falling q LatestFirst xs v rest up k long last
+    (λ u w one two. by_key (keys_cmp LatestFirst u w) u.id.0 w.id.0 one two))
 
 -- ---- the order of the answer
 
--- the greater frecency comes first
-comes_first : (v w : View) → w.frecency <ℤ v.frecency → view_before (By Frecency Descending) v w ≡ true
-comes_first v w less =
-    choose (int_cmp w.frecency v.frecency) (int_ranked w.frecency v.frecency (int_cmp w.frecency v.frecency) refl)
-  where
-    choose : (o : Ordering)
-        → MatchOrdering o (w.frecency <ℤ v.frecency) (w.frecency ≡ v.frecency) (v.frecency <ℤ w.frecency)
-        → is_lt (ordering_then o (nat_cmp v.id.0 w.id.0)) ≡ true
-    choose Less is = refl
-    choose Equal same = absurd (omega (arith, ints, less, same))
-    choose Greater more = absurd (omega (arith, ints, less, more))
-
-module _ (q : Query) (views : List View) (ordered : AreInOrder views) where
+module _ (order : KeptOrder) (q : Query) (views : List View) (ordered : AreInOrder views)
+    (sort : q.sort ≡ sort_of order) where
   abbrev before : View → View → Bool
   before = view_before q.sort
 
@@ -109,15 +163,16 @@ module _ (q : Query) (views : List View) (ordered : AreInOrder views) where
   none_ties vs apart = none_tie before (λ (v : View). v.id.0) (tied_ids q.sort (place_of q.sort)) vs apart
 
   -- the views that a query takes are the same in order, whichever way they are gone over
-  same_answer : first_asked q (taken q (by_frecency views)) ≡ first_asked q (taken q views)
+  same_answer : first_asked q (taken q (walked order views)) ≡ first_asked q (taken q views)
   same_answer =
       ap (limited q.max_results)
-      (sym (same_sorted before (places_rank q.sort (place_of q.sort)) (taken q views) (taken q (by_frecency views))
+      (sym (same_sorted before (places_rank q.sort (place_of q.sort)) (taken q views) (taken q (walked order views))
       (none_ties (taken q views)
       (AllPairs-filter (λ (v w : View). v.id.0 ≢ w.id.0) (decides q) views (ids_differ views ordered)))
-      (filter_moves (decides q) falls views)))
+      (subst (λ (vs : List View). IsPermutation vs (taken q (walked order views))) (visited_taken order q views)
+      (filter_moves (decides q) (goes_ahead order) (standing order views)))))
 
-  parts_apart : (xs ys : List View) → by_frecency views ≡ xs ++ ys
+  parts_apart : (xs ys : List View) → walked order views ≡ xs ++ ys
       → AllPairs (λ (v w : View). v.id.0 ≢ w.id.0) (taken q xs)
   parts_apart xs ys whole =
       AllPairs-filter (λ (v w : View). v.id.0 ≢ w.id.0) (decides q) xs
@@ -125,57 +180,35 @@ module _ (q : Query) (views : List View) (ordered : AreInOrder views) where
       (pairs_front (λ (v w : View). v.id.0 ≢ w.id.0) xs ys
       (pairs (λ (v w : View). v.id.0 ≢ w.id.0) (xs ++ ys)
       (subst (AllPairs (λ (v w : View). v.id.0 ≢ w.id.0)) whole
-      (apart_sorted falls (λ (v : View). v.id.0) views (ids_differ views ordered))))))
+      (apart_sorted (goes_ahead order) (λ (v : View). v.id.0) (standing order views)
+      (AllPairs-filter (λ (v w : View). v.id.0 ≢ w.id.0) (stands_in order) views (ids_differ views ordered)))))))
 
   -- all pages were gone over
-  pub all_suffice : (found : List Found) → AreFound q.sort (taken q (by_frecency views)) found → Suffice q views found
+  pub all_suffice : (found : List Found) → AreFound q.sort (taken q (walked order views)) found → Suffice q views found
   all_suffice found are =
       record {
-        those = taken q (by_frecency views);
+        those = taken q (walked order views);
         found_are = are;
-        apart = parts_apart (by_frecency views) [] (sym (append-nil (by_frecency views)));
+        apart = parts_apart (walked order views) [] (sym (append-nil (walked order views)));
         enough = same_answer;
       }
 
-  module _ (sort : q.sort ≡ By Frecency Descending) (some : 0 < q.max_results) (found : List Found)
-      (xs : List View) (v : View) (rest : List View) (whole : by_frecency views ≡ xs ++ v ∷ rest)
-      (are : AreFound q.sort (taken q xs) found) (enough : AreEnough q.max_results v.frecency found) where
-    falling : Ascends falls (xs ++ v ∷ rest)
-    falling = subst (Ascends falls) whole (by_frecency_ascends views ordered)
-
+  module _ (some : 0 < q.max_results) (found : List Found)
+      (xs : List View) (v : View) (rest : List View) (whole : walked order views ≡ xs ++ v ∷ rest)
+      (are : AreFound q.sort (taken q xs) found) (enough : AreEnough order q.max_results v found) where
     lengths : length (taken q xs) ≡ length found
     lengths = sym (length-map (taken q xs) (seen_of q.sort)) ∙ sym (ap length are) ∙ length-map found seen
 
-    -- each page that is found lies above those that are left
-    found_above : AllByRecursion (λ (u : View). v.frecency <ℤ u.frecency) (taken q xs)
-    found_above =
+    all_first : AllBefore q.sort (taken q xs) (taken q (v ∷ rest))
+    all_first =
         let many : length found ≡ suc (length found - 1) = omega (arith, enough.0, some) in
-        all_above v.frecency (taken q xs) (length found - 1)
-        (falls_filter (decides q) xs (falls_front xs (v ∷ rest) falling)) (lengths ∙ many)
-        (subst (λ (vs : List View). IfSome (slice_get vs (length found - 1)) (λ (u : View). v.frecency <ℤ u.frecency))
+        subst (λ (s : Sort). AllBefore s (taken q xs) (taken q (v ∷ rest))) (sym sort)
+        (found_first q order xs v rest (subst (Ascends (goes_ahead order)) whole (walked_ascends order views ordered))
+        (length found - 1) (lengths ∙ many)
+        (subst
+        (λ (vs : List View). IfSome (slice_get vs (length found - 1)) (λ (u : View). view_before (sort_of order) u v ≡ true))
         (views_found q.sort (taken q xs) found are)
-        (last_view v.frecency found (length found - 1) enough.1))
-
-    left_below : AllByRecursion (λ (w : View). w.frecency ≤ℤ v.frecency) (v ∷ rest)
-    left_below =
-        let s : StandsAmong falls xs v rest = stands_among falls xs v rest falling in (
-          omega (arith, ints),
-          weaker (λ (w : View). falls v w ≡ true) (λ (w : View). w.frecency ≤ℤ v.frecency) rest (not_greater v)
-              s.ahead_of_all,
-        )
-
-    found_first : AllByRecursion (λ (u : View). AllByRecursion (λ (w : View). before u w ≡ true) (taken q (v ∷ rest)))
-        (taken q xs)
-    found_first =
-        weaker (λ (u : View). v.frecency <ℤ u.frecency)
-        (λ (u : View). AllByRecursion (λ (w : View). before u w ≡ true) (taken q (v ∷ rest))) (taken q xs)
-        (λ u above.
-        weaker (λ (w : View). w.frecency ≤ℤ v.frecency) (λ (w : View). before u w ≡ true) (taken q (v ∷ rest))
-        (λ w below.
-        subst (λ (s : Sort). view_before s u w ≡ true) (sym sort)
-        (comes_first u w (omega (arith, ints, above, below))))
-        (all-filter (λ (w : View). w.frecency ≤ℤ v.frecency) (decides q) (v ∷ rest) left_below))
-        found_above
+        (last_view (λ (u : View). view_before (sort_of order) u v ≡ true) found (length found - 1) enough.1)))
 
     many_sorted : q.max_results ≤ length (sorted_by before (taken q xs))
     many_sorted =
@@ -184,10 +217,10 @@ module _ (q : Query) (views : List View) (ordered : AreInOrder views) where
         ∙ lengths))
         enough.0
 
-    first_are : first_asked q (taken q xs) ≡ first_asked q (taken q (by_frecency views))
+    first_are : first_asked q (taken q xs) ≡ first_asked q (taken q (walked order views))
     first_are =
         sym (ap (first_asked q) (ap (taken q) whole ∙ filter-append (decides q) xs (v ∷ rest))
-        ∙ ap (limited q.max_results) (sorted_parts before (taken q xs) (taken q (v ∷ rest)) found_first)
+        ∙ ap (limited q.max_results) (sorted_parts before (taken q xs) (taken q (v ∷ rest)) all_first)
         ∙ limited_front q.max_results (sorted_by before (taken q xs)) (sorted_by before (taken q (v ∷ rest))) some
         many_sorted)
 

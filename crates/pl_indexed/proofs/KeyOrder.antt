@@ -45,7 +45,7 @@ keys_total =
       congr = λ a b c p. keys_are a c ∙ total-law.congr a b c (sym (keys_are a b) ∙ p) ∙ sym (keys_are b c);
     }
 
-directed_total : (sort : Sort) → IsTotalOrder (directed_cmp sort)
+pub directed_total : (sort : Sort) → IsTotalOrder (directed_cmp sort)
 directed_total Unsorted = keys_total
 directed_total (By key Ascending) = keys_total
 directed_total (By key Descending) = back_total keys_total
@@ -62,6 +62,13 @@ neither Less tie = absurd (cc)
 neither Equal tie = refl
 neither Greater tie = absurd (cc)
 
+-- members that tie are equal by the comparison
+pub tied_equal : {X : Type 0} (cmp : X → X → Ordering) → IsTotalOrder cmp → (x y : X)
+    → ties (λ a b. is_lt (cmp a b)) x y ≡ true → cmp x y ≡ Equal
+tied_equal cmp total x y tie =
+    neither (cmp x y)
+    (ap (λ (r : Ordering). not (is_lt (cmp x y)) && not (is_lt r)) (sym (total.antisymm y x)) ∙ tie)
+
 module _ {X : Type 0} (sort : Sort) (place : X → Key × ℕ) where
   -- a member comes before another by their places
   abbrev pub before_by : X → X → Bool
@@ -73,10 +80,6 @@ module _ {X : Type 0} (sort : Sort) (place : X → Key × ℕ) where
   -- members that tie have one id
   pub tied_ids : (x y : X) → ties before_by x y ≡ true → (place x).1 ≡ (place y).1
   tied_ids x y tie =
-      let back : place_cmp sort (place y) (place x) ≡ ordering_reverse (place_cmp sort (place x) (place y)) =
-      (places_total sort).antisymm (place y) (place x) in
-      let equal : place_cmp sort (place x) (place y) ≡ Equal =
-      neither (place_cmp sort (place x) (place y))
-      (ap (λ (r : Ordering). not (is_lt (place_cmp sort (place x) (place y))) && not (is_lt r)) (sym back) ∙ tie) in
       exact_unsigned (place x).1 (place y).1
-      (both_equal (directed_cmp sort (place x).0 (place y).0) (nat_cmp (place x).1 (place y).1) equal).1
+      (both_equal (directed_cmp sort (place x).0 (place y).0) (nat_cmp (place x).1 (place y).1)
+      (tied_equal (λ (a b : X). place_cmp sort (place a) (place b)) (on_total place (places_total sort)) x y tie)).1

@@ -1,12 +1,14 @@
-mod AlikeLists
+pub mod AlikeLists
 mod AnswerOfViews
 mod AskedTexts
-mod ByFrecency
 mod FirstPages
 mod FoundOrder
-mod KeyOrder
-mod RanksWalk
-mod SortedParts
+pub mod KeyOrder
+mod NextAhead
+mod NextViews
+pub mod SortedParts
 mod TakenViews
 mod ViewRows
+pub mod ViewsWalk
+pub mod WalkOrder
 mod WatchableRows

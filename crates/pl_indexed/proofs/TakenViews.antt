@@ -1,7 +1,7 @@
 -- The views that a query takes: of all, of one more, and of the one that has the URL that it asks for.
-use Rattle.std.proofs.Common.{◌≡◌, ◌≢◌, ◌∙◌, ◌<◌, ◌++◌, ◌&&◌, ℕ, Bool, true, false, List, [], ◌∷◌}
-use Rattle.std.proofs.Common.{Option, Some, ap, arith, bytes_eq, find, get_or, if◌then◌else◌}
-use Rattle.std.proofs.Common.{None, length, map, refl, subst, sym}
+use Rattle.std.proofs.Common.{◌≡◌, ◌≢◌, ◌∙◌, ◌<◌, ◌++◌, ◌&&◌, ◌||◌, ℕ, Bool, true, false, List, [], ◌∷◌}
+use Rattle.std.proofs.Common.{Option, Some, ap, arith, bytes_eq, filter, find, get_or, if◌then◌else◌, is_some}
+use Rattle.std.proofs.Common.{None, length, map, not, refl, subst, sym}
 use Rattle.std.specs.List.{AllByRecursion, AllPairs}
 use Rattle.std.specs.Option.{option_copied, option_to_list}
 use denote.Ref.{Bor}
@@ -12,6 +12,7 @@ use Rattle.std.proofs.lemmas.Slice.Eq.{bytes_eq-Decides}
 use Rattle.pl_base.specs.declared.view.View.{View}
 use Rattle.pl_base.proofs.ListLaws.{weaker}
 use Rattle.pl_base.proofs.LookUps.{Apart, found_holds, found_self, none_kept}
+use Rattle.pl_conditions.specs.AskedParts.{is_count_asked}
 use Rattle.pl_conditions.specs.Conditions.{is_uri}
 use Rattle.pl_follow.specs.Changes.{AreInOrder}
 use Rattle.pl_follow.proofs.ChangedLists.{Pairs, pairs}
@@ -22,7 +23,10 @@ use Rattle.pl_query.specs.Decides.{are_tags_in, decides, has_marks_asked, has_ur
 use Rattle.pl_indexed.specs.declared.found.Found.{Found}
 use Rattle.pl_indexed.specs.declared.found.Key.{Key}
 use Rattle.pl_indexed.specs.Answer.{taken}
+use Rattle.pl_indexed.specs.declared.walk.KeptOrder.{KeptOrder}
+use Rattle.pl_indexed.specs.declared.walk.KeptOrder.TheVariants.{FrecencyFalling, FrecencyRising, LatestFirst}
 use Rattle.pl_indexed.specs.Found.{AreFound, seen, seen_of}
+use Rattle.pl_indexed.specs.Walk.{stands_in}
 
 -- ---- by their ids
 
@@ -57,6 +61,43 @@ joined q front v old new are more =
     ∙ ap (λ (s : List (View × Key)). s ++ map (seen_of q.sort) (taken q (v ∷ []))) are
     ∙ sym (map-append (seen_of q.sort) (taken q front) (taken q (v ∷ [])))
     ∙ ap (map (seen_of q.sort)) (sym (filter-append (decides q) front (v ∷ [])))
+
+-- ---- those in a kept order
+
+-- a query takes a page only if it has a visit
+visited : (q : Query) (v : View) → decides q v ≡ true → is_some v.last ≡ true
+visited q v is =
+    let unfolded : holds_unfolded q v ≡ true =
+    (and_parts (holds_unfolded q v) _ (and_parts (holds_unfolded q v && are_tags_in q.tags q.not_tags v.tags) _ is).0).0
+    in
+    let marks : has_marks_asked q v ≡ true = (and_parts (has_marks_asked q v) (has_url_asked q v) unfolded).0 in
+    first_of_four (is_some v.last) (is_count_asked q v.count) (not q.only_bookmarked || v.bookmarked)
+    (q.include_hidden || not v.hidden) marks
+  where
+    first_of_four : (a b c d : Bool) → (a && b && c && d) ≡ true → a ≡ true
+    first_of_four true b c d all = refl
+    first_of_four false b c d all = absurd (cc)
+
+taken_stands : (order : KeptOrder) (q : Query) (v : View) → decides q v ≡ true → stands_in order v ≡ true
+taken_stands FrecencyFalling q v is = refl
+taken_stands FrecencyRising q v is = refl
+taken_stands LatestFirst q v is = visited q v is
+
+-- those that a query takes stand in each order
+pub visited_taken : (order : KeptOrder) (q : Query) (vs : List View) → taken q (filter (stands_in order) vs) ≡ taken q vs
+visited_taken order q [] = refl
+visited_taken order q (v ∷ vs) = choose (stands_in order v) refl (decides q v) refl (visited_taken order q vs)
+  where
+    choose : (s : Bool) → stands_in order v ≡ s → (t : Bool) → decides q v ≡ t
+        → taken q (filter (stands_in order) vs) ≡ taken q vs
+        → taken q (if s then v ∷ filter (stands_in order) vs else filter (stands_in order) vs)
+        ≡ (if t then v ∷ taken q vs else taken q vs)
+    choose true stands t is rest =
+        ap (λ (b : Bool). if b then v ∷ taken q (filter (stands_in order) vs)
+        else taken q (filter (stands_in order) vs)) is
+        ∙ ap (λ (ws : List View). if t then v ∷ ws else ws) rest
+    choose false stands true is rest = absurd (false≢true (sym stands ∙ taken_stands order q v is))
+    choose false stands false is rest = rest
 
 -- ---- the one with a URL
 

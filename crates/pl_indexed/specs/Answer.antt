@@ -1,5 +1,5 @@
 -- The answer to a query by the views of pages.
-use Rattle.std.specs.Prelude.{◌≡◌, ◌≢◌, ◌≤◌, ◌-◌, ◌<ℤ◌, ℕ, ℤ, List, length, IfSome}
+use Rattle.std.specs.Prelude.{◌≡◌, ◌≢◌, ◌≤◌, ◌-◌, ℕ, true, List, length, IfSome}
 use Rattle.std.specs.List.{AllPairs, filter, slice_get}
 use Rattle.pl_base.specs.declared.view.View.{View}
 use Rattle.pl_base.specs.Sorting.{sorted_by}
@@ -8,7 +8,9 @@ use Rattle.pl_query.specs.declared.result_row.ResultRow.{ResultRow}
 use Rattle.pl_query.specs.Decides.{decides}
 use Rattle.pl_query.specs.QueryAnswer.{limited}
 use Rattle.pl_indexed.specs.declared.found.Found.{Found}
+use Rattle.pl_indexed.specs.declared.walk.KeptOrder.{KeptOrder}
 use Rattle.pl_indexed.specs.Found.{AreFound, view_before}
+use Rattle.pl_indexed.specs.Walk.{sort_of}
 
 -- what is told of a view
 abbrev pub row_of_view : View → ResultRow
@@ -31,11 +33,12 @@ first_asked q views = limited q.max_results (sorted_by (view_before q.sort) view
 abbrev pub taken : Query → List View → List View
 taken q views = filter (decides q) views
 
--- so many pages are found, and the last of them has a frecency above this one
-abbrev pub AreEnough : ℕ → ℤ → List Found → Type 0
-AreEnough most frecency found =
+-- so many pages are found, and the last of them comes before the next view in an order
+abbrev pub AreEnough : KeptOrder → ℕ → View → List Found → Type 0
+AreEnough order most next found =
     (most ≤ length found)
-    × IfSome (slice_get found (length found - 1)) (λ last. frecency <ℤ last.view.now.frecency)
+    × IfSome (slice_get found (length found - 1))
+    (λ last. view_before (sort_of order) last.view.now next ≡ true)
 
 -- the pages that are found have views, each once, and the first of them are the first of all that
 -- the query takes

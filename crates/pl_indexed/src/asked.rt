@@ -119,8 +119,8 @@ fn has_tags(asked: &Asked<'_>, view: &View, texts: &Folded) -> bool
     has_tags_in(&asked.tags, asked.query.not_tags, texts.tags.as_str())
 }
 
-// Whether the query takes the view with these folded texts.
-fn decides_by_texts(
+// Whether what the query asks of folded texts holds of a view, which passes what is asked besides.
+fn texts_hold(
     alloc: Global,
     asked: &Asked<'_>,
     view: &View,
@@ -128,11 +128,9 @@ fn decides_by_texts(
 ) -> Result<bool, NoMemory>
     requires asked { IsAsked asked.now.query.now asked.now }
     requires texts { texts.now ≡ folded_of view.now }
+    requires passes { spec.holds_unfolded asked.now.query.now view.now ≡ true }
     ensures { IfOk result (λ taken. taken ≡ spec.decides asked.now.query.now view.now) }
 {
-    if !holds_unfolded(asked.query, view) {
-        return Ok(false);
-    }
     if !has_tags(asked, view, texts) {
         return Ok(false);
     }
@@ -166,5 +164,5 @@ pub fn decides(
     if asked.asks_for_no_texts() {
         return Ok(true);
     }
-    decides_by_texts(alloc, asked, view, texts_of(known, view))
+    texts_hold(alloc, asked, view, texts_of(known, view))
 }

@@ -5,6 +5,7 @@
 mod answered;
 mod asked;
 mod found;
+mod walk;
 mod ways;
 
 pub use answered::answer;

@@ -2,18 +2,17 @@
 ghost use Rattle.std.specs.Prelude.{◌≡◌, ◌<◌, ◌++◌, ◌∷◌, [], Some, map, true};
 ghost use Rattle.std.specs.Prelude.{IfOk, IfSome, OnOk};
 ghost use Rattle.pl_known.specs.Known.{AreFollowed, view_of};
-ghost use Rattle.pl_place.specs.declared.sort.Direction.TheVariants.{Descending};
-ghost use Rattle.pl_place.specs.declared.sort.Sort.TheVariants.{By};
-ghost use Rattle.pl_place.specs.declared.sort.SortKey.TheVariants.{Frecency};
 ghost use Rattle.pl_indexed.specs.Answer.{AreEnough, Suffice, taken};
 ghost use Rattle.pl_indexed.specs.Asked.{IsAsked};
 ghost use Rattle.pl_indexed.specs.Found.{AreFound, seen, seen_of};
+ghost use Rattle.pl_indexed.specs.Walk.{sort_of};
 
 use crate::asked::{Asked, decides};
 use crate::found::{Found, key_of};
+use crate::walk::{KeptOrder, comes_before, kept_order, next_view};
 use pl_base::{NoMemory, View};
 use pl_known::Known;
-use pl_place::{Direction, Query, Sort, SortKey};
+use pl_place::Query;
 use std::alloc::Global;
 
 // No more pages are looked up one by one: to go over all pages takes less time for each.
@@ -80,61 +79,55 @@ fn page_with_url<'a>(
     Ok(found)
 }
 
-// Whether so many pages are found that the answer has none of a lower frecency.
-fn are_enough(found: &[Found<'_>], most: u32, frecency: i64) -> bool
-    ensures { result ≡ true → AreEnough most frecency found.now }
+// Whether so many pages are found that the answer has none from the next one in an order on.
+fn are_enough(found: &[Found<'_>], most: u32, order: KeptOrder, next: &View) -> bool
+    ensures { result ≡ true → AreEnough order most next.now found.now }
 {
     found.len() >= most as usize
         && found
             .last()
-            .is_some_and(|last| last.view.frecency > frecency)
+            .is_some_and(|last| comes_before(order, last.view, next))
 }
 
-// The first pages by frecency that the query takes, so many that those of the answer are among
+// The first pages in a kept order that the query takes, so many that those of the answer are among
 // them; none where too many would have to be looked up.
 fn first_pages<'a>(
     alloc: Global,
     known: &'a Known,
     asked: &Asked<'_>,
+    order: KeptOrder,
 ) -> Result<Option<Vec<Found<'a>>>, NoMemory>
     requires followed { AreFollowed known.now }
     requires asked { IsAsked asked.now.query.now asked.now }
-    requires sort { asked.now.query.now.sort ≡ By Frecency Descending }
+    requires sort { asked.now.query.now.sort ≡ sort_of order }
     requires few { 0 < asked.now.query.now.max_results }
     ensures { IfOk result (λ first. IfSome first (λ found.
         Suffice asked.now.query.now known.now.views.items found.items)) }
 {
     let mut found = Vec::new(alloc);
-    let mut next = known.order.after(None);
+    let mut next = next_view(known, order, None);
     for _ in 0..MOST_LOOKED_UP {
-        let Some((frecency, page)) = next else {
+        let Some(view) = next else {
             return Ok(Some(found));
         };
-        if are_enough(&found, asked.query.max_results, frecency) {
+        if are_enough(&found, asked.query.max_results, order, view) {
             return Ok(Some(found));
         }
-        let view = known.view(page).unwrap();
         add(alloc, known, asked, view, &mut found)?;
-        next = known.order.after(next);
+        next = next_view(known, order, Some(view));
     }
     Ok(None)
 }
 
-// Whether the first pages by frecency are asked for, and no others.
-fn asks_for_first(query: &Query) -> bool
-    ensures sort { result ≡ true → query.now.sort ≡ By Frecency Descending }
-    ensures few { result ≡ true → 0 < query.now.max_results }
+// The kept order that leads to the pages of the answer first, where not all pages are asked for.
+fn order_asked(query: &Query) -> Option<KeptOrder>
+    ensures sort { IfSome result (λ order. query.now.sort ≡ sort_of order) }
+    ensures few { IfSome result (λ order. 0 < query.now.max_results) }
 {
-    query.max_results != 0 && falls_by_frecency(query.sort)
-}
-
-fn falls_by_frecency(sort: Sort) -> bool
-    ensures { result ≡ true → sort ≡ By Frecency Descending }
-{
-    match sort {
-        Sort::By(SortKey::Frecency, Direction::Descending) => true,
-        _ => false,
+    if query.max_results == 0 {
+        return None;
     }
+    kept_order(query.sort)
 }
 
 /// Pages that the query takes, among them those of its answer.
@@ -151,8 +144,8 @@ pub fn candidates<'a>(
     if let Some(url) = &asked.query.uri {
         return page_with_url(alloc, known, asked, url.text());
     }
-    if asks_for_first(asked.query)
-        && let Some(found) = first_pages(alloc, known, asked)?
+    if let Some(order) = order_asked(asked.query)
+        && let Some(found) = first_pages(alloc, known, asked, order)?
     {
         return Ok(found);
     }
