@@ -34,7 +34,9 @@ const MICROS_PER_DAY: u64 = 86_400_000_000;
 
 const FIRST_DAY: u32 = 20_000;
 
-fn one_of(texts: &'static [&'static str], turn: u32, part: u32) -> &'static str {
+/// One of the texts, the same one for the same part of the same turn; the empty one if there is
+/// none.
+pub fn one_of(texts: &'static [&'static str], turn: u32, part: u32) -> &'static str {
     let count = u32::try_from(texts.len()).unwrap_or(0);
     let place = drawn(turn, part, count);
     texts.get(place as usize).copied().unwrap_or("")
@@ -59,7 +61,8 @@ fn recent(last: u32, turn: u32, part: u32) -> u32 {
     last.saturating_sub(drawn(turn, part, 12))
 }
 
-fn date(turn: u32, part: u32) -> u64 {
+/// The first moment of the day that the store has come to, or of one of the hundred before it.
+pub fn date(turn: u32, part: u32) -> u64 {
     u64::from(near_day(turn, part)).wrapping_mul(MICROS_PER_DAY)
 }
 
