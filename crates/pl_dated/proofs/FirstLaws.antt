@@ -16,7 +16,8 @@ use Rattle.pl_indexed.proofs.SortedParts.{ascends_front}
 use Rattle.pl_query.proofs.PartLists.{to_front}
 use Rattle.pl_dated.specs.declared.first.First.{First}
 use Rattle.pl_dated.specs.declared.first.FoundVisit.{FoundVisit}
-use Rattle.pl_dated.specs.Latest.{AreApart, IsFloor, Keeps, Seen, first_seen, is_past_floor, seen, seen_before}
+use Rattle.pl_dated.specs.Latest.{AreApart, IsFloor, Keeps, Seen, first_seen, is_past_floor, last_date, seen}
+use Rattle.pl_dated.specs.Latest.{seen_before}
 use Rattle.pl_dated.proofs.SeenOrder.{before_later, later_before, seen_ranks}
 use Rattle.pl_dated.proofs.SkipLaws.{apart_behind, apart_cut, apart_front, apart_moved, cut, left_out}
 use Rattle.std.proofs.lemmas.List.{take-append-drop}
@@ -88,10 +89,6 @@ module _ (most : ℕ) (old new : First) (f : FoundVisit) (visits : List Seen) (k
       }
 
 -- ---- those beyond the first go
-
--- the date of the last of visits
-abbrev pub last_date : List Seen → Option Micros
-last_date visits = option_map (λ (s : Seen). s.date) (slice_get visits (length visits - 1))
 
 not_earlier : (a b : ℕ) → a ≤ b → nat_lt b a ≡ false
 not_earlier a b le = grind (arith, nat_tests, le)

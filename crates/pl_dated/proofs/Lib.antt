@@ -1,4 +1,6 @@
 mod FirstLaws
+mod OverVisits
+mod PagesJoined
 mod SeenOrder
 mod SkipLaws
 mod VisitRows

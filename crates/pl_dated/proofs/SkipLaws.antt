@@ -85,15 +85,15 @@ module _ {X : Type 0} (before : X → X → Bool) (ranks : IsStrictWeakOrder bef
   placed_beyond : (n : ℕ) (x : X) (ys : List X) → Ascends before ys → n ≤ ahead_of x ys
       → take n (put_in_place before x ys) ≡ take n ys
   placed_beyond zero x ys up many = refl
-  placed_beyond (suc n) x [] up many = absurd (omega arith)
+  placed_beyond (suc n) x [] up many = absurd (omega (arith, many))
   placed_beyond (suc n) x (y ∷ ys) up many = choose (before x y) refl
     where
       enough : n ≤ ahead_of x ys
-      enough = cut (before y x) (subst (λ m. suc n ≤ m) (count_cons (λ z. before z x) y ys) many)
+      enough = less_one (before y x) (subst (λ m. suc n ≤ m) (count_cons (λ z. before z x) y ys) many)
         where
-          cut : (b : Bool) → suc n ≤ (if b then suc (ahead_of x ys) else ahead_of x ys) → n ≤ ahead_of x ys
-          cut true le = omega (arith, le)
-          cut false le = omega (arith, le)
+          less_one : (b : Bool) → suc n ≤ (if b then suc (ahead_of x ys) else ahead_of x ys) → n ≤ ahead_of x ys
+          less_one true le = omega (arith, le)
+          less_one false le = omega (arith, le)
 
       choose : (b : Bool) → before x y ≡ b
           → take (suc n) (if b then x ∷ y ∷ ys else y ∷ put_in_place before x ys) ≡ y ∷ take n ys

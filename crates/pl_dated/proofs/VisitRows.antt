@@ -11,7 +11,7 @@ use Rattle.std.proofs.lemmas.Map.Lookups.{exact_unsigned}
 use Rattle.pl_base.specs.declared.date.Micros.{Micros}
 use Rattle.pl_base.specs.declared.view.View.{View}
 use Rattle.pl_base.specs.Good.{IsGood}
-use Rattle.pl_base.specs.Marks.{first_date, last_date_of}
+use Rattle.pl_base.specs.Marks.{last_date_of}
 use Rattle.pl_base.specs.Rows.{IsWellKept, Kept, KeptPage, page_visits, store_of}
 use Rattle.pl_base.specs.Sorting.{sorted_by}
 use Rattle.pl_base.specs.Store.{Page, Store, Visit}
@@ -44,6 +44,11 @@ use Rattle.pl_indexed.proofs.SortedParts.{same_sorted}
 use Rattle.pl_dated.specs.Latest.{AreApart, Seen, first_seen, seen_before}
 use Rattle.pl_dated.specs.Listed.{AsksForLatest, part_of, parts_of, row_of_seen, seen_of, seen_visits}
 use Rattle.pl_dated.proofs.SeenOrder.{tied_visits}
+
+-- as `last_date_of` has it
+abbrev first_date : List Visit → Option Micros
+first_date [] = None
+first_date (v ∷ vs) = Some v.date
 
 -- ---- the conditions
 

@@ -1,8 +1,9 @@
 -- Visits by date, and what is kept of the first of them while they are looked for.
-use Rattle.std.specs.Prelude.{◌≡◌, ◌≤◌, ◌++◌, ℕ, Bool, false, List, length, map, nat_lt, take}
+use Rattle.std.specs.Prelude.{◌≡◌, ◌≤◌, ◌-◌, ◌++◌, ℕ, Bool, false, List, length, map, nat_lt, take}
 use Rattle.std.specs.Prelude.{Option, Some, None, IfSome}
-use Rattle.std.specs.List.{All, IsDistinct}
+use Rattle.std.specs.List.{All, IsDistinct, slice_get}
 use Rattle.std.specs.List.Sorted.{ties}
+use Rattle.std.specs.Option.{option_map}
 use Rattle.std.specs.Ordering.{is_lt, nat_cmp, ordering_then}
 use Rattle.std.specs.declared.cmp.Ordering.{Ordering}
 use Rattle.pl_base.specs.declared.date.Micros.{Micros}
@@ -31,6 +32,10 @@ seen_before a b = is_lt (seen_cmp a b)
 -- the first of them, so many
 abbrev pub first_seen : ℕ → List Seen → List Seen
 first_seen most visits = take most (sorted_by seen_before visits)
+
+-- the date of the last of them
+abbrev pub last_date : List Seen → Option Micros
+last_date visits = option_map (λ (s : Seen). s.date) (slice_get visits (length visits - 1))
 
 -- no two are one visit
 abbrev pub AreApart : List Seen → Type 0

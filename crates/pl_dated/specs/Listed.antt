@@ -1,10 +1,13 @@
 -- The visits that a query of history lists, by the views of their pages.
-use Rattle.std.specs.Prelude.{◌==◌, ◌&&◌, ◌≡◌, ◌<◌, Bool, List, [], Some, length, map, if◌then◌else◌}
+use Rattle.std.specs.Prelude.{◌≡◌, ◌<◌, ◌||◌, not, Bool, List, [], Option, Some, map}
+use Rattle.std.specs.Prelude.{if◌then◌else◌}
 use Rattle.std.specs.List.{filter, flat_map}
+use Rattle.std.specs.List.Sorted.{IsPermutation}
+use Rattle.pl_base.specs.declared.date.Micros.{Micros}
 use Rattle.pl_base.specs.declared.view.View.{View}
 use Rattle.pl_base.specs.Rows.{Kept, page_visits, store_of}
-use Rattle.pl_base.specs.Store.{Visit}
-use Rattle.pl_conditions.specs.Conditions.{in_times}
+use Rattle.pl_base.specs.Store.{Store, Visit}
+use Rattle.pl_conditions.specs.Conditions.{in_times, is_not_before}
 use Rattle.pl_place.specs.declared.kinds.QueryType.TheVariants.{History}
 use Rattle.pl_place.specs.declared.kinds.ResultType.TheVariants.{Visits}
 use Rattle.pl_place.specs.declared.query.Query.{Query}
@@ -13,7 +16,8 @@ use Rattle.pl_place.specs.declared.sort.Sort.TheVariants.{By}
 use Rattle.pl_place.specs.declared.sort.SortKey.TheVariants.{Date}
 use Rattle.pl_query.specs.declared.result_row.ResultRow.{ResultRow}
 use Rattle.pl_query.specs.Decides.{decides}
-use Rattle.pl_dated.specs.Latest.{Seen}
+use Rattle.pl_dated.specs.declared.first.First.{First}
+use Rattle.pl_dated.specs.Latest.{AreApart, Keeps, Seen, is_past_floor}
 
 -- the latest visits are asked for, of pages without regard to transitions and folders
 pub record AsksForLatest (q : Query) : Type 0 where
@@ -54,3 +58,15 @@ row_of_seen s =
       frecency = s.view.frecency;
       tags = s.view.tags;
     }
+
+-- no visit of the date or an earlier one is among the first: it is before the times or the floor
+abbrev pub is_over : Store → Query → Option Micros → Micros → Bool
+is_over store q floor date =
+    not (is_not_before store q.begin_time q.begin_ref date) || is_past_floor floor date
+
+-- what is kept has the first of the visits to the pages of these views, in whatever order they came
+-- and as far as no two are one
+pub record FirstOf (kept : Kept) (q : Query) (views : List View) (first : First) : Type 0 where
+  pub visits : List Seen
+  pub moves : IsPermutation (parts_of kept q views) visits
+  pub keeps : AreApart visits → Keeps q.max_results first visits

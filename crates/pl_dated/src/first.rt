@@ -1,7 +1,8 @@
 // The first of visits, the latest first.
-ghost use Rattle.std.specs.Prelude.{◌≡◌, ◌++◌, ◌∷◌, ℕ, [], List, false, map, OnOk};
+ghost use Rattle.std.specs.Prelude.{◌≡◌, ◌≤◌, ◌++◌, ◌∷◌, ℕ, [], List, false, length, map, OnOk};
 ghost use Rattle.pl_dated.specs.Latest.{AreApart, Keeps, Seen, first_seen, is_past_floor};
 ghost use Rattle.pl_dated.specs.Latest.{seen, seen_cmp};
+ghost use Rattle.pl_dated.specs.Latest as spec;
 
 use pl_base::{Micros, NoMemory, View, VisitId};
 use std::alloc::Global;
@@ -51,11 +52,21 @@ impl<'a> First<'a> {
             → Keeps most self.new (visits ++ seen found ∷ [])) }
     {
         self.found.push(found)?;
-        if self.found.len() / 2 >= self.most {
-            cut(&mut self.found, self.most);
-            self.floor = self.found.last().map(|last| last.date);
+        if self.found.len() / 2 < self.most {
+            return Ok(());
         }
+        self.cut_off();
         Ok(())
+    }
+
+    // Those beyond the first go.
+    fn cut_off(&mut self)
+        requires { self.old.most ≤ length self.old.found.items }
+        ensures { (most : ℕ) (visits : List Seen) → Keeps most self.old visits
+            → Keeps most self.new visits }
+    {
+        cut(&mut self.found, self.most);
+        self.floor = last_date(&self.found);
     }
 
     /// The first of them, in order.
@@ -78,6 +89,14 @@ fn cut(found: &mut Vec<FoundVisit<'_>>, most: usize)
 {
     found.sort_unstable_by(compare);
     found.truncate(most);
+}
+
+// The date of the last of them.
+fn last_date(found: &[FoundVisit<'_>]) -> Option<Micros>
+    ensures { result ≡ spec.last_date (map seen found.now) }
+{
+    let last = found.last()?;
+    Some(last.date)
 }
 
 // How two visits stand: the later first, and those of one date by ascending id.
