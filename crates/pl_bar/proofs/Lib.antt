@@ -5,5 +5,7 @@ mod OfferSteps
 mod OffersFound
 mod PageTiers
 mod PagesKept
+mod SketchedPages
+mod SketchedWords
 mod WalkedPages
 mod WordStandings

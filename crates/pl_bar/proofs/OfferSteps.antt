@@ -1,27 +1,30 @@
 -- The two lists of offers while pages are gone through.
-use Rattle.std.proofs.Common.{◌≡◌, ◌∙◌, ◌+◌, ◌-◌, ◌<◌, ◌≤◌, ◌++◌, ℕ, ℤ, Bool, true, false, List, [], ◌∷◌}
+use Rattle.std.proofs.Common.{◌≡◌, ◌∙◌, ◌+◌, ◌-◌, ◌<◌, ◌≤◌, ◌++◌, ℕ, Bool, true, false, List, [], ◌∷◌}
 use Rattle.std.proofs.Common.{ap, arith, filter}
-use Rattle.std.proofs.Common.{if◌then◌else◌, length, map, nat_le, refl, sym}
+use Rattle.std.proofs.Common.{All, if◌then◌else◌, length, map, nat_le, refl, reverse, subst, sym}
 use Rattle.std.specs.List.{AllByRecursion, sum_by}
 use Rattle.std.proofs.lemmas.Bool.Decides.{nat_tests}
 use Rattle.std.proofs.lemmas.List.{length-append, reverse-append}
-use Rattle.std.proofs.lemmas.List.Elements.{filter-append}
+use Rattle.std.proofs.lemmas.List.Elements.{filter-append, recursion_from_All}
 use Rattle.std.proofs.lemmas.List.Sums.{sum_by-cons}
 use Rattle.pl_base.specs.declared.id.PageId.{PageId}
 use Rattle.pl_base.specs.Store.{Store}
+use Rattle.pl_follow.specs.declared.texts.FoldedTexts.{FoldedTexts}
+use Rattle.pl_follow.proofs.EntriesFollow.{Entry}
 use Rattle.pl_words.specs.declared.bar_text.BarText.{BarText}
 use Rattle.pl_words.specs.declared.stands.Standing.{Standing}
 use Rattle.pl_bar.specs.declared.offers.Offers.{Offers}
 use Rattle.pl_bar.specs.Cost.{page_cost}
 use Rattle.pl_bar.specs.Offers.{GoOn, TellsTier, filled_up, has_counted, ids_of, in_first, in_second, is_boundary}
 use Rattle.pl_bar.specs.Offers.{is_inside, up_to}
+use Rattle.pl_bar.specs.Sketches.{AreSketched, TellsTexts}
 use Rattle.pl_bar.proofs.FilledLists.{filled_all, filled_full, filled_more, filled_none, next_up_to, one_kept}
 
--- the first rank stands at the end of the list that is gone through from there
-pub first_rank : (old new : List (ℤ × PageId)) (rank : ℤ × PageId) → old ≡ new ++ rank ∷ []
-    → ids_of old ≡ rank.1 ∷ ids_of new
-first_rank old new rank is =
-    ap ids_of is ∙ ap (map (λ (r : ℤ × PageId). r.1)) (reverse-append new (rank ∷ []))
+-- the first entry stands at the end of the list that is gone through from there
+pub first_entry : (old new : List Entry) (entry : Entry) → old ≡ new ++ entry ∷ []
+    → ids_of old ≡ entry.0.1 ∷ ids_of new
+first_entry old new entry is =
+    ap ids_of is ∙ ap (map (λ (e : Entry). e.0.1)) (reverse-append new (entry ∷ []))
 
 module _ (store : Store) (asked : BarText) where
   abbrev first : PageId → Bool
@@ -144,3 +147,41 @@ module _ (store : Store) (asked : BarText) where
           cost = omega (arith, costs, reads, c.cost);
           counted = c.counted.1;
         }
+
+-- with these entries still to come, of which each has the sketch of its page's texts
+pub record Going (store : Store) (asked : BarText) (texts : FoldedTexts) (all : List PageId) (old now : Offers)
+    (before after : ℕ) (entries : List Entry) : Type 0 where
+  pub comes : Comes store asked all old now before after (ids_of entries)
+  pub sketched : AllByRecursion (λ (e : Entry). TellsTexts texts e.0.1 e.1) (reverse entries)
+
+pub all_going : (store : Store) (asked : BarText) (texts : FoldedTexts) (old : Offers) (before : ℕ)
+    (entries : List Entry) → All (λ (id : PageId). has_counted store id ≡ true) (ids_of entries)
+    → AreSketched texts (reverse entries)
+    → Going store asked texts (ids_of entries) old old before before entries
+all_going store asked texts old before entries counted sketched =
+    record {
+      comes = comes_all store asked (ids_of entries) old before
+          (recursion_from_All (λ (id : PageId). has_counted store id ≡ true) (ids_of entries) counted);
+      sketched =
+          recursion_from_All (λ (e : Entry). TellsTexts texts e.0.1 e.1) (reverse entries) sketched;
+    }
+
+-- the entry that comes next, and those behind it
+pub record Next (store : Store) (asked : BarText) (texts : FoldedTexts) (all : List PageId) (old now : Offers)
+    (before after : ℕ) (entry : Entry) (rest : List Entry) : Type 0 where
+  pub comes : Comes store asked all old now before after (entry.0.1 ∷ ids_of rest)
+  pub sketch : TellsTexts texts entry.0.1 entry.1
+  pub sketched : AllByRecursion (λ (e : Entry). TellsTexts texts e.0.1 e.1) (reverse rest)
+
+pub next_of : (store : Store) (asked : BarText) (texts : FoldedTexts) (all : List PageId) (old now : Offers)
+    (before after : ℕ) (entries rest : List Entry) (entry : Entry) → entries ≡ rest ++ entry ∷ []
+    → Going store asked texts all old now before after entries
+    → Next store asked texts all old now before after entry rest
+next_of store asked texts all old now before after entries rest entry is going =
+    let turned : reverse entries ≡ entry ∷ reverse rest = ap reverse is ∙ reverse-append rest (entry ∷ []) in
+    let told = subst (AllByRecursion (λ (e : Entry). TellsTexts texts e.0.1 e.1)) turned going.sketched in
+    record {
+      comes = subst (Comes store asked all old now before after) (first_entry entries rest entry is) going.comes;
+      sketch = told.0;
+      sketched = told.1;
+    }

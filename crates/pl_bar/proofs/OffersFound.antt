@@ -23,7 +23,8 @@ use Rattle.pl_base.specs.View.{AreViewsOf}
 use Rattle.pl_base.proofs.ListLaws.{All-from_map, all-filter, filter-map, filter-where, sum_by-map, to_map, weaker}
 use Rattle.pl_base.proofs.LookUps.{found_self, where_passes}
 use Rattle.pl_base.proofs.SortLaws.{all_sorted, sorted_moves}
-use Rattle.pl_follow.specs.Order.{frecency_ranks, is_ahead}
+use Rattle.pl_follow.specs.Order.{entries_of, is_ahead, leads}
+use Rattle.pl_follow.proofs.EntriesFollow.{Entry}
 use Rattle.pl_words.specs.Bar.{AreTokens, marks_of, words_of}
 use Rattle.pl_words.specs.declared.bar_text.BarText.{BarText}
 use Rattle.pl_words.specs.declared.bar_text.Marks.{Marks}
@@ -176,12 +177,12 @@ module _ (kept : Kept) (well : IsWellKept kept) (asked : BarText) where
   negative_counted p is =
       one_or_other (frecency_of store p) ∙ or_right (is_positive store p) (is_negative store p) is
 
-  module _ (views : List View) (are : AreViewsOf store views) (ranks : List (ℤ × PageId)) where
-    pub positive_ids : reverse ranks
-        ≡ filter (λ (r : ℤ × PageId). is_ahead r (pos 1, record { 0 = 0 })) (sorted_by is_ahead (frecency_ranks views))
-        → ids_of ranks ≡ map id_of (filter (is_positive store) (in_order store))
+  module _ (views : List View) (are : AreViewsOf store views) (entries : List Entry) where
+    pub positive_ids : reverse entries
+        ≡ filter (λ (e : Entry). is_ahead e.0 (pos 1, record { 0 = 0 })) (sorted_by leads (entries_of views))
+        → ids_of entries ≡ map id_of (filter (is_positive store) (in_order store))
     positive_ids is =
-        ids_walked store (λ (r : ℤ × PageId). is_ahead r (pos 1, record { 0 = 0 })) views ranks are is
+        ids_walked store (λ (r : ℤ × PageId). is_ahead r (pos 1, record { 0 = 0 })) views entries are is
         ∙ ap (map id_of) (filter-where (λ p. is_ahead (rank store p) (pos 1, record { 0 = 0 })) (is_positive store)
         (in_order store) (all_sorted (comes_before store)
         (λ p. is_ahead (rank store p) (pos 1, record { 0 = 0 }) ≡ is_positive store p) store.pages
@@ -197,11 +198,11 @@ module _ (kept : Kept) (well : IsWellKept kept) (asked : BarText) where
             (λ k d within. (All-from_map (λ (n : ℕ). (0 < n) × (n < kept.ids.page)) (λ (p : KeptPage). p.page.id.0)
             kept.pages well.page_ids.given k d within).0)
 
-    pub negative_ids : reverse ranks
-        ≡ filter (is_ahead (pos 0, record { 0 = 0 })) (sorted_by is_ahead (frecency_ranks views))
-        → ids_of ranks ≡ map id_of (filter (is_negative store) (in_order store))
+    pub negative_ids : reverse entries
+        ≡ filter (λ (e : Entry). is_ahead (pos 0, record { 0 = 0 }) e.0) (sorted_by leads (entries_of views))
+        → ids_of entries ≡ map id_of (filter (is_negative store) (in_order store))
     negative_ids is =
-        ids_walked store (is_ahead (pos 0, record { 0 = 0 })) views ranks are is
+        ids_walked store (is_ahead (pos 0, record { 0 = 0 })) views entries are is
         ∙ ap (map id_of) (filter_agree (λ p. is_ahead (pos 0, record { 0 = 0 }) (rank store p)) (is_negative store)
         (λ p. negative_is (frecency_of store p) p.id.0) (in_order store))
 

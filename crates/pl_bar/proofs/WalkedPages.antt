@@ -22,7 +22,9 @@ use Rattle.pl_base.specs.View.{AreViews}
 use Rattle.pl_base.proofs.ListLaws.{AllPairs-from_map, AllPairs-map, filter-map, map-map, weaker}
 use Rattle.pl_base.proofs.LookUps.{none_kept}
 use Rattle.pl_base.proofs.SortLaws.{Ascends, ascends_sorted_by, for_all, none_tie, order_of_all, sorted_map}
-use Rattle.pl_follow.specs.Order.{frecency_ranks, is_above, is_ahead}
+use Rattle.pl_follow.specs.Order.{entries_of, entry_of, frecency_ranks, is_above, is_ahead, leads}
+use Rattle.pl_follow.proofs.EntriesFollow.{Entry}
+use Rattle.pl_follow.proofs.EntryLists.{keys_kept}
 use Rattle.pl_follow.proofs.RankLists.{above_ranks, kept_sorted}
 use Rattle.pl_follow.proofs.ViewRanks.{ahead_above, frecency_cmp, frecency_exact, frecency_total}
 use Rattle.pl_bar.specs.AddressBar.{ranks_before}
@@ -168,13 +170,17 @@ module _ (store : Store) where
       ∙ ap (λ (before : Page → Page → Bool). map rank (sorted_by before store.pages)) (sym order_is)
 
   -- the ids of those that pass a test
-  pub ids_walked : (test : ℤ × PageId → Bool) (views : List View) (ranks : List (ℤ × PageId))
+  pub ids_walked : (test : ℤ × PageId → Bool) (views : List View) (entries : List Entry)
       → AreViews store store.pages views
-      → reverse ranks ≡ filter test (sorted_by is_ahead (frecency_ranks views))
-      → ids_of ranks ≡ map (λ (p : Page). p.id) (filter (λ p. test (rank p)) in_order)
-  ids_walked test views ranks are is =
-      ap (map (λ (r : ℤ × PageId). r.1)) (is
-      ∙ ap (filter test) (ranks_in_order views are)
+      → reverse entries ≡ filter (λ (e : Entry). test e.0) (sorted_by leads (entries_of views))
+      → ids_of entries ≡ map (λ (p : Page). p.id) (filter (λ p. test (rank p)) in_order)
+  ids_walked test views entries are is =
+      sym (map-map (λ (r : ℤ × PageId). r.1) (λ (e : Entry). e.0) (reverse entries))
+      ∙ ap (map (λ (r : ℤ × PageId). r.1)) (ap (map (λ (e : Entry). e.0)) is
+      ∙ keys_kept test (sorted_by leads (entries_of views))
+      ∙ ap (filter test) (sorted_map (λ (e : Entry). e.0) is_ahead (entries_of views)
+      ∙ ap (sorted_by is_ahead) (map-map (λ (e : Entry). e.0) entry_of views)
+      ∙ ranks_in_order views are)
       ∙ filter-map test rank in_order)
       ∙ map-map (λ (r : ℤ × PageId). r.1) rank (filter (λ p. test (rank p)) in_order)
 

@@ -58,7 +58,7 @@ module _ (texts : Folded) where
           or_implies (in_titles texts true word) (in_titles texts false word) (found true word texts.address)
           (found false word texts.address) (titles_somewhere word) (address_somewhere word)
 
-  all_somewhere : (marks : Marks) (words : List (List ℕ))
+  pub all_somewhere : (marks : Marks) (words : List (List ℕ))
       → Implies (all_in texts marks words true) (all_in texts marks words false)
   all_somewhere marks [] = λ is. is
   all_somewhere marks (w ∷ ws) =

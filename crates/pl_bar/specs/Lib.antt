@@ -3,4 +3,5 @@ pub mod Cost
 pub mod Filled
 pub mod Followers
 pub mod Offers
+pub mod Sketches
 pub mod Standings

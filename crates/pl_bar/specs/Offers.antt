@@ -4,6 +4,7 @@ use Rattle.std.specs.Prelude.{length, map, reverse, take, if◌then◌else◌}
 use Rattle.std.specs.List.{filter, list_any}
 use Rattle.pl_base.specs.declared.id.PageId.{PageId}
 use Rattle.pl_base.specs.Store.{Page, Store}
+use Rattle.pl_sketch.specs.declared.sketch.Sketch.{Sketch}
 use Rattle.pl_words.specs.declared.bar_text.BarText.{BarText}
 use Rattle.pl_words.specs.declared.stands.Standing.{Standing}
 use Rattle.pl_words.specs.declared.stands.Standing.TheVariants.{Boundary, Inside, Nowhere}
@@ -21,9 +22,9 @@ up_to test count [] = []
 up_to test count (x ∷ xs) =
     if count == 0 then [] else x ∷ up_to test (if test x then count - 1 else count) xs
 
--- the ids of ranks that are gone through from the last to the first
-abbrev pub ids_of : List (ℤ × PageId) → List PageId
-ids_of ranks = map (λ (rank : ℤ × PageId). rank.1) (reverse ranks)
+-- the ids of entries by frecency that are gone through from the last to the first
+abbrev pub ids_of : List ((ℤ × PageId) × Sketch) → List PageId
+ids_of entries = map (λ (entry : (ℤ × PageId) × Sketch). entry.0.1) (reverse entries)
 
 -- one of these pages has this id
 abbrev pub has_id : List Page → PageId → Bool

@@ -1,6 +1,7 @@
 //! The address bar: the pages that it offers for a text, and the host that it fills in.
 #![tactic(auto)]
 
+mod asked;
 mod filling;
 mod items;
 mod offers;

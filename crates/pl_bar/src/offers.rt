@@ -1,6 +1,6 @@
 // The pages that the address bar offers.
 ghost use Rattle.std.specs.Prelude.{◌≡◌, ◌++◌, ◌∷◌, ◌≤◌, ◌+◌, ◌-◌, ℤ, [], List, map, nat_le, true};
-ghost use Rattle.std.specs.Prelude.{IfOk, OnOk, length};
+ghost use Rattle.std.specs.Prelude.{IfOk, OnOk, length, reverse};
 ghost use Rattle.std.specs.Iterator.Adapters.{rev_source};
 ghost use Rattle.std.specs.List.{All, filter, sum_by};
 ghost use Rattle.pl_base.specs.declared.id.PageId.{PageId};
@@ -12,13 +12,16 @@ ghost use Rattle.pl_bar.specs.Cost.{FillsFirst, offering_cost, page_cost};
 ghost use Rattle.pl_bar.specs.Followers.{AreFollowing, HaveTexts};
 ghost use Rattle.pl_bar.specs.Offers.{GoOn, filled_up, has_counted, ids_of, in_first, is_boundary};
 ghost use Rattle.pl_bar.specs.Offers.{is_inside, up_to};
+ghost use Rattle.pl_bar.specs.Sketches.{AreSketched};
 
+use crate::asked::Asked;
 use crate::tiers::tier;
 use pl_base::{NoMemory, PageId, Rows, Steps};
 use pl_follow::{FoldedTexts, OrderIndex};
-use pl_words::{BarText, Standing, fold, tokens};
+use pl_sketch::Sketch;
+use pl_words::{Standing, fold, tokens};
 use std::alloc::Global;
-use std::collections::btree_set;
+use std::collections::btree_map;
 use std::iter::Rev;
 use std::sync::ledger::Ledger;
 
@@ -69,31 +72,33 @@ impl Offers {
         Ok(())
     }
 
-    // The pages that stand at these ranks are gone through until no further one is offered.
+    // The pages of these entries by frecency are gone through until no further one is offered.
     fn go_on<R: Rows, L: Ledger>(
         &mut self,
         rows: &R,
         texts: &FoldedTexts,
-        asked: &BarText,
-        ranks: Rev<btree_set::Range<'_, (i64, PageId)>>,
+        asked: &Asked,
+        entries: Rev<btree_map::Range<'_, (i64, PageId), Sketch>>,
         steps: &mut Steps<L>,
     ) -> Result<(), NoMemory>
         requires right { IsRight (R.kept rows.now) }
         requires texts { HaveTexts (store_of (R.kept rows.now)) texts.now }
         requires counted { All (λ (id : PageId). has_counted (store_of (R.kept rows.now)) id ≡ true)
-            (ids_of (rev_source ranks)) }
-        ensures goes_on { OnOk result (GoOn (store_of (R.kept rows.now)) asked.now
-            (ids_of (rev_source ranks.entry)) self.old self.new) }
+            (ids_of (rev_source entries)) }
+        requires sketched { AreSketched texts.now (reverse (rev_source entries)) }
+        ensures goes_on { OnOk result (GoOn (store_of (R.kept rows.now)) asked.now.text
+            (ids_of (rev_source entries.entry)) self.old self.new) }
         ensures cost { OnOk result (steps.new ≤ steps.old
             + sum_by (page_cost (store_of (R.kept rows.now)))
-            (up_to (in_first (store_of (R.kept rows.now)) asked.now)
-            (self.old.max - length self.old.first.items) (ids_of (rev_source ranks.entry)))) }
+            (up_to (in_first (store_of (R.kept rows.now)) asked.now.text)
+            (self.old.max - length self.old.first.items) (ids_of (rev_source entries.entry)))) }
     {
-        for &(_, page) in ranks {
+        for (rank, sketch) in entries {
             if self.is_full() {
                 return Ok(());
             }
-            let tier = tier(rows, texts, page, asked, steps);
+            let page = rank.1;
+            let tier = tier(rows, texts, page, *sketch, asked, steps);
             self.add(page, tier)?;
         }
         Ok(())
@@ -121,7 +126,8 @@ impl Offers {
 /// the greatest first.
 ///
 /// The pages are gone through in that order, those of frecency 0 left out, until there are `max` of
-/// the first kind. No text is read or folded for a page.
+/// the first kind. No text is read or folded for a page, and those of a page whose sketch lacks a
+/// place of a word's are not searched.
 pub fn answer<R: Rows, L: Ledger>(
     alloc: Global,
     rows: &R,
@@ -139,7 +145,7 @@ pub fn answer<R: Rows, L: Ledger>(
         → steps.new ≤ steps.old + offering_cost (store_of (R.kept rows.now)) text.now max) }
 {
     let folded = fold(alloc, text)?;
-    let asked = tokens(alloc, &folded)?;
+    let asked = Asked::of(tokens(alloc, &folded)?);
     let mut offers = Offers::new(alloc, max);
 
     // Ids are at least 1, so that these are all pages of positive frecency, and all of -1.

@@ -4,11 +4,14 @@ ghost use Rattle.pl_base.specs.declared.view.View.{View};
 ghost use Rattle.pl_follow.specs.declared.texts.Folded.{Folded};
 ghost use Rattle.pl_follow.specs.Texts.{KeepsTexts, texts_of};
 ghost use Rattle.pl_words.specs.Pieces.{found};
+ghost use Rattle.pl_bar.specs.Sketches.{TellsTexts};
 ghost use Rattle.pl_bar.specs.Standings as spec;
 ghost use Rattle.pl_bar.specs.Standings.{all_in, standing_by, word_in};
 
+use crate::asked::Asked;
 use pl_base::{PageId, Txt};
 use pl_follow::{Folded, FoldedTexts};
+use pl_sketch::Sketch;
 use pl_words::{BarText, Marks, Standing, standing};
 
 // How well the word stands in the title or the tags, wherever it stands better.
@@ -72,18 +75,22 @@ fn all_stand(texts: &Folded, asked: &BarText) -> Standing
     worst
 }
 
-/// How well the words stand in the texts of the page, the worst of them. Without a word no text is
-/// looked up.
-pub fn words_stand(texts: &FoldedTexts, page: PageId, asked: &BarText) -> Standing
+/// How well the words stand in the texts of the page, the worst of them. Where no word is asked, or
+/// the sketch of the texts lacks a place of a word's, no text is looked up.
+pub fn words_stand(texts: &FoldedTexts, page: PageId, sketch: Sketch, asked: &Asked) -> Standing
+    requires sketch { TellsTexts texts.now page sketch }
     ensures { (views : List View) (folded : Folded) → KeepsTexts texts.now views
         → texts_of page views ≡ Some folded
-        → result ≡ standing_by (all_in folded asked.now.marks asked.now.words) }
+        → result ≡ standing_by (all_in folded asked.now.text.marks asked.now.text.words) }
 {
-    if asked.words.as_slice().is_empty() {
+    if !sketch.covers(asked.sketch) {
+        return Standing::Nowhere;
+    }
+    if asked.text.words.as_slice().is_empty() {
         return Standing::Boundary;
     }
     match texts.of(page) {
-        Some(texts) => all_stand(texts, asked),
+        Some(texts) => all_stand(texts, &asked.text),
         None => Standing::Nowhere,
     }
 }

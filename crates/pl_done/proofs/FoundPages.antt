@@ -73,10 +73,10 @@ none_mapped f None is = refl
 none_mapped f (Some x) is = absurd (cc)
 
 -- no page has a URL that no view has
-pub none_found : (store : Store) (views : List View) (url text : List ℕ) (found : Option View)
+pub no_page_found : (store : Store) (views : List View) (url text : List ℕ) (found : Option View)
     → AreViewsOf store views → text ≡ url → found ≡ find (λ (v : View). bytes_eq v.url text) views → found ≡ None
     → find_page url store.pages ≡ None
-none_found store views url text found are same is none =
+no_page_found store views url text found are same is none =
     none_mapped (λ (p : Page). p.id) (find_page url store.pages)
     (found_id store views url text found are same is ∙ ap (option_map (λ (v : View). v.id)) none)
 

@@ -95,11 +95,7 @@ fn next_page(kept: &OrderIndex, order: KeptOrder, behind: Option<&View>) -> Opti
 /// The view next behind one in an order, or the first of all.
 ///
 /// Takes time in the logarithm of the number of views, and no memory.
-pub fn next_view<'a>(
-    known: &'a Known,
-    order: KeptOrder,
-    behind: Option<&View>,
-) -> Option<&'a View>
+pub fn next_view<'a>(known: &'a Known, order: KeptOrder, behind: Option<&View>) -> Option<&'a View>
     requires followed { AreFollowed known.now }
     requires stands { IfSome (option_copied behind) (λ view. stands_in order view ≡ true) }
     ensures { option_copied result

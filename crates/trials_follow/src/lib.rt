@@ -9,6 +9,8 @@ mod due;
 #[cfg(test)]
 mod follow;
 #[cfg(test)]
+mod forged;
+#[cfg(test)]
 mod kept;
 #[cfg(test)]
 mod tables;

@@ -8,6 +8,12 @@ pub const PATHS: u32 = 24;
 
 pub const PREFIXES: &[&str] = &["https://", "http://", "about:"];
 
+// Two hosts that were forged: behind `https://`, and with a path of two digits, the URLs of both
+// have one digest.
+pub const FORGED: &str = "apbqkf--jb9tk8uo.test";
+
+pub const FORGED_TOO: &str = "assxbe--ll1a15f3.test";
+
 pub const HOSTS: &[&str] = &[
     "example.org",
     "www.example.org",
@@ -17,6 +23,8 @@ pub const HOSTS: &[&str] = &[
     "b.example:8080",
     "www.",
     "",
+    FORGED,
+    FORGED_TOO,
 ];
 
 pub const TITLES: &[&str] = &[

@@ -1,7 +1,7 @@
 use Rattle.std.proofs.Common.{ap}
 use Rattle.std.specs.Option.{option_copied}
 use Rattle.pl_base.specs.Rows.{store_of}
-use Rattle.pl_done.proofs.FoundPages.{first_by_parts, first_origin, first_there, known_target, none_found}
+use Rattle.pl_done.proofs.FoundPages.{first_by_parts, first_origin, first_there, known_target, no_page_found}
 use Rattle.pl_done.proofs.find.find_target.Goals as goal
 
 pub returns-in-Some : goal.returns-in-Some
@@ -21,7 +21,7 @@ origin_of-requires g c =
 
 pub returns : goal.returns
 returns g c = (
-  none_found (store_of (g.R.Rows.kept c.args.rows.now)) c.args.known.now.views.items c.args.url.now c.text.result.now
+  no_page_found (store_of (g.R.Rows.kept c.args.rows.now)) c.args.known.now.views.items c.args.url.now c.text.result.now
       (option_copied c.find.result) c.requires.knows.views c.text.ensures.value c.find.ensures
       (ap option_copied c.in_default.is),
   first_origin (g.R.Rows.kept c.args.rows.now) c.args.url.now (g.met.R.Rows.well_kept c.args.rows.now)

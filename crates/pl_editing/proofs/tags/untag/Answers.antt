@@ -13,7 +13,7 @@ use Rattle.pl_history.proofs.GoodRows.{items_of}
 use Rattle.pl_history.proofs.KnownPage.{has_known, known}
 use Rattle.pl_done.specs.declared.done.Done.{Done}
 use Rattle.pl_done.specs.Performed.{Performs}
-use Rattle.pl_done.proofs.FoundPages.{known_target, none_found}
+use Rattle.pl_done.proofs.FoundPages.{known_target, no_page_found}
 use Rattle.pl_done.proofs.KnownAddresses.{addresses_with_items}
 use Rattle.pl_editing.proofs.ItemChanges.{untagged_came}
 use Rattle.pl_editing.proofs.Untagged.{untagged_settled}
@@ -27,7 +27,7 @@ returns-in_default g c =
       performs = λ limit. (
         refl,
         untag_absent limit (store_of kept) c.args.url.now c.args.name.now
-            (none_found (store_of kept) c.args.known.now.views.items c.args.url.now c.text.result.now
+            (no_page_found (store_of kept) c.args.known.now.views.items c.args.url.now c.text.result.now
             (option_copied c.find.result) c.requires.knows.views c.text.ensures.value c.find.ensures
             (ap option_copied c.in_default.is)),
       );

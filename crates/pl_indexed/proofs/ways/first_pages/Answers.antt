@@ -38,8 +38,8 @@ add-requires-clause-view c =
     known_here c.args.order c.args.asked.now.query.now c.args.known.now.views.items c.requires.followed.order
     c.loop.found.items c.loop.next c.in-Some.view c.loop.invariant c.in-Some.is
 
-pub next_view-next-in-loop-requires-clause-stands : goal.next_view-next-in-loop-requires-clause-stands
-next_view-next-in-loop-requires-clause-stands c =
+pub next_view-next-requires-in-loop-clause-stands : goal.next_view-next-requires-in-loop-clause-stands
+next_view-next-requires-in-loop-clause-stands c =
     stands_here c.args.order c.args.asked.now.query.now c.args.known.now.views.items c.requires.followed.order
     c.loop.found.items c.loop.next c.in-Some.view c.loop.invariant c.in-Some.is
 

@@ -4,7 +4,7 @@ use Rattle.pl_base.specs.declared.view.View.{View}
 use Rattle.pl_base.specs.Rows.{store_of}
 use Rattle.pl_base.specs.Visiting.{find_page}
 use Rattle.pl_step.specs.Step.{forget_step}
-use Rattle.pl_done.proofs.FoundPages.{found_id, none_found}
+use Rattle.pl_done.proofs.FoundPages.{found_id, no_page_found}
 use Rattle.pl_done.proofs.KnownAddresses.{views_told}
 use Rattle.pl_visiting.proofs.Removals.{forgets, is_gone}
 use Rattle.pl_visiting.proofs.history.forget.Goals as goal
@@ -15,7 +15,7 @@ returns-in_default g c =
       performs = λ limit. (
         refl,
         ap (forget_step (store_of (g.R.Rows.kept c.args.rows.now)))
-            (sym (none_found (store_of (g.R.Rows.kept c.args.rows.now)) c.args.known.now.views.items c.args.url.now
+            (sym (no_page_found (store_of (g.R.Rows.kept c.args.rows.now)) c.args.known.now.views.items c.args.url.now
             c.text.result.now (option_copied c.find.result) c.requires.knows.views c.text.ensures.value c.find.ensures
             (ap option_copied c.in_default.is))),
       );

@@ -11,7 +11,7 @@ use Rattle.pl_history.specs.Target.{IsTargetOf}
 use Rattle.pl_step.specs.declared.reply.Reply.{Reply}
 use Rattle.pl_step.specs.Step.{after_title}
 use Rattle.pl_done.specs.Performed.{Performs}
-use Rattle.pl_done.proofs.FoundPages.{found_id, none_found}
+use Rattle.pl_done.proofs.FoundPages.{found_id, no_page_found}
 use Rattle.pl_visiting.proofs.FoundViews.{found_view}
 use Rattle.pl_visiting.proofs.TitleStep.{no_page, same_of, step_of}
 use Rattle.pl_visiting.proofs.TitledViews.{page_there, seen, title_there}
@@ -23,7 +23,7 @@ pub returns-in_default-clause-performs : goal.returns-in_default-clause-performs
 returns-in_default-clause-performs g c = (
   refl,
   no_page c.args.limit (store_of (g.R.Rows.kept c.args.rows.now)) c.args.url.now c.args.text.now
-      (none_found (store_of (g.R.Rows.kept c.args.rows.now)) c.args.known.now.views.items c.args.url.now
+      (no_page_found (store_of (g.R.Rows.kept c.args.rows.now)) c.args.known.now.views.items c.args.url.now
       c.text.result.now (option_copied c.find.result) c.requires.knows.views c.text.ensures.value c.find.ensures
       (ap option_copied c.in_default.is)),
 )
