@@ -19,13 +19,13 @@ use Rattle.pl_query.specs.Decides.{decides}
 use Rattle.pl_dated.specs.declared.first.First.{First}
 use Rattle.pl_dated.specs.Latest.{AreApart, Keeps, Seen, is_past_floor}
 
--- the latest visits are asked for, of pages without regard to transitions and folders
+-- the first visits are asked for, the latest first, of pages without regard to transitions and folders
 pub record AsksForLatest (q : Query) : Type 0 where
   pub history : q.query_type ≡ History
   pub visits : q.result_type ≡ Visits
+  pub sort : q.sort ≡ By Date Descending
   pub transitions : q.transitions ≡ []
   pub parents : q.parents ≡ []
-  pub sort : q.sort ≡ By Date Descending
   pub few : 0 < q.max_results
 
 -- a visit to the page of a view

@@ -1,8 +1,13 @@
 // The answer to a query.
-ghost use Rattle.std.specs.Prelude.{◌≡◌, ◌<◌, ◌∷◌, [], List, map, true, IfOk};
+ghost use Rattle.std.specs.Prelude.{◌≡◌, map, true, IfOk};
 ghost use Rattle.pl_base.specs.Good.{IsGood};
 ghost use Rattle.pl_base.specs.Rows.{IsRight, store_of};
 ghost use Rattle.pl_known.specs.Known.{Knows};
+ghost use Rattle.pl_place.specs.declared.kinds.QueryType.TheVariants.{History};
+ghost use Rattle.pl_place.specs.declared.kinds.ResultType.TheVariants.{Visits};
+ghost use Rattle.pl_place.specs.declared.sort.Direction.TheVariants.{Descending};
+ghost use Rattle.pl_place.specs.declared.sort.Sort.TheVariants.{By};
+ghost use Rattle.pl_place.specs.declared.sort.SortKey.TheVariants.{Date};
 ghost use Rattle.pl_query.specs.QueryAnswer as spec;
 ghost use Rattle.pl_query.specs.QueryAnswer.{told_row};
 ghost use Rattle.pl_dated.specs.declared.first.FoundVisit.{FoundVisit};
@@ -20,24 +25,36 @@ use pl_query::ResultRow;
 use std::alloc::Global;
 use std::sync::ledger::Ledger;
 
-// Whether visits of history are asked for, the latest first.
-fn lists_latest(query: &Query) -> bool
-    ensures { result ≡ true → ListsLatest query.now }
+// Whether visits of history are asked for.
+fn lists_visits(query: &Query) -> bool
+    ensures history { result ≡ true → query.now.query_type ≡ History }
+    ensures visits { result ≡ true → query.now.result_type ≡ Visits }
 {
-    match (query.query_type, query.result_type, query.sort) {
-        (QueryType::History, ResultType::Visits, Sort::By(SortKey::Date, Direction::Descending)) => true,
+    match query.query_type {
+        QueryType::History => matches!(query.result_type, ResultType::Visits),
+        QueryType::Bookmarks => false,
+    }
+}
+
+fn is_latest_first(sort: Sort) -> bool
+    ensures { result ≡ true → sort ≡ By Date Descending }
+{
+    match sort {
+        Sort::By(SortKey::Date, Direction::Descending) => true,
         _ => false,
     }
 }
 
-// Whether the latest visits are asked for, of pages without regard to transitions and folders.
+// Whether the first visits are asked for, the latest first, of pages without regard to transitions
+// and folders.
 fn asks_for_latest(query: &Query) -> bool
     ensures { result ≡ true → AsksForLatest query.now }
 {
     query.max_results != 0
         && query.transitions.as_slice().is_empty()
         && query.parents.as_slice().is_empty()
-        && lists_latest(query)
+        && is_latest_first(query.sort)
+        && lists_visits(query)
 }
 
 // What is told of a visit.
