@@ -93,23 +93,42 @@ module _ (most : ℕ) (old new : First) (f : FoundVisit) (visits : List Seen) (k
 not_earlier : (a b : ℕ) → a ≤ b → nat_lt b a ≡ false
 not_earlier a b le = grind (arith, nat_tests, le)
 
-none_earlier : (visits : List Seen) → Ascends seen_before visits
-    → IfSome (last_date visits) (λ (date : Micros). AllByRecursion (λ (s : Seen). is_past_floor (Some date) s.date ≡ false) visits)
-none_earlier [] up = tt
-none_earlier (s ∷ []) up = (not_earlier s.date.0 s.date.0 (omega arith), tt)
-none_earlier (s ∷ t ∷ visits) up =
-    choose (slice_get (t ∷ visits) (length visits)) (none_earlier (t ∷ visits) up.1)
+-- the last of some visits
+last_of : Seen → List Seen → Seen
+last_of s [] = s
+last_of s (t ∷ visits) = last_of t visits
+
+last_there : (s : Seen) (visits : List Seen) → slice_get (s ∷ visits) (length visits) ≡ Some (last_of s visits)
+last_there s [] = refl
+last_there s (t ∷ visits) = last_there t visits
+
+last_date_is : (s : Seen) (visits : List Seen) → last_date (s ∷ visits) ≡ Some (last_of s visits).date
+last_date_is s visits =
+    let index : length (s ∷ visits) - 1 ≡ length visits = omega arith in
+    ap (λ (n : ℕ). option_map (λ (x : Seen). x.date) (slice_get (s ∷ visits) n)) index
+    ∙ ap (option_map (λ (x : Seen). x.date)) (last_there s visits)
+
+none_before_last : (s : Seen) (visits : List Seen) → Ascends seen_before (s ∷ visits)
+    → AllByRecursion (λ (x : Seen). is_past_floor (Some (last_of s visits).date) x.date ≡ false) (s ∷ visits)
+none_before_last s [] up = (not_earlier s.date.0 s.date.0 (omega arith), tt)
+none_before_last s (t ∷ visits) up = choose (none_before_last t visits up.1)
   where
     back : (a b c : ℕ) → nat_lt b a ≡ false → b ≤ c → nat_lt c a ≡ false
     back a b c late le = grind (arith, nat_tests, late, le)
 
-    choose : (o : Option Seen)
-        → IfSome (option_map (λ (x : Seen). x.date) o)
-        (λ (date : Micros). AllByRecursion (λ (x : Seen). is_past_floor (Some date) x.date ≡ false) (t ∷ visits))
-        → IfSome (option_map (λ (x : Seen). x.date) o)
-        (λ (date : Micros). AllByRecursion (λ (x : Seen). is_past_floor (Some date) x.date ≡ false) (s ∷ t ∷ visits))
-    choose None rest = tt
-    choose (Some l) rest = (back l.date.0 t.date.0 s.date.0 rest.0 (before_later s t up.0.0), rest)
+    choose : AllByRecursion (λ (x : Seen). is_past_floor (Some (last_of t visits).date) x.date ≡ false) (t ∷ visits)
+        → AllByRecursion (λ (x : Seen). is_past_floor (Some (last_of t visits).date) x.date ≡ false) (s ∷ t ∷ visits)
+    choose rest =
+        (back (last_of t visits).date.0 t.date.0 s.date.0 rest.0 (before_later s t up.0.0), rest)
+
+none_earlier : (visits : List Seen) → Ascends seen_before visits
+    → IfSome (last_date visits) (λ (date : Micros). AllByRecursion (λ (s : Seen). is_past_floor (Some date) s.date ≡ false) visits)
+none_earlier [] up = tt
+none_earlier (s ∷ visits) up =
+    subst
+    (λ (o : Option Micros).
+    IfSome o (λ (date : Micros). AllByRecursion (λ (x : Seen). is_past_floor (Some date) x.date ≡ false) (s ∷ visits)))
+    (sym (last_date_is s visits)) (none_before_last s visits up)
 
 module _ (most : ℕ) (old new : First) (visits : List Seen) (k : Keeps most old visits)
     (many : most ≤ length (map seen old.found.items))
@@ -133,8 +152,8 @@ module _ (most : ℕ) (old new : First) (visits : List Seen) (k : Keeps most old
       full : length (first_seen most was) ≡ most
       full =
           length-take-le most (sorted_by seen_before was)
-          (subst (λ (n : ℕ). most ≤ n) (length_permutation was (sorted_by seen_before was) (sorted_moves seen_before was))
-          many)
+          (subst (λ (n : ℕ). most ≤ n)
+          (sym (length_permutation was (sorted_by seen_before was) (sorted_moves seen_before was))) many)
 
       choose : (o : Option Micros)
           → IfSome o (λ (date : Micros).

@@ -86,21 +86,22 @@ module _ {X : Type 0} (before : X → X → Bool) (ranks : IsStrictWeakOrder bef
       → take n (put_in_place before x ys) ≡ take n ys
   placed_beyond zero x ys up many = refl
   placed_beyond (suc n) x [] up many = absurd (omega (arith, many))
-  placed_beyond (suc n) x (y ∷ ys) up many = choose (before x y) refl
+  placed_beyond (suc n) x (y ∷ ys) up many =
+      choose (before x y) refl (placed_beyond n x ys up.1 (less_one (before y x) counted))
     where
-      enough : n ≤ ahead_of x ys
-      enough = less_one (before y x) (subst (λ m. suc n ≤ m) (count_cons (λ z. before z x) y ys) many)
-        where
-          less_one : (b : Bool) → suc n ≤ (if b then suc (ahead_of x ys) else ahead_of x ys) → n ≤ ahead_of x ys
-          less_one true le = omega (arith, le)
-          less_one false le = omega (arith, le)
+      counted : suc n ≤ (if before y x then suc (ahead_of x ys) else ahead_of x ys)
+      counted = subst (λ m. suc n ≤ m) (count_cons (λ z. before z x) y ys) many
 
-      choose : (b : Bool) → before x y ≡ b
+      less_one : (b : Bool) → suc n ≤ (if b then suc (ahead_of x ys) else ahead_of x ys) → n ≤ ahead_of x ys
+      less_one true le = omega (arith, le)
+      less_one false le = omega (arith, le)
+
+      choose : (b : Bool) → before x y ≡ b → take n (put_in_place before x ys) ≡ take n ys
           → take (suc n) (if b then x ∷ y ∷ ys else y ∷ put_in_place before x ys) ≡ y ∷ take n ys
-      choose true is =
+      choose true is rest =
           let none = none_ahead x y ys is up.0 in
           absurd (omega (arith, many, none))
-      choose false is = ap (λ zs. y ∷ zs) (placed_beyond n x ys up.1 enough)
+      choose false is rest = ap (λ zs. y ∷ zs) rest
 
   in_order : (xs : List X) → AreApart xs → Ascends before (sorted_by before xs)
   in_order xs apart = ascends_sorted_by (order_of_all before ranks) xs (for_all xs) apart
@@ -215,7 +216,7 @@ module _ {X : Type 0} (before : X → X → Bool) (ranks : IsStrictWeakOrder bef
     pub cut : AreApart (xs ++ zs) → n ≤ length xs → first_by n (first_by n xs ++ zs) ≡ first_by n (xs ++ zs)
     cut apart many =
         let long : length (sorted_by before xs) ≡ length xs =
-        sym (length_permutation xs (sorted_by before xs) (sorted_moves before xs)) in
+        length_permutation xs (sorted_by before xs) (sorted_moves before xs) in
         let full : length (first_by n xs) ≡ n =
         length-take-le n (sorted_by before xs) (subst (λ m. n ≤ m) (sym long) many) in
         sym

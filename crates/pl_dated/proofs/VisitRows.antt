@@ -194,12 +194,12 @@ module _ (kept : Kept) where
             (sym (no_visits (page_visits kept p.page.id) none)) tt
         choose false none false = tt
 
-    alike_append : (rs ss : List Row) (as bs : List Seen) → AreAlike Tells rs as → AreAlike Tells ss bs
-        → AreAlike Tells (rs ++ ss) (as ++ bs)
-    alike_append [] ss [] bs one two = two
-    alike_append [] ss (a ∷ as) bs one two = absurd one
-    alike_append (r ∷ rs) ss [] bs one two = absurd one
-    alike_append (r ∷ rs) ss (a ∷ as) bs one two = (one.0, alike_append rs ss as bs one.1 two)
+    alike_append : (rs ss : List Row) (xs ys : List Seen) → AreAlike Tells rs xs → AreAlike Tells ss ys
+        → AreAlike Tells (rs ++ ss) (xs ++ ys)
+    alike_append [] ss [] ys one two = two
+    alike_append [] ss (x ∷ xs) ys one two = absurd one
+    alike_append (r ∷ rs) ss [] ys one two = absurd one
+    alike_append (r ∷ rs) ss (x ∷ xs) ys one two = (one.0, alike_append rs ss xs ys one.1 two)
 
     parts_alike : (ps : List KeptPage) (views : List View)
         → AllByRecursion (Contains store.pages) (map (λ (k : KeptPage). k.page) ps)

@@ -49,7 +49,7 @@ impl<'a> First<'a> {
     pub fn add(&mut self, found: FoundVisit<'a>) -> Result<(), NoMemory>
         requires { is_past_floor self.old.floor found.date ≡ false }
         ensures { OnOk result ((most : ℕ) (visits : List Seen) → Keeps most self.old visits
-            → Keeps most self.new (visits ++ seen found ∷ [])) }
+            → Keeps most self.new (visits ++ seen found.entry ∷ [])) }
     {
         self.found.push(found)?;
         if self.found.len() / 2 < self.most {
@@ -71,7 +71,7 @@ impl<'a> First<'a> {
 
     /// The first of them, in order.
     pub fn into_found(self) -> Vec<FoundVisit<'a>>
-        ensures { (most : ℕ) (visits : List Seen) → Keeps most self visits → AreApart visits
+        ensures { (most : ℕ) (visits : List Seen) → Keeps most self.entry visits → AreApart visits
             → map seen result.items ≡ first_seen most visits }
     {
         let First {

@@ -67,7 +67,7 @@ fn add_in_times<'a>(
     ensures { OnOk result ((store : Store) → conditions.IsAsked store timed.now.query.now timed.now
         → (most : ℕ) (visits : List Seen) → Keeps most first.old visits
         → Keeps most first.new (visits
-        ++ filter (λ (s : Seen). in_times store timed.now.query.now s.date) (seen found ∷ []))) }
+        ++ filter (λ (s : Seen). in_times store timed.now.query.now s.date) (seen found.entry ∷ []))) }
 {
     if !timed.is_in_times(found.date) {
         return Ok(());
