@@ -94,7 +94,7 @@ not_earlier : (a b : ℕ) → a ≤ b → nat_lt b a ≡ false
 not_earlier a b le = grind (arith, nat_tests, le)
 
 -- the last of some visits
-last_of : Seen → List Seen → Seen
+abbrev last_of : Seen → List Seen → Seen
 last_of s [] = s
 last_of s (t ∷ visits) = last_of t visits
 
@@ -241,10 +241,10 @@ module _ (most : ℕ) (first : First) (visits past : List Seen) (k : Keeps most 
 -- ---- in the end
 
 pub first_kept : (most : ℕ) (first : First) (visits : List Seen) → Keeps most first visits → AreApart visits
-    → (found : List Seen)
-    → (AreApart (map seen first.found.items) → found ≡ first_seen first.most (map seen first.found.items))
-    → found ≡ first_seen most visits
-first_kept most first visits k apart found are =
+    → (told : List Seen)
+    → (AreApart (map seen first.found.items) → told ≡ first_seen first.most (map seen first.found.items))
+    → told ≡ first_seen most visits
+first_kept most first visits k apart told are =
     let all : AreApart (visits ++ []) = subst AreApart (sym (append-nil visits)) apart in
     are
     (subst AreApart (append-nil (map seen first.found.items)) (k.apart [] all))

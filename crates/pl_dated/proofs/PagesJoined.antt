@@ -139,7 +139,7 @@ module _ (kept : Kept) (q : Query) (h : IsWellKept kept) where
       all_append (λ (s : Seen). s.date.0 ≤ date.0) (part_of kept q v) (parts_of kept q vs)
       (part_up_to v all.0.of all.0.last date all.0.is all.0.back) (parts_up_to date vs all.1)
 
-  parts_append : (vs ws : List View) → parts_of kept q (vs ++ ws) ≡ parts_of kept q vs ++ parts_of kept q ws
+  pub parts_append : (vs ws : List View) → parts_of kept q (vs ++ ws) ≡ parts_of kept q vs ++ parts_of kept q ws
   parts_append vs ws = flat_map-append (part_of kept q) vs ws
 
   -- ---- the walk

@@ -1,10 +1,11 @@
 -- The visits that a query lists, told by the views of their pages: they are the rows of its answer.
-use Rattle.std.proofs.Common.{◌≡◌, ◌≢◌, ◌∙◌, ◌++◌, ◌&&◌, ◌<◌, ℕ, Bool, true, false, List, [], ◌∷◌, Option, Some, None, Ordering}
-use Rattle.std.proofs.Common.{ap, arith, filter, if◌then◌else◌, is_lt, is_some, map, nat_cmp, refl, subst, suc, sym, take, zero}
+use Rattle.std.proofs.Common.{◌≡◌, ◌≢◌, ◌∙◌, ◌++◌, ◌&&◌, ◌==◌, ℕ, Bool, true, false, List, [], ◌∷◌, Option, Some, None, Ordering}
+use Rattle.std.proofs.Common.{ap, arith, filter, if◌then◌else◌, is_lt, is_some, map, nat_cmp, refl, subst, sym, take}
 use Rattle.std.specs.Cmp.{IsStrictWeakOrder, IsTotalOrder}
 use Rattle.std.specs.List.{AllByRecursion, AllPairs, Contains, IsDistinct, flat_map}
 use Rattle.std.specs.List.Sorted.{IsPermutation, ties}
 use Rattle.std.specs.Ordering.{ordering_reverse, ordering_then}
+use Rattle.std.proofs.lemmas.Bool.{ne_eqb}
 use Rattle.std.proofs.lemmas.Cmp.{back_total, nat_cmp_total, on_total, then_total}
 use Rattle.std.proofs.lemmas.List.Sorted.{ranks_by}
 use Rattle.std.proofs.lemmas.Map.Lookups.{exact_unsigned}
@@ -129,7 +130,7 @@ module _ (kept : Kept) where
 
   -- ---- rows in order
 
-  back_cmp : Row → Row → Ordering
+  abbrev back_cmp : Row → Row → Ordering
   back_cmp r s = ordering_then (date_cmp s.date r.date) (nat_cmp r.id s.id)
 
   back_total_rows : IsTotalOrder back_cmp
@@ -244,12 +245,13 @@ module _ (kept : Kept) where
 
       limited_is : limited q.max_results (sorted_by seen_before (parts_of kept q views))
           ≡ first_seen q.max_results (parts_of kept q views)
-      limited_is = some q.max_results asks.few
+      limited_is =
+          ap (λ (b : Bool).
+          if b then sorted_by seen_before (parts_of kept q views)
+          else take q.max_results (sorted_by seen_before (parts_of kept q views))) not_none
         where
-          some : (most : ℕ) → 0 < most → limited most (sorted_by seen_before (parts_of kept q views))
-              ≡ take most (sorted_by seen_before (parts_of kept q views))
-          some zero none = absurd (omega (arith, none))
-          some (suc n) few = refl
+          not_none : (q.max_results == 0) ≡ false
+          not_none = let few = asks.few in ne_eqb q.max_results 0 (λ same. omega (arith, few, same))
 
       -- what is told of the first visits is what is told of the answer's rows
       pub visits_told : map row_of_seen (first_seen q.max_results (parts_of kept q views))

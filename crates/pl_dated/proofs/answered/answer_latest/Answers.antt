@@ -1,7 +1,9 @@
 use Rattle.std.proofs.lemmas.Result.{IfOk-weaker}
-use Rattle.std.proofs.Common.{ap, subst, sym}
+use Rattle.std.proofs.Common.{◌∙◌, ap, map, subst}
 use Rattle.pl_place.specs.declared.query.Query.{Query}
-use Rattle.pl_dated.specs.Listed.{FirstOf}
+use Rattle.pl_dated.specs.declared.first.FoundVisit.{FoundVisit}
+use Rattle.pl_dated.specs.Latest.{seen}
+use Rattle.pl_dated.specs.Listed.{FirstOf, row_of_seen}
 use Rattle.pl_dated.proofs.LatestTold.{latest_told}
 use Rattle.pl_dated.proofs.answered.answer_latest.Goals as goal
 
@@ -16,5 +18,6 @@ returns g c =
     (λ rows told.
     latest_told kept q c.requires.latest c.requires.good (g.met.R.Rows.well_kept c.args.rows.now) views
     c.requires.knows.views c.in_ok-first.first f c.into_found.result.items
-    (c.into_found.ensures q.max_results f.visits) rows.items told)
+    (c.into_found.ensures q.max_results f.visits) rows.items
+    (told ∙ ap (map (λ (v : FoundVisit). row_of_seen (seen v))) c.deref.ensures.value))
     c.result_rows.ensures
