@@ -1,6 +1,6 @@
 -- The visits that a query lists, told by the views of their pages: they are the rows of its answer.
 use Rattle.std.proofs.Common.{◌≡◌, ◌≢◌, ◌∙◌, ◌++◌, ◌&&◌, ◌==◌, ℕ, Bool, true, false, List, [], ◌∷◌, Option, Some, None, Ordering}
-use Rattle.std.proofs.Common.{ap, arith, filter, if◌then◌else◌, is_lt, is_some, map, nat_cmp, refl, subst, sym, take}
+use Rattle.std.proofs.Common.{ap, arith, filter, if◌then◌else◌, is_lt, is_some, length, map, nat_cmp, refl, subst, sym, take}
 use Rattle.std.specs.Cmp.{IsStrictWeakOrder, IsTotalOrder}
 use Rattle.std.specs.List.{AllByRecursion, AllPairs, Contains, IsDistinct, flat_map}
 use Rattle.std.specs.List.Sorted.{IsPermutation, ties}
@@ -10,6 +10,8 @@ use Rattle.std.proofs.lemmas.Cmp.{back_total, nat_cmp_total, on_total, then_tota
 use Rattle.std.proofs.lemmas.List.Sorted.{ranks_by}
 use Rattle.std.proofs.lemmas.Map.Lookups.{exact_unsigned}
 use Rattle.pl_base.specs.declared.date.Micros.{Micros}
+use Rattle.pl_base.specs.declared.id.ItemId.{ItemId}
+use Rattle.pl_base.specs.declared.transition.Transition.{Transition}
 use Rattle.pl_base.specs.declared.view.View.{View}
 use Rattle.pl_base.specs.Good.{IsGood}
 use Rattle.pl_base.specs.Marks.{last_date_of}
@@ -31,7 +33,7 @@ use Rattle.pl_place.specs.declared.sort.Sort.TheVariants.{By, Unsorted}
 use Rattle.pl_place.specs.declared.sort.SortKey.TheVariants.{Date}
 use Rattle.pl_query.specs.declared.result_row.ResultRow.{ResultRow}
 use Rattle.pl_query.specs.Candidates.{visits_in_times, visits_part}
-use Rattle.pl_query.specs.Decides.{decides}
+use Rattle.pl_query.specs.Decides.{decides, is_watchable}
 use Rattle.pl_query.specs.Order.{Row, comes_before, date_cmp}
 use Rattle.pl_query.specs.QueryAnswer.{answer, has_visit_in_times, history_row, limited, rows_of, told_row, visit_rows}
 use Rattle.pl_query.specs.Subjects.{row_of_visit}
@@ -96,8 +98,19 @@ decides_visits : (store : Store) (q : Query) (p : Page) (v : View) → AsksForLa
     → Contains store.pages p → IsViewOf store p v
     → decides q v ≡ (is_some (last_date_of store p.id) && history_holds store q p)
 decides_visits store q p v asks good among is =
-    decided store (untimed q) p v good among (rw (asks.transitions, asks.parents) refl) is
+    decided store (untimed q) p v good among watchable is
     ∙ ap (λ (b : Bool). b && history_holds store q p) (sym (last_told store (untimed q) p.id refl refl))
+  where
+    both : (a b : Bool) → a ≡ true → b ≡ true → (true && true && true && a && b && true) ≡ true
+    both true true one two = refl
+    both true false one two = absurd (cc)
+    both false b one two = absurd (cc)
+
+    watchable : is_watchable (untimed q) ≡ true
+    watchable =
+        both (length q.transitions == 0) (length q.parents == 0)
+        (ap (λ (ts : List Transition). length ts == 0) asks.transitions)
+        (ap (λ (ps : List ItemId). length ps == 0) asks.parents)
 
 -- ---- a row and a visit
 
