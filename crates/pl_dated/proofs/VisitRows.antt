@@ -56,7 +56,7 @@ first_date (v ∷ vs) = Some v.date
 -- ---- the conditions
 
 -- the query without its times, for pages in no order
-untimed : Query → Query
+abbrev untimed : Query → Query
 untimed q =
     record {
       begin_time = None;
