@@ -7,7 +7,7 @@ pub mod KeyOrder
 mod NextAhead
 mod NextViews
 pub mod SortedParts
-mod TakenViews
+pub mod TakenViews
 mod ViewRows
 pub mod ViewsWalk
 pub mod WalkOrder

@@ -9,3 +9,5 @@ mod walk;
 mod ways;
 
 pub use answered::answer;
+pub use asked::{Asked, decides};
+pub use walk::{KeptOrder, next_view};

@@ -1,0 +1,10 @@
+mod CutFound
+mod FirstLaws
+mod LatestTold
+mod OverVisits
+mod PagesJoined
+mod PagesWalk
+mod SeenOrder
+mod SkipLaws
+mod VisitRows
+mod VisitsWalk
