@@ -75,7 +75,9 @@ impl<'a> First<'a> {
             → map seen result.items ≡ first_seen most visits }
     {
         let First {
-            mut found, most, ..
+            mut found,
+            most,
+            ..
         } = self;
         cut(&mut found, most);
         found

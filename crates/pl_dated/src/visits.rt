@@ -31,9 +31,7 @@ fn is_too_early(timed: &Timed<'_>, date: Micros) -> bool
         → result ≡ not (is_not_before store timed.now.query.now.begin_time
         timed.now.query.now.begin_ref date) }
 {
-    timed
-        .begin
-        .is_some_and(|begin| i128::from(date.0) < begin)
+    timed.begin.is_some_and(|begin| i128::from(date.0) < begin)
 }
 
 // Whether no visit of the date or an earlier one is among the first that are listed.
