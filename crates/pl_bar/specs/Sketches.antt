@@ -18,8 +18,8 @@ sketch_of_words (word ∷ words) = union (sketch_of word) (sketch_of_words words
 -- the sketch is that of the folded texts of the page
 abbrev pub TellsTexts : FoldedTexts → PageId → Sketch → Type 0
 TellsTexts texts page sketch =
-    (views : List View) (folded : Folded) → KeepsTexts texts views → texts_of page views ≡ Some folded
-    → sketch ≡ sketch_of_texts folded
+    (views : List View) (folded : Folded) → KeepsTexts texts views
+    → texts_of page views ≡ Some folded → sketch ≡ sketch_of_texts folded
 
 -- so it is of each of these entries by frecency
 abbrev pub AreSketched : FoldedTexts → List ((ℤ × PageId) × Sketch) → Type 0

@@ -19,7 +19,7 @@ use Rattle.pl_query.specs.Decides.{decides}
 use Rattle.pl_dated.specs.declared.first.First.{First}
 use Rattle.pl_dated.specs.Latest.{AreApart, Keeps, Seen, is_past_floor}
 
--- the first visits are asked for, the latest first, of pages without regard to transitions and folders
+-- the first visits are asked for, the latest first, without regard to transitions and folders
 pub record AsksForLatest (q : Query) : Type 0 where
   pub history : q.query_type ≡ History
   pub visits : q.result_type ≡ Visits

@@ -86,12 +86,12 @@ is_below cmp x y = is_lt (cmp x y)
 
 -- ---- what is kept
 
--- the views are in the order of their ids, and the map has their entries, from the last to the first
+-- the views ascend by id, and the map has their entries, from the last to the first
 pub record KeepsEntries (kept : BTreeMap (ℤ × PageId) Sketch) (views : List View) : Type 0 where
   pub ordered : AreInOrder views
   pub entries : kept.entries ≡ sorted_by (λ x y. leads y x) (entries_of views)
 
--- the map has the entries of the views, and the set their ranks by visit, from the last to the first
+-- the map has the entries of the views, and the set their ranks by visit, from the last on
 pub record Orders (index : OrderIndex) (views : List View) : Type 0 where
   pub frecencies : KeepsEntries index.frecencies views
   pub visits : index.visits.keys ≡ sorted_by (λ x y. is_later y x) (visit_ranks views)

@@ -31,8 +31,8 @@ use Rattle.pl_slot.proofs.ArenaLaws.{free_slot, live_slot}
 use Rattle.pl_slot.proofs.SlotPlaces.{slot_bounds}
 use Rattle.pl_text.specs.Chunks.{Hold, chunk_row}
 
--- ---- the store: a typed visit to a page with a title and a bookmark, a redirect from it to another
--- ---- page, and a separator behind the bookmark
+-- ---- the store: a typed visit to a page with a title and a bookmark, a redirect from it to
+-- ---- another page, and a separator behind the bookmark
 
 abbrev page_id : ℕ → PageId
 page_id n = record { 0 = n }
