@@ -6,7 +6,8 @@ ghost use Rattle.pl_base.specs.Rows.{IsSound, store_of};
 ghost use Rattle.pl_base.specs.Touched.{IsWithin, MayDiffer, bytes_before, changed};
 ghost use Rattle.pl_base.specs.Touched.{page_numbers};
 ghost use Rattle.pl_nbwrite.specs.Plain.{IsPlain};
-ghost use Rattle.pl_outline.specs.Outline.{bookmarks};
+ghost use Rattle.pl_outline.specs.Outline.{bookmarks, whole};
+ghost use Rattle.pl_outline.specs.Whole.{IsWhole};
 ghost use Rattle.pl_known.specs.Known.{Knows};
 ghost use Rattle.pl_known.specs.Props.{props};
 ghost use Rattle.pl_step.specs.Commands.{HasDates, MayWantMemory, is_change};
@@ -23,7 +24,7 @@ use pl_base::{NoMemory, Refusal, Rows, Steps, Touched};
 use pl_changes::known_of;
 use pl_known::Known;
 use pl_nbread::Tree;
-use pl_outline::tree;
+use pl_outline::{tree, whole_tree};
 use pl_step::{Command, Reply, StepError};
 use std::alloc::Global;
 use std::sync::ledger::Ledger;
@@ -192,6 +193,14 @@ impl<R: Rows + Drop> Engine<R> {
         ensures returns { IfOk result (λ tree. (limit : ℕ) → Returns limit tree) }
     {
         tree(self.alloc, &self.rows, steps)
+    }
+
+    /// The same with all that the store has of them.
+    pub fn whole_tree<L: Ledger>(&self, steps: &mut Steps<L>) -> Result<Tree, NoMemory>
+        ensures tree { IfOk result (λ tree. tree ≡ whole (store_of (R.kept self.now.rows))) }
+        ensures whole { IfOk result IsWhole }
+    {
+        whole_tree(self.alloc, &self.rows, steps)
     }
 
     /// The pages of the store's bytes that changed since the last such call, or

@@ -29,7 +29,7 @@ use Rattle.pl_nbread.specs.WellFormed.{is_bookmark}
 use Rattle.pl_words.specs.TagName.{is_tag_name}
 use Rattle.pl_words.proofs.TagTests.{test_of_name}
 use Rattle.pl_graft.specs.Ready.{IsReady}
-use Rattle.pl_outline.specs.Outline.{listed, node_of, preorder, tags_at, titled_node, whole_seconds}
+use Rattle.pl_outline.specs.Outline.{in_seconds, listed, node_of, preorder, tags_at, whole_node, whole_seconds}
 use Rattle.pl_outline.proofs.Bare.{HasPages, retagged, url_tags}
 use Rattle.pl_outline.proofs.PagesMore.{of_looked_up, own_page}
 use Rattle.pl_outline.proofs.TagsMade.{MayCome}
@@ -192,7 +192,7 @@ item_may_come store tags depth i good = choose i.kind refl
     titled : (kind : ItemKind)
         → (if is_bookmark kind then is_some (option_and_then (page_url store) i.page)
         else not (is_some (option_and_then (page_url store) i.page))) ≡ true
-        → MayCome (IsKnown store) (record (titled_node store depth i) { kind = kind })
+        → MayCome (IsKnown store) (record (in_seconds (whole_node store depth i)) { kind = kind })
     titled kind fits =
         record {
           formed = record {

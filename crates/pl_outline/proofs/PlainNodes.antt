@@ -15,7 +15,7 @@ use Rattle.pl_base.specs.declared.id.PageId.{PageId}
 use Rattle.pl_base.specs.declared.item.ItemKind.{ItemKind}
 use Rattle.pl_base.specs.declared.item.ItemKind.TheVariants.{Bookmark, Folder, Separator}
 use Rattle.pl_base.specs.Address.{canon}
-use Rattle.pl_base.specs.Date.{IsDate}
+use Rattle.pl_base.specs.Date.{IsDate, last_date}
 use Rattle.pl_base.specs.Good.{IsGood, IsGoodItem, IsGoodPage, has_page_at, longest_title}
 use Rattle.pl_base.specs.Store.{Item, Page, Store, page_url}
 use Rattle.pl_base.proofs.ListLaws.{found_in}
@@ -28,7 +28,8 @@ use Rattle.pl_nbread.specs.Listed.{IsOwn}
 use Rattle.pl_nbwrite.specs.Plain.{IsKept, is_bare, is_whole}
 use Rattle.pl_words.specs.TagLists.{each_once, is_same_tag}
 use Rattle.pl_words.specs.TagName.{is_tag_name}
-use Rattle.pl_outline.specs.Outline.{node_of, separator_node, tags_at, titled_node, whole_seconds}
+use Rattle.pl_outline.specs.Outline.{in_seconds, node_of, separator_node, tags_at, whole_node, whole_seconds}
+use Rattle.pl_outline.specs.Whole.{IsWholeNode}
 use Rattle.pl_outline.proofs.TagsOnce.{tags_named, tags_once}
 
 -- ---- URLs
@@ -82,8 +83,12 @@ in_range date is = le-leb _ _ (omega (arith, is))
 
 -- ---- a node
 
+-- an item with dates in whole seconds
+abbrev titled_node : Store → ℕ → Item → Node
+titled_node store depth i = in_seconds (whole_node store depth i)
+
 -- what holds of the node of an item, by its kind
-pub by_kind : (store : Store) (depth : ℕ) (i : Item) (P : Node → Type 0)
+by_kind : (store : Store) (depth : ℕ) (i : Item) (P : Node → Type 0)
     → (i.kind ≡ Bookmark → P (titled_node store depth i)) → (i.kind ≡ Folder → P (titled_node store depth i))
     → (i.kind ≡ Separator → P (separator_node depth)) → P (node_of store depth i)
 by_kind store depth i P bookmark folder separator = choose i.kind refl
@@ -120,15 +125,30 @@ module _ (store : Store) (good : IsGood store) (depth : ℕ) (i : Item) (own : I
       bookmark Separator is = absurd (true≢false (sym is))
   url_as false is = ap (λ (o : Option PageId). not (is_some (option_and_then (page_url store) o))) (no_page is)
 
-  titled_formed : is_formed (titled_node store depth i) ≡ true
-  titled_formed =
+  formed_with : (added modified : Micros) → is_date added ≡ true → is_date modified ≡ true
+      → is_formed (record (whole_node store depth i) { added = added; modified = modified }) ≡ true
+  formed_with added modified fits follows =
       and_from _ _
       (and_from _ _
-      (and_from _ _
-      (and_from _ _ (url_as (is_bookmark i.kind) refl) (in_range i.added own.added))
-      (in_range i.modified own.modified))
-      (tags_formed store good i.page).0)
+      (and_from _ _ (and_from _ _ (url_as (is_bookmark i.kind) refl) fits) follows) (tags_formed store good i.page).0)
       (tags_formed store good i.page).1
+
+  titled_formed : is_formed (titled_node store depth i) ≡ true
+  titled_formed =
+      formed_with (whole_seconds i.added) (whole_seconds i.modified) (in_range i.added own.added)
+      (in_range i.modified own.modified)
+
+  pub whole_formed : is_formed (whole_node store depth i) ≡ true
+  whole_formed =
+      formed_with i.added i.modified (le-leb i.added.0 last_date own.added) (le-leb i.modified.0 last_date own.modified)
+
+  pub whole_is : IsWholeNode (whole_node store depth i)
+  whole_is =
+      record {
+        title = is_utf8-from_IsUtf8 i.title own.title.0;
+        url = urls_own store good i.page;
+        tags = λ other. ap (tags_at store) (no_page other);
+      }
 
   titled_kept : is_bare i.kind (titled_node store depth i) ≡ true → IsKept (titled_node store depth i)
   titled_kept bare =
@@ -164,13 +184,19 @@ module _ (store : Store) (good : IsGood store) (depth : ℕ) (i : Item) (own : I
       (λ _. ap is_folder folder) (λ is. absurd (true≢false (sym (ap is_folder folder) ∙ ap is_folder is)))
 
   -- only a folder has children
-  pub node_holds : (i.children ≡ []) ⊎ (is_folder (node_of store depth i).kind ≡ true)
-  node_holds = choose i.children refl
+  holds : (node : Node) → (i.kind ≡ Folder → is_folder node.kind ≡ true)
+      → (i.children ≡ []) ⊎ (is_folder node.kind ≡ true)
+  holds node shown = choose i.children refl
     where
-      choose : (ids : List ItemId) → i.children ≡ ids
-          → (i.children ≡ []) ⊎ (is_folder (node_of store depth i).kind ≡ true)
+      choose : (ids : List ItemId) → i.children ≡ ids → (i.children ≡ []) ⊎ (is_folder node.kind ≡ true)
       choose [] is = inl is
-      choose (id ∷ ids) is = inr (folder_shown (own.children (λ none. cc)))
+      choose (id ∷ ids) is = inr (shown (own.children (λ none. cc)))
+
+  pub node_holds : (i.children ≡ []) ⊎ (is_folder (node_of store depth i).kind ≡ true)
+  node_holds = holds (node_of store depth i) folder_shown
+
+  pub whole_holds : (i.children ≡ []) ⊎ (is_folder (whole_node store depth i).kind ≡ true)
+  whole_holds = holds (whole_node store depth i) (λ folder. ap is_folder folder)
 
 -- the depth of a node is the one that is given
 pub node_depth : (store : Store) (depth : ℕ) (i : Item) → (node_of store depth i).depth ≡ depth

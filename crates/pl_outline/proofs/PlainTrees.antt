@@ -1,5 +1,6 @@
--- The bookmarks of a good store are kept by a file, and each of their lists by a store too.
-use Rattle.std.proofs.Common.{◌≡◌, ◌≤◌, ◌==◌, ℕ, true, All, length, refl}
+-- The bookmarks of a good store are kept by a file, and each of their lists by a store too; its whole
+-- tree is whole.
+use Rattle.std.proofs.Common.{◌≡◌, ◌≤◌, ◌==◌, ◌⊎◌, ℕ, true, All, List, [], length, refl}
 use Rattle.std.proofs.lemmas.List.Elements.{All-from_recursion, recursion_from_All}
 use Rattle.std.proofs.lemmas.List.Sums.{list_all-from_AllPass}
 use Rattle.pl_base.specs.declared.id.ItemId.{ItemId}
@@ -7,11 +8,14 @@ use Rattle.pl_base.specs.Good.{IsGood, IsGoodItem, longest_title}
 use Rattle.pl_base.specs.Store.{Item, Store, item_id}
 use Rattle.pl_base.proofs.LookUps.{found_holds}
 use Rattle.pl_nbread.specs.declared.tree.Node.{Node}
-use Rattle.pl_nbread.specs.WellFormed.{is_formed}
+use Rattle.pl_nbread.specs.Listed.{IsListed}
+use Rattle.pl_nbread.specs.WellFormed.{is_folder, is_formed}
 use Rattle.pl_nbwrite.specs.Plain.{IsKept, IsPlain}
-use Rattle.pl_outline.specs.Outline.{bookmarks, listed, node_of}
+use Rattle.pl_outline.specs.Outline.{all_below, bookmarks, listed, node_of, whole, whole_node}
+use Rattle.pl_outline.specs.Whole.{IsWhole, IsWholeNode}
 use Rattle.pl_outline.proofs.Bare.{AreStorable}
 use Rattle.pl_outline.proofs.PlainNodes.{node_depth, node_formed, node_holds, node_kept, node_short}
+use Rattle.pl_outline.proofs.PlainNodes.{whole_formed, whole_holds, whole_is}
 use Rattle.pl_outline.proofs.PreorderLaws.{IsFound, all_shown, begins_below, preorder_below}
 
 module _ (store : Store) (good : IsGood store) where
@@ -20,31 +24,64 @@ module _ (store : Store) (good : IsGood store) where
       found_holds (IsGoodItem store) (λ (j : Item). j.id.0 == i.id.0) store.items i
       (recursion_from_All (IsGoodItem store) store.items good.items) found
 
-  -- what holds of the node of each good item holds of all nodes of a root
-  pub all_listed : (P : Node → Type 0) → ((depth : ℕ) (i : Item) → IsGoodItem store i → P (node_of store depth i))
-      → (root : ItemId) → All P (listed store root)
-  all_listed P holds root =
-      All-from_recursion P (listed store root)
-      (all_shown P (node_of store) store.items (λ depth i found. holds depth i (found_good i found))
-      (length store.items) 0 root)
+  -- what is shown of each good item holds of all that is shown below a root
+  all_listed : (show : ℕ → Item → Node) (P : Node → Type 0)
+      → ((depth : ℕ) (i : Item) → IsGoodItem store i → P (show depth i)) → (root : ItemId)
+      → All P (all_below show store.items root)
+  all_listed show P holds root =
+      All-from_recursion P (all_below show store.items root)
+      (all_shown P show store.items (λ depth i found. holds depth i (found_good i found)) (length store.items) 0 root)
+
+  -- what is shown below a root is listed
+  root_listed : (show : ℕ → Item → Node) → ((depth : ℕ) (i : Item) → (show depth i).depth ≡ depth)
+      → ((depth : ℕ) (i : Item) → IsGoodItem store i → (i.children ≡ []) ⊎ (is_folder (show depth i).kind ≡ true))
+      → ((depth : ℕ) (i : Item) → IsGoodItem store i → is_formed (show depth i) ≡ true) → (root : ItemId)
+      → IsListed (all_below show store.items root)
+  root_listed show depths holds formed root =
+      let nodes : List Node = all_below show store.items root in
+      let below =
+      preorder_below show store.items depths (λ depth i found. holds depth i (found_good i found))
+      (length store.items) 0 root in
+      record {
+        begins = begins_below nodes below;
+        goes_on = below.on;
+        formed =
+            list_all-from_AllPass is_formed nodes (all_listed show (λ (n : Node). is_formed n ≡ true) formed root);
+      }
 
   root_storable : (root : ItemId) → AreStorable (listed store root)
   root_storable root =
-      let below =
-      preorder_below (node_of store) store.items (node_depth store)
-      (λ depth i found. node_holds store good depth i (found_good i found)) (length store.items) 0 root in
+      record {
+        listed =
+            root_listed (node_of store) (node_depth store) (node_holds store good) (node_formed store good) root;
+        kept = all_listed (node_of store) IsKept (node_kept store good) root;
+        short =
+            all_listed (node_of store) (λ (n : Node). length n.title ≤ longest_title)
+            (λ depth i own. node_short store good depth i own) root;
+      }
+
+  whole_listed : (root : ItemId) → IsListed (all_below (whole_node store) store.items root)
+  whole_listed root =
+      root_listed (whole_node store) (λ depth i. refl) (whole_holds store good) (whole_formed store good) root
+
+  whole_nodes : (root : ItemId) → All IsWholeNode (all_below (whole_node store) store.items root)
+  whole_nodes root = all_listed (whole_node store) IsWholeNode (whole_is store good) root
+
+  -- the whole tree is one that is whole
+  pub whole_tree_is : IsWhole (whole store)
+  whole_tree_is =
       record {
         listed = record {
-          begins = begins_below (listed store root) below;
-          goes_on = below.on;
-          formed =
-              list_all-from_AllPass is_formed (listed store root)
-              (all_listed (λ (n : Node). is_formed n ≡ true) (node_formed store good) root);
+          menu = whole_listed (item_id 2);
+          toolbar = whole_listed (item_id 3);
+          unfiled = whole_listed (item_id 5);
+          mobile = whole_listed (item_id 6);
         };
-        kept = all_listed IsKept (node_kept store good) root;
-        short =
-            all_listed (λ (n : Node). length n.title ≤ longest_title) (λ depth i own. node_short store good depth i own)
-            root;
+        menu = whole_nodes (item_id 2);
+        toolbar = whole_nodes (item_id 3);
+        unfiled = whole_nodes (item_id 5);
+        mobile = whole_nodes (item_id 6);
+        skipped = refl;
       }
 
 -- a file and a store keep what stands in a root

@@ -1,3 +1,5 @@
 pub mod KnownTags
 pub mod Outline
 pub mod Pile
+pub mod Shown
+pub mod Whole

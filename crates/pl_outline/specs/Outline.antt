@@ -39,18 +39,23 @@ abbrev pub tags_at : Store → Option PageId → List (List ℕ)
 tags_at store None = []
 tags_at store (Some page) = page_tags store page
 
--- a bookmark with the address and the tags of its page, or a folder
-abbrev pub titled_node : Store → ℕ → Item → Node
-titled_node store depth i =
+-- all of an item, with the address and the tags of its page
+abbrev pub whole_node : Store → ℕ → Item → Node
+whole_node store depth i =
     record {
       depth = depth;
       kind = i.kind;
       url = option_and_then (page_url store) i.page;
       title = i.title;
-      added = whole_seconds i.added;
-      modified = whole_seconds i.modified;
+      added = i.added;
+      modified = i.modified;
       tags = tags_at store i.page;
     }
+
+-- a node with dates in whole seconds
+abbrev pub in_seconds : Node → Node
+in_seconds node =
+    record node { added = whole_seconds node.added; modified = whole_seconds node.modified }
 
 -- a separator, of which nothing is kept but its place
 abbrev pub separator_node : ℕ → Node
@@ -65,14 +70,18 @@ separator_node depth =
       tags = [];
     }
 
-abbrev node_by : ItemKind → Store → ℕ → Item → Node
-node_by Bookmark store depth i = titled_node store depth i
-node_by Folder store depth i = titled_node store depth i
-node_by Separator store depth i = separator_node depth
+abbrev kept_by : ItemKind → Node → Node
+kept_by Bookmark node = in_seconds node
+kept_by Folder node = in_seconds node
+kept_by Separator node = separator_node node.depth
 
--- the node of an item
+-- what a bookmark file keeps of a node
+abbrev pub kept : Node → Node
+kept node = kept_by node.kind node
+
+-- what a bookmark file keeps of an item
 abbrev pub node_of : Store → ℕ → Item → Node
-node_of store depth i = node_by i.kind store depth i
+node_of store depth i = kept (whole_node store depth i)
 
 -- ---- the tree
 
@@ -80,13 +89,21 @@ node_of store depth i = node_by i.kind store depth i
 abbrev pub listed : Store → ItemId → List Node
 listed store root = all_below (node_of store) store.items root
 
--- the bookmarks of a store
-abbrev pub bookmarks : Store → Tree
-bookmarks store =
+-- the tree of what stands in the four roots, each item shown so
+abbrev pub shown_tree : (Store → ℕ → Item → Node) → Store → Tree
+shown_tree show store =
     record {
-      menu = listed store (item_id 2);
-      toolbar = listed store (item_id 3);
-      unfiled = listed store (item_id 5);
-      mobile = listed store (item_id 6);
+      menu = all_below (show store) store.items (item_id 2);
+      toolbar = all_below (show store) store.items (item_id 3);
+      unfiled = all_below (show store) store.items (item_id 5);
+      mobile = all_below (show store) store.items (item_id 6);
       skipped = 0;
     }
+
+-- the bookmarks of a store, as a bookmark file keeps them
+abbrev pub bookmarks : Store → Tree
+bookmarks store = shown_tree node_of store
+
+-- the whole tree of a store: all of each item
+abbrev pub whole : Store → Tree
+whole store = shown_tree whole_node store

@@ -5,4 +5,4 @@ mod node;
 mod outline;
 mod tags;
 
-pub use outline::tree;
+pub use outline::{tree, whole_tree};

@@ -7,6 +7,7 @@ ghost use Rattle.pl_base.specs.Store.{page_url};
 ghost use Rattle.pl_base.specs.Tree.{has_item, item_at};
 ghost use Rattle.pl_outline.specs.KnownTags.{KnowsTags};
 ghost use Rattle.pl_outline.specs.Outline as spec;
+ghost use Rattle.pl_outline.specs.Shown.{node_as};
 
 use crate::tags::KnownTags;
 use pl_base::{
@@ -18,6 +19,14 @@ use pl_nbread::Node;
 use pl_words::TagName;
 use std::alloc::Global;
 use std::sync::ledger::Ledger;
+
+/// What a tree shows of each item.
+#[derive(Clone, Copy, Debug)]
+pub(crate) enum Shown {
+    /// What a bookmark file keeps.
+    Kept,
+    Whole,
+}
 
 fn whole_seconds(date: Micros) -> Micros
     ensures { result ≡ spec.whole_seconds date }
@@ -63,6 +72,7 @@ fn tags<R: Rows, L: Ledger>(
     }
 }
 
+// What a bookmark file keeps of a separator.
 fn separator(alloc: Global, depth: u32) -> Node
     ensures { result ≡ spec.separator_node depth }
 {
@@ -77,8 +87,20 @@ fn separator(alloc: Global, depth: u32) -> Node
     }
 }
 
-/// The node of an item at a depth.
-pub(crate) fn node<R: Rows, L: Ledger>(
+// What a bookmark file keeps of a node.
+fn kept(alloc: Global, mut node: Node) -> Node
+    ensures { result ≡ spec.kept node }
+{
+    if node.kind == ItemKind::Separator {
+        return separator(alloc, node.depth);
+    }
+    node.added = whole_seconds(node.added);
+    node.modified = whole_seconds(node.modified);
+    node
+}
+
+// All of an item at a depth.
+fn whole_node<R: Rows, L: Ledger>(
     alloc: Global,
     rows: &R,
     item: ItemId,
@@ -91,20 +113,42 @@ pub(crate) fn node<R: Rows, L: Ledger>(
     requires known { KnowsTags (store_of (R.kept rows.now)) known.old }
     ensures known { OnOk result (KnowsTags (store_of (R.kept rows.now)) known.new) }
     ensures node { IfOk result (λ node. Some node
-        ≡ option_map (spec.node_of (store_of (R.kept rows.now)) depth)
+        ≡ option_map (spec.whole_node (store_of (R.kept rows.now)) depth)
         (item_at (R.kept rows.now).items item)) }
 {
     let row = rows.item_at(item, steps).unwrap();
-    if row.kind == ItemKind::Separator {
-        return Ok(separator(alloc, depth));
-    }
     Ok(Node {
         depth,
         kind: row.kind,
         url: address(alloc, rows, row.page, steps)?,
         title: rows.item_title(item, steps)?,
-        added: whole_seconds(row.added),
-        modified: whole_seconds(row.modified),
+        added: row.added,
+        modified: row.modified,
         tags: tags(alloc, rows, row.page, known, steps)?,
+    })
+}
+
+/// What is shown of an item at a depth.
+pub(crate) fn node<R: Rows, L: Ledger>(
+    alloc: Global,
+    rows: &R,
+    item: ItemId,
+    depth: u32,
+    shown: Shown,
+    known: &mut KnownTags,
+    steps: &mut Steps<L>,
+) -> Result<Node, NoMemory>
+    requires item { has_item (R.kept rows.now).items item ≡ true }
+    requires good { IsGood (store_of (R.kept rows.now)) }
+    requires known { KnowsTags (store_of (R.kept rows.now)) known.old }
+    ensures known { OnOk result (KnowsTags (store_of (R.kept rows.now)) known.new) }
+    ensures node { IfOk result (λ node. Some node
+        ≡ option_map (node_as shown (store_of (R.kept rows.now)) depth)
+        (item_at (R.kept rows.now).items item)) }
+{
+    let node = whole_node(alloc, rows, item, depth, known, steps)?;
+    Ok(match shown {
+        Shown::Kept => kept(alloc, node),
+        Shown::Whole => node,
     })
 }

@@ -6,10 +6,13 @@ ghost use Rattle.pl_base.specs.Store.{opening};
 ghost use Rattle.pl_graft.specs.Import.{imported};
 ghost use Rattle.pl_nbwrite.specs.Plain.{IsPlain};
 ghost use Rattle.pl_outline.specs.KnownTags.{KnowsTags};
-ghost use Rattle.pl_outline.specs.Outline.{bookmarks, listed};
+ghost use Rattle.pl_outline.specs.Outline as spec;
+ghost use Rattle.pl_outline.specs.Outline.{all_below, bookmarks, whole};
 ghost use Rattle.pl_outline.specs.Pile.{placed};
+ghost use Rattle.pl_outline.specs.Shown.{node_as};
+ghost use Rattle.pl_outline.specs.Whole.{IsWhole};
 
-use crate::node::node;
+use crate::node::{Shown, node};
 use crate::tags::KnownTags;
 use pl_base::{ItemId, NoMemory, Rows, Seq, Steps};
 use pl_nbread::{Node, Tree};
@@ -39,19 +42,21 @@ fn list<R: Rows, L: Ledger>(
     alloc: Global,
     rows: &R,
     root: ItemId,
+    shown: Shown,
     known: &mut KnownTags,
     steps: &mut Steps<L>,
 ) -> Result<Seq<Node>, NoMemory>
     requires good { IsGood (store_of (R.kept rows.now)) }
     requires known { KnowsTags (store_of (R.kept rows.now)) known.old }
-    ensures nodes { IfOk result (λ nodes. nodes ≡ listed (store_of (R.kept rows.now)) root) }
+    ensures nodes { IfOk result (λ nodes. nodes
+        ≡ all_below (node_as shown (store_of (R.kept rows.now))) (R.kept rows.now).items root) }
     ensures known { OnOk result (KnowsTags (store_of (R.kept rows.now)) known.new) }
 {
     let mut nodes = Vec::new(alloc);
     let mut places = Vec::new(alloc);
     push(&mut places, rows.first_child(root, steps), 0)?;
     while let Some(place) = places.pop() {
-        nodes.push(node(alloc, rows, place.item, place.depth, known, steps)?)?;
+        nodes.push(node(alloc, rows, place.item, place.depth, shown, known, steps)?)?;
         push(
             &mut places,
             rows.next_sibling(place.item, steps),
@@ -64,6 +69,27 @@ fn list<R: Rows, L: Ledger>(
         )?;
     }
     Ok(Seq::from(nodes))
+}
+
+// The tree of a store, each item shown so.
+fn shown_tree<R: Rows, L: Ledger>(
+    alloc: Global,
+    rows: &R,
+    shown: Shown,
+    steps: &mut Steps<L>,
+) -> Result<Tree, NoMemory>
+    requires { IsGood (store_of (R.kept rows.now)) }
+    ensures { IfOk result (λ tree. tree
+        ≡ spec.shown_tree (node_as shown) (store_of (R.kept rows.now))) }
+{
+    let mut known = KnownTags::new(alloc);
+    Ok(Tree {
+        menu: list(alloc, rows, ItemId(2), shown, &mut known, steps)?,
+        toolbar: list(alloc, rows, ItemId(3), shown, &mut known, steps)?,
+        unfiled: list(alloc, rows, ItemId(5), shown, &mut known, steps)?,
+        mobile: list(alloc, rows, ItemId(6), shown, &mut known, steps)?,
+        skipped: 0,
+    })
 }
 
 /// The bookmarks of a store: the menu, the toolbar, the unfiled and the mobile ones.
@@ -80,12 +106,19 @@ pub fn tree<R: Rows, L: Ledger>(
     ensures plain { IfOk result IsPlain }
     ensures returns { IfOk result (λ tree. bookmarks (imported tree opening) ≡ tree) }
 {
-    let mut known = KnownTags::new(alloc);
-    Ok(Tree {
-        menu: list(alloc, rows, ItemId(2), &mut known, steps)?,
-        toolbar: list(alloc, rows, ItemId(3), &mut known, steps)?,
-        unfiled: list(alloc, rows, ItemId(5), &mut known, steps)?,
-        mobile: list(alloc, rows, ItemId(6), &mut known, steps)?,
-        skipped: 0,
-    })
+    shown_tree(alloc, rows, Shown::Kept, steps)
+}
+
+/// The same with all that the store has of them: dates to the microsecond, and the titles and
+/// dates of separators.
+pub fn whole_tree<R: Rows, L: Ledger>(
+    alloc: Global,
+    rows: &R,
+    steps: &mut Steps<L>,
+) -> Result<Tree, NoMemory>
+    requires { IsGood (store_of (R.kept rows.now)) }
+    ensures tree { IfOk result (λ tree. tree ≡ whole (store_of (R.kept rows.now))) }
+    ensures whole { IfOk result IsWhole }
+{
+    shown_tree(alloc, rows, Shown::Whole, steps)
 }

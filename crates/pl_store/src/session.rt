@@ -35,7 +35,8 @@ impl Session {
     ghost use Rattle.pl_engine.specs.Idle.{IsIdle};
     ghost use Rattle.pl_engine.specs.Returns.{Returns};
     ghost use Rattle.pl_nbwrite.specs.Plain.{IsPlain};
-    ghost use Rattle.pl_outline.specs.Outline.{bookmarks};
+    ghost use Rattle.pl_outline.specs.Outline.{bookmarks, whole};
+    ghost use Rattle.pl_outline.specs.Whole.{IsWhole};
     ghost use Rattle.pl_step.specs.Commands.{HasDates, is_change};
     ghost use Rattle.pl_step.specs.Step.{perform};
     ghost use Rattle.pl_store.specs.Bounds.{most_pages};
@@ -49,6 +50,14 @@ impl Session {
         ensures returns { IfOk result (λ tree. (limit : ℕ) → Returns limit tree) }
     {
         uncounted::tree::<Brand>(Blank::new(1), &self.engine)
+    }
+
+    /// The same with all that the store has of them. The file is not read.
+    pub fn whole_tree(&self) -> Result<Tree, NoMemory>
+        ensures tree { IfOk result (λ tree. tree ≡ whole (session_store self.now)) }
+        ensures whole { IfOk result IsWhole }
+    {
+        uncounted::whole_tree::<Brand>(Blank::new(1), &self.engine)
     }
 
     /// Performs a command in memory: no call of the file is made. A refusal is a reply, and leaves

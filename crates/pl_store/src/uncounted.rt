@@ -11,7 +11,8 @@ ghost use Rattle.pl_engine.specs.Returns.{Returns};
 ghost use Rattle.pl_visiting.specs.VisitPages.{AddsFewPages};
 ghost use Rattle.pl_linked.specs.Linked.{IsBase, bytes_of, kept_of, pending_of};
 ghost use Rattle.pl_nbwrite.specs.Plain.{IsPlain};
-ghost use Rattle.pl_outline.specs.Outline.{bookmarks};
+ghost use Rattle.pl_outline.specs.Outline.{bookmarks, whole};
+ghost use Rattle.pl_outline.specs.Whole.{IsWhole};
 ghost use Rattle.pl_reading.specs.File.{FileStandsFor, stored_bytes};
 ghost use Rattle.pl_record.specs.Form.{StandsFor};
 ghost use Rattle.pl_step.specs.Commands.{HasDates, is_change};
@@ -131,4 +132,13 @@ pub(crate) fn tree<L: Ledger>(blank: Blank, engine: &Engine<Linked>) -> Result<T
     ensures returns { IfOk result (λ tree. (limit : ℕ) → Returns limit tree) }
 {
     engine.tree(&mut Steps::<L>::none(blank))
+}
+
+/// The same with all that the store has of them.
+pub(crate) fn whole_tree<L: Ledger>(blank: Blank, engine: &Engine<Linked>) -> Result<Tree, NoMemory>
+    requires blank { IsBlankOf L.Ledger blank }
+    ensures tree { IfOk result (λ tree. tree ≡ whole (store_of (kept_of engine.now.rows))) }
+    ensures whole { IfOk result IsWhole }
+{
+    engine.whole_tree(&mut Steps::<L>::none(blank))
 }

@@ -3,7 +3,7 @@ use Rattle.pl_base.specs.Store.{Item}
 use Rattle.pl_base.specs.Tree.{item_row}
 use Rattle.pl_base.proofs.LookUps.{found_where}
 use Rattle.pl_history.proofs.PagesTold.{page_there}
-use Rattle.pl_outline.proofs.node.node.Goals as goal
+use Rattle.pl_outline.proofs.node.whole_node.Goals as goal
 
 pub unwrap-row-requires : goal.unwrap-row-requires
 unwrap-row-requires g c =
