@@ -5,7 +5,8 @@ use Rattle.std.proofs.Common.{◌∙◌, sym}
 use Rattle.pl_indexed.specs.declared.walk.KeptOrder.TheVariants.{LatestFirst}
 use Rattle.pl_indexed.proofs.ViewsWalk.{no_view}
 use Rattle.pl_indexed.proofs.WalkOrder.{view_names, walked}
-use Rattle.pl_dated.proofs.PagesJoined.{PagesJoin, of_pages}
+use Rattle.pl_dated.proofs.DatedPages.{of_pages}
+use Rattle.pl_dated.proofs.PagesJoined.{PagesJoin}
 use Rattle.pl_dated.proofs.PagesWalk.{all_walked, begins, goes_further, known_here, over_here, stands_here}
 use Rattle.pl_dated.proofs.visits.latest_visits.Goals as goal
 
