@@ -18,7 +18,7 @@ use Rattle.pl_query.specs.Decides.{decides, is_watchable}
 use Rattle.pl_query.proofs.ViewsDecide.{decided, last_told}
 
 -- the query without its times, for pages in no order
-abbrev untimed : Query → Query
+abbrev pub untimed : Query → Query
 untimed q =
     record {
       begin_time = None;
