@@ -12,3 +12,4 @@ pub use answered::{answer, rows_of};
 pub use asked::{Asked, decides};
 pub use found::{Found, Key, key_of};
 pub use walk::{KeptOrder, next_view};
+pub use ways::add;
