@@ -3,14 +3,17 @@ ghost use Rattle.std.specs.Prelude.{◌≡◌, IfOk, List, OnOk, Some, false, na
 ghost use Rattle.std.specs.List.{Contains, starts_with};
 ghost use Rattle.std.specs.Option.{option_copied};
 ghost use Rattle.pl_base.specs.declared.view.View.{View};
+ghost use Rattle.pl_base.specs.Fold.{folded};
 ghost use Rattle.pl_follow.specs.Changes.{IsChange, Suits, changed, has_view, with_view};
 ghost use Rattle.pl_follow.specs.Changes.{without_id};
 ghost use Rattle.pl_follow.specs.Order.{KeepsEntries, rank_of, sketch_of_texts};
 ghost use Rattle.pl_follow.specs.Texts.{folded_of};
+ghost use Rattle.pl_sketch.specs.Pairs.{sketch_of};
 
-use crate::texts::{folded_texts, have_same_texts};
+use crate::texts::{have_same_texts, title_of};
 use pl_base::{NoMemory, PageId, View};
 use pl_sketch::Sketch;
+use pl_words::{fold, searched};
 use std::alloc::Global;
 use std::collections::BTreeMap;
 
@@ -117,9 +120,20 @@ fn sketched(alloc: Global, view: &View) -> Result<Sketch, NoMemory>
     requires prefix { starts_with nat_eq view.now.url view.now.prefix ≡ true }
     ensures { IfOk result (λ sketch. sketch ≡ sketch_of_texts (folded_of view.now)) }
 {
-    let texts = folded_texts(alloc, view)?;
-    let of_title = Sketch::of(texts.title.as_str());
-    let of_address = Sketch::of(texts.address.as_str());
-    let of_tags = Sketch::of(texts.tags.as_str());
+    let address = searched(alloc, view.url.as_str(), view.prefix.as_str())?;
+    let of_address = Sketch::of(address.as_str());
+    let of_title = folded_sketch(alloc, title_of(view))?;
+    let of_tags = folded_sketch(alloc, view.tags.as_str())?;
     Ok(of_title.union(of_address.union(of_tags)))
+}
+
+// The sketch of the fold of a text. That of ASCII is not made for it.
+fn folded_sketch(alloc: Global, text: &str) -> Result<Sketch, NoMemory>
+    ensures { IfOk result (λ sketch. sketch ≡ sketch_of (folded text.now)) }
+{
+    if text.is_ascii() {
+        return Ok(Sketch::of_lowercase(text));
+    }
+    let folds = fold(alloc, text)?;
+    Ok(Sketch::of(folds.as_str()))
 }

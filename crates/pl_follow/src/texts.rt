@@ -109,8 +109,8 @@ impl Follow for FoldedTexts {
     }
 }
 
-// The title by which the page is searched.
-fn title_of(view: &View) -> &str
+/// The title by which the page is searched.
+pub fn title_of(view: &View) -> &str
     ensures { result.now ≡ searched_title view.now }
 {
     if view.mark_title.as_str().is_empty() {

@@ -1,6 +1,7 @@
 pub mod BookmarkFile
 pub mod BookmarkTree
 pub mod Building
+pub mod Listed
 pub mod Parts
 pub mod References
 pub mod Scanned

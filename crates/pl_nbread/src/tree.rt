@@ -10,7 +10,7 @@ pub struct Node {
     pub kind: ItemKind,
     /// The address of a bookmark.
     pub url: Option<Canon>,
-    /// Empty for a separator. It may be longer than a store keeps it.
+    /// A bookmark file gives none to a separator. It may be longer than a store keeps it.
     pub title: Txt,
     pub added: Micros,
     pub modified: Micros,

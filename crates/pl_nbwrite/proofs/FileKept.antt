@@ -18,7 +18,8 @@ use Rattle.pl_nbread.specs.WellFormed.{is_date, is_formed}
 use Rattle.pl_nbwrite.specs.BookmarkText.{attribute, dates, escaped, file_text, header, heading, line, lines_of, link}
 use Rattle.pl_nbwrite.specs.BookmarkText.{list_end, list_ends, list_start, lists_open, node_text, nodes_text, root_text}
 use Rattle.pl_nbwrite.specs.BookmarkText.{seconds, tags_text, title_text}
-use Rattle.pl_nbwrite.specs.Plain.{IsKept, IsListed, IsOwn, IsPlain}
+use Rattle.pl_nbread.specs.Listed.{IsListed, IsOwn}
+use Rattle.pl_nbwrite.specs.Plain.{IsKept, IsPlain}
 use Rattle.pl_nbwrite.proofs.LinesBack.{IsRead}
 use Rattle.pl_nbwrite.proofs.ListsBack.{formed}
 use Rattle.pl_nbwrite.proofs.TextKept.{are_low, escaped_text, low_digits, low_spaces, low_text, names_kept, text_both}

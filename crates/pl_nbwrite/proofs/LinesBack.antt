@@ -24,7 +24,8 @@ use Rattle.pl_nbread.specs.WellFormed.{is_date}
 use Rattle.pl_nbread.proofs.TokenLaws.{attributes-end, tokens-step}
 use Rattle.pl_nbwrite.specs.BookmarkText.{attribute, dates, escaped, heading, line, link, list_end, list_start, seconds}
 use Rattle.pl_nbwrite.specs.BookmarkText.{tags_text, title_text}
-use Rattle.pl_nbwrite.specs.Plain.{IsOwn, is_whole}
+use Rattle.pl_nbread.specs.Listed.{IsOwn}
+use Rattle.pl_nbwrite.specs.Plain.{is_whole}
 use Rattle.pl_nbwrite.proofs.DecodedBack.{calm-escaped, calm-title, decoded-escaped, decoded-title, trimmed-title}
 use Rattle.pl_nbwrite.proofs.TokenSteps.{Place, ahead_run, attribute-step, lacks, named, open-tag, parts_of, skip, skip_run}
 use Rattle.pl_nbwrite.proofs.ValuesBack.{date_back, no_less, no_quote, no_quote_date, seconds_back, tags_back, tags_said}

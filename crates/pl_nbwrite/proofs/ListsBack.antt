@@ -18,7 +18,8 @@ use Rattle.pl_nbread.specs.Tokens.{Attribute}
 use Rattle.pl_nbread.specs.WellFormed.{begins, goes_on, is_bookmark, is_date, is_folder, is_formed, may_follow}
 use Rattle.pl_nbread.proofs.TokenLaws.{attributes-end}
 use Rattle.pl_nbwrite.specs.BookmarkText.{lines_of, list_end, list_ends, lists_open, node_text, nodes_text}
-use Rattle.pl_nbwrite.specs.Plain.{IsKept, IsListed, is_bare}
+use Rattle.pl_nbread.specs.Listed.{IsListed}
+use Rattle.pl_nbwrite.specs.Plain.{IsKept, is_bare}
 use Rattle.pl_nbwrite.specs.Written.{next_depth}
 use Rattle.pl_nbwrite.proofs.LinesBack.{IsRead, dates_said, end_made, folder_back, heading_made, link_back, link_made}
 use Rattle.pl_nbwrite.proofs.LinesBack.{nil_of, none_of, rule_made, separator_back}

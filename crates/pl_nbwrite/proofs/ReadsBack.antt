@@ -19,7 +19,8 @@ use Rattle.pl_nbread.specs.Tokens.{with_attribute}
 use Rattle.pl_nbread.proofs.NestedLaws.{made_of_within}
 use Rattle.pl_nbread.proofs.TokenLaws.{attributes-end, tokens-step}
 use Rattle.pl_nbwrite.specs.BookmarkText.{attribute, file_text, heading, line, list_end, list_start, nodes_text, root_text}
-use Rattle.pl_nbwrite.specs.Plain.{IsKept, IsListed, IsPlain}
+use Rattle.pl_nbread.specs.Listed.{IsListed}
+use Rattle.pl_nbwrite.specs.Plain.{IsKept, IsPlain}
 use Rattle.std.proofs.lemmas.Str.{is_utf8-from_IsUtf8}
 use Rattle.pl_nbwrite.proofs.FileKept.{file_kept}
 use Rattle.pl_nbwrite.proofs.LinesBack.{dates_said, dl, end_made, heading_made}

@@ -1,37 +1,17 @@
 -- The trees that a file keeps whole.
-use Rattle.std.specs.Prelude.{◌≡◌, ◌*◌, ◌/◌, ◌==◌, ◌&&◌, ⊤, ℕ, Bool, true, List, length}
-use Rattle.std.specs.Prelude.{Option, Some, None}
-use Rattle.std.specs.List.{All, list_all}
+use Rattle.std.specs.Prelude.{◌≡◌, ◌*◌, ◌/◌, ◌==◌, ◌&&◌, Bool, true, length}
+use Rattle.std.specs.List.{All}
 use Rattle.std.specs.Str.{is_utf8}
 use Rattle.pl_base.specs.declared.date.Micros.{Micros}
 use Rattle.pl_base.specs.declared.item.ItemKind.{ItemKind}
 use Rattle.pl_base.specs.declared.item.ItemKind.TheVariants.{Bookmark, Folder, Separator}
-use Rattle.pl_base.specs.Address.{canon}
 use Rattle.pl_nbread.specs.declared.tree.Node.{Node}
 use Rattle.pl_nbread.specs.declared.tree.Tree.{Tree}
-use Rattle.pl_nbread.specs.WellFormed.{begins, goes_on, is_formed}
-
--- a list of nodes in preorder, whatever its number of tags
-pub record IsListed (nodes : List Node) : Type 0 where
-  pub begins : begins nodes ≡ true
-  pub goes_on : goes_on nodes ≡ true
-  pub formed : list_all is_formed nodes ≡ true
-
--- the four lists of a tree are
-pub record AreListed (tree : Tree) : Type 0 where
-  pub menu : IsListed tree.menu
-  pub toolbar : IsListed tree.toolbar
-  pub unfiled : IsListed tree.unfiled
-  pub mobile : IsListed tree.mobile
+use Rattle.pl_nbread.specs.Listed.{AreListed, IsOwn}
 
 -- a date has whole seconds
 abbrev pub is_whole : Micros → Bool
 is_whole date = date.0 / 1_000_000 * 1_000_000 == date.0
-
--- a URL names itself
-abbrev pub IsOwn : Option (List ℕ) → Type 0
-IsOwn None = ⊤
-IsOwn (Some url) = (is_utf8 url ≡ true) × (canon url ≡ Some url)
 
 -- a separator has nothing but its place, and no folder has tags
 abbrev pub is_bare : ItemKind → Node → Bool

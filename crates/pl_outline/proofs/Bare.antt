@@ -8,7 +8,8 @@ use Rattle.pl_base.specs.Tags.{page_tags}
 use Rattle.pl_base.specs.Visiting.{page_for}
 use Rattle.pl_nbread.specs.declared.tree.Node.{Node}
 use Rattle.pl_nbread.specs.declared.tree.Tree.{Tree}
-use Rattle.pl_nbwrite.specs.Plain.{IsKept, IsListed}
+use Rattle.pl_nbread.specs.Listed.{IsListed}
+use Rattle.pl_nbwrite.specs.Plain.{IsKept}
 
 -- a node without its tags
 abbrev pub bare : Node → Node

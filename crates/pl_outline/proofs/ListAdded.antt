@@ -10,7 +10,8 @@ use Rattle.pl_base.specs.Good.{longest_title}
 use Rattle.pl_base.specs.Store.{Store, item_id}
 use Rattle.pl_nbread.specs.declared.tree.Node.{Node}
 use Rattle.pl_nbread.specs.WellFormed.{begins, is_folder, is_formed}
-use Rattle.pl_nbwrite.specs.Plain.{IsKept, IsListed}
+use Rattle.pl_nbread.specs.Listed.{IsListed}
+use Rattle.pl_nbwrite.specs.Plain.{IsKept}
 use Rattle.pl_graft.specs.Import.{folder_of, folders_behind, with_list, with_node, with_nodes}
 use Rattle.pl_graft.specs.OpenFolders.{Begins, MayGoOn}
 use Rattle.pl_graft.specs.Ready.{IsReady}

@@ -24,7 +24,8 @@ use Rattle.pl_base.proofs.LookUps.{found_holds}
 use Rattle.pl_link.proofs.UrlTexts.{store_url_ascii}
 use Rattle.pl_nbread.specs.declared.tree.Node.{Node}
 use Rattle.pl_nbread.specs.WellFormed.{is_bookmark, is_date, is_folder, is_formed}
-use Rattle.pl_nbwrite.specs.Plain.{IsKept, IsOwn, is_bare, is_whole}
+use Rattle.pl_nbread.specs.Listed.{IsOwn}
+use Rattle.pl_nbwrite.specs.Plain.{IsKept, is_bare, is_whole}
 use Rattle.pl_words.specs.TagLists.{each_once, is_same_tag}
 use Rattle.pl_words.specs.TagName.{is_tag_name}
 use Rattle.pl_outline.specs.Outline.{node_of, separator_node, tags_at, titled_node, whole_seconds}

@@ -23,7 +23,7 @@ Covers all some = union all some ≡ all
 
 -- the place of a pair of bytes
 abbrev pub place_of : ℕ → ℕ → ℕ
-place_of first second = (first * 37 + second) % 256
+place_of first second = (first * 11 + second) % 256
 
 -- the bit of a place in the word whose places start there
 abbrev pub bit_from : ℕ → ℕ → ℕ

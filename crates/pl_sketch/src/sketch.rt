@@ -1,5 +1,6 @@
 // Which pairs of neighbouring bytes texts have, as far as 256 bits tell.
-ghost use Rattle.std.specs.Prelude.{◌≡◌, ◌↔◌, IsTrue};
+ghost use Rattle.std.specs.Prelude.{◌≡◌, ◌↔◌, IsTrue, map};
+ghost use Rattle.std.specs.Char.{to_ascii_lowercase};
 ghost use Rattle.pl_sketch.specs.Pairs as spec;
 ghost use Rattle.pl_sketch.specs.Pairs.{Covers, at_place, nothing, place_of, sketch_of};
 
@@ -42,6 +43,19 @@ impl Sketch {
         sketch
     }
 
+    /// That of a text whose ASCII letters are made lowercase.
+    pub fn of_lowercase(text: &str) -> Sketch
+        ensures { result ≡ sketch_of (map to_ascii_lowercase text.now) }
+    {
+        let bytes = text.as_bytes();
+        let mut sketch = Sketch::new();
+        for place in 1..bytes.len() {
+            let first = bytes[place - 1].to_ascii_lowercase();
+            sketch = sketch.with(first, bytes[place].to_ascii_lowercase());
+        }
+        sketch
+    }
+
     /// That of the texts of both.
     pub fn union(self, other: Sketch) -> Sketch
         ensures { result ≡ spec.union self other }
@@ -65,7 +79,7 @@ impl Sketch {
     fn with(self, first: u8, second: u8) -> Sketch
         ensures { result ≡ spec.union self (at_place (place_of first second)) }
     {
-        let place = first.wrapping_mul(37).wrapping_add(second);
+        let place = first.wrapping_mul(11).wrapping_add(second);
         self.union(Sketch {
             from_0: bit_from(0, place),
             from_64: bit_from(64, place),
