@@ -64,7 +64,8 @@ pub fn rows_of(
     mut found: Vec<Found<'_>>,
 ) -> Result<Vec<ResultRow>, NoMemory>
     requires { AllPairs (λ (a b : Found). a.view.now.id.0 ≢ b.view.now.id.0) found.items }
-    ensures { IfOk result (λ rows. (views : List View) → AreFound query.now.sort views found.items
+    ensures { IfOk result (λ rows. (views : List View)
+        → AreFound query.now.sort views found.entry.items
         → rows.items ≡ map row_of_view (first_asked query.now views)) }
 {
     put_in_order(&mut found, query.sort);

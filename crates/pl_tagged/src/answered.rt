@@ -68,8 +68,8 @@ pub fn answer<R: Rows, L: Ledger>(
         ≡ map (told_row (store_of (R.kept rows.now)))
         (spec.answer (store_of (R.kept rows.now)) query.now)) }
 {
-    match tag_asked(query) {
-        Some(tag) => answer_tagged(alloc, rows, known, query, tag, steps),
-        None => pl_timed::answer(alloc, rows, known, query, steps),
-    }
+    let Some(tag) = tag_asked(query) else {
+        return pl_timed::answer(alloc, rows, known, query, steps);
+    };
+    answer_tagged(alloc, rows, known, query, tag, steps)
 }

@@ -56,10 +56,10 @@ fn add_entry<'a, R: Rows, L: Ledger>(
         ++ map (seen_of q.sort) (taken q (option_to_list
         (spec.entry_view (R.kept rows.now).items known.now.views.items entry)))) }
 {
-    match entry_view(rows, known, entry, steps) {
-        Some(view) => add(alloc, known, asked, view, found),
-        None => Ok(()),
-    }
+    let Some(view) = entry_view(rows, known, entry, steps) else {
+        return Ok(());
+    };
+    add(alloc, known, asked, view, found)
 }
 
 // The pages of the children of a folder that the query takes.
@@ -103,8 +103,8 @@ pub fn tagged<'a, R: Rows, L: Ledger>(
         in IfOk result (λ found. AreFound q.sort (taken q
         (spec.tagged (R.kept rows.now).items known.now.views.items tag.now)) found.items) }
 {
-    match tag_folder(alloc, rows, tag, steps)? {
-        Some(folder) => entered(alloc, rows, known, asked, folder, steps),
-        None => Ok(Vec::new(alloc)),
-    }
+    let Some(folder) = tag_folder(alloc, rows, tag, steps)? else {
+        return Ok(Vec::new(alloc));
+    };
+    entered(alloc, rows, known, asked, folder, steps)
 }
