@@ -166,6 +166,10 @@ found_fold k (u ∷ ts) t differ (inr h) same =
         (same ∙ sym ((bytes_eq-Decides (folded u.title) k).0 is)))
     choose false is rest = rw is rest
 
+-- a tag of this name that the page has
+abbrev is_tag_of : Store → PageId → List ℕ → Item → Bool
+is_tag_of store page name t = is_same_tag name t.title && has_tag store page t
+
 module _ (store : Store) (views : List View) (name : List ℕ) (good : HasTags store) where
   -- no two of them are of one page
   pub tagged_apart : Apart (λ (v : View). v.id.0) (tagged store.items views name)
@@ -199,11 +203,8 @@ module _ (store : Store) (views : List View) (name : List ℕ) (good : HasTags s
       subst (λ (o : Option Item). In v (entered_in store.items views (option_map (λ (t : Item). t.id) o)))
       (sym folder) (in_filter_map (entry_view store.items views) (children_of store.items tag.0.id) at.0 v at.1 shown)
     where
-      passes : Item → Bool
-      passes t = is_same_tag name t.title && has_tag store v.id t
-
-      tag : (t : Item) × In t (tags_of store) × (passes t ≡ true)
-      tag = from_any passes (tags_of store) has
+      tag : (t : Item) × In t (tags_of store) × (is_tag_of store v.id name t ≡ true)
+      tag = from_any (is_tag_of store v.id name) (tags_of store) has
 
       both : (is_same_tag name tag.0.title ≡ true) × (has_tag store v.id tag.0 ≡ true)
       both = and_parts (is_same_tag name tag.0.title) (has_tag store v.id tag.0) tag.2

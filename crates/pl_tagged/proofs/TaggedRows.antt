@@ -1,16 +1,17 @@
 -- The pages of the entries in a tag folder give the answer to a query that asks for the tag.
-use Rattle.std.proofs.Common.{◌≡◌, ◌≢◌, ◌∙◌, ◌&&◌, inl, inr, ℕ, Bool, true, false, List, [], ◌∷◌, Some, ap, arith, filter}
+use Rattle.std.proofs.Common.{◌≡◌, ◌≢◌, ◌∙◌, ◌&&◌, inl, inr, ℕ, Bool, true, false, List, [], ◌∷◌, Option, Some, ap, arith, filter}
 use Rattle.std.proofs.Common.{if◌then◌else◌, map, subst, suc, sym}
-use Rattle.std.specs.List.{AllByRecursion, AllPairs, Contains, list_all}
+use Rattle.std.specs.List.{AllByRecursion, AllPairs, Contains, list_all, slice_get}
 use Rattle.std.specs.List.Sorted.{IsPermutation}
 use Rattle.std.proofs.lemmas.Bool.{and_parts}
 use Rattle.std.proofs.lemmas.List.Elements.{All-from_recursion, recursion_from_All}
 use Rattle.std.proofs.lemmas.List.Kept.{AllPairs-cons, AllPairs-filter}
+use Rattle.std.proofs.lemmas.Option.{same_Some}
 use Rattle.pl_base.specs.declared.view.View.{View}
 use Rattle.pl_base.specs.Good.{HasTags, IsGood}
 use Rattle.pl_base.specs.Store.{Page, Store}
 use Rattle.pl_base.specs.View.{AreViews, AreViewsOf}
-use Rattle.pl_base.proofs.Among.{In, at_in, from_filter, in_filter, in_from_contains}
+use Rattle.pl_base.proofs.Among.{In, at_in, contains_from_in, from_filter, in_filter, in_from_contains}
 use Rattle.pl_base.proofs.ListLaws.{all-filter, weaker}
 use Rattle.pl_base.proofs.LookUps.{Apart}
 use Rattle.pl_base.proofs.SortLaws.{none_tie}
@@ -27,10 +28,10 @@ use Rattle.pl_indexed.proofs.WalkOrder.{ids_differ}
 use Rattle.pl_indexed.proofs.WatchableRows.{told_answer}
 use Rattle.pl_known.specs.Known.{view_of}
 use Rattle.pl_place.specs.declared.query.Query.{Query}
-use Rattle.pl_query.specs.Decides.{are_tags_in, decides, has_word_in, holds_unfolded, is_tag_in}
+use Rattle.pl_query.specs.Decides.{are_tags_in, decides, has_word_in, holds_unfolded, is_tag_in, is_watchable}
 use Rattle.pl_query.specs.QueryAnswer.{answer, limited, told_row}
 use Rattle.pl_query.proofs.TagsTold.{tag_told}
-use Rattle.pl_tagged.specs.Entered.{AsksForTag, tagged}
+use Rattle.pl_tagged.specs.Entered.{tagged}
 use Rattle.pl_tagged.proofs.SameMembers.{same_members}
 use Rattle.pl_tagged.proofs.TagViews.{tagged_apart, tagged_known, tagged_there}
 
@@ -99,10 +100,21 @@ has_tag_asked q name v with_it among takes =
     all_in (t ∷ tags) (inr h) all =
         all_in tags h (and_parts (is_tag_in v.tags t) (list_all (is_tag_in v.tags) tags) all).1
 
+-- the first of the tags is one of them
+pub first_among : (tags slice : List (List ℕ)) (first : Option (List ℕ)) (name : List ℕ) → slice ≡ tags
+    → first ≡ slice_get slice 0 → first ≡ Some name → Contains tags name
+first_among tags slice first name same is some =
+    contains_from_in tags name (choose tags (sym some ∙ is ∙ ap (λ (ts : List (List ℕ)). slice_get ts 0) same))
+  where
+    choose : (ts : List (List ℕ)) → Some name ≡ slice_get ts 0 → In name ts
+    choose [] none = absurd (cc)
+    choose (t ∷ ts) one = inl (same_Some name t one)
+
 -- ---- the answer
 
 module _ (store : Store) (q : Query) (name : List ℕ) (views : List View) (good : IsGood store)
-    (of : AreViewsOf store views) (ordered : AreInOrder views) (asks : AsksForTag q name) where
+    (of : AreViewsOf store views) (ordered : AreInOrder views) (watchable : is_watchable q ≡ true)
+    (with_it : q.not_tags ≡ false) (among : Contains q.tags name) where
   abbrev with_tag : List View
   with_tag = tagged store.items views name
 
@@ -114,7 +126,7 @@ module _ (store : Store) (q : Query) (name : List ℕ) (views : List View) (good
       let r = from_filter (decides q) views v h in
       let has : has_tag_named store v.id name ≡ true =
       sym (at_in (TellsTags store name) views v (tell_tags store name good.tags store.pages views of) r.0)
-      ∙ has_tag_asked q name v asks.with_it asks.among r.1 in
+      ∙ has_tag_asked q name v with_it among r.1 in
       in_filter (decides q) with_tag v
       (tagged_there store views name good.tags v
       (at_in (λ (w : View). view_of w.id views ≡ Some w) views v (known_views views ordered) r.0) has)
@@ -140,7 +152,7 @@ module _ (store : Store) (q : Query) (name : List ℕ) (views : List View) (good
 
   -- what is told of them is the answer
   pub tagged_told : map row_of_view (first_asked q (taken q with_tag)) ≡ map (told_row store) (answer store q)
-  tagged_told = ap (map row_of_view) same_answer ∙ told_answer store q views good of asks.watchable
+  tagged_told = ap (map row_of_view) same_answer ∙ told_answer store q views good of watchable
 
   -- no two pages that are found are one
   pub tagged_differ : (found : List Found) → AreFound q.sort (taken q with_tag) found

@@ -1,6 +1,6 @@
 -- The views of the pages that a tag folder has entries of.
-use Rattle.std.specs.Prelude.{◌≡◌, ℕ, true, false, List, [], Option, Some, None}
-use Rattle.std.specs.List.{Contains, filter_map}
+use Rattle.std.specs.Prelude.{ℕ, List, [], Option, Some, None}
+use Rattle.std.specs.List.{filter_map}
 use Rattle.std.specs.Option.{option_and_then, option_map}
 use Rattle.pl_base.specs.declared.id.ItemId.{ItemId}
 use Rattle.pl_base.specs.declared.id.PageId.{PageId}
@@ -8,15 +8,7 @@ use Rattle.pl_base.specs.declared.view.View.{View}
 use Rattle.pl_base.specs.Store.{Item}
 use Rattle.pl_base.specs.Tree.{children_of, item_at}
 use Rattle.pl_known.specs.Known.{view_of}
-use Rattle.pl_place.specs.declared.query.Query.{Query}
-use Rattle.pl_query.specs.Decides.{is_watchable}
 use Rattle.pl_tree.specs.Tagged.{tag_named}
-
--- a query that views decide asks for the tag with this name
-pub record AsksForTag (q : Query) (name : List ℕ) : Type 0 where
-  pub watchable : is_watchable q ≡ true
-  pub with_it : q.not_tags ≡ false
-  pub among : Contains q.tags name
 
 -- the page of an item
 abbrev pub entry_page : List Item → ItemId → Option PageId

@@ -1,12 +1,12 @@
 // The answer to a query.
-ghost use Rattle.std.specs.Prelude.{◌≡◌, map, IfOk, IfSome};
-ghost use Rattle.std.specs.Option.{option_copied};
+ghost use Rattle.std.specs.Prelude.{◌≡◌, false, map, true, IfOk};
+ghost use Rattle.std.specs.List.{Contains};
 ghost use Rattle.pl_base.specs.Good.{IsGood};
 ghost use Rattle.pl_base.specs.Rows.{IsRight, store_of};
 ghost use Rattle.pl_known.specs.Known.{Knows};
+ghost use Rattle.pl_query.specs.Decides as decided;
 ghost use Rattle.pl_query.specs.QueryAnswer as spec;
 ghost use Rattle.pl_query.specs.QueryAnswer.{told_row};
-ghost use Rattle.pl_tagged.specs.Entered.{AsksForTag};
 
 use crate::entries::tagged;
 use pl_base::{NoMemory, Rows, Steps};
@@ -18,15 +18,13 @@ use pl_words::TagName;
 use std::alloc::Global;
 use std::sync::ledger::Ledger;
 
-// A tag that the pages of the answer have, where views decide the query. By its URL a page is found
-// sooner.
-fn tag_asked(query: &Query) -> Option<&TagName>
-    ensures { IfSome (option_copied result) (AsksForTag query.now) }
+// Whether views decide the query, and the pages of its answer have its tags. By its URL a page is
+// found sooner.
+fn asks_for_tagged(query: &Query) -> bool
+    ensures watchable { result ≡ true → decided.is_watchable query.now ≡ true }
+    ensures with_it { result ≡ true → query.now.not_tags ≡ false }
 {
-    if query.not_tags || query.uri.is_some() || !is_watchable(query) {
-        return None;
-    }
-    query.tags.as_slice().first()
+    !query.not_tags && query.uri.is_none() && is_watchable(query)
 }
 
 // The rows of the pages that have a tag.
@@ -40,7 +38,9 @@ fn answer_tagged<R: Rows, L: Ledger>(
 ) -> Result<Vec<ResultRow>, NoMemory>
     requires good { IsGood (store_of (R.kept rows.now)) }
     requires knows { Knows (store_of (R.kept rows.now)) known.now }
-    requires tag { AsksForTag query.now tag.now }
+    requires watchable { decided.is_watchable query.now ≡ true }
+    requires with_it { query.now.not_tags ≡ false }
+    requires among { Contains query.now.tags tag.now }
     ensures { IfOk result (λ answered. answered.items
         ≡ map (told_row (store_of (R.kept rows.now)))
         (spec.answer (store_of (R.kept rows.now)) query.now)) }
@@ -68,7 +68,10 @@ pub fn answer<R: Rows, L: Ledger>(
         ≡ map (told_row (store_of (R.kept rows.now)))
         (spec.answer (store_of (R.kept rows.now)) query.now)) }
 {
-    let Some(tag) = tag_asked(query) else {
+    if !asks_for_tagged(query) {
+        return pl_timed::answer(alloc, rows, known, query, steps);
+    }
+    let Some(tag) = query.tags.as_slice().first() else {
         return pl_timed::answer(alloc, rows, known, query, steps);
     };
     answer_tagged(alloc, rows, known, query, tag, steps)

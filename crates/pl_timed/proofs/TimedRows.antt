@@ -2,6 +2,7 @@
 use Rattle.std.proofs.Common.{◌≡◌, ◌≢◌, ◌∙◌, ◌<◌, ◌==◌, ◌&&◌, ◌||◌, ℕ, Bool, true, false, List, [], ◌∷◌, None}
 use Rattle.std.proofs.Common.{filter, get_or, is_some, length, map, refl, subst, sym}
 use Rattle.std.specs.List.{AllByRecursion, AllPairs, Contains, list_any}
+use Rattle.std.proofs.lemmas.Bool.{false≢true}
 use Rattle.std.proofs.lemmas.List.Elements.{All-from_recursion}
 use Rattle.std.proofs.lemmas.List.Kept.{AllPairs-filter}
 use Rattle.pl_base.specs.declared.id.PageId.{PageId}
@@ -25,22 +26,24 @@ use Rattle.pl_query.specs.QueryAnswer.{answer, has_visit_in_times, told_row}
 use Rattle.pl_query.proofs.ViewsDecide.{last_told}
 use Rattle.pl_timed.specs.Timed.{AsksForTimed, takes}
 
+-- a visit to the page within the times
+abbrev is_timed : Store → Query → PageId → Visit → Bool
+is_timed store q page v = (v.page.0 == page.0) && in_times store q v.date
+
 -- a page with a visit within the times of one query has one for a query without times
 any_visit : (store : Store) (q r : Query) (page : PageId) → r.begin_time ≡ None → r.end_time ≡ None
     → has_visit_in_times store q page ≡ true → has_visit_in_times store r page ≡ true
 any_visit store q r page begin end = over store.visits
   where
-    among : Query → Visit → Bool
-    among s v = (v.page.0 == page.0) && in_times store s v.date
-
     within : (v : Visit) → in_times store r v.date ≡ true
     within v = rw (begin, end) refl
 
-    over : (visits : List Visit) → list_any (among q) visits ≡ true → list_any (among r) visits ≡ true
+    over : (visits : List Visit) → list_any (is_timed store q page) visits ≡ true
+        → list_any (is_timed store r page) visits ≡ true
     over [] some = some
     over (v ∷ visits) some =
-        choose (v.page.0 == page.0) (in_times store q v.date) (in_times store r v.date) (list_any (among q) visits)
-        (list_any (among r) visits) (within v) (over visits) some
+        choose (v.page.0 == page.0) (in_times store q v.date) (in_times store r v.date)
+        (list_any (is_timed store q page) visits) (list_any (is_timed store r page) visits) (within v) (over visits) some
       where
         choose : (a b c d e : Bool) → c ≡ true → (d ≡ true → e ≡ true) → ((a && b) || d) ≡ true
             → ((a && c) || e) ≡ true
@@ -67,7 +70,7 @@ takes_told store q p v asks good among is =
     regrouped true true false some = refl
     regrouped true false true some = refl
     regrouped true false false some = refl
-    regrouped false holds true some = let never = some refl in absurd (cc)
+    regrouped false holds true some = absurd (false≢true (some refl))
     regrouped false holds false some = refl
 
 -- each view has the date of the latest visit
@@ -83,7 +86,8 @@ pub timed_told : (store : Store) (q : Query) (views : List View) → AsksForTime
     → AreViewsOf store views
     → map row_of_view (first_asked q (filter (takes store q) views)) ≡ map (told_row store) (answer store q)
 timed_told store q views asks good of =
-    told_by store q views (takes store q) asks.pages of (λ p v among is. takes_told store q p v asks good among is)
+    told_by store q views (takes store q) (record { pages = asks.pages; undated = asks.undated }) of
+    (λ p v among is. takes_told store q p v asks good among is)
 
 -- no two of them are one
 pub taken_apart : (store : Store) (q : Query) (views : List View) (found : List Found) → AreInOrder views

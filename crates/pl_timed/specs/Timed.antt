@@ -4,14 +4,15 @@ use Rattle.pl_base.specs.declared.date.Micros.{Micros}
 use Rattle.pl_base.specs.declared.view.View.{View}
 use Rattle.pl_base.specs.Store.{Store}
 use Rattle.pl_conditions.specs.Conditions.{in_times, is_not_before}
-use Rattle.pl_indexed.specs.Answer.{AsksForPages}
 use Rattle.pl_place.specs.declared.query.Query.{Query}
-use Rattle.pl_query.specs.Decides.{decides}
+use Rattle.pl_query.specs.Decides.{asks_for_pages, decides, is_by_mark_date}
 use Rattle.pl_query.specs.QueryAnswer.{has_visit_in_times}
 
--- pages are asked for without regard to transitions and folders
+-- pages are asked for without regard to transitions and folders, in no order by the dates of
+-- bookmarks
 pub record AsksForTimed (q : Query) : Type 0 where
-  pub pages : AsksForPages q
+  pub pages : asks_for_pages q.query_type q.result_type ≡ true
+  pub undated : is_by_mark_date q.sort ≡ false
   pub transitions : q.transitions ≡ []
   pub parents : q.parents ≡ []
 

@@ -13,7 +13,8 @@ rows_of-requires g c =
     let store = store_of (g.R.Rows.kept c.args.rows.now) in
     let views = c.args.known.now.views.items in
     tagged_differ store c.args.query.now c.args.tag.now views c.requires.good c.requires.knows.views
-    c.requires.knows.followed.order c.requires.tag c.in_ok-found.found.items
+    c.requires.knows.followed.order c.requires.watchable c.requires.with_it c.requires.among
+    c.in_ok-found.found.items
     (subst (λ (q : Query). AreFound q.sort (taken q (tagged store.items views c.args.tag.now)) c.in_ok-found.found.items)
     c.in_ok-asked.ensures.query c.in_ok-found.ensures)
 
@@ -28,5 +29,5 @@ returns g c =
     (subst (λ (r : Query). AreFound r.sort (taken r (tagged store.items views c.args.tag.now)) c.in_ok-found.found.items)
     c.in_ok-asked.ensures.query c.in_ok-found.ensures)
     ∙ tagged_told store q c.args.tag.now views c.requires.good c.requires.knows.views c.requires.knows.followed.order
-    c.requires.tag)
+    c.requires.watchable c.requires.with_it c.requires.among)
     c.rows_of.ensures
