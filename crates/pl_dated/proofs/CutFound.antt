@@ -6,7 +6,6 @@ use Rattle.std.specs.List.Sorted.{IsPermutation, IsSortedBy, ties}
 use Rattle.std.proofs.lemmas.List.{take-map}
 use Rattle.std.proofs.lemmas.List.Sorted.{ranks_by}
 use Rattle.std.proofs.lemmas.Map.Keys.{IsDistinct-from_apart, apart_from_distinct}
-use Rattle.pl_base.specs.Sorting.{sorted_by}
 use Rattle.pl_base.proofs.ListLaws.{AllPairs-from_map}
 use Rattle.pl_base.proofs.SortLaws.{sorted_map, weak_sorted_is}
 use Rattle.pl_dated.specs.declared.first.FoundVisit.{FoundVisit}

@@ -1,6 +1,5 @@
 -- What is told of the first visits is the answer.
-use Rattle.std.proofs.Common.{◌≡◌, ◌∙◌, List, ap, map, subst, sym}
-use Rattle.std.specs.List.Sorted.{IsPermutation}
+use Rattle.std.proofs.Common.{◌≡◌, ◌∙◌, List, ap, map, sym}
 use Rattle.pl_base.specs.declared.view.View.{View}
 use Rattle.pl_base.specs.Good.{IsGood}
 use Rattle.pl_base.specs.Rows.{IsWellKept, Kept, store_of}
@@ -11,7 +10,7 @@ use Rattle.pl_query.specs.declared.result_row.ResultRow.{ResultRow}
 use Rattle.pl_query.specs.QueryAnswer.{answer, told_row}
 use Rattle.pl_dated.specs.declared.first.First.{First}
 use Rattle.pl_dated.specs.declared.first.FoundVisit.{FoundVisit}
-use Rattle.pl_dated.specs.Latest.{AreApart, Keeps, Seen, first_seen, seen, seen_before}
+use Rattle.pl_dated.specs.Latest.{AreApart, Keeps, first_seen, seen, seen_before}
 use Rattle.pl_dated.specs.Listed.{AsksForLatest, FirstOf, parts_of, row_of_seen}
 use Rattle.pl_dated.proofs.SeenOrder.{seen_ranks}
 use Rattle.pl_dated.proofs.SkipLaws.{apart_moved, same_first}

@@ -1,4 +1,5 @@
 mod CutFound
+pub mod DatedPages
 mod FirstLaws
 mod LatestTold
 mod OverVisits
@@ -6,5 +7,6 @@ mod PagesJoined
 mod PagesWalk
 mod SeenOrder
 mod SkipLaws
+pub mod UntimedQuery
 mod VisitRows
 mod VisitsWalk

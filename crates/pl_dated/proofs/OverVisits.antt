@@ -1,41 +1,27 @@
 -- Visits from a date on back that are over, and those to one page, gone along from the latest on.
-use Rattle.std.proofs.Common.{◌≡◌, ◌∙◌, ◌≤◌, ◌≤ℤ◌, ◌+ℤ◌, ◌++◌, ◌==◌, ◌&&◌, ◌||◌, ℕ, ℤ, Bool, true, false, List, [], ◌∷◌, Option}
-use Rattle.std.proofs.Common.{Some, None, ap, append_assoc, arith, filter, if◌then◌else◌, map, nat_lt, negsuc, not, pos, refl}
+use Rattle.std.proofs.Common.{◌≡◌, ◌∙◌, ◌≤◌, ◌++◌, ◌||◌, ℕ, Bool, true, false, List, [], ◌∷◌, Option}
+use Rattle.std.proofs.Common.{Some, None, ap, append_assoc, arith, filter, if◌then◌else◌, map, nat_lt, not, refl}
 use Rattle.std.proofs.Common.{subst, sym}
-use Rattle.std.specs.Prelude.{int_le}
 use Rattle.std.specs.List.{AllByRecursion}
 use Rattle.std.proofs.lemmas.Bool.{and_parts, false≢true}
 use Rattle.std.proofs.lemmas.Bool.Decides.{nat_tests}
 use Rattle.std.proofs.lemmas.List.{append-nil, map-append}
 use Rattle.std.proofs.lemmas.List.Elements.{filter-append}
 use Rattle.pl_base.specs.declared.date.Micros.{Micros}
-use Rattle.pl_base.specs.declared.id.VisitId.{VisitId}
 use Rattle.pl_base.specs.declared.view.View.{View}
-use Rattle.pl_base.specs.Rows.{IsWellKept, Kept, page_visits, store_of}
+use Rattle.pl_base.specs.Rows.{Kept, page_visits, store_of}
 use Rattle.pl_base.specs.Store.{Store, Visit}
-use Rattle.pl_base.specs.Visits.{is_later, visits_of}
 use Rattle.pl_base.proofs.ListLaws.{all-filter, everyone, to_map, weaker}
 use Rattle.pl_base.proofs.LookUps.{where_passes}
-use Rattle.pl_base.proofs.VisitOrder.{InOrder, latest_in_order}
-use Rattle.pl_conditions.specs.Conditions.{in_times, is_not_after, is_not_before, moment}
-use Rattle.pl_place.specs.declared.kinds.TimeRef.{TimeRef}
+use Rattle.pl_conditions.specs.Conditions.{in_times, is_not_after, is_not_before}
 use Rattle.pl_place.specs.declared.query.Query.{Query}
 use Rattle.pl_dated.specs.declared.first.First.{First}
 use Rattle.pl_dated.specs.Latest.{AreApart, Keeps, Seen, is_past_floor}
 use Rattle.pl_dated.specs.Listed.{is_over, seen_of, seen_visits}
+use Rattle.pl_dated.proofs.DatedPages.{not_before_on}
 use Rattle.pl_dated.proofs.FirstLaws.{keeps_past}
 
 -- ---- dates
-
--- a date that is not before the times is followed by none that is
-not_before_on : (store : Store) (time : Option ℤ) (reference : TimeRef) (a b : Micros) → a.0 ≤ b.0
-    → is_not_before store time reference a ≡ true → is_not_before store time reference b ≡ true
-not_before_on store None reference a b le late = refl
-not_before_on store (Some time) reference a b le late = on (moment store reference +ℤ time) a.0 b.0 le late
-  where
-    on : (m : ℤ) (a b : ℕ) → a ≤ b → int_le m (pos a) ≡ true → int_le m (pos b) ≡ true
-    on (pos m) a b le late = grind (arith, nat_tests, le, late)
-    on (negsuc m) a b le late = refl
 
 past_back : (floor : Option Micros) (a b : Micros) → a.0 ≤ b.0 → is_past_floor floor b ≡ true
     → is_past_floor floor a ≡ true
@@ -152,14 +138,3 @@ module _ (kept : Kept) (q : Query) (view : View) where
           ap (λ (ss : List Seen). visits ++ ss)
           (ap (seen_visits kept q view) whole ∙ seen_append front (v ∷ rest))
           ∙ sym (append_assoc visits (seen_visits kept q view front) (seen_visits kept q view (v ∷ rest)))
-
--- those behind a visit are of no later date
-pub later_back : (front : List Visit) (v : Visit) (rest : List Visit) → InOrder (front ++ v ∷ rest)
-    → AllByRecursion (λ (w : Visit). w.date.0 ≤ v.date.0) rest
-later_back [] v rest up =
-    weaker (λ (w : Visit). is_later v w ≡ true) (λ (w : Visit). w.date.0 ≤ v.date.0) rest
-    (λ w later. dates w.date.0 v.date.0 w.id.0 v.id.0 later) up.0
-  where
-    dates : (a b m n : ℕ) → (nat_lt a b || ((a == b) && nat_lt m n)) ≡ true → a ≤ b
-    dates a b m n later = grind (arith, nat_tests, later)
-later_back (u ∷ front) v rest up = later_back front v rest up.1

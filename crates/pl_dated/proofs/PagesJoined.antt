@@ -1,6 +1,6 @@
 -- The visits to the pages of views, as the pages are gone along from the latest visit on.
-use Rattle.std.proofs.Common.{◌≡◌, ◌≢◌, ◌∙◌, ◌≤◌, ◌++◌, ◌==◌, ℕ, Bool, true, false, List, [], ◌∷◌, Option, Some, None, Ordering}
-use Rattle.std.proofs.Common.{ap, append_assoc, arith, if◌then◌else◌, is_some, map, nat_cmp, refl, subst, sym}
+use Rattle.std.proofs.Common.{◌≡◌, ◌≢◌, ◌∙◌, ◌≤◌, ◌++◌, ℕ, Bool, true, false, List, [], ◌∷◌, Option, Some, None, Ordering}
+use Rattle.std.proofs.Common.{ap, append_assoc, arith, if◌then◌else◌, is_some, nat_cmp, refl, subst, sym}
 use Rattle.std.specs.declared.cmp.Ordering.TheVariants.{Less, Equal, Greater}
 use Rattle.std.specs.List.{AllByRecursion}
 use Rattle.std.specs.List.Sorted.{IsPermutation}
@@ -9,20 +9,13 @@ use Rattle.std.proofs.lemmas.Bool.{false≢true}
 use Rattle.std.proofs.lemmas.Bool.Decides.{nat_tests}
 use Rattle.std.proofs.lemmas.Grind.{flat_map-append}
 use Rattle.std.proofs.lemmas.List.{append-nil}
-use Rattle.std.proofs.lemmas.List.Kept.{AllPairs-from_increasing}
-use Rattle.std.proofs.lemmas.Option.{same_Some}
 use Rattle.pl_base.specs.declared.date.Micros.{Micros}
 use Rattle.pl_base.specs.declared.view.View.{View}
-use Rattle.pl_base.specs.Marks.{last_date_of}
 use Rattle.pl_base.specs.Rows.{IsWellKept, Kept, page_visits, store_of}
-use Rattle.pl_base.specs.Store.{Page, Store, Visit}
-use Rattle.pl_base.specs.View.{AreViews}
-use Rattle.pl_base.specs.Visits.{latest_first, visits_of}
+use Rattle.pl_base.specs.Store.{Store, Visit}
 use Rattle.pl_base.proofs.ListLaws.{all_append, weaker}
 use Rattle.pl_base.proofs.LookUps.{both, rest_of, where_passes}
 use Rattle.pl_base.proofs.SortLaws.{Ascends, all_sorted}
-use Rattle.pl_base.proofs.VisitOrder.{InOrder, latest_in_order}
-use Rattle.pl_base.proofs.VisitsLaws.{Differ-ascending, Differ-filter}
 use Rattle.pl_conditions.specs.Conditions.{in_times}
 use Rattle.pl_place.specs.declared.query.Query.{Query}
 use Rattle.pl_query.specs.Decides.{decides}
@@ -35,47 +28,10 @@ use Rattle.pl_indexed.proofs.WalkOrder.{not_behind, standing, walked}
 use Rattle.pl_dated.specs.declared.first.First.{First}
 use Rattle.pl_dated.specs.Latest.{AreApart, Keeps, Seen, seen_before}
 use Rattle.pl_dated.specs.Listed.{is_over, part_of, parts_of, seen_visits}
-use Rattle.pl_dated.proofs.OverVisits.{AreTimed, AreUpTo, keeps_over, later_back, seen_timed, seen_up_to}
+use Rattle.pl_dated.proofs.DatedPages.{IsOfPage, no_visits, up_to_first, visits_ordered}
+use Rattle.pl_dated.proofs.OverVisits.{AreTimed, AreUpTo, keeps_over, seen_timed, seen_up_to}
 use Rattle.pl_dated.proofs.SeenOrder.{seen_ranks}
 use Rattle.pl_dated.proofs.SkipLaws.{apart_front}
-
--- ---- the visits to a page
-
--- as `last_date_of` has it
-abbrev first_date : List Visit → Option Micros
-first_date [] = None
-first_date (v ∷ vs) = Some v.date
-
-pub visits_ordered : (kept : Kept) (view : View) → IsWellKept kept → InOrder (page_visits kept view.id)
-visits_ordered kept view h =
-    latest_in_order (visits_of (store_of kept) view.id)
-    (Differ-filter (λ (v : Visit). v.page.0 == view.id.0) kept.visits
-    (Differ-ascending kept.visits
-    (AllPairs-from_increasing (map (λ (v : Visit). v.id.0) kept.visits) h.visit_ids.ascending)))
-
--- none is later than the first
-up_to_first : (visits : List Visit) → InOrder visits → (date : Micros) → first_date visits ≡ Some date
-    → AllByRecursion (λ (v : Visit). v.date.0 ≤ date.0) visits
-up_to_first [] up date none = tt
-up_to_first (v ∷ visits) up date first =
-    let same : v.date ≡ date = same_Some v.date date first in
-    subst (λ (d : Micros). AllByRecursion (λ (w : Visit). w.date.0 ≤ d.0) (v ∷ visits)) same
-    (omega arith, later_back [] v visits up)
-
-no_visits : (visits : List Visit) → first_date visits ≡ None → visits ≡ []
-no_visits [] none = refl
-no_visits (v ∷ visits) none = absurd (cc)
-
--- the view is that of a page
-abbrev pub IsOfPage : Store → View → Type 0
-IsOfPage store v = v.last ≡ last_date_of store v.id
-
-pub of_pages : (store : Store) (pages : List Page) (views : List View) → AreViews store pages views
-    → AllByRecursion (IsOfPage store) views
-of_pages store [] [] of = tt
-of_pages store [] (v ∷ vs) of = absurd of
-of_pages store (p ∷ ps) [] of = absurd of
-of_pages store (p ∷ ps) (v ∷ vs) of = (rw of.0.id of.0.last, of_pages store ps vs of.1)
 
 -- the pages in front in the order of visits were gone along
 abbrev pub PagesJoin : Kept → Query → List View → First → List View → Type 0
@@ -95,7 +51,7 @@ module _ (kept : Kept) (q : Query) (h : IsWellKept kept) where
           seen_up_to kept q v date (page_visits kept v.id)
           (weaker (λ (w : Visit). w.date.0 ≤ last.0) (λ (w : Visit). w.date.0 ≤ date.0) (page_visits kept v.id)
           (λ w early. omega (arith, early, le))
-          (up_to_first (page_visits kept v.id) (visits_ordered kept v h) last (sym of ∙ is)))
+          (up_to_first (page_visits kept v.id) (visits_ordered kept v.id h) last (sym of ∙ is)))
       choose false = tt
 
   part_timed : (v : View) → AreTimed store q (part_of kept q v)

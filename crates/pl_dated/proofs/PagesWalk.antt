@@ -2,7 +2,6 @@
 use Rattle.std.proofs.Common.{◌≡◌, ◌∙◌, ◌+◌, ◌<◌, ◌++◌, true, false, ℕ, List, [], ◌∷◌, Option, Some, None, ap, drop, get_or}
 use Rattle.std.proofs.Common.{length, subst, sym, take}
 use Rattle.std.specs.List.{AllByRecursion}
-use Rattle.std.specs.List.Sorted.{IsPermutation}
 use Rattle.std.specs.Option.{option_copied, option_map_or}
 use Rattle.std.proofs.lemmas.List.{append-nil, take-append-drop, take_more}
 use Rattle.std.proofs.lemmas.List.Sorted.{IsPermutation-refl}
@@ -23,7 +22,8 @@ use Rattle.pl_indexed.proofs.WalkOrder.{first_of_all, standing, view_names, view
 use Rattle.pl_dated.specs.declared.first.First.{First}
 use Rattle.pl_dated.specs.Latest.{AreApart, Keeps, Seen, seen_before}
 use Rattle.pl_dated.specs.Listed.{FirstOf, is_over, part_of, parts_of}
-use Rattle.pl_dated.proofs.PagesJoined.{IsOfPage, PagesJoin, page_joined, pages_over, parts_append, parts_moved}
+use Rattle.pl_dated.proofs.DatedPages.{IsOfPage}
+use Rattle.pl_dated.proofs.PagesJoined.{PagesJoin, page_joined, pages_over, parts_append, parts_moved}
 use Rattle.pl_dated.proofs.SeenOrder.{seen_ranks}
 use Rattle.pl_dated.proofs.SkipLaws.{apart_front}
 

@@ -1,17 +1,15 @@
 -- The visits that a query lists, told by the views of their pages: they are the rows of its answer.
 use Rattle.std.proofs.Common.{◌≡◌, ◌≢◌, ◌∙◌, ◌++◌, ◌&&◌, ◌==◌, ℕ, Bool, true, false, List, [], ◌∷◌, Option, Some, None, Ordering}
-use Rattle.std.proofs.Common.{ap, arith, filter, if◌then◌else◌, is_lt, is_some, length, map, nat_cmp, refl, subst, sym, take}
+use Rattle.std.proofs.Common.{ap, arith, filter, if◌then◌else◌, is_lt, is_some, map, nat_cmp, refl, subst, sym, take}
 use Rattle.std.specs.Cmp.{IsStrictWeakOrder, IsTotalOrder}
-use Rattle.std.specs.List.{AllByRecursion, AllPairs, Contains, IsDistinct, flat_map}
+use Rattle.std.specs.List.{AllByRecursion, AllPairs, Contains, flat_map}
 use Rattle.std.specs.List.Sorted.{IsPermutation, ties}
-use Rattle.std.specs.Ordering.{ordering_reverse, ordering_then}
+use Rattle.std.specs.Ordering.{ordering_then}
 use Rattle.std.proofs.lemmas.Bool.{ne_eqb}
 use Rattle.std.proofs.lemmas.Cmp.{back_total, nat_cmp_total, on_total, then_total}
 use Rattle.std.proofs.lemmas.List.Sorted.{ranks_by}
 use Rattle.std.proofs.lemmas.Map.Lookups.{exact_unsigned}
 use Rattle.pl_base.specs.declared.date.Micros.{Micros}
-use Rattle.pl_base.specs.declared.id.ItemId.{ItemId}
-use Rattle.pl_base.specs.declared.transition.Transition.{Transition}
 use Rattle.pl_base.specs.declared.view.View.{View}
 use Rattle.pl_base.specs.Good.{IsGood}
 use Rattle.pl_base.specs.Marks.{last_date_of}
@@ -24,22 +22,17 @@ use Rattle.pl_base.proofs.SortLaws.{members, none_tie, ranks_alike}
 use Rattle.pl_conditions.specs.Conditions.{history_holds, in_times}
 use Rattle.pl_follow.proofs.ViewRanks.{both_equal}
 use Rattle.pl_place.specs.declared.kinds.QueryType.TheVariants.{History}
-use Rattle.pl_place.specs.declared.kinds.ResultType.TheVariants.{Pages, Visits}
-use Rattle.pl_place.specs.declared.kinds.TimeRef.TheVariants.{Epoch}
+use Rattle.pl_place.specs.declared.kinds.ResultType.TheVariants.{Visits}
 use Rattle.pl_place.specs.declared.query.Query.{Query}
 use Rattle.pl_place.specs.declared.sort.Direction.TheVariants.{Descending}
-use Rattle.pl_place.specs.declared.sort.Sort.{Sort}
-use Rattle.pl_place.specs.declared.sort.Sort.TheVariants.{By, Unsorted}
+use Rattle.pl_place.specs.declared.sort.Sort.TheVariants.{By}
 use Rattle.pl_place.specs.declared.sort.SortKey.TheVariants.{Date}
-use Rattle.pl_query.specs.declared.result_row.ResultRow.{ResultRow}
 use Rattle.pl_query.specs.Candidates.{visits_in_times, visits_part}
-use Rattle.pl_query.specs.Decides.{decides, is_watchable}
 use Rattle.pl_query.specs.Order.{Row, comes_before, date_cmp}
-use Rattle.pl_query.specs.QueryAnswer.{answer, has_visit_in_times, history_row, limited, rows_of, told_row, visit_rows}
+use Rattle.pl_query.specs.QueryAnswer.{answer, history_row, limited, told_row, visit_rows}
 use Rattle.pl_query.specs.Subjects.{row_of_visit}
 use Rattle.pl_query.proofs.AllParts.{rows_differ, rows_moved}
 use Rattle.pl_query.proofs.PartLists.{pairs_moved}
-use Rattle.pl_query.proofs.ViewsDecide.{decided, last_told}
 use Rattle.pl_indexed.specs.declared.found.Key.TheVariants.{Moment}
 use Rattle.pl_indexed.proofs.AlikeLists.{AreAlike, alike_limited, alike_map, alike_sorted}
 use Rattle.pl_indexed.proofs.KeyOrder.{keys_total, tied_equal}
@@ -47,70 +40,12 @@ use Rattle.pl_indexed.proofs.SortedParts.{same_sorted}
 use Rattle.pl_dated.specs.Latest.{AreApart, Seen, first_seen, seen_before}
 use Rattle.pl_dated.specs.Listed.{AsksForLatest, part_of, parts_of, row_of_seen, seen_of, seen_visits}
 use Rattle.pl_dated.proofs.SeenOrder.{tied_visits}
+use Rattle.pl_dated.proofs.UntimedQuery.{decides_visited}
 
 -- as `last_date_of` has it
 abbrev first_date : List Visit → Option Micros
 first_date [] = None
 first_date (v ∷ vs) = Some v.date
-
--- ---- the conditions
-
--- the query without its times, for pages in no order
-abbrev untimed : Query → Query
-untimed q =
-    record {
-      begin_time = None;
-      begin_ref = Epoch;
-      end_time = None;
-      end_ref = Epoch;
-      terms = q.terms;
-      min_visits = q.min_visits;
-      max_visits = q.max_visits;
-      only_bookmarked = q.only_bookmarked;
-      domain_is_host = q.domain_is_host;
-      domain = q.domain;
-      uri = q.uri;
-      parents = q.parents;
-      tags = q.tags;
-      not_tags = q.not_tags;
-      transitions = q.transitions;
-      sort = Unsorted;
-      result_type = Pages;
-      query_type = History;
-      include_hidden = q.include_hidden;
-      max_results = q.max_results;
-      exclude_queries = q.exclude_queries;
-      begin_form = refl;
-      end_form = refl;
-      terms_form = q.terms_form;
-      min_form = q.min_form;
-      max_form = q.max_form;
-      host_form = q.host_form;
-      domain_form = q.domain_form;
-      parents_form = q.parents_form;
-      tags_form = q.tags_form;
-      not_tags_form = q.not_tags_form;
-      transitions_form = q.transitions_form;
-    }
-
--- a query for visits takes the view of a page where the page has visits and the conditions hold of it
-decides_visits : (store : Store) (q : Query) (p : Page) (v : View) → AsksForLatest q → IsGood store
-    → Contains store.pages p → IsViewOf store p v
-    → decides q v ≡ (is_some (last_date_of store p.id) && history_holds store q p)
-decides_visits store q p v asks good among is =
-    decided store (untimed q) p v good among watchable is
-    ∙ ap (λ (b : Bool). b && history_holds store q p) (sym (last_told store (untimed q) p.id refl refl))
-  where
-    both : (a b : Bool) → a ≡ true → b ≡ true → (true && true && true && a && b && true) ≡ true
-    both true true one two = refl
-    both true false one two = absurd (cc)
-    both false b one two = absurd (cc)
-
-    watchable : is_watchable (untimed q) ≡ true
-    watchable =
-        both (length q.transitions == 0) (length q.parents == 0)
-        (ap (λ (ts : List Transition). length ts == 0) asks.transitions)
-        (ap (λ (ps : List ItemId). length ps == 0) asks.parents)
 
 -- ---- a row and a visit
 
@@ -196,7 +131,7 @@ module _ (kept : Kept) where
         own : part_of kept q v
             ≡ (if is_some (last_date_of store p.page.id) && history_holds store q p.page
             then seen_visits kept q v (page_visits kept p.page.id) else [])
-        own = rw (decides_visits store q p.page v asks good among of, of.id) refl
+        own = rw (decides_visited store q p.page v asks.transitions asks.parents good among of, of.id) refl
 
         choose : (a : Bool) → is_some (last_date_of store p.page.id) ≡ a → (b : Bool)
             → AreAlike Tells (if b then visits_in_times kept q p (page_visits kept p.page.id) else [])

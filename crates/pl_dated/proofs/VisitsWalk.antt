@@ -1,13 +1,12 @@
 -- The walk along the visits to a page, with the visits that join on it.
-use Rattle.std.proofs.Common.{◌≡◌, ◌∙◌, ◌++◌, ◌<◌, Bool, true, List, [], ◌∷◌, Option, Some, ap, filter, is_some, length, subst, sym, ℕ}
+use Rattle.std.proofs.Common.{◌≡◌, ◌∙◌, ◌++◌, ◌<◌, true, List, [], ◌∷◌, Option, Some, ap, filter, is_some, length, subst, sym, ℕ}
 use Rattle.std.specs.Option.{IsSome, option_map}
 use Rattle.std.proofs.lemmas.Option.{same_Some}
 use Rattle.pl_base.specs.declared.date.Micros.{Micros}
 use Rattle.pl_base.specs.declared.id.VisitId.{VisitId}
 use Rattle.pl_base.specs.declared.row.VisitRow.{VisitRow}
 use Rattle.pl_base.specs.declared.view.View.{View}
-use Rattle.pl_base.specs.Rows.{IsWellKept, Kept, first_id, older_visit, page_visits, row_of, store_of, visit_at}
-use Rattle.pl_base.specs.Store.{Visit}
+use Rattle.pl_base.specs.Rows.{IsWellKept, Kept, older_visit, page_visits, row_of, store_of, visit_at}
 use Rattle.pl_base.proofs.VisitOrder.{InOrder}
 use Rattle.pl_base.proofs.VisitsRun.{visit_here, visit_names, visits_run}
 use Rattle.pl_base.proofs.Walk.{StandsAt, Walk, goes_on, left, nears, stands}
@@ -16,8 +15,8 @@ use Rattle.pl_place.specs.declared.query.Query.{Query}
 use Rattle.pl_dated.specs.declared.first.First.{First}
 use Rattle.pl_dated.specs.Latest.{Keeps, Seen}
 use Rattle.pl_dated.specs.Listed.{is_over}
-use Rattle.pl_dated.proofs.OverVisits.{Joins, later_back, none_joined, one_joined, over_joined}
-use Rattle.pl_dated.proofs.PagesJoined.{visits_ordered}
+use Rattle.pl_dated.proofs.DatedPages.{later_back, visits_ordered}
+use Rattle.pl_dated.proofs.OverVisits.{Joins, one_joined, over_joined}
 
 -- the visits in front have joined
 abbrev pub OnVisits : Kept → Query → View → First → First → Option VisitId → Type 0
@@ -47,7 +46,7 @@ module _ (kept : Kept) (q : Query) (view : View) (h : IsWellKept kept) (old now 
           → Joins kept q view old now (page_visits kept view.id)
       over_here over =
           over_joined kept q view old now here.front here.element here.rest here.whole
-          (later_back here.front here.element here.rest (subst InOrder here.whole (visits_ordered kept view h)))
+          (later_back here.front here.element here.rest (subst InOrder here.whole (visits_ordered kept view.id h)))
           (subst (λ (date : Micros). is_over (store_of kept) q now.floor date ≡ true) date_is over) here.so_far
 
       -- this visit joins

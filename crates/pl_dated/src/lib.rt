@@ -7,3 +7,4 @@ mod first;
 mod visits;
 
 pub use answered::answer;
+pub use visits::is_too_early;

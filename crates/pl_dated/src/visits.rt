@@ -1,5 +1,5 @@
 // The visits that a query lists, gone along from the latest on.
-ghost use Rattle.std.specs.Prelude.{◌≡◌, ◌++◌, ◌∷◌, [], ℕ, List, Some, false, true, not};
+ghost use Rattle.std.specs.Prelude.{◌≡◌, ◌++◌, ◌∷◌, [], ℕ, List, Some, false, not};
 ghost use Rattle.std.specs.Prelude.{IfOk, IfSome, OnOk};
 ghost use Rattle.std.specs.List.{filter};
 ghost use Rattle.std.specs.Option.{option_map_or};
@@ -11,7 +11,7 @@ ghost use Rattle.pl_conditions.specs.Conditions.{in_times, is_not_before};
 ghost use Rattle.pl_indexed.specs.Asked.{IsAsked};
 ghost use Rattle.pl_known.specs.Known.{AreFollowed, view_of};
 ghost use Rattle.pl_dated.specs.Latest.{AreApart, Keeps, Seen, is_past_floor, seen};
-ghost use Rattle.pl_dated.specs.Listed.{FirstOf, part_of, parts_of, seen_visits};
+ghost use Rattle.pl_dated.specs.Listed.{FirstOf, part_of, seen_visits};
 ghost use Rattle.pl_dated.specs.Listed as spec;
 
 use crate::first::{First, FoundVisit};
@@ -25,8 +25,8 @@ use std::sync::ledger::Ledger;
 // No more pages are looked up one by one: to go over all pages takes less time for each.
 const MOST_LOOKED_UP: usize = 4_096;
 
-// Whether the date is before the first of the times.
-fn is_too_early(timed: &Timed<'_>, date: Micros) -> bool
+/// Whether the date is before the first of the times.
+pub fn is_too_early(timed: &Timed<'_>, date: Micros) -> bool
     ensures { (store : Store) → conditions.IsAsked store timed.now.query.now timed.now
         → result ≡ not (is_not_before store timed.now.query.now.begin_time
         timed.now.query.now.begin_ref date) }
@@ -65,7 +65,8 @@ fn add_in_times<'a>(
     ensures { OnOk result ((store : Store) → conditions.IsAsked store timed.now.query.now timed.now
         → (most : ℕ) (visits : List Seen) → Keeps most first.old visits
         → Keeps most first.new (visits
-        ++ filter (λ (s : Seen). in_times store timed.now.query.now s.date) (seen found.entry ∷ []))) }
+        ++ filter (λ (s : Seen). in_times store timed.now.query.now s.date)
+        (seen found.entry ∷ []))) }
 {
     if !timed.is_in_times(found.date) {
         return Ok(());

@@ -27,14 +27,13 @@ taken_suffice q views found ordered are =
       enough = refl;
     }
 
-pub told_rows : (q : Query) (views : List View) (found sorted cut : List Found) (rows : List ResultRow)
-    → (s : Suffice q views found) → AreFound q.sort (sorted_by (view_before q.sort) s.those) sorted
-    → cut ≡ limited q.max_results sorted → rows ≡ map (λ (f : Found). row_of_view f.view.now) cut
-    → rows ≡ map row_of_view (first_asked q (taken q views))
-told_rows q views found sorted cut rows s up few told =
+-- what is told of the pages that are found, in order and so many, is told of their views
+pub told_rows : (q : Query) (views : List View) (sorted cut : List Found) (rows : List ResultRow)
+    → AreFound q.sort (sorted_by (view_before q.sort) views) sorted → cut ≡ limited q.max_results sorted
+    → rows ≡ map (λ (f : Found). row_of_view f.view.now) cut → rows ≡ map row_of_view (first_asked q views)
+told_rows q views sorted cut rows up few told =
     told ∙ ap (map (λ (f : Found). row_of_view f.view.now)) few
     ∙ sym (map-map row_of_view (λ (f : Found). f.view.now) (limited q.max_results sorted))
     ∙ ap (map row_of_view)
     (sym (limited_map (λ (f : Found). f.view.now) q.max_results sorted)
-    ∙ ap (limited q.max_results) (views_found q.sort (sorted_by (view_before q.sort) s.those) sorted up)
-    ∙ s.enough)
+    ∙ ap (limited q.max_results) (views_found q.sort (sorted_by (view_before q.sort) views) sorted up))

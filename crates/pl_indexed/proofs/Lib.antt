@@ -1,14 +1,15 @@
 pub mod AlikeLists
-mod AnswerOfViews
+pub mod AnswerOfViews
 mod AskedTexts
 mod FirstPages
-mod FoundOrder
+pub mod FoundOrder
 pub mod KeyOrder
 mod NextAhead
 mod NextViews
+pub mod PagesTold
 pub mod SortedParts
 pub mod TakenViews
 mod ViewRows
 pub mod ViewsWalk
 pub mod WalkOrder
-mod WatchableRows
+pub mod WatchableRows

@@ -18,11 +18,11 @@ use Rattle.pl_place.specs.declared.sort.Sort.TheVariants.{Unsorted, By}
 use Rattle.pl_place.specs.declared.sort.SortKey.{SortKey}
 use Rattle.pl_place.specs.declared.sort.SortKey.TheVariants.{Title, Date, Url, VisitCount}
 use Rattle.pl_place.specs.declared.sort.SortKey.TheVariants.{Added, Modified, Tags, Frecency}
-use Rattle.pl_query.specs.Decides.{decides, is_by_mark_date, is_mark_date}
+use Rattle.pl_query.specs.Decides.{is_by_mark_date, is_mark_date}
 use Rattle.pl_query.specs.Order as rows
 use Rattle.pl_query.specs.Order.{Row, comes_before, row_cmp}
 use Rattle.pl_query.specs.QueryAnswer.{has_visit_in_times, history_row, limited, page_rows, told_row}
-use Rattle.pl_indexed.specs.Answer.{first_asked, row_of_view, taken}
+use Rattle.pl_indexed.specs.Answer.{first_asked, row_of_view}
 use Rattle.pl_indexed.specs.Found.{key_cmp, key_value, place_cmp, place_of, view_before}
 use Rattle.pl_indexed.proofs.AlikeLists.{AreAlike, alike_limited, alike_map, alike_sorted}
 use Rattle.pl_indexed.proofs.KeyOrder.{keys_total}
@@ -87,22 +87,22 @@ module _ (store : Store) where
       ∙ ap (comes_before store sort (history_row store one.page.id.0 one.page (last_date_of store one.page.id))) two.is
       ∙ ap is_lt (places_alike sort undated one.page two.page v w one.of two.of)
 
-  -- ---- the rows of a query whose conditions the views tell
+  -- ---- the rows of a query of which a test of views tells what it takes
 
-  module _ (q : Query)
+  module _ (q : Query) (takes : View → Bool)
       (told : (p : Page) (v : View) → Contains store.pages p → IsViewOf store p v
-      → decides q v ≡ (has_visit_in_times store q p.id && history_holds store q p)) where
+      → takes v ≡ (has_visit_in_times store q p.id && history_holds store q p)) where
     rows_told : (pages : List Page) (views : List View) → AllByRecursion (Contains store.pages) pages
         → AreViews store pages views
         → AreAlike Tells
         (map (λ (p : Page). history_row store p.id.0 p (last_date_of store p.id))
         (filter (λ (p : Page). has_visit_in_times store q p.id && history_holds store q p) pages))
-        (taken q views)
+        (filter takes views)
     rows_told [] [] among of = tt
     rows_told [] (v ∷ vs) among of = absurd of
     rows_told (p ∷ ps) [] among of = absurd of
     rows_told (p ∷ ps) (v ∷ vs) among of =
-        choose (has_visit_in_times store q p.id && history_holds store q p) (decides q v) (told p v among.0 of.0)
+        choose (has_visit_in_times store q p.id && history_holds store q p) (takes v) (told p v among.0 of.0)
         (rows_told ps vs among.1 of.1)
       where
         row : Page → Row
@@ -111,23 +111,23 @@ module _ (store : Store) where
         rest : List Page
         rest = filter (λ (p : Page). has_visit_in_times store q p.id && history_holds store q p) ps
 
-        choose : (a b : Bool) → b ≡ a → AreAlike Tells (map row rest) (taken q vs)
-            → AreAlike Tells (map row (if a then p ∷ rest else rest)) (if b then v ∷ taken q vs else taken q vs)
+        choose : (a b : Bool) → b ≡ a → AreAlike Tells (map row rest) (filter takes vs)
+            → AreAlike Tells (map row (if a then p ∷ rest else rest)) (if b then v ∷ filter takes vs else filter takes vs)
         choose true true is more = (record { page = p; of = of.0; is = refl }, more)
         choose true false is more = absurd (cc)
         choose false true is more = absurd (cc)
         choose false false is more = more
 
     pub rows_are : (views : List View) → AreViews store store.pages views → is_by_mark_date q.sort ≡ false
-        → map row_of_view (first_asked q (taken q views))
+        → map row_of_view (first_asked q (filter takes views))
         ≡ map (told_row store)
         (limited q.max_results (sorted_by (comes_before store q.sort) (page_rows store q)))
     rows_are views of undated =
         sym (alike_map Tells (told_row store) row_of_view told_alike
         (limited q.max_results (sorted_by (comes_before store q.sort) (page_rows store q)))
-        (first_asked q (taken q views))
+        (first_asked q (filter takes views))
         (alike_limited Tells q.max_results (sorted_by (comes_before store q.sort) (page_rows store q))
-        (sorted_by (view_before q.sort) (taken q views))
+        (sorted_by (view_before q.sort) (filter takes views))
         (alike_sorted Tells (comes_before store q.sort) (view_before q.sort)
-        (λ r s v w one two. stand_alike q.sort undated r s v w one two) (page_rows store q) (taken q views)
+        (λ r s v w one two. stand_alike q.sort undated r s v w one two) (page_rows store q) (filter takes views)
         (rows_told store.pages views (members store.pages) of))))

@@ -1,16 +1,21 @@
 -- The answer to a query by the views of pages.
-use Rattle.std.specs.Prelude.{◌≡◌, ◌≢◌, ◌≤◌, ◌-◌, ℕ, true, List, length, IfSome}
+use Rattle.std.specs.Prelude.{◌≡◌, ◌≢◌, ◌≤◌, ◌-◌, ℕ, true, false, List, length, IfSome}
 use Rattle.std.specs.List.{AllPairs, filter, slice_get}
 use Rattle.pl_base.specs.declared.view.View.{View}
 use Rattle.pl_base.specs.Sorting.{sorted_by}
 use Rattle.pl_place.specs.declared.query.Query.{Query}
 use Rattle.pl_query.specs.declared.result_row.ResultRow.{ResultRow}
-use Rattle.pl_query.specs.Decides.{decides}
+use Rattle.pl_query.specs.Decides.{asks_for_pages, decides, is_by_mark_date}
 use Rattle.pl_query.specs.QueryAnswer.{limited}
 use Rattle.pl_indexed.specs.declared.found.Found.{Found}
 use Rattle.pl_indexed.specs.declared.walk.KeptOrder.{KeptOrder}
 use Rattle.pl_indexed.specs.Found.{AreFound, view_before}
 use Rattle.pl_indexed.specs.Walk.{sort_of}
+
+-- pages of history are asked for, in no order by the dates of bookmarks
+pub record AsksForPages (q : Query) : Type 0 where
+  pub pages : asks_for_pages q.query_type q.result_type ≡ true
+  pub undated : is_by_mark_date q.sort ≡ false
 
 -- what is told of a view
 abbrev pub row_of_view : View → ResultRow

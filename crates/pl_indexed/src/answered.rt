@@ -1,11 +1,14 @@
 // The answer to a query.
-ghost use Rattle.std.specs.Prelude.{◌≡◌, map, IfOk};
+ghost use Rattle.std.specs.Prelude.{◌≡◌, ◌≢◌, List, map, IfOk};
+ghost use Rattle.std.specs.List.{AllPairs};
+ghost use Rattle.pl_base.specs.declared.view.View.{View};
 ghost use Rattle.pl_base.specs.Good.{IsGood};
 ghost use Rattle.pl_base.specs.Rows.{IsRight, store_of};
 ghost use Rattle.pl_known.specs.Known.{AreFollowed, Knows};
 ghost use Rattle.pl_query.specs.QueryAnswer as spec;
 ghost use Rattle.pl_query.specs.QueryAnswer.{limited, told_row};
 ghost use Rattle.pl_indexed.specs.Answer.{first_asked, row_of_view, taken};
+ghost use Rattle.pl_indexed.specs.Found.{AreFound};
 ghost use Rattle.pl_indexed.specs.declared.found.Found.{Found};
 
 use crate::asked::Asked;
@@ -54,6 +57,22 @@ fn result_rows(alloc: Global, found: &[Found<'_>]) -> Result<Vec<ResultRow>, NoM
     Ok(rows)
 }
 
+/// What is told of pages that are found, in the order of a query, of so many as it asks for.
+pub fn rows_of(
+    alloc: Global,
+    query: &Query,
+    mut found: Vec<Found<'_>>,
+) -> Result<Vec<ResultRow>, NoMemory>
+    requires { AllPairs (λ (a b : Found). a.view.now.id.0 ≢ b.view.now.id.0) found.items }
+    ensures { IfOk result (λ rows. (views : List View)
+        → AreFound query.now.sort views found.entry.items
+        → rows.items ≡ map row_of_view (first_asked query.now views)) }
+{
+    put_in_order(&mut found, query.sort);
+    limit(&mut found, query.max_results);
+    result_rows(alloc, &found)
+}
+
 // The rows of the views that the query takes, in its order, so many as it asks for.
 fn answer_by_views(alloc: Global, known: &Known, query: &Query) -> Result<Vec<ResultRow>, NoMemory>
     requires { AreFollowed known.now }
@@ -61,10 +80,8 @@ fn answer_by_views(alloc: Global, known: &Known, query: &Query) -> Result<Vec<Re
         (first_asked query.now (taken query.now known.now.views.items))) }
 {
     let asked = Asked::of(alloc, query)?;
-    let mut found = candidates(alloc, known, &asked)?;
-    put_in_order(&mut found, query.sort);
-    limit(&mut found, query.max_results);
-    result_rows(alloc, &found)
+    let found = candidates(alloc, known, &asked)?;
+    rows_of(alloc, query, found)
 }
 
 /// The rows that answer a query, in its order, so many as it asks for, by what is known of the

@@ -8,6 +8,8 @@ mod found;
 mod walk;
 mod ways;
 
-pub use answered::answer;
+pub use answered::{answer, rows_of};
 pub use asked::{Asked, decides};
+pub use found::{Found, Key, key_of};
 pub use walk::{KeptOrder, next_view};
+pub use ways::add;

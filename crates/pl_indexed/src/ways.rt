@@ -18,9 +18,9 @@ use std::alloc::Global;
 // No more pages are looked up one by one: to go over all pages takes less time for each.
 const MOST_LOOKED_UP: usize = 4_096;
 
-// The page of a view, which is one of those that are known, joins the others where the query takes
-// it.
-fn add<'a>(
+/// The page of a view, which is one of those that are known, joins the others where the query takes
+/// it.
+pub fn add<'a>(
     alloc: Global,
     known: &Known,
     asked: &Asked<'_>,

@@ -32,6 +32,9 @@ const KINDS: &[&str] = &[
     "&queryType=1",
 ];
 
+// The latest visits, which are gone along by the chains of their pages.
+const LATEST: &[&str] = &["&type=1", "&type=1&includeHidden=1"];
+
 const CONDITIONS: &[&str] = &[
     "&terms=example",
     "&terms=title a",
@@ -52,6 +55,9 @@ const CONDITIONS: &[&str] = &[
     "&parent=2&parent=3",
     "&parent=7&parent=8&parent=9",
     "&tag=ONE",
+    "&tag=Two",
+    "&tag=three",
+    "&tag=new",
     "&tag=two&tag=one",
     "&tag=two&!tags=1",
     "&tag=absent",
@@ -68,27 +74,50 @@ fn condition(turn: u32, part: u32) -> &'static str {
     }
 }
 
-// Times whose ends are dates of visits, or none.
+// What is listed.
+fn kind_of(turn: u32) -> &'static str {
+    match drawn(turn, 19, 4) {
+        0 => one_of(LATEST, turn, 22),
+        _ => one_of(KINDS, turn, 22),
+    }
+}
+
+// The order in which it is listed.
+fn sort_of(turn: u32) -> &'static str {
+    match drawn(turn, 19, 4) {
+        0 => "&sort=4",
+        _ => one_of(SORTS, turn, 20),
+    }
+}
+
+// Times whose ends are dates of visits or lie a microsecond within these, or none.
 fn times(alloc: Global, turn: u32) -> Result<String, AllocError> {
-    let first = date(turn, 25);
-    let last = date(turn, 26);
+    let one = date(turn, 25);
+    let other = date(turn, 26);
+    let first = one.min(other);
+    let last = one.max(other);
     let before = u64::from(drawn(turn, 27, 60)).wrapping_mul(MICROS_PER_DAY);
-    match drawn(turn, 28, 16) {
+    match drawn(turn, 28, 18) {
         0 => format!(in alloc; "&beginTime={first}"),
         1 => format!(in alloc; "&endTime={last}"),
         2 => format!(in alloc; "&beginTime={first}&endTime={first}"),
-        3 => format!(in alloc; "&beginTime={first}&endTime={last}"),
-        4 => format!(in alloc; "&beginTime=-{before}&beginTimeRef=1"),
-        5 => format!(in alloc; "&endTime=-{before}&endTimeRef=2"),
+        3 | 4 => format!(in alloc; "&beginTime={first}&endTime={last}"),
+        5 => format!(in alloc; "&beginTime={}", first.wrapping_add(1)),
+        6 => format!(in alloc; "&endTime={}", last.wrapping_sub(1)),
+        7 => format!(in alloc; "&beginTime={}&endTime={last}", first.wrapping_add(1)),
+        8 => format!(in alloc; "&beginTime={first}&endTime={}", last.wrapping_sub(1)),
+        9 => format!(in alloc; "&beginTime={last}&endTime={first}"),
+        10 => format!(in alloc; "&beginTime=-{before}&beginTimeRef=1"),
+        11 => format!(in alloc; "&endTime=-{before}&endTimeRef=2"),
         _ => format!(in alloc; ""),
     }
 }
 
 /// The text of a query.
 pub fn query_of(alloc: Global, turn: u32) -> Result<String, AllocError> {
-    let sort = one_of(SORTS, turn, 20);
+    let sort = sort_of(turn);
     let cut = one_of(CUTS, turn, 21);
-    let kind = one_of(KINDS, turn, 22);
+    let kind = kind_of(turn);
     let first = condition(turn, 23);
     let second = condition(turn, 24);
     let times = times(alloc, turn)?;

@@ -1,11 +1,13 @@
-use Rattle.std.specs.Option.{option_copied}
+use Rattle.std.specs.Option.{option_copied, option_map_or}
 use Rattle.pl_base.specs.Rows.{store_of}
 use Rattle.pl_base.proofs.Walk.{ends}
-use Rattle.std.proofs.Common.{◌∙◌, sym}
+use Rattle.std.proofs.Common.{◌∙◌, false, sym}
 use Rattle.pl_indexed.specs.declared.walk.KeptOrder.TheVariants.{LatestFirst}
 use Rattle.pl_indexed.proofs.ViewsWalk.{no_view}
 use Rattle.pl_indexed.proofs.WalkOrder.{view_names, walked}
-use Rattle.pl_dated.proofs.PagesJoined.{PagesJoin, of_pages}
+use Rattle.pl_dated.specs.Listed.{is_over}
+use Rattle.pl_dated.proofs.DatedPages.{of_pages}
+use Rattle.pl_dated.proofs.PagesJoined.{PagesJoin}
 use Rattle.pl_dated.proofs.PagesWalk.{all_walked, begins, goes_further, known_here, over_here, stands_here}
 use Rattle.pl_dated.proofs.visits.latest_visits.Goals as goal
 
@@ -33,7 +35,9 @@ returns-then-is_page_over g c =
     over_here kept c.args.timed.now.query.now (g.met.R.Rows.well_kept c.args.rows.now) views c.requires.followed.order
     (of_pages (store_of kept) (store_of kept).pages views c.requires.views) c.loop.first c.loop.next c.in-Some.view
     c.loop.invariant c.in-Some.is
-    (sym (c.is_page_over.ensures (store_of kept) c.requires.times) ∙ c.if-is_page_over.true)
+    (sym {b = option_map_or (is_over (store_of kept) c.args.timed.now.query.now c.loop.first.floor)
+    c.in-Some.view.now.last false}
+    (c.is_page_over.ensures (store_of kept) c.requires.times) ∙ c.if-is_page_over.true)
 
 pub add_page-requires-clause-view : goal.add_page-requires-clause-view
 add_page-requires-clause-view g c =

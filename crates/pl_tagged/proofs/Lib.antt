@@ -1,0 +1,4 @@
+mod EntryWalk
+mod SameMembers
+mod TagViews
+mod TaggedRows

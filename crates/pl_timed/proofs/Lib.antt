@@ -1,0 +1,3 @@
+mod LatestTells
+mod TimedRows
+mod VisitWalk

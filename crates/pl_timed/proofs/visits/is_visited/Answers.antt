@@ -1,0 +1,12 @@
+use Rattle.std.proofs.Common.{◌∙◌, sym}
+use Rattle.pl_base.specs.Rows.{store_of}
+use Rattle.pl_timed.proofs.LatestTells.{latest_visited}
+use Rattle.pl_timed.proofs.visits.is_visited.Goals as goal
+
+pub returns-then-is_latest_in_times : goal.returns-then-is_latest_in_times
+returns-then-is_latest_in_times g c =
+    sym
+    (latest_visited (g.R.Rows.kept c.args.rows.now) c.args.timed.now.query.now
+    (g.met.R.Rows.well_kept c.args.rows.now) c.args.view.now c.requires.last
+    (sym (c.is_latest_in_times.ensures (store_of (g.R.Rows.kept c.args.rows.now)) c.requires.asked)
+    ∙ c.if-is_latest_in_times.true))
