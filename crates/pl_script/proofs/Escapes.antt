@@ -1,11 +1,13 @@
 -- Escapes in text fields.
 use Rattle.std.proofs.Common.{◌≡◌, subst, sym, ◌≢◌, ⊎_elim, eq-eqb, ◌<◌, ◌+◌, ℕ, true, false, List, [], ◌∷◌, ◌++◌}
 use Rattle.std.proofs.Common.{length, get_or, drop, Some, None, Option, refl, ap, add-one, append_assoc, drop-cons}
-use Rattle.std.proofs.Common.{◌≤◌, arith}
+use Rattle.std.proofs.Common.{◌∙◌, ◌≤◌, arith, take}
 use Rattle.std.specs.Prelude.{encode_utf8}
 use Rattle.std.specs.Option.{option_map}
 use Rattle.std.proofs.lemmas.Bool.{cases_Bool, cases_eq, cond-false, cond-true, ne_eqb}
 use Rattle.std.proofs.lemmas.Bool.Decides.{nat_tests}
+use Rattle.std.proofs.lemmas.Grind.{flat_map-append}
+use Rattle.std.proofs.lemmas.List.{take_more}
 use Rattle.std.proofs.lemmas.Str.{IsUtf8-from_is_utf8, is_utf8-from_IsUtf8}
 use Rattle.std.specs.Str.{IsUtf8, is_utf8}
 use Rattle.pl_words.proofs.WrittenBytes.{written-plain}
@@ -93,3 +95,13 @@ pub escaped-plain : (c : ℕ) → escape_of c ≡ None → escaped (encode_utf8 
 escaped-plain c plain =
     written-plain written (λ b high. ap (escaped_as b) (escape_of-high b high)) c
     (ap (escaped_as c) plain)
+
+-- a byte more that stays behind those that do
+pub escaped_more : (text : List ℕ) (k : ℕ) → k < length text → escape_of (get_or text k 0) ≡ None
+    → escaped (take k text) ≡ take k text → escaped (take (k + 1) text) ≡ take (k + 1) text
+escaped_more text k within stays front =
+    let more : take (k + 1) text ≡ take k text ++ get_or text k 0 ∷ [] = take_more text k 0 within in
+    ap escaped more
+    ∙ flat_map-append written (take k text) (get_or text k 0 ∷ [])
+    ∙ (λ i. front i ++ (escaped_as (get_or text k 0) (stays i) ++ []))
+    ∙ sym more

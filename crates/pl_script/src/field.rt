@@ -1,5 +1,6 @@
 // What one field stands for.
-ghost use Rattle.std.specs.Prelude.{◌≡◌, ◌++◌, false, Some, IfOk, OnOk, encode_utf8};
+ghost use Rattle.std.specs.Prelude.{◌≡◌, ◌++◌, None, Some, false, true, IfOk, OnOk};
+ghost use Rattle.std.specs.Prelude.{encode_utf8};
 ghost use Rattle.std.specs.Option.{option_map};
 ghost use Rattle.std.specs.String.{string_bytes};
 ghost use Rattle.pl_script.specs.Reply.{date_text};
@@ -99,13 +100,54 @@ pub fn escaped(alloc: Global, text: &str) -> Result<String, NoMemory>
         spec.text_of (string_bytes written) ≡ Some text.now) }
 {
     let mut written = String::new(alloc);
-    for c in text.chars() {
-        push_escaped(&mut written, c)?;
-    }
+    push_escaped(&mut written, text)?;
     Ok(written)
 }
 
-fn push_escaped(written: &mut String, c: char) -> Result<(), NoMemory>
+/// The same behind what is written.
+pub fn push_escaped(written: &mut String, text: &str) -> Result<(), NoMemory>
+    ensures exact { OnOk result (string_bytes written.new
+        ≡ string_bytes written.old ++ spec.escaped text.now) }
+    ensures reads_back { OnOk result (spec.text_of (spec.escaped text.now) ≡ Some text.now) }
+{
+    if is_plain(text) {
+        written.push_str(text)?;
+        return Ok(());
+    }
+    push_chars(written, text)
+}
+
+// Whether no byte of the text is escaped, as most texts are. Each byte is looked at, which takes
+// less time than to stop at the first.
+fn is_plain(text: &str) -> bool
+    ensures { result ≡ true → spec.escaped text.now ≡ text.now }
+{
+    let mut plain = true;
+    for &byte in text.as_bytes() {
+        plain = plain & stays(byte);
+    }
+    plain
+}
+
+// Whether a byte is written as it is: so is each that is no control character and no backslash.
+fn stays(byte: u8) -> bool
+    ensures { result ≡ true → spec.escape_of byte ≡ None }
+{
+    byte >= b' ' && byte != b'\\'
+}
+
+// The characters of the text one by one.
+fn push_chars(written: &mut String, text: &str) -> Result<(), NoMemory>
+    ensures { OnOk result (string_bytes written.new
+        ≡ string_bytes written.old ++ spec.escaped text.now) }
+{
+    for c in text.chars() {
+        push_char(written, c)?;
+    }
+    Ok(())
+}
+
+fn push_char(written: &mut String, c: char) -> Result<(), NoMemory>
     ensures { OnOk result (string_bytes written.new
         ≡ string_bytes written.old ++ spec.escaped (encode_utf8 c)) }
 {

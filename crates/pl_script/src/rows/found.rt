@@ -1,11 +1,12 @@
 // The rows that answer a query.
-ghost use Rattle.std.specs.Prelude.{◌≡◌, [], ◌∷◌, IfOk, decimal};
-ghost use Rattle.std.specs.Fmt.{signed_decimal};
-ghost use Rattle.std.specs.List.{All, join_with_byte};
+ghost use Rattle.std.specs.Prelude.{◌≡◌, ◌++◌, ◌∷◌, IfOk, OnOk};
+ghost use Rattle.std.specs.List.{All};
 ghost use Rattle.std.specs.String.{string_bytes};
 ghost use Rattle.pl_script.specs.Reply as spec;
+ghost use Rattle.pl_script.specs.Script.{escaped};
 
-use crate::field::{date_text, escaped};
+use crate::field::push_escaped;
+use itoa::{Buffer, Integer};
 use pl_base::{Micros, NoMemory};
 use pl_query::ResultRow;
 use pl_step::Reply;
@@ -19,33 +20,59 @@ pub fn found_text(alloc: Global, rows: &[ResultRow]) -> Result<String, NoMemory>
 {
     let mut text = format!(in alloc; "rows\t{}\n", rows.len())?;
     for row in rows {
-        text.push_str(&row_text(alloc, row)?)?;
+        push_row(&mut text, row)?;
     }
     Ok(text)
 }
 
-fn row_text(alloc: Global, row: &ResultRow) -> Result<String, NoMemory>
-    ensures exact { IfOk result (λ text.
-        string_bytes text ≡ spec.line_text (spec.found_fields row.now)) }
-    ensures read_again { IfOk result (λ _. spec.IsFoundAgain row.now) }
+// The line of a row joins the text.
+fn push_row(text: &mut String, row: &ResultRow) -> Result<(), NoMemory>
+    ensures exact { OnOk result (string_bytes text.new
+        ≡ string_bytes text.old ++ spec.line_text (spec.found_fields row.now)) }
+    ensures read_again { OnOk result (spec.IsFoundAgain row.now) }
 {
-    let url = escaped(alloc, row.url.as_str())?;
-    let title = escaped(alloc, row.title.as_str())?;
-    let numbers = numbers(alloc, row.date, row.count, row.frecency)?;
-    let tags = escaped(alloc, row.tags.as_str())?;
-    Ok(format!(in alloc; "row\t{}\t{url}\t{title}\t{numbers}\t{tags}\n", row.id)?)
+    text.push_str("row")?;
+    push_number(text, row.id)?;
+    push_text(text, row.url.as_str())?;
+    push_text(text, row.title.as_str())?;
+    push_date(text, row.date)?;
+    push_number(text, row.count)?;
+    push_number(text, row.frecency)?;
+    push_text(text, row.tags.as_str())?;
+    text.push('\n')?;
+    Ok(())
 }
 
-// The date, the count and the frecency.
-fn numbers(
-    alloc: Global,
-    date: Option<Micros>,
-    count: u32,
-    frecency: i64,
-) -> Result<String, NoMemory>
-    ensures { IfOk result (λ text. string_bytes text ≡ join_with_byte 9
-        (spec.date_text date ∷ decimal count ∷ signed_decimal frecency ∷ [])) }
+// A field that is a text, and the TAB before it.
+fn push_text(text: &mut String, field: &str) -> Result<(), NoMemory>
+    ensures exact { OnOk result (string_bytes text.new
+        ≡ string_bytes text.old ++ 9 ∷ escaped field.now) }
+    ensures read_again { OnOk result (spec.IsReadAgain field.now) }
 {
-    let date = date_text(alloc, date)?;
-    Ok(format!(in alloc; "{date}\t{count}\t{frecency}")?)
+    text.push('\t')?;
+    push_escaped(text, field)
+}
+
+// A date, and the TAB before it.
+fn push_date(text: &mut String, date: Option<Micros>) -> Result<(), NoMemory>
+    ensures { OnOk result (string_bytes text.new
+        ≡ string_bytes text.old ++ 9 ∷ spec.date_text date) }
+{
+    match date {
+        Some(date) => push_number(text, date.0),
+        None => {
+            text.push_str("\t-")?;
+            Ok(())
+        }
+    }
+}
+
+// A number, and the TAB before it.
+fn push_number<I: Integer>(text: &mut String, number: I) -> Result<(), NoMemory>
+    ensures { OnOk result (string_bytes text.new ≡ string_bytes text.old ++ 9 ∷ I.text number) }
+{
+    let mut buffer = Buffer::new();
+    text.push('\t')?;
+    text.push_str(buffer.format(number))?;
+    Ok(())
 }

@@ -1,4 +1,4 @@
-use Rattle.std.proofs.Common.{◌∙◌, append-nil, subst, sym}
+use Rattle.std.proofs.Common.{◌∙◌, append-nil, refl, subst, sym}
 use Rattle.std.specs.List.{All}
 use Rattle.std.proofs.lemmas.List.{take_all}
 use Rattle.std.proofs.lemmas.List.Elements.{All-more, All-nil}
@@ -17,10 +17,10 @@ pub loop-row-preserved : goal.loop-row-preserved
 loop-row-preserved c =
     let rows = c.args.rows.now in
     let row = c.row-item.result in
-    let told = subst IsFoundAgain c.row-item.is c.in_ok-row_text.ensures.read_again in (
+    let told = subst IsFoundAgain c.row-item.is c.in_ok-push_row.ensures.read_again in (
       one_more (λ row. line_text (found_fields row)) (line_text (reply_fields (Rows rows))) _ _ _ rows
           c.loop-row.row-index row c.loop-row-test.true c.row-item.is c.loop-row.invariant.0
-          (c.deref.ensures ∙ c.in_ok-row_text.ensures.exact) c.in_ok-push_str.ensures.bytes,
+          refl c.in_ok-push_row.ensures.exact,
       All-more IsFoundAgain rows c.loop-row.row-index row c.loop-row-test.true c.loop-row.invariant.1 told,
     )
 
