@@ -66,9 +66,9 @@ entry_of items views id v is = choose (item_at items id) refl is
 
 -- the view of the page of an entry is one of those that are known
 pub known_entry : (items : List Item) (views : List View) (id : ItemId) (v : View)
-    → entry_view items views id ≡ Some v → view_of v.id views ≡ Some v
+    → Some v ≡ entry_view items views id → view_of v.id views ≡ Some v
 known_entry items views id v is =
-    let e : Entry items views id v = entry_of items views id v is in
+    let e : Entry items views id v = entry_of items views id v (sym is) in
     e.view
 
 view_at : (items : List Item) (views : List View) (id : ItemId) (i : Item) (v : View) → item_at items id ≡ Some i
