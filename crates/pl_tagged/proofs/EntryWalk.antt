@@ -1,9 +1,10 @@
 -- The walk over the entries in a tag folder, with the pages that are found on it.
 use Rattle.std.proofs.Common.{◌≡◌, ◌∙◌, ◌++◌, ◌<◌, List, [], ◌∷◌, Option, Some, None, ap, length, map, refl, sym}
 use Rattle.std.specs.List.{filter_map}
-use Rattle.std.specs.Option.{option_and_then, option_map, option_to_list}
+use Rattle.std.specs.Option.{option_and_then, option_copied, option_map, option_to_list}
 use Rattle.std.proofs.lemmas.List.{map-append}
 use Rattle.std.proofs.lemmas.List.Elements.{filter-append, filter_map-append}
+use denote.Ref.{Bor}
 use Rattle.pl_base.specs.declared.id.ItemId.{ItemId}
 use Rattle.pl_base.specs.declared.item.ItemRow.{ItemRow}
 use Rattle.pl_base.specs.declared.view.View.{View}
@@ -34,6 +35,12 @@ page_told items None told is row some = absurd (cc)
 page_told items (Some i) told is row some =
     let same : row ≡ item_row items i = cc in
     ap (λ (r : ItemRow). r.page) same
+
+-- the view that was found is that of the entry's page
+pub shown : (items : List Item) (views : List View) (entry : ItemId) (told : Option (Bor View)) (view : Bor View)
+    → option_copied told ≡ entry_view items views entry → told ≡ Some view
+    → Some view.now ≡ entry_view items views entry
+shown items views entry told view is at = sym (ap option_copied at) ∙ is
 
 -- ---- the walk
 

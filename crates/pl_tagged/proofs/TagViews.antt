@@ -66,9 +66,9 @@ entry_of items views id v is = choose (item_at items id) refl is
 
 -- the view of the page of an entry is one of those that are known
 pub known_entry : (items : List Item) (views : List View) (id : ItemId) (v : View)
-    → entry_view items views id ≡ Some v → view_of v.id views ≡ Some v
+    → Some v ≡ entry_view items views id → view_of v.id views ≡ Some v
 known_entry items views id v is =
-    let e : Entry items views id v = entry_of items views id v is in
+    let e : Entry items views id v = entry_of items views id v (sym is) in
     e.view
 
 view_at : (items : List Item) (views : List View) (id : ItemId) (i : Item) (v : View) → item_at items id ≡ Some i
@@ -96,26 +96,22 @@ module _ (items : List Item) (views : List View) where
       → AllByRecursion (λ (j : Item). j.page ≢ i.page) (filter_map (item_at items) ids)
       → AllByRecursion (λ (w : View). w.id.0 ≢ v.id.0) (filter_map (entry_view items views) ids)
   none_of i v of [] all = tt
-  none_of i v of (id ∷ ids) all = choose (entry_view items views id) refl
+  none_of i v of (id ∷ ids) all =
+      choose (entry_view items views id) refl (none_of i v of ids (behind (item_at items id) refl))
     where
-      Other : View → Type 0
-      Other w = w.id.0 ≢ v.id.0
-
       behind : (o : Option Item) → item_at items id ≡ o
           → AllByRecursion (λ (j : Item). j.page ≢ i.page) (filter_map (item_at items) ids)
       behind None none = rw none at all
       behind (Some j) there = (rw there at all).1
 
-      rest : AllByRecursion Other (filter_map (entry_view items views) ids)
-      rest = none_of i v of ids (behind (item_at items id) refl)
-
       first : (j : Item) → item_at items id ≡ Some j → j.page ≢ i.page
       first j there = (rw there at all).0
 
       choose : (o : Option View) → entry_view items views id ≡ o
-          → AllByRecursion Other (filter_map (entry_view items views) (id ∷ ids))
-      choose None none = rw none rest
-      choose (Some w) is =
+          → AllByRecursion (λ (w : View). w.id.0 ≢ v.id.0) (filter_map (entry_view items views) ids)
+          → AllByRecursion (λ (w : View). w.id.0 ≢ v.id.0) (filter_map (entry_view items views) (id ∷ ids))
+      choose None none rest = rw none rest
+      choose (Some w) is rest =
           let e : Entry items views id w = entry_of items views id w is in
           rw is (
             (λ same. first e.item e.there (e.page ∙ ap (λ (p : PageId). Some p) (page_is w.id v.id same) ∙ sym of)),
@@ -125,23 +121,22 @@ module _ (items : List Item) (views : List View) where
   entries_apart : (ids : List ItemId) → Others (filter_map (item_at items) ids)
       → Apart (λ (v : View). v.id.0) (filter_map (entry_view items views) ids)
   entries_apart [] apart = tt
-  entries_apart (id ∷ ids) apart = choose (entry_view items views id) refl
+  entries_apart (id ∷ ids) apart =
+      choose (entry_view items views id) refl (entries_apart ids (behind (item_at items id) refl))
     where
       behind : (o : Option Item) → item_at items id ≡ o → Others (filter_map (item_at items) ids)
       behind None none = rw none at apart
       behind (Some j) there = (rw there at apart).1
-
-      rest : Apart (λ (v : View). v.id.0) (filter_map (entry_view items views) ids)
-      rest = entries_apart ids (behind (item_at items id) refl)
 
       first : (j : Item) → item_at items id ≡ Some j
           → AllByRecursion (λ (k : Item). k.page ≢ j.page) (filter_map (item_at items) ids)
       first j there = (rw there at apart).0
 
       choose : (o : Option View) → entry_view items views id ≡ o
+          → Apart (λ (v : View). v.id.0) (filter_map (entry_view items views) ids)
           → Apart (λ (v : View). v.id.0) (filter_map (entry_view items views) (id ∷ ids))
-      choose None none = rw none rest
-      choose (Some v) is =
+      choose None none rest = rw none rest
+      choose (Some v) is rest =
           let e : Entry items views id v = entry_of items views id v is in
           rw is (none_of e.item v e.page ids (first e.item e.there), rest)
 

@@ -15,7 +15,7 @@ use Rattle.pl_base.proofs.Among.{In, at_in, contains_from_in, from_filter, in_fi
 use Rattle.pl_base.proofs.ListLaws.{all-filter, weaker}
 use Rattle.pl_base.proofs.LookUps.{Apart}
 use Rattle.pl_base.proofs.SortLaws.{none_tie}
-use Rattle.pl_conditions.specs.Conditions.{has_tag_named, words_asked}
+use Rattle.pl_conditions.specs.Conditions.{has_tag_named, has_tags_asked, words_asked}
 use Rattle.pl_follow.specs.Changes.{AreInOrder}
 use Rattle.pl_indexed.specs.declared.found.Found.{Found}
 use Rattle.pl_indexed.specs.Answer.{first_asked, row_of_view, taken}
@@ -28,9 +28,9 @@ use Rattle.pl_indexed.proofs.WalkOrder.{ids_differ}
 use Rattle.pl_indexed.proofs.WatchableRows.{told_answer}
 use Rattle.pl_known.specs.Known.{view_of}
 use Rattle.pl_place.specs.declared.query.Query.{Query}
-use Rattle.pl_query.specs.Decides.{are_tags_in, decides, has_word_in, holds_unfolded, is_tag_in, is_watchable}
+use Rattle.pl_query.specs.Decides.{are_tags_in, decides, has_word_in, holds_unfolded, is_watchable}
 use Rattle.pl_query.specs.QueryAnswer.{answer, limited, told_row}
-use Rattle.pl_query.proofs.TagsTold.{tag_told}
+use Rattle.pl_query.proofs.ViewsDecide.{tags_told}
 use Rattle.pl_tagged.specs.Entered.{tagged}
 use Rattle.pl_tagged.proofs.SameMembers.{same_members}
 use Rattle.pl_tagged.proofs.TagViews.{tagged_apart, tagged_known, tagged_there}
@@ -70,35 +70,39 @@ pairs_of (v ∷ vs) apart =
 
 -- ---- the tags of a view
 
--- the page of each view has the tags that its text has
-abbrev TellsTags : Store → List ℕ → View → Type 0
-TellsTags store name v = is_tag_in v.tags name ≡ has_tag_named store v.id name
+-- the text of a view tells whether its page has the tags
+abbrev TellsTags : Store → Query → View → Type 0
+TellsTags store q v = are_tags_in q.tags q.not_tags v.tags ≡ has_tags_asked store q.tags q.not_tags v.id
 
-tell_tags : (store : Store) (name : List ℕ) → HasTags store → (pages : List Page) (views : List View)
-    → AreViews store pages views → AllByRecursion (TellsTags store name) views
-tell_tags store name good [] [] of = tt
-tell_tags store name good [] (v ∷ vs) of = absurd of
-tell_tags store name good (p ∷ ps) [] of = absurd of
-tell_tags store name good (p ∷ ps) (v ∷ vs) of =
-    (rw (of.0.tags, of.0.id) (tag_told store p.id good name), tell_tags store name good ps vs of.1)
+tell_tags : (store : Store) (q : Query) → HasTags store → (pages : List Page) (views : List View)
+    → AreViews store pages views → AllByRecursion (TellsTags store q) views
+tell_tags store q good [] [] of = tt
+tell_tags store q good [] (v ∷ vs) of = absurd of
+tell_tags store q good (p ∷ ps) [] of = absurd of
+tell_tags store q good (p ∷ ps) (v ∷ vs) of = (
+  tags_told store p v of.0 good q.tags q.not_tags ∙ ap (has_tags_asked store q.tags q.not_tags) (sym of.0.id),
+  tell_tags store q good ps vs of.1,
+)
 
--- a view that the query takes has the tag
-has_tag_asked : (q : Query) (name : List ℕ) (v : View) → q.not_tags ≡ false → Contains q.tags name
-    → decides q v ≡ true → is_tag_in v.tags name ≡ true
-has_tag_asked q name v with_it among takes =
+-- a page that the query takes has the tag
+has_tag_asked : (store : Store) (q : Query) (name : List ℕ) (v : View) → TellsTags store q v → q.not_tags ≡ false
+    → Contains q.tags name → decides q v ≡ true → has_tag_named store v.id name ≡ true
+has_tag_asked store q name v tells with_it among takes =
     all_in q.tags (in_from_contains q.tags name among)
-    (subst (λ (b : Bool). are_tags_in q.tags b v.tags ≡ true) with_it
-    (and_parts (holds_unfolded q v) (are_tags_in q.tags q.not_tags v.tags)
+    (subst (λ (b : Bool). has_tags_asked store q.tags b v.id ≡ true) with_it
+    (sym tells
+    ∙ (and_parts (holds_unfolded q v) (are_tags_in q.tags q.not_tags v.tags)
     (and_parts (holds_unfolded q v && are_tags_in q.tags q.not_tags v.tags)
-    (list_all (has_word_in v) (words_asked q.terms)) takes).0).1)
+    (list_all (has_word_in v) (words_asked q.terms)) takes).0).1))
   where
-    all_in : (tags : List (List ℕ)) → In name tags → list_all (is_tag_in v.tags) tags ≡ true
-        → is_tag_in v.tags name ≡ true
+    all_in : (tags : List (List ℕ)) → In name tags → list_all (has_tag_named store v.id) tags ≡ true
+        → has_tag_named store v.id name ≡ true
     all_in [] h all = absurd h
     all_in (t ∷ tags) (inl e) all =
-        ap (is_tag_in v.tags) e ∙ (and_parts (is_tag_in v.tags t) (list_all (is_tag_in v.tags) tags) all).0
+        ap (has_tag_named store v.id) e
+        ∙ (and_parts (has_tag_named store v.id t) (list_all (has_tag_named store v.id) tags) all).0
     all_in (t ∷ tags) (inr h) all =
-        all_in tags h (and_parts (is_tag_in v.tags t) (list_all (is_tag_in v.tags) tags) all).1
+        all_in tags h (and_parts (has_tag_named store v.id t) (list_all (has_tag_named store v.id) tags) all).1
 
 -- the first of the tags is one of them
 pub first_among : (tags slice : List (List ℕ)) (first : Option (List ℕ)) (name : List ℕ) → slice ≡ tags
@@ -125,8 +129,8 @@ module _ (store : Store) (q : Query) (name : List ℕ) (views : List View) (good
   there v h =
       let r = from_filter (decides q) views v h in
       let has : has_tag_named store v.id name ≡ true =
-      sym (at_in (TellsTags store name) views v (tell_tags store name good.tags store.pages views of) r.0)
-      ∙ has_tag_asked q name v with_it among r.1 in
+      has_tag_asked store q name v
+      (at_in (TellsTags store q) views v (tell_tags store q good.tags store.pages views of) r.0) with_it among r.1 in
       in_filter (decides q) with_tag v
       (tagged_there store views name good.tags v
       (at_in (λ (w : View). view_of w.id views ≡ Some w) views v (known_views views ordered) r.0) has)
