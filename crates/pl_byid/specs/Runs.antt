@@ -1,5 +1,6 @@
 -- What a run of slots tells of ids, and when that is right.
-use Rattle.std.specs.Prelude.{◌≡◌, ◌≢◌, ◌==◌, ◌-◌, ℕ, None, Option, Some, get_or, if◌then◌else◌, nat_lt}
+use Rattle.std.specs.Prelude.{◌≡◌, ◌≢◌, ◌==◌, ◌-◌, ℕ, if◌then◌else◌, nat_lt}
+use Rattle.std.specs.Prelude.{None, Option, Some, get_or}
 use Rattle.std.specs.Option.{IfSome}
 use Rattle.pl_base.specs.declared.id.Slot.{Slot}
 use Rattle.pl_byid.specs.declared.run.Run.{Run}
