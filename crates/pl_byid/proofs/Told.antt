@@ -1,5 +1,5 @@
 -- What a run tells stays right when a row comes, gets another slot or goes.
-use Rattle.std.proofs.Common.{◌≡◌, ◌≢◌, ◌∙◌, ◌==◌, ℕ, Bool, false, true, None, Option, Some, ap, eqb-true, if◌then◌else◌}
+use Rattle.std.proofs.Common.{◌≡◌, ◌≢◌, ◌∙◌, ◌==◌, ℕ, Bool, false, true, None, Option, Some, ap, if◌then◌else◌}
 use Rattle.std.proofs.Common.{eq-eqb, inl, inr, refl, subst, sym}
 use Rattle.std.specs.BTreeMap.{BTreeMap, Updates}
 use Rattle.std.specs.Option.{IfSome}

@@ -1,11 +1,12 @@
 -- What a run of slots tells of ids, and when that is right.
-use Rattle.std.specs.Prelude.{◌≡◌, ◌≢◌, ◌==◌, ◌-◌, ℕ, List, None, Option, Some, get_or, if◌then◌else◌, nat_lt}
+use Rattle.std.specs.Prelude.{◌≡◌, ◌≢◌, ◌==◌, ◌-◌, ℕ, if◌then◌else◌, nat_lt}
+use Rattle.std.specs.Prelude.{None, Option, Some, get_or}
 use Rattle.std.specs.Option.{IfSome}
 use Rattle.pl_base.specs.declared.id.Slot.{Slot}
 use Rattle.pl_byid.specs.declared.run.Run.{Run}
 use Rattle.pl_record.specs.LinkedRows.{Entries, slot_at}
 
--- so many places more than there are rows may be of no row
+-- a run has at most twice as many places as there are rows, and twice these
 abbrev pub spare_places : ℕ
 spare_places = 512
 

@@ -5,7 +5,7 @@ ghost use Rattle.pl_byid.specs.Runs.{KnowsNoMore, SetsOne, spare_places, told};
 use pl_base::{NoMemory, Slot};
 use std::alloc::Global;
 
-// So many places more than there are rows may be of no row.
+// A run has at most twice as many places as there are rows, and twice these.
 const SPARE: usize = 512;
 
 /// The slots of the ids from `first` on. A slot 0 says nothing of its id.
@@ -39,8 +39,8 @@ impl Run {
         }
     }
 
-    /// Sees that there is a place for an id above all others of so many rows. Where most places
-    /// were of no row, the run begins anew at this id.
+    /// Makes a place for an id above all others of so many rows. Where the run would get too long,
+    /// it begins anew at this id.
     pub(crate) fn reach(&mut self, id: u32, rows: usize) -> Result<(), NoMemory>
         requires { rows < 2 ^ 63 }
         ensures known { KnowsNoMore self.old self.new }
@@ -55,7 +55,7 @@ impl Run {
         Ok(())
     }
 
-    // Where the run is empty, or would get too long up to this id, it begins anew there.
+    // The run begins at this id where it is empty or would get too long.
     fn begin(&mut self, id: u32, rows: usize)
         requires { rows < 2 ^ 63 }
         ensures known { KnowsNoMore self.old self.new }
