@@ -8,7 +8,8 @@ ghost use Rattle.pl_known.specs.Known.{AreFollowed, view_of};
 ghost use Rattle.pl_indexed.specs.declared.found.Found.{Found};
 ghost use Rattle.pl_indexed.specs.declared.found.Key.TheVariants.{Text};
 ghost use Rattle.pl_indexed.specs.Found as spec;
-ghost use Rattle.pl_indexed.specs.Found.{AreFound, place_cmp, place_found, view_before};
+ghost use Rattle.pl_indexed.specs.Found.{AreFound, directed_cmp, place_cmp, place_found};
+ghost use Rattle.pl_indexed.specs.Found.{view_before};
 
 use crate::asked::{folded_title, texts_of};
 use pl_base::{Micros, NoMemory, Txt, View};
@@ -83,23 +84,37 @@ pub fn key_of(alloc: Global, known: &Known, sort: Sort, view: &View) -> Result<K
     }
 }
 
-// How two pages stand: by their keys in the direction, and by ascending id where these are alike.
-fn compare(sort: Sort, a: &Found<'_>, b: &Found<'_>) -> Ordering
-    ensures { result ≡ place_cmp sort (place_found a.now) (place_found b.now) }
+// How two pages stand by their keys in the direction.
+fn compare_keys(sort: Sort, a: &Found<'_>, b: &Found<'_>) -> Ordering
+    ensures { result ≡ directed_cmp sort a.now.key b.now.key }
 {
-    let by_key = match sort {
+    match sort {
         Sort::By(_, Direction::Descending) => b.key.cmp(&a.key),
         Sort::By(_, Direction::Ascending) => a.key.cmp(&b.key),
         Sort::Unsorted => a.key.cmp(&b.key),
-    };
-    by_key.then(a.view.id.cmp(&b.view.id))
+    }
+}
+
+// The same, and by ascending id where these are alike.
+fn compare(sort: Sort, a: &Found<'_>, b: &Found<'_>) -> Ordering
+    ensures { result ≡ place_cmp sort (place_found a.now) (place_found b.now) }
+{
+    match compare_keys(sort, a, b) {
+        Ordering::Equal => a.view.id.cmp(&b.view.id),
+        unequal => unequal,
+    }
 }
 
 /// The pages stand in the order from then on.
+///
+/// Mostly pages come by ascending id, and many are alike. A stable sort by their keys, for which no
+/// view is looked at, leaves them in order then, and the one behind it sees that they are.
 pub fn put_in_order(found: &mut Vec<Found<'_>>, sort: Sort)
     requires { AllPairs (λ (a b : Found). a.view.now.id.0 ≢ b.view.now.id.0) found.old.items }
     ensures { (views : List View) → AreFound sort views found.old.items
         → AreFound sort (sorted_by (view_before sort) views) found.new.items }
 {
+    // Without memory for it they stay as they are.
+    let _by_keys = found.sort_by(|a, b| compare_keys(sort, a, b));
     found.sort_unstable_by(|a, b| compare(sort, a, b));
 }
