@@ -46,14 +46,17 @@ fn result_row<R: Rows, L: Ledger>(
         → told ≡ told_row (store_of (R.kept rows.now)) row) }
 {
     let view = found.view;
+    let url = Txt::copied(alloc, view.url.as_str())?;
+    let title = rows.item_title(found.item, steps)?;
+    let tags = Txt::copied(alloc, view.tags.as_str())?;
     Ok(ResultRow {
         id: found.item.0,
-        url: Txt::copied(alloc, view.url.as_str())?,
-        title: rows.item_title(found.item, steps)?,
+        url,
+        title,
         date: view.last,
         count: view.count,
         frecency: view.frecency,
-        tags: Txt::copied(alloc, view.tags.as_str())?,
+        tags,
     })
 }
 
