@@ -82,16 +82,16 @@ module _ (kept : Kept) (q : Query) (item : ItemId) (has : has_item kept.items it
         held = decided kept_page.0 (subst (λ (id : PageId). page_at kept id ≡ Some kept_page.0) (sym own_id) kept_page.1)
 
         pub not_held : holds ≡ false → AreAdded kept q found found (child_rows kept q item)
-        not_held no =
+        not_held fails =
             none_more kept q found (child_rows kept q item)
-            (child_if kept q item there.0 there.1 page (page_of ∙ is) kept_page.0 false kept_page.1 (sym no ∙ held))
+            (child_if kept q item there.0 there.1 page (page_of ∙ is) kept_page.0 false kept_page.1 (sym fails ∙ held))
 
         pub added : holds ≡ true → (new : List Found)
             → ((p : KeptPage) (i : Item) → page_at kept view.now.id ≡ Some p → item_at kept.items item ≡ Some i
             → AreAdded kept q found new (wanted_marks kept q p (i ∷ [])))
             → AreAdded kept q found new (child_rows kept q item)
-        added yes new adds =
+        added passes new adds =
             subst (AreAdded kept q found new)
-            (sym (child_if kept q item there.0 there.1 page (page_of ∙ is) kept_page.0 true kept_page.1 (sym yes ∙ held)))
+            (sym (child_if kept q item there.0 there.1 page (page_of ∙ is) kept_page.0 true kept_page.1 (sym passes ∙ held)))
             (adds kept_page.0 there.0
             (subst (λ (id : PageId). page_at kept id ≡ Some kept_page.0) (sym own_id) kept_page.1) there.1)

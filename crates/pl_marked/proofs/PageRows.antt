@@ -40,11 +40,11 @@ use Rattle.pl_marked.proofs.OwnViews.{page_found}
 
 -- ---- one more
 
-pub next_taken : {X : Type 0} (xs gone_over : List X) (k : ℕ) (x : X) → gone_over ≡ xs → k < length gone_over
-    → x ≡ get_or gone_over k x → take (k + 1) xs ≡ take k xs ++ x ∷ []
-next_taken xs gone_over k x same within is =
-    take_more xs k x (subst (λ ys. k < length ys) same within)
-    ∙ ap (λ y. take k xs ++ y ∷ []) (sym (is ∙ ap (λ ys. get_or ys k x) same))
+pub next_taken : {X : Type 0} (xs gone_over : List X) (k : ℕ) (x d : X) → gone_over ≡ xs → k < length gone_over
+    → x ≡ get_or gone_over k d → take (k + 1) xs ≡ take k xs ++ x ∷ []
+next_taken xs gone_over k x d same within is =
+    take_more xs k d (subst (λ ys. k < length ys) same within)
+    ∙ ap (λ y. take k xs ++ y ∷ []) (sym (is ∙ ap (λ ys. get_or ys k d) same))
 
 -- the rows of one more joined the others
 pub rows_more : {X : Type 0} (kept : Kept) (q : Query) (rows : X → List Row) (old now new : List Found)

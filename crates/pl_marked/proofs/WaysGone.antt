@@ -23,13 +23,13 @@ module _ (kept : Kept) (q : Query) where
       subst (AreSoFar kept q []) (sym none)
       (record { are = refl; views = All-nil (λ (f : Found). IsOwnView kept f.view.now) })
 
-  pub one_more : {X : Type 0} (rows : X → List Row) (xs gone_over : List X) (k : ℕ) (x : X) (now new : List Found)
-      → gone_over ≡ xs → k < length gone_over → x ≡ get_or gone_over k x
+  pub one_more : {X : Type 0} (rows : X → List Row) (xs gone_over : List X) (k : ℕ) (x d : X) (now new : List Found)
+      → gone_over ≡ xs → k < length gone_over → x ≡ get_or gone_over k d
       → AreSoFar kept q (flat_map rows (take k xs)) now → AreAdded kept q now new (rows x)
       → (HaveViews kept now → HaveViews kept new)
       → AreSoFar kept q (flat_map rows (take (k + 1) xs)) new
-  one_more rows xs gone_over k x now new same within is so_far more keeps =
-      subst (λ ys. AreSoFar kept q (flat_map rows ys) new) (sym (next_taken xs gone_over k x same within is))
+  one_more rows xs gone_over k x d now new same within is so_far more keeps =
+      subst (λ ys. AreSoFar kept q (flat_map rows ys) new) (sym (next_taken xs gone_over k x d same within is))
       (record {
         are = rows_more kept q rows [] now new (take k xs) x so_far.are more;
         views = keeps so_far.views;

@@ -12,8 +12,8 @@ use Rattle.pl_marked.specs.Ready.{IsReady}
 use Rattle.pl_marked.proofs.BookmarkRows.{all_there, found_apart, own_views, told_answer}
 use Rattle.pl_marked.proofs.answered.answer_bookmarks.Goals as goal
 
-pub bookmarks-found-requires-clause-ready : goal.bookmarks-found-requires-clause-ready
-bookmarks-found-requires-clause-ready g c =
+pub bookmarks-requires-clause-ready : goal.bookmarks-requires-clause-ready
+bookmarks-requires-clause-ready g c =
     subst (λ (q : Query). IsReady (store_of (g.R.Rows.kept c.args.rows.now)) q c.in_ok-ready.ready)
     (sym c.in_ok-ready.ensures.timed.query) c.in_ok-ready.ensures
 

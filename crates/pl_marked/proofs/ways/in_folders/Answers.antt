@@ -1,4 +1,6 @@
+use Rattle.std.proofs.Common.{get_or, refl}
 use Rattle.std.specs.List.{flat_map}
+use Rattle.pl_base.specs.declared.id.ItemId.{ItemId}
 use Rattle.pl_base.specs.Rows.{Kept}
 use Rattle.pl_marked.specs.Listed.{folder_rows}
 use Rattle.pl_marked.proofs.FolderRows.{folders_listed}
@@ -14,9 +16,10 @@ pub loop-folder-preserved : goal.loop-folder-preserved
 loop-folder-preserved g c =
     let kept : Kept = g.R.Rows.kept c.args.rows.now in
     let q = c.args.ready.now.timed.query.now in
+    let folder : ItemId = get_or c.as_slice-folder-items.result.now c.loop-folder.folder-index (record { 0 = 0 }) in
     one_more kept q (folder_rows kept q) q.parents c.as_slice-folder-items.result.now c.loop-folder.folder-index
-    c.folder-item.result c.loop-folder.found.items c.add_folder.new.found.items c.as_slice-folder-items.ensures
-    c.loop-folder-test.true c.folder-item.is c.loop-folder.invariant c.in_ok-add_folder.ensures.added
+    folder (record { 0 = 0 }) c.loop-folder.found.items c.add_folder.new.found.items c.as_slice-folder-items.ensures
+    c.loop-folder-test.true refl c.loop-folder.invariant c.in_ok-add_folder.ensures.added
     c.in_ok-add_folder.ensures.views
 
 pub returns : goal.returns

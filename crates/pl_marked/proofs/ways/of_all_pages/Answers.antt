@@ -21,7 +21,7 @@ loop-view-preserved g c =
     let kept : Kept = g.R.Rows.kept c.args.rows.now in
     let q = c.args.ready.now.timed.query.now in
     one_more kept q (view_rows kept q) c.args.known.now.views.items c.deref-view-items.result.now c.loop-view.view-index
-    c.view-item.result c.loop-view.found.items c.add_page.new.found.items c.deref-view-items.ensures.value
+    c.view-item.result c.view-item.result c.loop-view.found.items c.add_page.new.found.items c.deref-view-items.ensures.value
     c.loop-view-test.true c.view-item.is c.loop-view.invariant c.in_ok-add_page.ensures.added
     c.in_ok-add_page.ensures.views
 
