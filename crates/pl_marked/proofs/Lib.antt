@@ -1,0 +1,14 @@
+mod BookmarkRows
+mod ChildFound
+mod FolderRows
+mod FolderWalk
+mod FoundOrder
+mod MarkKeys
+mod MarksAdded
+mod MarksWalk
+mod OwnViews
+mod PageHolds
+mod PageRows
+mod RowsTold
+mod UrlFound
+mod WaysGone
