@@ -125,6 +125,6 @@ pub fn answer<R: Rows, L: Ledger>(
 {
     match query.query_type {
         QueryType::Bookmarks => answer_bookmarks(alloc, rows, known, query, steps),
-        QueryType::History => pl_dated::answer(alloc, rows, known, query, steps),
+        QueryType::History => pl_tagged::answer(alloc, rows, known, query, steps),
     }
 }

@@ -6,8 +6,8 @@ ghost use Rattle.pl_place.specs.Canonical.{canonical};
 ghost use Rattle.pl_step.specs.Step as spec;
 
 use pl_base::{NoMemory, Rows, Seq, Steps};
-use pl_indexed::answer;
 use pl_known::Known;
+use pl_marked::answer;
 use pl_place::{Query, write};
 use pl_step::Reply;
 use std::alloc::Global;
