@@ -1,7 +1,6 @@
 -- What is found of a child of a folder.
 use Rattle.std.proofs.Common.{◌≡◌, ◌≢◌, ◌∙◌, ◌==◌, Bool, true, false, List, [], ◌∷◌, Option, Some, None, ap, refl, subst, sym}
 use Rattle.std.specs.Option.{IsSome, option_copied}
-use Rattle.std.specs.List.{list_any}
 use denote.Ref.{Bor}
 use Rattle.pl_base.specs.declared.id.ItemId.{ItemId}
 use Rattle.pl_base.specs.declared.id.PageId.{PageId}

@@ -1,5 +1,5 @@
 -- The walk along the children of a folder, with the bookmarks that join on it.
-use Rattle.std.proofs.Common.{◌≡◌, ◌∙◌, ◌++◌, ◌<◌, true, List, [], ◌∷◌, Option, Some, length, refl, subst, ℕ}
+use Rattle.std.proofs.Common.{◌≡◌, ◌<◌, true, List, [], Option, Some, length, refl, subst}
 use Rattle.std.specs.List.{AllByRecursion, flat_map}
 use Rattle.pl_base.specs.declared.id.ItemId.{ItemId}
 use Rattle.pl_base.specs.Good.{IsTree}

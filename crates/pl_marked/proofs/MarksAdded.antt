@@ -1,5 +1,5 @@
 -- Bookmarks that join those that are found.
-use Rattle.std.proofs.Common.{◌≡◌, ◌∙◌, ◌++◌, ◌&&◌, ◌||◌, ◌==◌, All, Bool, true, false, List, [], ◌∷◌, Some, ap, filter}
+use Rattle.std.proofs.Common.{◌≡◌, ◌∙◌, ◌++◌, ◌&&◌, ◌||◌, Bool, true, false, List, [], ◌∷◌, Some, ap, filter}
 use Rattle.std.proofs.Common.{if◌then◌else◌, map, not, refl, subst, sym}
 use Rattle.std.specs.List.{list_any}
 use Rattle.std.proofs.lemmas.List.{map-append}
@@ -9,13 +9,12 @@ use Rattle.pl_base.specs.declared.id.ItemId.{ItemId}
 use Rattle.pl_base.specs.declared.id.PageId.{PageId}
 use Rattle.pl_base.specs.declared.view.View.{View}
 use Rattle.pl_base.specs.Rows.{Kept, KeptPage, page_at, store_of}
-use Rattle.pl_base.specs.Store.{Item, Store}
+use Rattle.pl_base.specs.Store.{Item}
 use Rattle.pl_base.specs.Tags.{is_bookmarked, is_tag_entry}
 use Rattle.pl_base.specs.Tree.{is_page, item_at}
 use Rattle.pl_base.specs.View.{IsViewOf}
 use Rattle.pl_conditions.specs.Conditions.{in_times, is_in_parents}
 use Rattle.pl_place.specs.declared.query.Query.{Query}
-use Rattle.pl_query.specs.declared.ordering.Candidate.{Candidate}
 use Rattle.pl_query.specs.declared.ordering.SortValue.{SortValue}
 use Rattle.pl_query.specs.declared.shown.Subject.TheVariants.{Bookmark}
 use Rattle.pl_query.specs.Candidates.{is_wanted, mark_subject, wanted_marks}

@@ -1,5 +1,5 @@
 -- The walk along the items of a page, with the bookmarks that join on it.
-use Rattle.std.proofs.Common.{◌≡◌, ◌∙◌, ◌++◌, ◌<◌, true, List, [], ◌∷◌, Option, Some, length, map, refl, ℕ}
+use Rattle.std.proofs.Common.{◌≡◌, ◌<◌, true, List, [], ◌∷◌, Option, Some, length, map, refl}
 use Rattle.pl_base.specs.declared.id.ItemId.{ItemId}
 use Rattle.pl_base.specs.declared.id.PageId.{PageId}
 use Rattle.pl_base.specs.Rows.{IsWellKept, Kept, KeptPage, page_at, store_of}

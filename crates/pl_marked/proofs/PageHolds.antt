@@ -1,5 +1,5 @@
 -- The view of a page that a query of history may show decides what is asked of the page.
-use Rattle.std.proofs.Common.{◌≡◌, ◌∙◌, ◌&&◌, ◌||◌, ◌==◌, Bool, true, false, List, [], None, Some, ap, is_some, map}
+use Rattle.std.proofs.Common.{◌≡◌, ◌∙◌, ◌&&◌, ◌||◌, ◌==◌, Bool, true, false, [], None, Some, ap, is_some}
 use Rattle.std.proofs.Common.{not, refl, sym}
 use Rattle.std.specs.List.{Contains}
 use Rattle.std.proofs.lemmas.Bool.{and_parts}

@@ -1,6 +1,6 @@
 -- The rows of the bookmarks of pages, one page behind the other, and of the page with a URL.
-use Rattle.std.proofs.Common.{◌≡◌, ◌≢◌, ◌∙◌, ◌++◌, ◌+◌, ◌<◌, ◌&&◌, ◌||◌, ◌==◌, ℕ, Bool, true, false, List, [], ◌∷◌}
-use Rattle.std.proofs.Common.{Option, Some, None, ap, bytes_eq, filter, find, get_or, if◌then◌else◌, length, map, not, refl}
+use Rattle.std.proofs.Common.{◌≡◌, ◌≢◌, ◌∙◌, ◌++◌, ◌+◌, ◌<◌, ◌||◌, ℕ, Bool, true, false, List, [], ◌∷◌}
+use Rattle.std.proofs.Common.{Option, Some, ap, bytes_eq, find, get_or, if◌then◌else◌, length, map, not, refl}
 use Rattle.std.proofs.Common.{subst, sym, take}
 use Rattle.std.specs.List.{AllByRecursion, AllPairs, flat_map}
 use Rattle.std.specs.List.Sorted.{IsPermutation}
@@ -8,11 +8,10 @@ use Rattle.std.specs.Option.{option_to_list}
 use Rattle.std.proofs.lemmas.Bool.{and_parts, false≢true, false_from_ne_true}
 use Rattle.std.proofs.lemmas.List.{append-nil, flat_map_more, take_more}
 use Rattle.std.proofs.lemmas.Slice.Eq.{bytes_eq-Decides}
-use Rattle.pl_base.specs.declared.id.PageId.{PageId}
 use Rattle.pl_base.specs.declared.view.View.{View}
 use Rattle.pl_base.specs.Address.{is_place_url}
 use Rattle.pl_base.specs.Rows.{IsWellKept, Kept, KeptPage, page_at, store_of}
-use Rattle.pl_base.specs.Store.{Page, Store}
+use Rattle.pl_base.specs.Store.{Page}
 use Rattle.pl_base.specs.Tags.{is_bookmarked}
 use Rattle.pl_base.specs.View.{AreViews, AreViewsOf, IsViewOf}
 use Rattle.pl_base.proofs.ListLaws.{weaker}

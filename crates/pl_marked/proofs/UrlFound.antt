@@ -1,7 +1,7 @@
 -- What is found of the page with the URL that a query names.
-use Rattle.std.proofs.Common.{◌≡◌, ◌≢◌, ◌∙◌, ◌++◌, List, [], ◌∷◌, Option, Some, None, ap, bytes_eq, find, map, refl, subst, sym, ℕ}
-use Rattle.std.specs.List.{AllPairs, flat_map}
-use Rattle.std.specs.Option.{option_copied, option_to_list}
+use Rattle.std.proofs.Common.{◌≡◌, ◌≢◌, ◌∙◌, List, [], Option, Some, None, ap, bytes_eq, find, refl, subst, sym, ℕ}
+use Rattle.std.specs.List.{AllPairs}
+use Rattle.std.specs.Option.{option_copied}
 use Rattle.std.proofs.lemmas.List.{append-nil}
 use denote.Ref.{Bor}
 use Rattle.pl_base.specs.declared.view.View.{View}

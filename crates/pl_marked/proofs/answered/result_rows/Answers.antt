@@ -1,5 +1,4 @@
 use Rattle.std.proofs.Common.{subst, sym}
-use Rattle.pl_base.specs.Rows.{Kept}
 use Rattle.pl_marked.specs.declared.found.Found.{Found}
 use Rattle.pl_marked.specs.Found.{IsOwnView}
 use Rattle.pl_marked.proofs.RowsTold.{told_more}

@@ -1,4 +1,4 @@
-use Rattle.std.proofs.Common.{◌∙◌, refl, sym}
+use Rattle.std.proofs.Common.{◌∙◌, sym}
 use Rattle.pl_base.specs.Rows.{Kept}
 use Rattle.pl_marked.proofs.MarksAdded.{one_view, unwanted, wanted}
 use Rattle.pl_marked.proofs.OwnViews.{own_view}

@@ -1,7 +1,6 @@
-use Rattle.std.proofs.Common.{◌∙◌, List, subst, sym}
+use Rattle.std.proofs.Common.{◌∙◌, subst, sym}
 use Rattle.std.proofs.lemmas.Result.{on_ok_weaker}
 use Rattle.pl_base.specs.Rows.{Kept}
-use Rattle.pl_query.specs.Order.{Row}
 use Rattle.pl_marked.specs.Found.{AreAdded}
 use Rattle.pl_marked.specs.Listed.{view_rows}
 use Rattle.pl_marked.proofs.OwnViews.{page_found}

@@ -1,6 +1,6 @@
 use Rattle.std.proofs.Common.{◌∙◌, subst, sym}
 use Rattle.std.proofs.lemmas.Result.{IfOk-weaker}
-use Rattle.pl_base.specs.Rows.{Kept, store_of}
+use Rattle.pl_base.specs.Rows.{Kept}
 use Rattle.pl_place.specs.declared.query.Query.{Query}
 use Rattle.pl_indexed.specs.Asked.{IsAsked}
 use Rattle.pl_query.specs.Decides.{decides}
