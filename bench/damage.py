@@ -116,7 +116,7 @@ class Tools:
 
 
 # How a run ends, what it says where it is refused, and its other words.
-ENDS = [(0, b"", b""), (7, b"", b"places: status 7\n")]
+ENDINGS = [(0, b"", b""), (7, b"", b"places: status 7\n")]
 
 
 def spent():
@@ -144,7 +144,7 @@ def outcome(tools, good, data):
     stands = stands and judged(left)
     done, after, took = tools.open(data)
     kind, fault = opened(tools, good, left, done.stdout) if done.returncode == 0 else (REFUSED, None)
-    if (done.returncode, done.stdout if kind == REFUSED else b"", done.stderr) not in ENDS:
+    if (done.returncode, done.stdout if kind == REFUSED else b"", done.stderr) not in ENDINGS:
         fault = f"status {done.returncode}, {done.stdout[:100]!r}, {done.stderr[:100]!r}"
     elif after != left:
         fault = "another file is left"
@@ -205,16 +205,12 @@ def try_all(tools, files, count):
 
 # ---- the good files
 
-def lines(script):
-    return b"".join(b"\t".join(b"%d" % word if isinstance(word, int) else word for word in line) + b"\n" for line in script)
-
-
-def written(places, script, room):
-    """The file that a run of each line by itself leaves, with the journal of the last one behind its pages."""
+def written(places, lines, room):
+    """The file that a run of these lines leaves, with the journal of the last commit behind its pages."""
     path = pathlib.Path(room) / "written"
     path.unlink(missing_ok=True)
     new_store(places, path)
-    subprocess.run([places, "run", path], input=lines(script), capture_output=True, check=True)
+    subprocess.run([places, "run", path], input=flips.script(lines), capture_output=True, check=True)
     return path.read_bytes()
 
 
@@ -225,7 +221,8 @@ def small_files(places):
         yield "every command", written(places, flips.SCRIPT, room)
     small = linked_file.small_store()
     for seed in range(3):
-        yield f"every kind of row, mixed by {seed}", linked_file.file_bytes(small, linked_file.layout_of(small, random.Random(seed)))
+        layout = linked_file.layout_of(small, random.Random(seed))
+        yield f"every kind of row, mixed by {seed}", linked_file.file_bytes(small, layout)
 
 
 # ---- what is told
@@ -239,8 +236,10 @@ def tell(tools, files, count):
         unknown += not knows
         worst[kind] = max(worst[kind], times)
         if fault or times > 2:
-            faults.append(f"{files[index][0]}, {kind}, seed {seed}: {fault or f'{times:.2f} times the time of the good file'}")
-    print("| Damage | files | refused | the same store | another store | greatest time, of the good file's |\n|---|---|---|---|---|---|")
+            fault = fault or f"{times:.2f} times the time of the good file"
+            faults.append(f"{files[index][0]}, {kind}, seed {seed}: {fault}")
+    print("| Damage | files | refused | the same store | another store | greatest time, of the good file's |\n"
+          "|---|---|---|---|---|---|")
     for kind in KINDS:
         tell_row(kind, counts[kind], worst[kind])
     tell_row("all", sum(counts.values(), collections.Counter()), max(worst.values()))

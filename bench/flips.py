@@ -66,8 +66,8 @@ SCRIPT = [
 ]
 
 
-def script():
-    return b"".join(b"\t".join(b"%d" % word if isinstance(word, int) else word for word in line) + b"\n" for line in SCRIPT)
+def script(lines=SCRIPT):
+    return b"".join(b"\t".join(b"%d" % word if isinstance(word, int) else word for word in line) + b"\n" for line in lines)
 
 
 # ---- what stands for a store

@@ -127,8 +127,8 @@ def main():
     checker = linked_file.program("hostile.py")
     del sys.argv[1:2]
     places = program()
-    print("| Hostile file | MB | good file, MB | `check` refuses after, s | takes the good one after, s | `run` refuses after, s "
-          "| opens the good one after, s |\n|---|---|---|---|---|---|---|")
+    print("| Hostile file | MB | good file, MB | `check` refuses after, s | takes the good one after, s "
+          "| `run` refuses after, s | opens the good one after, s |\n|---|---|---|---|---|---|---|")
     with tempfile.TemporaryDirectory() as room:
         done = [measure(checker, places, *file, pathlib.Path(room)) for file in FILES]
     if not all(done):
