@@ -66,8 +66,8 @@ SCRIPT = [
 ]
 
 
-def script():
-    return b"".join(b"\t".join(b"%d" % word if isinstance(word, int) else word for word in line) + b"\n" for line in SCRIPT)
+def script(lines=SCRIPT):
+    return b"".join(b"\t".join(b"%d" % word if isinstance(word, int) else word for word in line) + b"\n" for line in lines)
 
 
 # ---- what stands for a store
@@ -93,7 +93,7 @@ def are_ids(first, behind, rows):
 
 def is_url(url):
     """A URL that is its own serialization, of those that one byte makes of the script's."""
-    return re.fullmatch(rb"[a-z]+://[a-z0-9.]+/[a-z0-9/]*", url) is not None
+    return re.fullmatch(rb"[a-z]+://[a-z0-9.]+/[A-Za-z0-9/_-]*", url) is not None
 
 
 def is_title(title):

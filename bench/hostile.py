@@ -1,13 +1,18 @@
 #!/usr/bin/env python3
-"""Times `files_main check` on files that ask for far more work than they have bytes, beside good files of their size.
+"""Times the check of files that ask for far more work than they have bytes, and their opening, beside good files of their
+size.
 
-    bench/hostile.py [PROGRAM]    by default crates/files_main/out/files_main, which `rt ci files_main` builds
+    bench/hostile.py [CHECKER [PROGRAM]]
+
+CHECKER is by default crates/files_main/out/files_main, which `rt ci files_main` builds, and PROGRAM out/places, which the
+launcher builds. CHECKER checks a file; PROGRAM runs an empty script on it (`places run FILE`).
 
 One has 300,000 folders, of which each names the same chain of all 300,000 as its children. Two have 600,000 pages, of which
 each names the same text of 64 KiB as its URL: in one the header counts the slots that are live, in the other those that so
 many texts would take. The good files have the folders as they were, and 200,000 pages, each with a text and a visit. All
-are made by `linked_file.py`. By turns a hostile file and its good one are checked: of three times the least is told. It
-fails where a hostile file is not refused as no store, a good one is, or a refusal takes longer than the good file.
+are made by `linked_file.py`. By turns a hostile file and its good one are checked, and opened: of three times the least is
+told. It fails where a hostile file is not refused as no store or is changed, a good one is refused, or a refusal takes
+longer than the good file.
 """
 import itertools
 import pathlib
@@ -18,6 +23,7 @@ import time
 
 import linked_file
 from linked_file import FOLDER, FORMS, HEADER, ITEM, LINK, PAGE, PAGE_SIZE, Item, Layout, Page, Store, Visit, roots
+from program import program
 
 RUNS = 3
 FOLDERS, PAGES, LONGEST_URL = 300_000, 600_000, 65_536
@@ -85,32 +91,46 @@ FILES = [
 ]
 
 
-def check(program, file):
-    """The status of a check, and its time in seconds."""
+def check(words, file):
+    """The status of a check of the file, and its time in seconds."""
     with open(file, "rb") as stdin:
         start = time.perf_counter()
-        done = subprocess.run([program, "check"], stdin=stdin, capture_output=True)
+        done = subprocess.run(words, stdin=stdin, capture_output=True)
         return done.returncode, time.perf_counter() - start
 
 
-def measure(program, name, hostile, good, room):
-    """Whether the hostile file is refused as soon as the good one is taken."""
-    bad, fine = room / "hostile", room / "good"
-    bad.write_bytes(hostile())
+def opened(words, file):
+    """The same of a run of no lines on it."""
+    start = time.perf_counter()
+    done = subprocess.run([*words, file], stdin=subprocess.DEVNULL, capture_output=True)
+    return done.returncode, time.perf_counter() - start
+
+
+def measure(checker, places, name, hostile, good, room):
+    """Whether the hostile file is refused as soon as the good one is taken, by both programs."""
+    bad, fine, told = room / "hostile", room / "good", []
+    start = bytes(hostile())
+    bad.write_bytes(start)
     fine.write_bytes(linked_file.file_bytes(good()))
-    turns = [(check(program, bad), check(program, fine)) for _ in range(RUNS)]
-    statuses = {(one, other) for (one, _), (other, _) in turns}
-    refused, taken = min(took for (_, took), _ in turns), min(took for _, (_, took) in turns)
-    print(f"| {name} | {bad.stat().st_size / 1e6:.1f} | {refused:.3f} | {fine.stat().st_size / 1e6:.1f} | {taken:.3f} |",
-          flush=True)
-    return statuses == {(1, 0)} and refused <= taken
+    done = []
+    for run, words, status in (check, [checker, "check"], 1), (opened, [places, "run"], 7):
+        turns = [(run(words, bad), run(words, fine)) for _ in range(RUNS)]
+        statuses = {(one, other) for (one, _), (other, _) in turns}
+        refused, taken = min(took for (_, took), _ in turns), min(took for _, (_, took) in turns)
+        told += [f"{refused:.3f}", f"{taken:.3f}"]
+        done.append(statuses == {(status, 0)} and refused <= taken)
+    print(f"| {name} | {len(start) / 1e6:.1f} | {fine.stat().st_size / 1e6:.1f} | {' | '.join(told)} |", flush=True)
+    return all(done) and bad.read_bytes() == start
 
 
 def main():
-    program = linked_file.program("hostile.py")
-    print("| Hostile file | MB | refused after, s | good file, MB | taken after, s |\n|---|---|---|---|---|")
+    checker = linked_file.program("hostile.py")
+    del sys.argv[1:2]
+    places = program()
+    print("| Hostile file | MB | good file, MB | `check` refuses after, s | takes the good one after, s "
+          "| `run` refuses after, s | opens the good one after, s |\n|---|---|---|---|---|---|---|")
     with tempfile.TemporaryDirectory() as room:
-        done = [measure(program, *file, pathlib.Path(room)) for file in FILES]
+        done = [measure(checker, places, *file, pathlib.Path(room)) for file in FILES]
     if not all(done):
         sys.exit("hostile.py: a file was not refused within the time of the good one, or was not one to refuse")
 
