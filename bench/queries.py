@@ -24,6 +24,7 @@ from program import program
 
 SEED, DAYS = 3, 467
 FROM, TO = 230 * DAY, 237 * DAY - 1
+LAST_FROM, LAST_TO = (DAYS - 7) * DAY, DAYS * DAY - 1
 FOLDER, UNFILED = 7, 5
 DOMAIN, DOMAIN_SHARE = "large.example", 0.16
 ADDRESS_OF = 77_777
@@ -106,6 +107,7 @@ def kinds(history):
     domain = backwards(DOMAIN), backwards(DOMAIN)[:-1] + "/"
     url = history.pages[ADDRESS_OF - 1][1]
     week, of_week = (FROM, TO), f"beginTime={FROM}&endTime={TO}"
+    last_week, of_last_week = (LAST_FROM, LAST_TO), f"beginTime={LAST_FROM}&endTime={LAST_TO}"
     return [
         Kind("ten pages by frecency", "sort=22&maxResults=10", f"{PAGE} {BEST} LIMIT 10", (), 0.06),
         Kind("two words, by frecency", f"terms={'%20'.join(words)}&sort=22",
@@ -116,8 +118,10 @@ def kinds(history):
         Kind("all pages by frecency", "sort=22", f"{PAGE} {BEST}", (), 150),
         Kind("one address", f"uri={quote(url, safe='')}", f"{PAGE} WHERE p.url = ?1", (url,), None),
         Kind("the hundred latest visits", "type=1&sort=4&maxResults=100", f"{VISIT} {LATEST_VISITS}", (), 0.5),
-        Kind("a hundred visits of a week, by date", f"type=1&{of_week}&sort=4&maxResults=100",
-             f"{VISIT} WHERE v.date BETWEEN ?1 AND ?2 {LATEST_VISITS}", week, 0.5),
+        Kind("a hundred visits of the last week, by date", f"type=1&{of_last_week}&sort=4&maxResults=100",
+             f"{VISIT} WHERE v.date BETWEEN ?1 AND ?2 {LATEST_VISITS}", last_week, 0.5),
+        Kind("the same of a week of eight months before", f"type=1&{of_week}&sort=4&maxResults=100",
+             f"{VISIT} WHERE v.date BETWEEN ?1 AND ?2 {LATEST_VISITS}", week, None),
         Kind("pages of a week, by date", f"{of_week}&sort=4",
              f"{PAGE} WHERE {IN_WEEK} ORDER BY p.last DESC, p.id", week, 40),
         Kind("pages with a tag, by frecency", "tag=red&sort=22", f"{PAGE} WHERE {HAS_TAG} {BEST}", ("red",), 0.2),
