@@ -96,8 +96,8 @@ class Firefox:
         self.folder, port = pathlib.Path(folder), free_port()
         self.folder.mkdir()
         (self.folder / "user.js").write_text(FIREFOX_SETTINGS % port)
-        words = ["firefox-esr", "--headless", "--marionette", "--remote-allow-system-access", "--no-remote", "--profile"]
-        self.process = subprocess.Popen([*GENTLY, *words, self.folder], stdin=subprocess.DEVNULL,
+        words = ["firefox-esr", "--headless", "--marionette", "--remote-allow-system-access", "--no-remote"]
+        self.process = subprocess.Popen([*GENTLY, *words, "--profile", self.folder], stdin=subprocess.DEVNULL,
                                         stdout=subprocess.DEVNULL, stderr=subprocess.DEVNULL)
         self.connection, self.number = self.connect(port), 0
         self.stream = self.connection.makefile("rb")
@@ -201,7 +201,8 @@ class Chromium:
         for _ in range(10 * SECONDS):
             for one in self.call("Target.getTargets")["targetInfos"]:
                 if one["type"] == kind:
-                    return self.call("Target.attachToTarget", {"targetId": one["targetId"], "flatten": True})["sessionId"]
+                    target = {"targetId": one["targetId"], "flatten": True}
+                    return self.call("Target.attachToTarget", target)["sessionId"]
             time.sleep(0.1)
         sys.exit(f"Chromium has no {kind}")
 

@@ -1,6 +1,5 @@
 """Databases that sqlite3 makes, what tools/from-firefox and tools/from-chromium print of them, and what they refuse."""
 import os
-import pathlib
 import sqlite3
 import subprocess
 import sys
@@ -23,24 +22,31 @@ NOTHING = "by type 0, by date 0, by scheme 0, by address 0; titles left out: 0"
 
 # Types, dates, sources, and pages that are missing.
 VISITS = FIREFOX + """
-INSERT INTO moz_places VALUES (1, 'https://a.example/', NULL), (2, 'https://b.example/', ''), (3, 'https://c.example/', 'c');
-INSERT INTO moz_historyvisits VALUES (3, 0, 1, 0, 1), (5, 3, 2, 253402300799999999, 5), (6, 99, 2, 1, 6), (7, 8, 2, 2, 6),
+INSERT INTO moz_places VALUES (1, 'https://a.example/', NULL), (2, 'https://b.example/', ''),
+    (3, 'https://c.example/', 'c');
+INSERT INTO moz_historyvisits VALUES (3, 0, 1, 0, 1), (5, 3, 2, 253402300799999999, 5), (6, 99, 2, 1, 6),
+    (7, 8, 2, 2, 6),
     (8, 8, 2, 3, 9), (9, 10, 2, 4, 4), (10, 0, 1, -1, 1), (11, 0, 1, 253402300800000000, 1), (12, 0, 1, NULL, 1),
-    (13, 0, 1, 'x', 1), (14, 0, 1, 1.5, 1), (15, 0, 1, 0, 0), (16, 0, 1, 0, 10), (17, 0, 1, 0, NULL), (18, 0, 1, 0, 'x'),
-    (19, 0, 4, 0, 1), (20, 0, NULL, 0, 1), (21, 11, 1, 5, 8), (22, 21, 1, 6, 7), (23, 0, 3, NULL, 1), (24, 0, 9, -1, 77);
+    (13, 0, 1, 'x', 1), (14, 0, 1, 1.5, 1), (15, 0, 1, 0, 0), (16, 0, 1, 0, 10), (17, 0, 1, 0, NULL),
+    (18, 0, 1, 0, 'x'),
+    (19, 0, 4, 0, 1), (20, 0, NULL, 0, 1), (21, 11, 1, 5, 8), (22, 21, 1, 6, 7), (23, 0, 3, NULL, 1),
+    (24, 0, 9, -1, 77);
 """
 VISITS_SAID = ["visit https://a.example/ 1 0", "visit https://b.example/ 5 253402300799999999 1",
                "visit https://b.example/ 6 1", "visit https://b.example/ 6 2", "visit https://b.example/ 9 3",
                "visit https://b.example/ 4 4", "visit https://a.example/ 8 5", "visit https://a.example/ 7 6 7",
-               "# 8 visits, 2 pages; visits left out: by type 5, by date 6, by scheme 0, by address 2; titles left out: 0"]
+               "# 8 visits, 2 pages; visits left out: by type 5, by date 6, by scheme 0, by address 2; "
+               "titles left out: 0"]
 
 # Texts and addresses. The store strips an address, so a scheme may stand in another form.
 TEXTS = FIREFOX + """
-INSERT INTO moz_places VALUES (1, 'https://a.example/' || char(9), '\\t' || char(9) || char(10) || char(13) || char(1, 27)),
+INSERT INTO moz_places VALUES
+    (1, 'https://a.example/' || char(9), '\\t' || char(9) || char(10) || char(13) || char(1, 27)),
     (2, ' ABOUT:blank', 'b'), (3, 'java' || char(10) || 'script:1', 'c'), (4, 'nowhere', 'd'),
     (5, CAST(x'68747470733a2f2f6500' AS TEXT), 'e'), (6, NULL, 'f'), (7, CAST(x'68747470733a2f2f67ff' AS TEXT), 'g'),
     (8, 'https://h.example/\\p', CAST(x'41420043' AS TEXT)), (9, 'https://i.example/', CAST(x'41ff' AS TEXT)),
-    (10, 'place:sort=8', CAST(x'0041' AS TEXT)), (11, 'HTTPS://A.Example:443', 'k'), (12, 'https://l.example/', 'not visited'),
+    (10, 'place:sort=8', CAST(x'0041' AS TEXT)), (11, 'HTTPS://A.Example:443', 'k'),
+    (12, 'https://l.example/', 'not visited'),
     (13, 'https://m.example/' || hex(zeroblob(200000)), 'm'), (14, 'https://n.example/', hex(zeroblob(2049))),
     (15, CAST(x'68747470733a2f2f6f2e6578616d706c652f' AS BLOB), x'c3a9'), (16, 'https://p.example/', 'not taken'),
     (17, 'blob:https://a.example/1', 'q'), (18, 'view-source:https://a.example/', 'r');
@@ -49,9 +55,11 @@ INSERT INTO moz_historyvisits VALUES (16, 0, 16, NULL, 1);
 """
 TEXTS_SAID = ["visit https://a.example/\\t 1 1", "visit https://h.example/\\\\p 1 8", "visit https://i.example/ 1 9",
               "visit place:sort=8 1 10", "visit HTTPS://A.Example:443 1 11", "visit https://n.example/ 1 14",
-              "visit https://o.example/ 1 15", "title https://a.example/\\t \\\\t\\t\\n\\r\x01\x1b", "title https://h.example/\\\\p AB",
+              "visit https://o.example/ 1 15", "title https://a.example/\\t \\\\t\\t\\n\\r\x01\x1b",
+              "title https://h.example/\\\\p AB",
               "title HTTPS://A.Example:443 k", "title https://n.example/ " + 4096 * "0", "title https://o.example/ é",
-              "# 7 visits, 7 pages; visits left out: by type 0, by date 1, by scheme 4, by address 5; titles left out: 1"]
+              "# 7 visits, 7 pages; visits left out: by type 0, by date 1, by scheme 4, by address 5; "
+              "titles left out: 1"]
 
 # Each core type; redirects of the server and of the client, written with a sign and without one.
 TYPES = CHROMIUM + """
@@ -61,23 +69,27 @@ INSERT INTO visits SELECT i + 1, 1, 11644473600000000 + i, 0, 0x30000000 + i FRO
 INSERT INTO visits VALUES (20, 1, 11644473600000020, 1, 0xA0000001), (21, 1, 11644473600000021, 20, -1610612735),
     (22, 1, 11644473600000022, 20, 0x60000000), (23, 1, 11644473600000023, 0, 0xA0000001),
     (24, 2, 11644473600000024, 0, 0x30000001), (25, 1, 11644473600000025, 24, 0xA0000001),
-    (26, 1, 11644473600000026, 27, 0xA0000001), (27, 1, 11644473600000027, 0, 0xA000000B), (28, 1, 11644473600000028, 27, 0xA0000008),
+    (26, 1, 11644473600000026, 27, 0xA0000001), (27, 1, 11644473600000027, 0, 0xA000000B),
+    (28, 1, 11644473600000028, 27, 0xA0000008),
     (29, 1, 11644473600000029, 1, 0x30000000), (30, 1, 11644473599999999, 0, 0), (31, 1, 265046774399999999, 0, 0),
     (32, 1, 265046774400000000, 0, 0), (33, 1, NULL, 0, 0), (34, 1, 0, 0, 0), (35, 1, 11644473600000035, 0, NULL),
     (36, 1, 11644473600000036, 37, 0x40000005), (37, 1, 11644473600000037, NULL, 0xFF000002);
 """
-TYPES_SAID = [f"visit https://a.example/ {kind} {core}" for core, kind in enumerate((1, 2, 3, 4, 8, 1, 1, 1, 9, 1, 2))] + [
+TYPES_SAID = [f"visit https://a.example/ {kind} {core}"
+              for core, kind in enumerate((1, 2, 3, 4, 8, 1, 1, 1, 9, 1, 2))] + [
     "visit https://a.example/ 6 20 1", "visit https://a.example/ 6 21 12", "visit https://a.example/ 6 22 12",
     "visit https://a.example/ 2 23", "visit https://a.example/ 2 25", "visit https://a.example/ 2 26",
     "visit https://a.example/ 9 28", "visit https://a.example/ 1 29 1", "visit https://a.example/ 1 253402300799999999",
     "visit https://a.example/ 6 36", "visit https://a.example/ 3 37", "title https://a.example/ a",
-    "# 22 visits, 1 pages; visits left out: by type 3, by date 4, by scheme 1, by address 0; titles left out: 0"]
+    "# 22 visits, 1 pages; visits left out: by type 3, by date 4, by scheme 1, by address 0; "
+    "titles left out: 0"]
 
 ONE = FIREFOX + """
 INSERT INTO moz_places VALUES (1, 'https://a.example/', 'a');
 INSERT INTO moz_historyvisits VALUES (1, 0, 1, 7, 1);
 """
-ONE_SAID = ["visit https://a.example/ 1 7", "title https://a.example/ a", f"# 1 visits, 1 pages; visits left out: {NOTHING}"]
+ONE_SAID = ["visit https://a.example/ 1 7", "title https://a.example/ a",
+            f"# 1 visits, 1 pages; visits left out: {NOTHING}"]
 
 
 class Cases:
@@ -90,14 +102,15 @@ class Cases:
 
     def made(self, name, statements):
         path = self.work / name
-        subprocess.run(["sqlite3", "-batch", "-bail", "-init", "/dev/null", path], input=statements.encode(), check=True,
-                       stdout=subprocess.DEVNULL)
+        subprocess.run(["sqlite3", "-batch", "-bail", "-init", "/dev/null", path], input=statements.encode(),
+                       stdout=subprocess.DEVNULL, check=True)
         return path
 
     def run(self, tool, *words, **options):
         told = {"PLACES": self.places, "TMPDIR": str(self.room), **options.pop("told", {})}
         options = {"stdout": subprocess.PIPE, **options}
-        done = subprocess.run([HOME / "tools" / tool, *words], env={**os.environ, **told}, stderr=subprocess.PIPE, **options)
+        done = subprocess.run([HOME / "tools" / tool, *words], env={**os.environ, **told}, stderr=subprocess.PIPE,
+                              **options)
         self.is_so(f"{tool} {words}: its folder is removed", list(self.room.iterdir()), [])
         return done
 
@@ -134,13 +147,34 @@ def check_scripts(cases):
     cases.says("visits", "from-firefox", cases.made("visits", VISITS), VISITS_SAID)
     cases.says("texts", "from-firefox", cases.made("texts", TEXTS), TEXTS_SAID)
     cases.says("types", "from-chromium", cases.made("types", TYPES), TYPES_SAID)
-    cases.says("texts as UTF-16", "from-firefox", cases.made("-a name\twith 'all'\n", "PRAGMA encoding = 'UTF-16';" + ONE), ONE_SAID)
-    cases.says("nothing", "from-firefox", cases.made("nothing", FIREFOX), [f"# 0 visits, 0 pages; visits left out: {NOTHING}"])
+    wide = cases.made("-a name\twith 'all'\n", "PRAGMA encoding = 'UTF-16';" + ONE)
+    cases.says("texts as UTF-16", "from-firefox", wide, ONE_SAID)
+    nothing = [f"# 0 visits, 0 pages; visits left out: {NOTHING}"]
+    cases.says("nothing", "from-firefox", cases.made("nothing", FIREFOX), nothing)
     today = cases.run("from-firefox", cases.made("today", ONE))
     cases.is_so("today", today.stdout.split(b"\n")[0], time.strftime("day\t%Y-%m-%d", time.gmtime()).encode())
     link = cases.work / "link"
     link.symlink_to(cases.work / "today")
     cases.says("a link", "from-firefox", link, ONE_SAID)
+
+
+def check_newer_shell(cases):
+    """A shell that prints control characters in another form, but where `-escape off` stands."""
+    shell = cases.work / "newer"
+    shell.mkdir()
+    (shell / "sqlite3").write_text("""#!/bin/sh
+PATH=${PATH#*:}
+case " $* " in
+    *' -escape off '*) raw=$(printf '%s\\n' "$@" | grep -n -x -e -escape | cut -d : -f 1) ;;
+    *) sqlite3 "$@" | LC_ALL=C tr '\\001\\033' '^^'; exit ;;
+esac
+[ "$raw" = 5 ] || exit 1
+shift 6
+exec sqlite3 -batch -bail -init /dev/null "$@"
+""")
+    (shell / "sqlite3").chmod(0o755)
+    path = {"PATH": f"{shell}:{os.environ['PATH']}"}
+    cases.says("a newer shell", "from-firefox", cases.work / "texts", TEXTS_SAID, told=path)
 
 
 def check_log(cases):
@@ -151,10 +185,11 @@ def check_log(cases):
     with_log.execute("BEGIN")
     with_log.execute("UPDATE moz_places SET title = 'b'")
     cases.says("a log", "from-firefox", path, ONE_SAID)
-    path = cases.made("journal", ONE + "CREATE TABLE filler AS SELECT zeroblob(900) FROM json_each('[%s1]');" % ("1," * 999))
+    filler = "CREATE TABLE filler AS SELECT zeroblob(900) FROM json_each('[%s1]');" % ("1," * 999)
+    path = cases.made("journal", ONE + filler)
     changing = sqlite3.connect(path, isolation_level=None)
-    changing.executescript("PRAGMA cache_size = 1; PRAGMA cache_spill = 1; BEGIN; UPDATE moz_places SET title = 'b'; UPDATE filler "
-                           "SET rowid = rowid + 9999;")
+    changing.executescript("PRAGMA cache_size = 1; PRAGMA cache_spill = 1; BEGIN; UPDATE moz_places SET title = 'b';"
+                           "UPDATE filler SET rowid = rowid + 9999;")
     killed = cases.work / "killed"
     for end in ("", "-journal"):
         (cases.work / f"killed{end}").write_bytes((cases.work / f"journal{end}").read_bytes())
@@ -193,17 +228,20 @@ def check_faults(cases):
     for name, wanted, words in (
             ("no word", "DATABASE", []), ("three words", "DATABASE", [path, DAY, "x"]),
             ("no file", "there is no file", [cases.work / "no\nfile"]), ("a folder", "no regular file", [cases.work]),
-            ("a text", "no database of SQLite", [text]), ("an empty file", "no column id in a table moz_places", [empty]),
+            ("a text", "no database of SQLite", [text]),
+            ("an empty file", "no column id in a table moz_places", [empty]),
             ("no day", "'x' is no day", [path, "x"]), ("no date", "'2025-02-30' is no day", [path, "2025-02-30"]),
             ("two lines", "is no day", [path, "1\n2"]), ("a day too far", "'2932897' is no day", [path, "2932897"]),
             ("an empty day", "'' is no day", [path, ""])):
         cases.fails(name, wanted, "from-firefox", *words)
-    cases.fails("another browser", "is no history of Chromium: it has no column id in a table urls", "from-chromium", path)
+    wanted = "is no history of Chromium: it has no column id in a table urls"
+    cases.fails("another browser", wanted, "from-chromium", path)
     view = cases.made("view", ONE + "ALTER TABLE moz_places RENAME TO p; CREATE VIEW moz_places AS SELECT * FROM p;")
     cases.fails("a view", "no column id in a table moz_places", "from-firefox", view)
     less = cases.made("less", ONE + "ALTER TABLE moz_historyvisits DROP COLUMN from_visit;")
     cases.fails("a column less", "no column from_visit in a table moz_historyvisits", "from-firefox", less)
-    for name, wanted in (("/bin/false", "ended with status 1"), ("/no/program", "ended with status 127"), ("cat", "not answer")):
+    for name, wanted in (("/bin/false", "ended with status 1"), ("/no/program", "ended with status 127"),
+                         ("cat", "not answer")):
         program = cases.work / "program"
         program.write_text(f"#!/bin/sh\nread line\n[ \"${{line#day}}\" = \"$line\" ] || exec echo day\nexec {name}\n")
         program.chmod(0o755)
@@ -226,7 +264,11 @@ def check_later_faults(cases):
     os.close(writer)
     shell = cases.work / "bin"
     shell.mkdir()
-    (shell / "sqlite3").write_text('#!/bin/sh\nPATH=${PATH#*:}\n[ ! -s last ] || { sqlite3 "$@" | head -n 1; exit 1; }\nexec sqlite3 "$@"\n')
+    (shell / "sqlite3").write_text("""#!/bin/sh
+PATH=${PATH#*:}
+[ ! -s last ] || { sqlite3 "$@" | head -n 1; exit 1; }
+exec sqlite3 "$@"
+""")
     (shell / "sqlite3").chmod(0o755)
     said = f"day\t{DAY}\n# The history of a Firefox profile, by its visits and titles.\n".encode()
     done = cases.run("from-firefox", path, DAY, told={"PATH": f"{shell}:{os.environ['PATH']}"})
@@ -237,7 +279,7 @@ def check_later_faults(cases):
 def check(places, work):
     """Ends where a case does not hold."""
     cases = Cases(places, work)
-    for some in (check_scripts, check_log, check_torn, check_faults, check_later_faults):
+    for some in (check_scripts, check_newer_shell, check_log, check_torn, check_faults, check_later_faults):
         some(cases)
     print(f"  {cases.held} of {cases.held + cases.failed} hold")
     if cases.failed:

@@ -3,13 +3,14 @@
 
     bench/profiles.py [PROGRAM [PART ..]]
 
-The parts are `cases`, `firefox`, `chromium` and `speed`, and all of them where none is named. `cases` are databases that
-sqlite3 makes, odd ones and such as cannot be read (`profile_cases.py`). For `firefox` and `chromium` a headless browser
-makes a profile by its own interface (`browsers.py`): it visits pages of a server on this machine, with redirects and
-titles, and visits are given to it as extensions give them. No line of the script may be refused, and the store's
-visits, last dates, titles, and counts of visits are compared with a query over the visits that are taken; pages that are
-one in the store are named, and each hidden mark that differs, with its rule. `speed` has 100,000 visits. It fails where
-something differs. It needs python3, and installs firefox-esr, chromium and sqlite3 by `apt-get` where they are missing.
+The parts are `cases`, `firefox`, `chromium` and `speed`, and all of them where none is named. `cases` are databases
+that sqlite3 makes, odd ones and such as cannot be read (`profile_cases.py`). For `firefox` and `chromium` a headless
+browser makes a profile by its own interface (`browsers.py`): it visits pages of a server on this machine, with
+redirects and titles, and visits are given to it as extensions give them. No line of the script may be refused, and the
+store's visits, last dates, titles, and counts of visits are compared with a query over the visits that are taken;
+pages that are one in the store are named, and each hidden mark that differs, with its rule. `speed` has 100,000 visits.
+It fails where something differs. It needs python3, and installs firefox-esr, chromium and sqlite3 by `apt-get` where
+they are missing.
 """
 import collections
 import os
@@ -58,14 +59,16 @@ def script_of(places, tool, database, *day):
 # ---- what the databases have
 
 def firefox_rows(base):
-    pages = {row[0]: Page(*row[1:]) for row in base.execute("SELECT id, url, title, visit_count, hidden FROM moz_places")}
+    pages = {row[0]: Page(*row[1:]) for row in base.execute(
+        "SELECT id, url, title, visit_count, hidden FROM moz_places ORDER BY id")}
     visits = {row[0]: Visit(*row[1:], False) for row in base.execute(
         "SELECT id, place_id, from_visit, visit_date, visit_type FROM moz_historyvisits ORDER BY id")}
     return pages, visits
 
 
 def chromium_rows(base):
-    pages = {row[0]: Page(*row[1:]) for row in base.execute("SELECT id, url, title, NULL, hidden FROM urls")}
+    pages = {row[0]: Page(*row[1:]) for row in base.execute(
+        "SELECT id, url, title, NULL, hidden FROM urls ORDER BY id")}
     visits = {visit: Visit(page, source, time - SINCE_1601, CORE_TYPES.get(bits & 0xFF), bool(bits & 0xC0000000))
               for visit, page, source, time, bits in base.execute(
                   "SELECT id, url, from_visit, visit_time, transition FROM visits ORDER BY id")}
@@ -144,25 +147,31 @@ def compare_visits(rows, told, taken):
 
 
 def compare_hidden(browser, pages, taken, told, groups, visits):
-    """Tells each page whose hidden mark the browser has otherwise, with the rule by which the store has it."""
-    led_on = {row.source for row in taken.values() if row.transition in REDIRECTS}
+    """The store's hidden marks are those of its rule. Each that the browser has otherwise is told, with both rules."""
+    sources = {row.source for row in taken.values() if row.transition in REDIRECTS}
     differ = collections.Counter()
     for page, group in groups.items():
-        ours, theirs = told[group[0]][6] == "1", all(pages[one].hidden for one in group)
-        kinds = {"the source of a redirect" if number in led_on else
-                 f"of type {row.transition}" for number, row in visits[page]}
-        shown = [kind for kind in kinds if kind not in ("the source of a redirect", "of type 4", "of type 8")]
-        is_query = pages[group[0]].url.startswith("place:")
-        if ours != (is_query or not shown):
+        url, ours = pages[group[0]].url, told[group[0]][6] == "1"
+        kinds = [row.transition if row.transition in NOT_SHOWN else number in sources and "source"
+                 for number, row in visits[page]]
+        if ours != (url.startswith("place:") or all(kinds)):
             sys.exit(f"{told[group[0]]}: the hidden mark is not that of its rule")
-        if ours != theirs:
-            rule = "its address is a query" if is_query else \
-                "each visit is " + " or ".join(sorted(kinds)) if ours else "a visit is " + " or ".join(sorted(shown))
-            print(f"  hidden {int(ours)}, in {browser} {int(theirs)}: {pages[group[0]].url}: {rule}")
+        if ours != all(pages[one].hidden for one in group):
+            rule = rule_of(browser, ours, kinds) or sys.exit(f"{url}: {browser} has no known rule for its hidden mark")
+            print(f"  hidden {int(ours)}, in {browser} {int(not ours)}: {url}: {rule}")
             differ[rule] += 1
     print(f"  hidden marks that differ: {sum(differ.values())}")
     for rule, number in differ.items():
         print(f"    {number}: {rule}")
+
+
+def rule_of(browser, ours, kinds):
+    """Why a hidden mark differs: a kind for each visit, by which the store hides, or none."""
+    if browser == "chromium" and ours and "source" in kinds:
+        return "each visit is the source of a redirect or in a frame; Chromium hides no page for a redirect"
+    if browser == "firefox" and not ours and kinds[0] == kinds[-1] == 8:
+        return "a visit is none of these; for Firefox the first and the last of those it got at once are in a frame"
+    return None
 
 
 def compare_profile(places, work, browser, database):
@@ -220,8 +229,6 @@ def make_firefox(work):
               [[now - chance.randrange(YEARS), chance.choice((1, 1, 1, 2, 3, 5, 6, 7, 8, 9))]
                for _ in range(chance.randrange(1, 6))]] for number in range(ADDED // 3)]
     firefox.insert(pages)
-    firefox.run("PlacesUtils.bookmarks.insert({parentGuid: PlacesUtils.bookmarks.toolbarGuid, url: args[0], title: args[1]})",
-                pages[0][0], "A bookmark")
     return firefox.quit()
 
 
