@@ -1,5 +1,6 @@
 """Databases that sqlite3 makes, what tools/from-firefox and tools/from-chromium print of them, and what they refuse."""
 import os
+import re
 import sqlite3
 import subprocess
 import sys
@@ -158,6 +159,16 @@ def check_scripts(cases):
     cases.says("a link", "from-firefox", link, ONE_SAID)
 
 
+def check_schemes(cases):
+    """The schemes are those of the store."""
+    page = (HOME / "docs/COMMANDS.md").read_text()
+    schemes = re.findall("`([^`]*)`", re.search(r"schemes that are not recorded:([^.]*)\.", page)[1])
+    rows = "".join(f"INSERT INTO moz_places VALUES ({n}, '{scheme}:x', 'x');"
+                   f"INSERT INTO moz_historyvisits VALUES ({n}, 0, {n}, 0, 1);" for n, scheme in enumerate(schemes, 10))
+    said = ONE_SAID[:2] + [ONE_SAID[2].replace("scheme 0", f"scheme {len(schemes)}")]
+    cases.says("schemes", "from-firefox", cases.made("schemes", ONE + rows), said)
+
+
 def check_newer_shell(cases):
     """A shell that prints control characters in another form, but where `-escape off` stands."""
     shell = cases.work / "newer"
@@ -279,7 +290,7 @@ exec sqlite3 "$@"
 def check(places, work):
     """Ends where a case does not hold."""
     cases = Cases(places, work)
-    for some in (check_scripts, check_newer_shell, check_log, check_torn, check_faults, check_later_faults):
+    for some in (check_scripts, check_schemes, check_newer_shell, check_log, check_torn, check_faults, check_later_faults):
         some(cases)
     print(f"  {cases.held} of {cases.held + cases.failed} hold")
     if cases.failed:
