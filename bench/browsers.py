@@ -1,4 +1,5 @@
 """A headless Firefox and a headless Chromium, each driven by its own interface, and the pages that they visit."""
+import atexit
 import http.server
 import json
 import os
@@ -99,6 +100,7 @@ class Firefox:
         words = ["firefox-esr", "--headless", "--marionette", "--remote-allow-system-access", "--no-remote"]
         self.process = subprocess.Popen([*GENTLY, *words, "--profile", self.folder], stdin=subprocess.DEVNULL,
                                         stdout=subprocess.DEVNULL, stderr=subprocess.DEVNULL)
+        atexit.register(self.process.kill)
         self.connection, self.number = self.connect(port), 0
         self.stream = self.connection.makefile("rb")
         self.read()
@@ -189,6 +191,7 @@ class Chromium:
         words = [*GENTLY, *self.WORDS, f"--load-extension={extension}", f"--user-data-dir={self.folder}", "about:blank"]
         self.process = subprocess.Popen(["bash", "-c", joined, "bash", *words], pass_fds=(asked, answers),
                                         stdin=subprocess.DEVNULL, stdout=subprocess.DEVNULL, stderr=subprocess.DEVNULL)
+        atexit.register(self.process.kill)
         os.close(asked)
         os.close(answers)
         self.session = None

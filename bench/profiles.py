@@ -16,6 +16,7 @@ import collections
 import os
 import pathlib
 import random
+import signal
 import sqlite3
 import subprocess
 import sys
@@ -295,6 +296,8 @@ def measure(places, work):
 
 
 def main():
+    # (so that a browser does not outlive it)
+    signal.signal(signal.SIGTERM, lambda *_: sys.exit(1))
     places, parts = program(), sys.argv[2:] or PARTS
     browsers.install()
     with tempfile.TemporaryDirectory(dir=".") as folder:
@@ -310,4 +313,5 @@ def main():
                 compare_profile(places, work, part, make(work))
 
 
-main()
+if __name__ == "__main__":
+    main()
