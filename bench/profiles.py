@@ -16,6 +16,7 @@ import collections
 import os
 import pathlib
 import random
+import resource
 import signal
 import sqlite3
 import subprocess
@@ -276,21 +277,29 @@ SELECT 2 * i, iif(i % 20 = 0, 2 * i - 2, 0), 1 + i * 7919 % {SPEED_PAGES}, 17000
 """
 
 
+def processor_time():
+    """The seconds of processors that programs took which this one started, and which have ended."""
+    used = resource.getrusage(resource.RUSAGE_CHILDREN)
+    return used.ru_utime + used.ru_stime
+
+
 def measure(places, work):
     database = work / "speed.sqlite"
     subprocess.run(["sqlite3", "-batch", "-bail", "-init", "/dev/null", database],
                    input=(SPEED_SCHEMA + "BEGIN;" + SPEED_ROWS + "COMMIT;").encode(), check=True)
+    before = processor_time()
     timed = [script_of(places, "from-firefox", database) for _ in range(RUNS)]
-    script, took = timed[0][0], min(seconds for _, seconds in timed)
+    script, took, busy = timed[0][0], min(seconds for _, seconds in timed), (processor_time() - before) / RUNS
     lines = script.count(b"\n")
     print(f"  {lines} lines, {len(script)} bytes; {script[script.rindex(b'#'):].decode().strip()}")
-    print(f"  tools/from-firefox: {took:.2f} s, {lines / took:.0f} lines a second, the least of {RUNS} runs")
+    print(f"  tools/from-firefox: {took:.2f} s, {lines / took:.0f} lines a second, the least of {RUNS} runs;",
+          f"{busy:.2f} s of processors a run", flush=True)
     store = work / "speed.store"
     new_store(places, store)
-    start = time.monotonic()
+    start, before = time.monotonic(), processor_time()
     done = subprocess.run([places, "run", store], input=script, stdout=subprocess.PIPE, check=True)
-    took, replies = time.monotonic() - start, done.stdout.count(b"\n")
-    print(f"  places run: {took:.1f} s, {replies / took:.0f} lines a second, {done.stdout.count(b'refused')} refused")
+    took, busy, replies = time.monotonic() - start, processor_time() - before, done.stdout.count(b"\n")
+    print(f"  places run: {took:.1f} s, {replies / took:.0f} lines a second; {busy:.2f} s of processors")
     if replies != 1 + SPEED_VISITS + SPEED_PAGES or b"refused" in done.stdout:
         sys.exit("a line was refused, or not answered")
 
