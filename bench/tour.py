@@ -2,12 +2,13 @@
 """Runs the commands of docs/TOUR.md, and compares what each block prints with the page, byte by byte.
 
     bench/tour.py [PROGRAM]
-    PLACES_SQLITE=places.sqlite bench/tour.py [PROGRAM]
+    PLACES_SQLITE=places.sqlite BOOKMARKS_HTML=bookmarks.html bench/tour.py [PROGRAM]
 
 The `sh` blocks are run in their order by one shell, in a folder that is removed afterwards, with the program as
-`places` on the PATH. What a block prints, on standard error too, is to be the `text` block behind it, and nothing where
-there is none. Blocks marked `sh recipe` read the database of a browser's profile: they are run where PLACES_SQLITE
-names one, and need sqlite3. It ends with status 1 where a block differs, and tells each that does.
+`places` on the PATH, and the tools for profiles beside it. What a block prints, on standard error too, is to be the
+`text` block behind it, and nothing where there is none. Blocks marked `sh recipe` read the database of a Firefox profile
+and its bookmarks: they are run where PLACES_SQLITE and BOOKMARKS_HTML name them, and need sqlite3. It ends with status 1
+where a block differs, and tells each that does.
 """
 import difflib
 import os
@@ -22,6 +23,8 @@ from program import HOME, program
 PAGE = HOME / "docs/TOUR.md"
 FENCED = re.compile(r"^```(.*)\n((?:(?!```).*\n)*)```$", re.MULTILINE)
 BEHIND_A_BLOCK = b"\036"
+TOOLS = ("from-firefox", "from-chromium")
+PROFILE = ("PLACES_SQLITE", "BOOKMARKS_HTML")
 SECONDS = 600
 
 
@@ -57,9 +60,11 @@ def run(places, blocks):
         work.mkdir()
         commands.mkdir()
         (commands / "places").symlink_to(pathlib.Path(places).resolve(strict=True))
+        for tool in TOOLS:
+            (commands / tool).symlink_to(HOME / "tools" / tool)
         (commands / "tour").write_text(script)
-        path = f"{commands}:{os.environ['PATH']}"
-        ran = subprocess.run(["sh", commands / "tour"], cwd=work, env={**os.environ, "PATH": path},
+        told = {"PATH": f"{commands}:{os.environ['PATH']}", "PLACES": str(commands / "places")}
+        ran = subprocess.run(["sh", commands / "tour"], cwd=work, env={**os.environ, **told},
                              stdin=subprocess.DEVNULL, stdout=subprocess.PIPE, timeout=SECONDS)
     return ran.stdout.split(BEHIND_A_BLOCK)
 
@@ -83,18 +88,18 @@ def differs(block, said):
 
 def main():
     places = program()
-    database = os.environ.get("PLACES_SQLITE")
-    if database:
-        os.environ["PLACES_SQLITE"] = str(pathlib.Path(database).resolve(strict=True))
+    profile = {name: os.environ[name] for name in PROFILE if os.environ.get(name)}
+    for name, path in profile.items():
+        os.environ[name] = str(pathlib.Path(path).resolve(strict=True))
     every = blocks_of(PAGE.read_text())
-    blocks = [block for block in every if database or not block.in_recipe]
+    blocks = [block for block in every if len(profile) == len(PROFILE) or not block.in_recipe]
     *said, behind = run(places, blocks)
     different = sum(differs(block, text) for block, text in zip(blocks, said))
     if len(said) != len(blocks) or behind:
         sys.exit(f"{PAGE}: the shell ended in block {len(said) + 1} of {len(blocks)}, and printed {behind!r}")
     print(f"{len(blocks) - different} of {len(blocks)} blocks printed what the page says")
     if len(every) > len(blocks):
-        print(f"{len(every) - len(blocks)} blocks of the recipe were not run, since PLACES_SQLITE names no database")
+        print(f"{len(every) - len(blocks)} blocks of the recipe were not run, since {' or '.join(PROFILE)} names no file")
     sys.exit(1 if different else 0)
 
 
