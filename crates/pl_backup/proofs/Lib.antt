@@ -1,0 +1,5 @@
+mod Appended
+mod BackupRows
+mod ListSteps
+mod NodeTexts
+mod RootTexts

@@ -1,0 +1,2 @@
+pub mod BackupText
+pub mod Written
