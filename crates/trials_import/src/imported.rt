@@ -156,6 +156,59 @@ fn imports_short_files(rt: HostRuntime) -> Result<(), Fail> {
     Ok(())
 }
 
+// A text, what stands behind it so many times, and what stands behind that; what is said of the
+// file, and of the menu then.
+const LONG_FILES: &[(&str, &str, usize, &str, &str, &str)] = &[
+    (
+        "",
+        "<DL>",
+        100_000,
+        "<A HREF=\"https://a.example/\">x",
+        "items\t1\ttags\t0\tskipped\t0",
+        "rows\t1\nbookmark\t7\tx\thttps://a.example/\n",
+    ),
+    (
+        "",
+        "<H3>a<DL>",
+        1_000,
+        "",
+        "items\t1000\ttags\t0\tskipped\t0",
+        "rows\t1\nfolder\t7\ta\t\n",
+    ),
+    // A tag that has no end, and an address that has none.
+    (
+        "",
+        "<A HREF=\"",
+        1,
+        "",
+        "items\t0\ttags\t0\tskipped\t0",
+        "rows\t0\n",
+    ),
+    (
+        "<A HREF=\"",
+        "x",
+        1_000_000,
+        "",
+        "items\t0\ttags\t0\tskipped\t0",
+        "rows\t0\n",
+    ),
+];
+
+#[test]
+fn imports_deep_and_endless_files(rt: HostRuntime) -> Result<(), Fail> {
+    let alloc = rt.alloc();
+    let desk = new_store(alloc, &[])?;
+    for (start, piece, times, end, reply, told) in LONG_FILES {
+        let pieces = piece.repeat(alloc, *times)?;
+        let body = format!(in alloc; "{start}{pieces}{end}")?;
+        let text = imported(alloc, body.as_str())?;
+        let said = format!(in alloc; "imported\t{reply}\n")?;
+        let next = goes_on(&rt, alloc, &desk, IMPORT, text.as_bytes(), said.as_bytes())?;
+        goes_on(&rt, alloc, &next, RUN, b"list\t2\n", told.as_bytes())?;
+    }
+    Ok(())
+}
+
 // A title of 4,097 bytes is cut to 4,096.
 #[test]
 fn cuts_long_titles(rt: HostRuntime) -> Result<(), Fail> {

@@ -6,7 +6,7 @@ use places::Status;
 use std::alloc::Global;
 use std::process::Abort;
 use std::test::Fail;
-use trials_desks::{copied, new_store, run_on};
+use trials_desks::{WORKED, copied, done, new_store, run_on, said_text};
 
 const IMPORT: &[&str] = &["import", "s"];
 
@@ -39,6 +39,30 @@ fn refuses_what_holds_no_bookmarks(rt: HostRuntime) -> Result<(), Fail> {
     let desk = new_store(alloc, &[])?;
     for (bytes, at) in NO_BOOKMARKS {
         expect_refused(&rt, alloc, &desk, bytes, Status::NotBookmarks(*at))?;
+    }
+    Ok(())
+}
+
+// The worked file begins with a doctype of so many bytes.
+const DOCTYPE_LEN: usize = 35;
+
+// A front without its whole doctype is refused, and each longer one is imported.
+#[test]
+fn takes_each_front_that_has_the_doctype(rt: HostRuntime) -> Result<(), Fail> {
+    let alloc = rt.alloc();
+    let desk = new_store(alloc, &[])?;
+    let file = WORKED.as_bytes();
+    for (len, _) in file.iter().enumerate() {
+        let front = &file[..len];
+        if len < DOCTYPE_LEN {
+            expect_refused(&rt, alloc, &desk, front, Status::NotBookmarks(0))?;
+        } else {
+            let next = done(alloc, &desk, IMPORT, front)?;
+            assert!(rt;
+                said_text(&next).starts_with("imported\titems\t"),
+                "{len} bytes"
+            );
+        }
     }
     Ok(())
 }

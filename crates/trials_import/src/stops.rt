@@ -4,12 +4,12 @@ ghost use Rattle.std.specs.Prelude.{◌<◌};
 
 use crate::desks::SAID;
 use pl_base::NoMemory;
-use pl_desk::MemDesk;
+use pl_desk::{MemDesk, MemSource};
 use places::Status;
 use std::alloc::Global;
 use std::process::Abort;
 use std::test::Fail;
-use trials_desks::{WORKED, copied, new_store, run_on};
+use trials_desks::{WORKED, copied, in_memory, new_store, run_on};
 
 const IMPORT: &[&str] = &["import", "s"];
 
@@ -78,6 +78,29 @@ fn a_call_that_fails_leaves_all_of_it_or_none(rt: HostRuntime) -> Result<(), Fai
             Status::Done
         };
         assert_eq!(rt; failed(&rt, alloc, call)?, ends, "call {call}");
+    }
+    Ok(())
+}
+
+// In pieces of 64 bytes twelve reads take the 740 bytes, and one more finds the end.
+const READS: u32 = 13;
+
+#[test]
+fn a_read_that_fails_leaves_none_of_it(rt: HostRuntime) -> Result<(), Fail> {
+    let alloc = rt.alloc();
+    let store = new_store(alloc, &[])?;
+    for call in 0..READS + 1 {
+        let mut input = MemSource::over(alloc, WORKED.as_bytes(), 64, &[call])?;
+        let mut desk = copied(alloc, &store, &[])?;
+        let status = in_memory(alloc, IMPORT, &mut input, &mut desk);
+        if call < READS {
+            assert_eq!(rt; status, Status::ReadFault, "read {call}");
+            assert!(rt; desk.said().is_empty(), "read {call}");
+            assert!(rt; desk.bytes() == store.bytes(), "read {call}");
+        } else {
+            assert_eq!(rt; status, Status::Done);
+            assert_eq!(rt; desk.said(), SAID);
+        }
     }
     Ok(())
 }

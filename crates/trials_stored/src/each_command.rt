@@ -32,11 +32,11 @@ const LINES: &[&[u8]] = &[
     b"day\t19001\n",
 ];
 
-// What a stop leaves in the bytes that may hold anything.
-const FILLERS: [u8; 3] = [0, 1, 255];
+/// What a stop leaves in the bytes that may hold anything.
+pub const FILLERS: [u8; 3] = [0, 1, 255];
 
-// The pages of the store, as many as its header says: neither that of the gate nor the journal.
-fn store_in(bytes: &[u8]) -> &[u8] {
+/// The pages of the store, as many as its header says: neither that of the gate nor the journal.
+pub fn store_in(bytes: &[u8]) -> &[u8] {
     let pages = match bytes.get(PAGE_SIZE + 8..PAGE_SIZE + 12) {
         Some([a, b, c, d]) => u32::from_le_bytes([*a, *b, *c, *d]),
         _ => 0,

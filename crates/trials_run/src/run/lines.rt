@@ -21,6 +21,12 @@ const LINES: &[(&[u8], &[u8])] = &[
     // The address is one whose visits are not recorded.
     (b"visit\tabout:blank\t1\t0\n", b"refused\t2\n"),
     (b"visit\tJavaScript:void(0)\t1\t0\n", b"refused\t2\n"),
+    // A byte that is in no UTF-8, within an address and before its first character.
+    (
+        b"visit\thttps://a.example/\xff\t1\t0\n",
+        b"refused\t14\t7\n",
+    ),
+    (b"title\t\xffhttps://a.example/\tA\n", b"refused\t14\t7\n"),
 ];
 
 #[test]
@@ -46,6 +52,12 @@ const LONG_LINES: &[(&[u8], usize, &[u8], &[u8])] = &[
     (b"", 262_144, b"\r\n", b"refused\t14\t1\n"),
     (b"", 262_145, b"\n", b"refused\t14\t262145\n"),
     (b"", 262_145, b"\r\n", b"refused\t14\t262145\n"),
+    (
+        b"",
+        262_145,
+        b"\nvisit\thttps://www.mozilla.org/\t1\t0\n",
+        b"refused\t14\t262145\nvisit\t1\tpage\t1\tfrecency\t100\n",
+    ),
     (b"", 262_144, b"\r", b"refused\t14\t262145\n"),
     (b"", 600_000, b"", b"refused\t14\t262145\n"),
     (b"visit\t", 262_138, b"\n", b"refused\t14\t262145\n"),
