@@ -10,6 +10,7 @@ ghost use Rattle.pl_record.specs.LinkedRows as index;
 
 use crate::slotted::Slotted;
 use pl_base::{PageId, Slot};
+use pl_record::slot_at;
 
 impl Slotted {
     ghost use Rattle.pl_slotted.specs.Slotted.{kept_of};
@@ -19,7 +20,7 @@ impl Slotted {
         requires { has_page (kept_of self.now) page ≡ true }
         ensures { index.slot_at self.now.pages.entries page.0 ≡ Some result }
     {
-        match self.pages.slot_at(page.0) {
+        match slot_at(&self.pages, page.0) {
             Some(slot) => slot,
             None => unreachable!(),
         }

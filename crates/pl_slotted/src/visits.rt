@@ -8,6 +8,7 @@ ghost use Rattle.pl_record.specs.LinkedRows as index;
 
 use crate::slotted::Slotted;
 use pl_base::{Slot, VisitId};
+use pl_record::slot_at;
 
 impl Slotted {
     ghost use Rattle.pl_slotted.specs.Slotted.{kept_of};
@@ -17,7 +18,7 @@ impl Slotted {
         requires { has_visit (kept_of self.now) visit ≡ true }
         ensures { index.slot_at self.now.visits.entries visit.0 ≡ Some result }
     {
-        match self.visits.slot_at(visit.0) {
+        match slot_at(&self.visits, visit.0) {
             Some(slot) => slot,
             None => unreachable!(),
         }
