@@ -443,4 +443,5 @@ def main():
         measure_all_visits(places, work)
 
 
-main()
+if __name__ == "__main__":
+    main()
