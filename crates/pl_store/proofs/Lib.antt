@@ -1,6 +1,7 @@
 mod BoundLaws
 mod CommitLemmas
 pub mod KeeperLaws
+mod OpenedAgain
 mod OpenedFiles
 mod OwnPages
 pub mod StandsLaws

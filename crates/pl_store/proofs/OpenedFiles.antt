@@ -128,6 +128,9 @@ module _ {D : Type 0} (desk : Ghosts D) (told : (now : D) → IsSome (desk.held 
         let has = subst (IsSettledAs first.0) (same_Some rests.file later (sym rests.is_held ∙ is_mid)) rests.has in
         (MatchOption-at_some _ _ later is_mid none) store (later_form first.0 later has store stands));
     bad_gate = λ file is lacks. absurd (both_ways (has_gate file) lacks (MatchOption-at_some _ _ file is good));
+    installed = λ file is _. let rests = settled file is in
+        if_some (desk.held new) _ (λ later now.
+        subst (IsSettledAs file) (same_Some rests.file later (sym (reads.file.held ∙ rests.is_held) ∙ now)) rests.has);
   }
 
   pub opens : (limit : ℕ) (result : Result Session Ended) → EndsReading limit (desk.held mid) result

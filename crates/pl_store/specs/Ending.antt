@@ -1,13 +1,15 @@
 -- How the making of a store and the opening of a file end.
-use Rattle.std.specs.Prelude.{◌≡◌, ⊤, ℕ, ◌<◌, false, List, [], Some, length, Result, Ok, Err}
+use Rattle.std.specs.Prelude.{◌≡◌, ⊤, ℕ, ◌<◌, true, false, List, [], Some, length, Result, Ok, Err}
 use Rattle.std.specs.Prelude.{IfSome}
 use Rattle.pl_base.specs.Store.{Store, opening}
 use Rattle.pl_base.specs.Live.{slot_limit}
 use Rattle.pl_desk.specs.Calls.{KeepsFile}
-use Rattle.pl_desk.specs.Shown.{Rests}
+use Rattle.pl_desk.specs.Shown.{AtAnyMoment, Rests}
 use Rattle.pl_desk.specs.declared.desk.Desk.{Ghosts}
 use Rattle.pl_gate.specs.Gate.{has_gate, is_set}
-use Rattle.pl_store.specs.Session.{IsSettled, Stands, StandsAlike, session_limit, session_store}
+use Rattle.pl_gate.specs.Recovery.{IsSettledAs}
+use Rattle.pl_store.specs.Session.{IsSettled, LeavesOneOf, Stands, StandsAlike, StandsForOneOf}
+use Rattle.pl_store.specs.Session.{session_limit, session_store}
 use Rattle.pl_store.specs.declared.ended.Ended.{Ended}
 use Rattle.pl_store.specs.declared.ended.Ended.TheVariants as ended
 use Rattle.pl_store.specs.declared.session.Session.{Session}
@@ -66,12 +68,15 @@ pub record OpensStore {D : Type 0} (desk : Ghosts D) (session : Session) (old ne
         (λ file. (store : Store) → Stands file store → store ≡ session_store session)
     pub settled : (file : List ℕ) → desk.held old ≡ Some file → IsSettled desk session new
 
--- the file stands for no store, and still for none; one that no stop left is as it was
+-- The file stands for no store, and still for none; one that no stop left is as it was. Of a good
+-- journal the images are in their pages then, and the gate is not set.
 pub record RefusesFile {D : Type 0} (desk : Ghosts D) (old new : D) : Type 0 where
   pub was_none : IfSome (desk.held old) StandsForNone
   pub still_none : IfSome (desk.held new) StandsForNone
   pub bad_gate : (file : List ℕ) → desk.held old ≡ Some file → LacksGate file
       → desk.held new ≡ desk.held old
+  pub installed : (file : List ℕ) → desk.held old ≡ Some file → has_gate file ≡ true
+      → IfSome (desk.held new) (IsSettledAs file)
 
 -- how an opening of a file ends; it never tells how many bytes there are
 abbrev pub Opens : {D : Type 0} (desk : Ghosts D) → ℕ → Result Session Ended → D → D → Type 0
@@ -82,6 +87,17 @@ Opens desk limit (Err ended.NoMemory) old new =
     (file : List ℕ) → desk.held old ≡ Some file → Rests desk new (StandsAlike file)
 Opens desk limit (Err ended.NotAStore) old new = RefusesFile desk old new
 Opens desk limit (Err (ended.NotEmpty len)) old new = ⊥
+
+-- ---- openings that are stopped
+
+-- Each file that a stop shows from old to new, and each that it may leave then, stands for one of
+-- these stores.
+pub record StaysAmong {D : Type 0} (desk : Ghosts D) (stores : List Store) (old new : D) : Type 0
+  where
+    pub shown : AtAnyMoment desk old new (StandsForOneOf stores)
+    pub left : LeavesOneOf desk stores new
+
+-- ---- files that are left alone
 
 -- a file in which no stop left a change is left as it was
 abbrev pub KeepsFinished : {D : Type 0} (desk : Ghosts D) → D → D → Type 0

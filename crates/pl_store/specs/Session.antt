@@ -1,5 +1,6 @@
 -- Which files stand for a store, and what a session and a prepared command are to a file.
 use Rattle.std.specs.Prelude.{◌≡◌, ◌⊎◌, ◌↔◌, ℕ, true, List, length, take, Option, None, Some}
+use Rattle.std.specs.List.{Any}
 use Rattle.pl_base.specs.Rows as rows
 use Rattle.pl_base.specs.Store.{Store}
 use Rattle.pl_base.specs.Touched.{changed, bytes_before}
@@ -26,6 +27,15 @@ pub record Stands (file : List ℕ) (store : Store) : Type 0 where
 -- the file stands for one of two stores
 abbrev pub StandsForEither : Store → Store → List ℕ → Type 0
 StandsForEither before after file = Stands file before ⊎ Stands file after
+
+-- the file stands for one of these stores
+abbrev pub StandsForOneOf : List Store → List ℕ → Type 0
+StandsForOneOf stores file = Any (Stands file) stores
+
+-- so does each file that a stop may leave
+abbrev pub LeavesOneOf : {D : Type 0} (desk : Ghosts D) → List Store → D → Type 0
+LeavesOneOf desk stores now =
+    (file : List ℕ) → desk.may_leave now file → StandsForOneOf stores file
 
 -- two files that stand for the same store, or for none
 abbrev pub StandsAlike : List ℕ → List ℕ → Type 0

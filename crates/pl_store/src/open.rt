@@ -1,12 +1,13 @@
 ghost use Rattle.std.specs.Prelude.{◌≡◌, ◌≤◌, ◌+◌, ℕ, List, Err, IfOk, Some};
 ghost use Rattle.pl_base.specs.Live.{slot_limit};
+ghost use Rattle.pl_base.specs.Store.{Store};
 ghost use Rattle.pl_desk.specs.Counts.{CountsAt};
 ghost use Rattle.pl_desk.specs.Settling.{Settles};
 ghost use Rattle.pl_gate.specs.FileCalls.{CallsFile};
 ghost use Rattle.pl_known.specs.Known.{Knows};
 ghost use Rattle.pl_store.specs.Bounds.{reopening_bytes};
-ghost use Rattle.pl_store.specs.Ending.{KeepsFinished, Makes, Opens};
-ghost use Rattle.pl_store.specs.Session.{StandsAlike, session_store};
+ghost use Rattle.pl_store.specs.Ending.{KeepsFinished, Makes, Opens, StaysAmong};
+ghost use Rattle.pl_store.specs.Session.{LeavesOneOf, Stands, StandsAlike, session_store};
 
 use crate::ended::Ended;
 use crate::read::{read_session, settle};
@@ -46,11 +47,17 @@ pub fn reopen<D: Desk>(alloc: Global, desk: &mut D, limit: u32) -> Result<Sessio
     // that a read gave. Where the device had no fault, that sync has ended.
     ensures any_moment { (file : List ℕ) → D.held desk.old ≡ Some file
         → Settles D.Desk (result ≡ Err Ended.DeviceFault) desk.old desk.new (StandsAlike file) }
+    // Where each file that a stop might have left stands for one of some stores, so does each later
+    // one: an opening may be stopped, and the next one that goes on from there, again and again.
+    ensures again { (file : List ℕ) (stores : List Store) → D.held desk.old ≡ Some file
+        → LeavesOneOf D.Desk stores desk.old → StaysAmong D.Desk stores desk.old desk.new }
     ensures no_less { D.written desk.old ≤ D.written desk.new }
     // What a recovery of the file writes is the most that is written.
     ensures no_more { (file : List ℕ) → D.held desk.old ≡ Some file
         → D.written desk.new ≤ D.written desk.old + reopening_bytes file }
     ensures calls { CallsFile D.Desk (CountsAt (result ≡ Err Ended.DeviceFault)) desk.old desk.new }
+    // Bytes stand for one store, or for none.
+    ensures one { (file : List ℕ) (a b : Store) → Stands file a → Stands file b → a ≡ b }
     // The views in memory are those of the store, and each follower stands for them.
     ensures known { IfOk result (λ session. Knows (session_store session) session.engine.known) }
 {

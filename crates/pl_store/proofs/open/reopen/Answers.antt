@@ -1,4 +1,5 @@
-use Rattle.std.proofs.Common.{ℕ, ◌+◌, ◌≤◌, List, IsSome, inr, sym, ◌∙◌, subst}
+use Rattle.std.proofs.Common.{◌≡◌, ℕ, ◌+◌, ◌≤◌, List, Some, IsSome, inr, sym, ◌∙◌, subst}
+use Rattle.pl_base.specs.Store.{Store}
 use Rattle.pl_desk.proofs.AnyMoment.{some_said}
 use Rattle.pl_desk.proofs.Moments.{shows_less}
 use Rattle.pl_desk.proofs.SettlingLaws.{settles_less, settles_on}
@@ -6,7 +7,9 @@ use Rattle.pl_desk.specs.Settling.{Settles}
 use Rattle.pl_desk.specs.Shown.{Unsaid}
 use Rattle.pl_gate.specs.Recovery.{StandsAs}
 use Rattle.pl_store.specs.Bounds.{reopening_bytes}
-use Rattle.pl_store.specs.Session.{StandsAlike}
+use Rattle.pl_store.specs.Ending.{StaysAmong}
+use Rattle.pl_store.specs.Session.{LeavesOneOf, StandsAlike}
+use Rattle.pl_store.proofs.OpenedAgain.{one_of, stays_among}
 use Rattle.pl_store.proofs.OpenedFiles.{fault_ends, opens, session_knows, stands_alike, writes_none}
 use Rattle.pl_store.proofs.open.reopen.Given.{Over}
 use Rattle.pl_store.proofs.open.reopen.Goals as goal
@@ -71,3 +74,30 @@ returns-clause-no_more g c file is =
 
 pub returns-clause-known : goal.returns-clause-known
 returns-clause-known g c = session_knows c.read_session.result
+
+-- ---- openings that are stopped
+
+again : (g : Over) {Fault : Type 0} (old new : g.row.D.Denot) (file : List ℕ) (stores : List Store)
+    → g.D.Desk.held old ≡ Some file → g.D.Desk.said new ≡ g.D.Desk.said old → LeavesOneOf g.D.Desk stores old
+    → Settles g.D.Desk Fault old new (StandsAlike file) → StaysAmong g.D.Desk stores old new
+again g old new file stores is line left settles =
+    let laws = g.met.D.Desk in
+    stays_among g.D.Desk laws.only_now laws.shown_now laws.counts_now old new stores file
+    (some_said g.D.Desk old file (laws.told_together old) is) line is left settles
+
+pub returns-in_err-settle-clause-again : goal.returns-in_err-settle-clause-again
+returns-in_err-settle-clause-again g c file stores is left =
+    again g c.args.desk.now c.settle.new.desk file stores is c.settle.ensures.calls.line.said left
+    (returns-in_err-settle-clause-any_moment g c file is)
+
+pub returns-clause-again : goal.returns-clause-again
+returns-clause-again g c file stores is left =
+    again g c.args.desk.now c.read_session.new.desk file stores is
+    (c.read_session.ensures.reads.line.said ∙ c.settle.ensures.calls.line.said) left
+    (returns-clause-any_moment g c file is)
+
+pub returns-in_err-settle-clause-one : goal.returns-in_err-settle-clause-one
+returns-in_err-settle-clause-one g c = one_of
+
+pub returns-clause-one : goal.returns-clause-one
+returns-clause-one g c = one_of
