@@ -20,7 +20,7 @@ use std::marker::Model;
 /// Where ids lie close to one another, as those that were given one after another do, a slot is
 /// found in one step, and else in as many as a map takes. The memory for that is bounded by how
 /// many rows there are or were, whatever their ids are.
-#[derive(Debug, Drop)]
+#[derive(Debug)]
 pub struct SlotIndex {
     // All of them.
     map: BTreeMap<u32, Slot>,
@@ -37,6 +37,15 @@ impl Model for SlotIndex {
     ghost view = { λ a. record { entries = a.map.entries } };
 
     ghost invariant = { λ a. IsRight a.map.entries a.run };
+}
+
+// Written out, so that whoever drops an index is told of one call, and not of each part.
+impl Drop for SlotIndex {
+    fn drop(self) {
+        let SlotIndex { map, run } = self;
+        drop(map);
+        drop(run);
+    }
 }
 
 impl SlotIndex {

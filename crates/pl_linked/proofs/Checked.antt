@@ -12,7 +12,7 @@ use Rattle.pl_base.specs.Store.{Store, Visit}
 use Rattle.pl_base.specs.Touched.{page_size}
 use Rattle.pl_reading.specs.File.{FileStandsFor, HasSlots, stored_pages}
 use Rattle.pl_record.specs.Form.{IsForm, bytes_in, pages_of}
-use Rattle.pl_record.specs.LinkedRows.{IsBaseOf, Keeps}
+use Rattle.pl_record.specs.LinkedRows.{Entries, IsBaseOf, Keeps}
 use Rattle.pl_record.proofs.Changes.{settled_base}
 use Rattle.pl_record.proofs.OneForm.{one_form}
 use Rattle.pl_sheets.specs.Sheets.{ArePages, Pages, settled, unchanged}
@@ -64,9 +64,9 @@ no_store file none store stands =
     ∥∥₁_elim stands.form (Prim.hlevel props) (λ form. none stands.kept stands.targets form stands.sound)
 
 -- the rows that were accepted are those that the pages keep
-pub sound_kept : (sheets : Pages) (a : Accepted) (accepted : IsAccepted sheets a)
-    (k : Keeps sheets a.pages.entries a.visits.entries a.items.entries) → IsSound k.kept
-sound_kept sheets a accepted k =
+pub sound_kept : (sheets : Pages) (a : Accepted) (accepted : IsAccepted sheets a) (pages visits items : Entries)
+    (k : Keeps sheets pages visits items) → IsSound k.kept
+sound_kept sheets a accepted pages visits items k =
     subst IsSound
     (∥∥₁_elim k.linked (Prim.hlevel props)
     (λ linked.
@@ -74,3 +74,12 @@ sound_kept sheets a accepted k =
     (record { at = accepted.linked.at; rows = accepted.linked.rows; laid = accepted.linked.laid })
     (record { at = linked.at; rows = linked.rows; laid = linked.laid })).0))
     accepted.sound
+
+-- they are kept wherever these slots are found
+pub accepted_keeps : (sheets : Pages) (a : Accepted) → IsAccepted sheets a → (pages visits items : Entries)
+    → pages ≡ a.pages.entries → visits ≡ a.visits.entries → items ≡ a.items.entries → Keeps sheets pages visits items
+accepted_keeps sheets a accepted pages visits items pages_are visits_are items_are =
+    subst (λ (es : Entries). Keeps sheets es visits items) (sym pages_are)
+    (subst (λ (es : Entries). Keeps sheets a.pages.entries es items) (sym visits_are)
+    (subst (λ (es : Entries). Keeps sheets a.pages.entries a.visits.entries es) (sym items_are)
+    (record { kept = accepted.kept; targets = accepted.targets; linked = ∣ accepted.linked ∣₁ })))

@@ -1,14 +1,18 @@
 // What a file of linked slots stands for.
 ghost use Rattle.std.specs.Prelude.{◌≡◌, ◌↔◌, ℕ, List, IfOk, IsErrOf};
+ghost use Rattle.pl_accept.specs.Accepted.{IsAccepted};
 ghost use Rattle.pl_base.specs.Rows.{IsSound, store_of};
 ghost use Rattle.pl_base.specs.Store.{Store};
 ghost use Rattle.pl_linked.specs.Linked as rows;
 ghost use Rattle.pl_reading.specs.File.{FileStandsFor, stored_bytes};
+ghost use Rattle.pl_slotted.specs.Slotted as slots;
 
 use crate::linked::Linked;
 use pl_accept::{Accepted, accept};
-use pl_base::{CheckError, Steps};
+use pl_base::{CheckError, NoMemory, Steps};
+use pl_byid::SlotIndex;
 use pl_reading::arena_in;
+use pl_slot::Arena;
 use pl_slotted::Slotted;
 use std::alloc::Global;
 use std::sync::ledger::Ledger;
@@ -39,17 +43,25 @@ impl Linked {
             → FileStandsFor bytes.items store → ⊥ }
     {
         let arena = arena_in(bytes)?;
-        let Accepted {
-            pages,
-            visits,
-            items,
-        } = accept(alloc, &arena, steps)?;
-        let slots = Slotted {
-            arena,
-            pages,
-            visits,
-            items,
-        };
+        let accepted = accept(alloc, &arena, steps)?;
+        let slots = rows_of(alloc, arena, accepted)?;
         Ok(Linked { alloc, slots })
     }
+}
+
+// The rows of a file that was accepted.
+fn rows_of(alloc: Global, arena: Arena, accepted: Accepted) -> Result<Slotted, NoMemory>
+    requires { IsAccepted arena accepted }
+    ensures arena { IfOk result (λ slotted. slotted.arena ≡ arena) }
+    ensures sound { IfOk result (λ slotted. IsSound (slots.kept_of slotted)) }
+{
+    let pages = SlotIndex::of(alloc, accepted.pages)?;
+    let visits = SlotIndex::of(alloc, accepted.visits)?;
+    let items = SlotIndex::of(alloc, accepted.items)?;
+    Ok(Slotted {
+        arena,
+        pages,
+        visits,
+        items,
+    })
 }

@@ -13,7 +13,7 @@ ghost use Rattle.pl_slot.specs.Links.{kind_at};
 use crate::linked::Linked;
 use pl_base::{ItemId, ItemRow, NoMemory, PageId, Slot, Steps, Txt};
 use pl_rail::{Owner, first, last, next};
-use pl_record::{Item, named, read_item, read_place, slot_at};
+use pl_record::{Item, named, read_item, read_place};
 use pl_slot::{Arena, Rail};
 use pl_text::load;
 use std::sync::ledger::Ledger;
@@ -58,7 +58,7 @@ impl Linked {
             (item_at (kept_of self.now).items item) }
         ensures cost { steps.new ≤ steps.old + most_reads }
     {
-        let slot = slot_at(&self.slots.items, item.0)?;
+        let slot = self.slots.items.slot_at(item.0)?;
         let row = read_item(&self.slots.arena, slot, steps);
         Some(ItemRow {
             kind: row.kind,
@@ -91,7 +91,7 @@ impl Linked {
             spec.row_in slot self.now.slots.arena ≡ Some (spec.item_row result)) }
         ensures counted { steps.new ≡ steps.old + 1 }
     {
-        match slot_at(&self.slots.items, item.0) {
+        match self.slots.items.slot_at(item.0) {
             Some(slot) => read_item(&self.slots.arena, slot, steps),
             None => unreachable!(),
         }
@@ -101,7 +101,7 @@ impl Linked {
         ensures first { result ≡ first_item (children_of (kept_of self.now).items item) }
         ensures cost { steps.new ≤ steps.old + most_reads }
     {
-        let slot = slot_at(&self.slots.items, item.0)?;
+        let slot = self.slots.items.slot_at(item.0)?;
         let child = first(&self.slots.arena, Rail::Children, Owner::At(slot), steps);
         id_in(&self.slots.arena, child, steps)
     }
@@ -110,7 +110,7 @@ impl Linked {
         ensures last { result ≡ last_item (children_of (kept_of self.now).items item) }
         ensures cost { steps.new ≤ steps.old + most_reads }
     {
-        let slot = slot_at(&self.slots.items, item.0)?;
+        let slot = self.slots.items.slot_at(item.0)?;
         let child = last(&self.slots.arena, Rail::Children, Owner::At(slot), steps);
         id_in(&self.slots.arena, child, steps)
     }
@@ -120,7 +120,7 @@ impl Linked {
         ensures next { result ≡ sibling_behind (kept_of self.now).items item }
         ensures cost { steps.new ≤ steps.old + most_reads }
     {
-        let slot = slot_at(&self.slots.items, item.0)?;
+        let slot = self.slots.items.slot_at(item.0)?;
         named(read_item(&self.slots.arena, slot, steps).parent)?;
         let sibling = next(&self.slots.arena, Rail::Children, slot, steps);
         id_in(&self.slots.arena, sibling, steps)
@@ -131,7 +131,7 @@ impl Linked {
         ensures first { result ≡ first_item (references (kept_of self.now).items page) }
         ensures cost { steps.new ≤ steps.old + most_reads }
     {
-        let slot = slot_at(&self.slots.pages, page.0)?;
+        let slot = self.slots.pages.slot_at(page.0)?;
         let item = first(&self.slots.arena, Rail::References, Owner::At(slot), steps);
         id_in(&self.slots.arena, item, steps)
     }
@@ -141,7 +141,7 @@ impl Linked {
         ensures next { result ≡ reference_behind (kept_of self.now).items item }
         ensures cost { steps.new ≤ steps.old + most_reads }
     {
-        let slot = slot_at(&self.slots.items, item.0)?;
+        let slot = self.slots.items.slot_at(item.0)?;
         named(read_item(&self.slots.arena, slot, steps).page)?;
         let other = next(&self.slots.arena, Rail::References, slot, steps);
         id_in(&self.slots.arena, other, steps)

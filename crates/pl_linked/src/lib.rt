@@ -1,5 +1,5 @@
-//! The rows of a store in linked slots, as `Rows`: each is found by a map, or by the chains of those
-//! that it belongs to. The check of a file of them.
+//! The rows of a store in linked slots, as `Rows`: each is found by its id, or by the chains of
+//! those that it belongs to. The check of a file of them.
 #![tactic(auto)]
 
 mod as_rows;

@@ -4,7 +4,7 @@ use std::alloc::Global;
 
 /// A store in linked slots.
 ///
-/// A page, a visit or an item is found by its id in a map, and what belongs to it by its chains:
+/// A page, a visit or an item is found by its id, and what belongs to it by its chains:
 /// each look-up reads at most four slots, however many there are.
 #[derive(Debug, Drop)]
 pub struct Linked {

@@ -8,7 +8,7 @@ ghost use Rattle.pl_record.specs.Rows as spec;
 
 use crate::linked::Linked;
 use pl_base::{Mark, NoMemory, OriginRow, PageId, Slot, Steps, Txt};
-use pl_record::{Place, id_behind, read_place, read_total, slot_at};
+use pl_record::{Place, read_place, read_total};
 use pl_text::load;
 use std::sync::ledger::Ledger;
 
@@ -22,7 +22,7 @@ impl Linked {
             spec.row_in slot self.now.slots.arena ≡ Some (spec.place_row result)) }
         ensures counted { steps.new ≡ steps.old + 1 }
     {
-        match slot_at(&self.slots.pages, page.0) {
+        match self.slots.pages.slot_at(page.0) {
             Some(slot) => read_place(&self.slots.arena, slot, steps),
             None => unreachable!(),
         }
@@ -41,7 +41,7 @@ impl Linked {
             Some(page) => page.0,
             None => 0,
         };
-        match id_behind(&self.slots.pages, id) {
+        match self.slots.pages.id_behind(id) {
             Some(id) => Some(PageId(id)),
             None => None,
         }
@@ -51,7 +51,7 @@ impl Linked {
         ensures mark { result ≡ option_map mark_of (page_at (kept_of self.now) page) }
         ensures cost { steps.new ≤ steps.old + most_reads }
     {
-        let slot = slot_at(&self.slots.pages, page.0)?;
+        let slot = self.slots.pages.slot_at(page.0)?;
         Some(read_place(&self.slots.arena, slot, steps).mark)
     }
 

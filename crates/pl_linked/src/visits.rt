@@ -1,5 +1,5 @@
 // Visits and their targets, read.
-ghost use Rattle.std.specs.Prelude.{◌≡◌, ◌≢◌, ◌≤◌, ◌+◌, length, true, IfSome, Some};
+ghost use Rattle.std.specs.Prelude.{◌≡◌, ◌≤◌, ◌+◌, length, IfSome, Some};
 ghost use Rattle.std.specs.Option.{option_and_then, option_map};
 ghost use Rattle.pl_base.specs.Rows.{first_id, most_reads, older_visit, page_visits};
 ghost use Rattle.pl_base.specs.Rows.{row_of, target_behind, visit_at};
@@ -10,7 +10,7 @@ ghost use Rattle.pl_slot.specs.Links.{kind_at};
 use crate::linked::Linked;
 use pl_base::{PageId, Slot, Steps, VisitId, VisitRow};
 use pl_rail::{Owner, first, next};
-use pl_record::{named, read_place, read_visit, slot_at};
+use pl_record::{named, read_place, read_visit};
 use pl_slot::{Arena, Rail};
 use std::sync::ledger::Ledger;
 
@@ -34,7 +34,7 @@ impl Linked {
         ensures row { result ≡ option_map row_of (visit_at (kept_of self.now) visit) }
         ensures cost { steps.new ≤ steps.old + most_reads }
     {
-        let slot = slot_at(&self.slots.visits, visit.0)?;
+        let slot = self.slots.visits.slot_at(visit.0)?;
         let row = read_visit(&self.slots.arena, slot, steps);
         Some(VisitRow {
             page: read_place(&self.slots.arena, row.page, steps).id,
@@ -57,7 +57,7 @@ impl Linked {
         ensures latest { result ≡ first_id (page_visits (kept_of self.now) page) }
         ensures cost { steps.new ≤ steps.old + most_reads }
     {
-        let slot = slot_at(&self.slots.pages, page.0)?;
+        let slot = self.slots.pages.slot_at(page.0)?;
         let latest = first(&self.slots.arena, Rail::PageVisits, Owner::At(slot), steps);
         id_in(&self.slots.arena, latest, steps)
     }
@@ -68,7 +68,7 @@ impl Linked {
         ensures older { result ≡ older_visit (kept_of self.now) visit }
         ensures cost { steps.new ≤ steps.old + most_reads }
     {
-        let slot = slot_at(&self.slots.visits, visit.0)?;
+        let slot = self.slots.visits.slot_at(visit.0)?;
         let older = next(&self.slots.arena, Rail::PageVisits, slot, steps);
         id_in(&self.slots.arena, older, steps)
     }
@@ -78,7 +78,7 @@ impl Linked {
         ensures first { result ≡ first_id (targets_of self.now visit) }
         ensures cost { steps.new ≤ steps.old + most_reads }
     {
-        let slot = slot_at(&self.slots.visits, visit.0)?;
+        let slot = self.slots.visits.slot_at(visit.0)?;
         let target = first(&self.slots.arena, Rail::Targets, Owner::At(slot), steps);
         id_in(&self.slots.arena, target, steps)
     }
@@ -88,7 +88,7 @@ impl Linked {
         ensures next { result ≡ target_behind (targets_of self.now) (kept_of self.now) visit }
         ensures cost { steps.new ≤ steps.old + most_reads }
     {
-        let slot = slot_at(&self.slots.visits, visit.0)?;
+        let slot = self.slots.visits.slot_at(visit.0)?;
         named(read_visit(&self.slots.arena, slot, steps).source)?;
         let target = next(&self.slots.arena, Rail::Targets, slot, steps);
         id_in(&self.slots.arena, target, steps)

@@ -12,7 +12,6 @@ ghost use Rattle.pl_record.specs.LinkedRows as index;
 
 use crate::slotted::Slotted;
 use pl_base::{ItemId, Slot};
-use pl_record::slot_at;
 
 impl Slotted {
     ghost use Rattle.pl_slotted.specs.Slotted.{kept_of};
@@ -22,7 +21,7 @@ impl Slotted {
         requires { has_item (kept_of self.now).items item ≡ true }
         ensures { index.slot_at self.now.items.entries item.0 ≡ Some result }
     {
-        match slot_at(&self.items, item.0) {
+        match self.items.slot_at(item.0) {
             Some(slot) => slot,
             None => unreachable!(),
         }

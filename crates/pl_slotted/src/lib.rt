@@ -1,5 +1,5 @@
-//! The rows of a store in linked slots, and their changes: three maps name the slots of pages,
-//! visits and items by their ids, and chains link what belongs together.
+//! The rows of a store in linked slots, and their changes: the slots of pages, visits and items are
+//! found by their ids, and chains link what belongs together.
 #![tactic(auto)]
 
 mod items;

@@ -10,7 +10,6 @@ ghost use Rattle.pl_record.specs.LinkedRows as index;
 
 use crate::slotted::Slotted;
 use pl_base::{PageId, Slot};
-use pl_record::slot_at;
 
 impl Slotted {
     ghost use Rattle.pl_slotted.specs.Slotted.{kept_of};
@@ -20,7 +19,7 @@ impl Slotted {
         requires { has_page (kept_of self.now) page ≡ true }
         ensures { index.slot_at self.now.pages.entries page.0 ≡ Some result }
     {
-        match slot_at(&self.pages, page.0) {
+        match self.pages.slot_at(page.0) {
             Some(slot) => slot,
             None => unreachable!(),
         }

@@ -3,8 +3,8 @@ ghost use Rattle.pl_record.specs.LinkedRows.{Keeps};
 ghost use Rattle.pl_record.proofs.OneKept.{keeps_once};
 
 use pl_base::Slot;
+use pl_byid::SlotIndex;
 use pl_slot::Arena;
-use std::collections::BTreeMap;
 
 /// A store in linked slots. What belongs to a page, a visit or an item is in its chains.
 #[derive(Debug, Drop)]
@@ -12,11 +12,11 @@ pub struct Slotted {
     /// The slots, and the header of the store.
     pub arena: Arena,
     /// The slots of pages by the numbers of their ids.
-    pub pages: BTreeMap<u32, Slot>,
+    pub pages: SlotIndex,
     /// The slots of visits by the numbers of their ids.
-    pub visits: BTreeMap<u32, Slot>,
+    pub visits: SlotIndex,
     /// The slots of items by the numbers of their ids.
-    pub items: BTreeMap<u32, Slot>,
+    pub items: SlotIndex,
     pub ghost rows: { Keeps arena pages.entries visits.entries
         items.entries } by { keeps_once arena pages.entries visits.entries items.entries },
 }

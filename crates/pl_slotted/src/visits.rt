@@ -8,7 +8,6 @@ ghost use Rattle.pl_record.specs.LinkedRows as index;
 
 use crate::slotted::Slotted;
 use pl_base::{Slot, VisitId};
-use pl_record::slot_at;
 
 impl Slotted {
     ghost use Rattle.pl_slotted.specs.Slotted.{kept_of};
@@ -18,7 +17,7 @@ impl Slotted {
         requires { has_visit (kept_of self.now) visit ≡ true }
         ensures { index.slot_at self.now.visits.entries visit.0 ≡ Some result }
     {
-        match slot_at(&self.visits, visit.0) {
+        match self.visits.slot_at(visit.0) {
             Some(slot) => slot,
             None => unreachable!(),
         }

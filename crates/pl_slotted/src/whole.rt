@@ -8,9 +8,9 @@ ghost use Rattle.pl_base.specs.Touched.{IsWithin, MayDiffer, bytes_before, chang
 
 use crate::slotted::Slotted;
 use pl_base::{Day, Ids, NoMemory, Steps, Touched};
+use pl_byid::SlotIndex;
 use pl_record::{opening_arena, root_slots};
 use std::alloc::Global;
-use std::collections::BTreeMap;
 use std::sync::ledger::Ledger;
 
 impl Slotted {
@@ -25,9 +25,9 @@ impl Slotted {
     {
         Ok(Slotted {
             arena: opening_arena(alloc)?,
-            pages: BTreeMap::new(alloc),
-            visits: BTreeMap::new(alloc),
-            items: root_slots(alloc)?,
+            pages: SlotIndex::new(alloc),
+            visits: SlotIndex::new(alloc),
+            items: SlotIndex::of(alloc, root_slots(alloc)?)?,
         })
     }
 

@@ -21,9 +21,9 @@ ghost use Rattle.pl_text.specs.Chunks.{chunk_count};
 
 use crate::slotted::Slotted;
 use pl_base::{ItemId, ItemKind, ItemRow, NoMemory, Slot, Steps};
+use pl_byid::SlotIndex;
 use pl_record::{Item, TextAt, insert_item};
 use pl_slot::Arena;
-use std::collections::BTreeMap;
 use std::sync::ledger::Ledger;
 
 impl Slotted {
@@ -87,10 +87,10 @@ impl Slotted {
     }
 }
 
-// Puts a new item and its title into their slots, and its slot into the map, behind all others.
+// Puts a new item and its title into their slots, and its slot into the index, behind all others.
 fn place_item<L: Ledger>(
     arena: &mut Arena,
-    items: &mut BTreeMap<u32, Slot>,
+    items: &mut SlotIndex,
     item: Item,
     title: &str,
     after: Option<Slot>,
@@ -111,14 +111,14 @@ fn place_item<L: Ledger>(
     ensures err { OnErr result (KeepsAll arena.old arena.new) }
     ensures entries { OnErr result (items.new.entries ≡ items.old.entries) }
 {
-    items.insert(item.id.0, Slot(0))?;
+    items.push(item.id.0, Slot(0))?;
     match insert_item(arena, item, title, after, steps) {
-        Ok(slot) => match items.insert(item.id.0, slot) {
-            Ok(_) => Ok(()),
-            Err(_) => unreachable!(),
-        },
+        Ok(slot) => {
+            items.set(item.id.0, slot);
+            Ok(())
+        }
         Err(error) => {
-            items.remove(&item.id.0);
+            items.remove(item.id.0);
             Err(error)
         }
     }

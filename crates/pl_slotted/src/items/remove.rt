@@ -25,6 +25,6 @@ impl Slotted {
         let gone = 1 + title.slots();
         let live = self.arena.live() - gone;
         self.arena.set_live(live);
-        self.items.remove(&item.0);
+        self.items.remove(item.0);
     }
 }

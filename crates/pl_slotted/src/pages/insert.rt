@@ -18,9 +18,9 @@ ghost use Rattle.pl_text.specs.Chunks.{chunk_count};
 
 use crate::slotted::Slotted;
 use pl_base::{NoMemory, PageId, Slot, Steps};
+use pl_byid::SlotIndex;
 use pl_record::{TextAt, insert_origin, insert_place, remove_origin};
 use pl_slot::Arena;
-use std::collections::BTreeMap;
 use std::sync::ledger::Ledger;
 
 impl Slotted {
@@ -113,10 +113,10 @@ impl Slotted {
     }
 }
 
-// Puts a new page into its slots, and its slot into the map, behind all others.
+// Puts a new page into its slots, and its slot into the index, behind all others.
 fn place_page<L: Ledger>(
     arena: &mut Arena,
-    pages: &mut BTreeMap<u32, Slot>,
+    pages: &mut SlotIndex,
     page: PageId,
     url: &str,
     origin: Slot,
@@ -133,14 +133,14 @@ fn place_page<L: Ledger>(
     ensures err { OnErr result (spec.KeepsAll arena.old arena.new) }
     ensures entries { OnErr result (pages.new.entries ≡ pages.old.entries) }
 {
-    pages.insert(page.0, Slot(0))?;
+    pages.push(page.0, Slot(0))?;
     match insert_place(arena, page, url, origin, steps) {
-        Ok(slot) => match pages.insert(page.0, slot) {
-            Ok(_) => Ok(()),
-            Err(_) => unreachable!(),
-        },
+        Ok(slot) => {
+            pages.set(page.0, slot);
+            Ok(())
+        }
         Err(error) => {
-            pages.remove(&page.0);
+            pages.remove(page.0);
             Err(error)
         }
     }

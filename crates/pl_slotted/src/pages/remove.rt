@@ -39,7 +39,7 @@ impl Slotted {
         let gone = 1 + place.url.slots() + place.title.slots() + more;
         let live = self.arena.live() - gone;
         self.arena.set_live(live);
-        self.pages.remove(&page.0);
+        self.pages.remove(page.0);
     }
 }
 

@@ -19,9 +19,9 @@ ghost use Rattle.pl_slot.specs.Links.{kind_at};
 
 use crate::slotted::Slotted;
 use pl_base::{NoMemory, Slot, Steps, VisitId, VisitRow};
+use pl_byid::SlotIndex;
 use pl_record::{Visit, take_visit};
 use pl_slot::Arena;
-use std::collections::BTreeMap;
 use std::sync::ledger::Ledger;
 
 impl Slotted {
@@ -71,10 +71,10 @@ impl Slotted {
     }
 }
 
-// Puts a new visit into its slot, and its slot into the map, behind all others.
+// Puts a new visit into its slot, and its slot into the index, behind all others.
 fn place_visit<L: Ledger>(
     arena: &mut Arena,
-    visits: &mut BTreeMap<u32, Slot>,
+    visits: &mut SlotIndex,
     visit: Visit,
     steps: &mut Steps<L>,
 ) -> Result<(), NoMemory>
@@ -91,14 +91,14 @@ fn place_visit<L: Ledger>(
     ensures err { OnErr result (arena.new ≡ arena.old) }
     ensures entries { OnErr result (visits.new.entries ≡ visits.old.entries) }
 {
-    visits.insert(visit.id.0, Slot(0))?;
+    visits.push(visit.id.0, Slot(0))?;
     match take_visit(arena, visit, steps) {
-        Ok(slot) => match visits.insert(visit.id.0, slot) {
-            Ok(_) => Ok(()),
-            Err(_) => unreachable!(),
-        },
+        Ok(slot) => {
+            visits.set(visit.id.0, slot);
+            Ok(())
+        }
         Err(error) => {
-            visits.remove(&visit.id.0);
+            visits.remove(visit.id.0);
             Err(error)
         }
     }

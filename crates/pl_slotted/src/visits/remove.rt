@@ -22,6 +22,6 @@ impl Slotted {
         free_visit(&mut self.arena, slot, steps);
         let live = self.arena.live() - 1;
         self.arena.set_live(live);
-        self.visits.remove(&visit.0);
+        self.visits.remove(visit.0);
     }
 }

@@ -1,4 +1,4 @@
-use Rattle.std.proofs.Common.{◌≡◌, subst, sym}
+use Rattle.std.proofs.Common.{◌≡◌, ◌∙◌, subst, sym}
 use Rattle.pl_base.specs.Rows.{IsSound}
 use Rattle.pl_record.proofs.OpeningKept.{only_roots, opening_keeps, opening_sound}
 use Rattle.pl_record.proofs.OpeningRows.{opening_kept}
@@ -10,15 +10,15 @@ invariant_of-result c =
     record {
       rows =
           opening_keeps c.in_ok-opening_arena.field-0 c.new.result.entries c.new-2.result.entries
-          c.in_ok-root_slots.field-0.entries c.in_ok-opening_arena.ensures c.new.ensures.empty c.new-2.ensures.empty
-          c.in_ok-root_slots.ensures;
+          c.in_ok-of.field-0.entries c.in_ok-opening_arena.ensures c.new.ensures.empty c.new-2.ensures.empty
+          (c.in_ok-of.ensures.entries ∙ c.in_ok-root_slots.ensures);
     }
 
 kept : (c : After-result-2-1) → c.result-2-1.given.0.kept ≡ opening_kept
 kept c =
     only_roots c.in_ok-opening_arena.field-0 c.new.result.entries c.new-2.result.entries
-    c.in_ok-root_slots.field-0.entries c.in_ok-opening_arena.ensures c.new.ensures.empty c.new-2.ensures.empty
-    c.in_ok-root_slots.ensures c.result-2-1.given.0
+    c.in_ok-of.field-0.entries c.in_ok-opening_arena.ensures c.new.ensures.empty c.new-2.ensures.empty
+    (c.in_ok-of.ensures.entries ∙ c.in_ok-root_slots.ensures) c.result-2-1.given.0
 
 pub returns-clause-kept : goal.returns-clause-kept
 returns-clause-kept c = kept c
