@@ -1,25 +1,28 @@
 -- The walk along the visits to a page, none of which lies within the times so far.
-use Rattle.std.proofs.Common.{◌≡◌, ◌≢◌, ◌∙◌, ◌<◌, ◌||◌, Bool, true, false, ◌∷◌, Option, Some, ap, arith, is_some, length, subst, sym}
+use Rattle.std.proofs.Common.{◌≡◌, ◌≢◌, ◌∙◌, ◌<◌, ◌||◌, Bool, true, false, List, [], ◌∷◌, Option, Some, ap}
+use Rattle.std.proofs.Common.{arith, is_some, length, refl, subst, sym}
 use Rattle.std.specs.List.{list_any}
-use Rattle.std.specs.Option.{IsSome, option_map}
+use Rattle.std.specs.Option.{IsSome, option_and_then, option_map}
 use Rattle.std.proofs.lemmas.List.Folds.{list_any-append}
 use Rattle.std.proofs.lemmas.Option.{same_Some}
 use Rattle.pl_base.specs.declared.date.Micros.{Micros}
 use Rattle.pl_base.specs.declared.id.PageId.{PageId}
 use Rattle.pl_base.specs.declared.id.VisitId.{VisitId}
 use Rattle.pl_base.specs.declared.row.VisitRow.{VisitRow}
-use Rattle.pl_base.specs.Rows.{IsWellKept, Kept, older_visit, page_visits, row_of, store_of, visit_at}
+use Rattle.pl_base.specs.Marks.{last_date_of}
+use Rattle.pl_base.specs.Rows.{IsWellKept, Kept, first_id, older_visit, page_visits, row_of, store_of, visit_at}
 use Rattle.pl_base.specs.Store.{Visit}
 use Rattle.pl_base.proofs.PagesRun.{there}
 use Rattle.pl_base.proofs.VisitOrder.{InOrder}
 use Rattle.pl_base.proofs.VisitsRun.{visit_here, visit_names, visits_run}
-use Rattle.pl_base.proofs.Walk.{StandsAt, Walk, ends, goes_on, left, nears, stands}
+use Rattle.pl_base.proofs.Walk.{StandsAt, Walk, ends, goes_on, left, nears, stands, starts}
 use Rattle.pl_conditions.specs.Conditions.{in_times}
-use Rattle.pl_dated.proofs.DatedPages.{later_back, visits_ordered}
+use Rattle.pl_dated.proofs.DatedPages.{first_date, later_back, visits_ordered}
 use Rattle.pl_place.specs.declared.query.Query.{Query}
 use Rattle.pl_query.specs.QueryAnswer.{has_visit_in_times}
 use Rattle.pl_query.proofs.PageParts.{NoneInTimes, any_of_page, none_more}
 use Rattle.pl_timed.proofs.LatestTells.{IsEarly, none_behind}
+use Rattle.pl_timed.specs.Timed.{is_within}
 
 -- none of the visits in front lies within the times
 abbrev pub OnVisits : Kept → Query → PageId → Option VisitId → Type 0
@@ -27,6 +30,23 @@ OnVisits kept q page next =
     Walk visit_names (page_visits kept page) (NoneInTimes (store_of kept) q) next
 
 module _ (kept : Kept) (q : Query) (page : PageId) (h : IsWellKept kept) (next : Option VisitId) where
+  -- behind the latest, which does not lie within the times
+  pub behind_latest : is_within (store_of kept) q (last_date_of (store_of kept) page) ≡ false
+      → next ≡ option_and_then (older_visit kept) (first_id (page_visits kept page)) → OnVisits kept q page next
+  behind_latest outside is = choose (page_visits kept page) refl
+    where
+      choose : (visits : List Visit) → page_visits kept page ≡ visits → OnVisits kept q page next
+      choose [] none =
+          starts visit_names (page_visits kept page) (NoneInTimes (store_of kept) q) next
+          (is ∙ ap (option_and_then (older_visit kept)) (ap first_id none) ∙ sym (ap first_id none)) refl
+      choose (v ∷ visits) some =
+          goes_on visit_names (older_visit kept) (page_visits kept page) (NoneInTimes (store_of kept) q)
+          (NoneInTimes (store_of kept) q) v.id next (visits_run kept page h)
+          (record { front = []; element = v; rest = visits; whole = some; is = refl; so_far = refl })
+          (is ∙ ap (option_and_then (older_visit kept)) (ap first_id some))
+          (none_more (store_of kept) q [] v refl
+          (sym (ap (is_within (store_of kept) q) (ap first_date some)) ∙ outside))
+
   -- none of all
   pub none_at_end : OnVisits kept q page next → ((id : VisitId) → next ≢ Some id)
       → has_visit_in_times (store_of kept) q page ≡ false

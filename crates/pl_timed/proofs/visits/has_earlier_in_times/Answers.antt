@@ -1,18 +1,15 @@
-use Rattle.std.proofs.Common.{◌∙◌, not, refl, sym}
+use Rattle.std.proofs.Common.{◌∙◌, not, sym}
 use Rattle.std.proofs.lemmas.Bool.{not-true}
-use Rattle.pl_base.specs.Rows.{page_visits, store_of}
-use Rattle.pl_base.proofs.VisitsRun.{visit_names}
-use Rattle.pl_base.proofs.Walk.{starts}
+use Rattle.pl_base.specs.Rows.{store_of}
 use Rattle.pl_conditions.specs.Conditions.{in_times, is_not_before}
-use Rattle.pl_query.proofs.PageParts.{NoneInTimes}
-use Rattle.pl_timed.proofs.VisitWalk.{early_here, goes_further, in_here, nearer, none_at_end, visit_there}
-use Rattle.pl_timed.proofs.visits.has_visit_in_times.Goals as goal
+use Rattle.pl_timed.proofs.VisitWalk.{behind_latest, early_here, goes_further, in_here, nearer, none_at_end, visit_there}
+use Rattle.pl_timed.proofs.visits.has_earlier_in_times.Goals as goal
 
 pub loop-next-init : goal.loop-next-init
 loop-next-init g c =
-    starts visit_names (page_visits (g.R.Rows.kept c.args.rows.now) c.args.page)
-    (NoneInTimes (store_of (g.R.Rows.kept c.args.rows.now)) c.args.timed.now.query.now) c.latest-next.result
-    c.latest-next.ensures.latest refl
+    behind_latest (g.R.Rows.kept c.args.rows.now) c.args.timed.now.query.now c.args.page
+    (g.met.R.Rows.well_kept c.args.rows.now) c.second_latest-next.result c.requires.outside
+    c.second_latest-next.ensures
 
 pub unwrap-requires : goal.unwrap-requires
 unwrap-requires g c =
@@ -27,7 +24,7 @@ returns-then-is_in_times g c =
     (g.met.R.Rows.well_kept c.args.rows.now) c.loop-next.next c.in-Some.visit c.loop-next.invariant c.in-Some.is
     c.visit_at.result c.visit_at.ensures.row c.unwrap.result c.unwrap.ensures
     (sym {b = in_times (store_of (g.R.Rows.kept c.args.rows.now)) c.args.timed.now.query.now c.unwrap.result.date}
-    (c.is_in_times.ensures (store_of (g.R.Rows.kept c.args.rows.now)) c.requires) ∙ c.if-is_in_times.true))
+    (c.is_in_times.ensures (store_of (g.R.Rows.kept c.args.rows.now)) c.requires.asked) ∙ c.if-is_in_times.true))
 
 pub returns-then-is_too_early : goal.returns-then-is_too_early
 returns-then-is_too_early g c =
@@ -39,7 +36,7 @@ returns-then-is_too_early g c =
     c.unwrap.result c.unwrap.ensures
     (not-true (is_not_before store q.begin_time q.begin_ref c.unwrap.result.date)
     (sym {b = not (is_not_before store q.begin_time q.begin_ref c.unwrap.result.date)}
-    (c.is_too_early.ensures store c.requires) ∙ c.if-is_too_early.true)))
+    (c.is_too_early.ensures store c.requires.asked) ∙ c.if-is_too_early.true)))
 
 pub loop-next-smaller : goal.loop-next-smaller
 loop-next-smaller g c =
@@ -53,7 +50,7 @@ loop-next-preserved g c =
     (g.met.R.Rows.well_kept c.args.rows.now) c.loop-next.next c.in-Some.visit c.loop-next.invariant c.in-Some.is
     c.visit_at.result c.visit_at.ensures.row c.unwrap.result c.unwrap.ensures c.older-next.result
     (sym {b = in_times (store_of (g.R.Rows.kept c.args.rows.now)) c.args.timed.now.query.now c.unwrap.result.date}
-    (c.is_in_times.ensures (store_of (g.R.Rows.kept c.args.rows.now)) c.requires) ∙ c.if-is_in_times.false)
+    (c.is_in_times.ensures (store_of (g.R.Rows.kept c.args.rows.now)) c.requires.asked) ∙ c.if-is_in_times.false)
     c.older-next.ensures.older
 
 pub returns : goal.returns

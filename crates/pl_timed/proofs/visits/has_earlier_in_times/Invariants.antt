@@ -2,7 +2,7 @@ use Rattle.std.proofs.Common.{length}
 use Rattle.pl_base.specs.Rows.{older_visit, page_visits}
 use Rattle.pl_base.proofs.Walk.{left}
 use Rattle.pl_timed.proofs.VisitWalk.{OnVisits}
-use Rattle.pl_timed.proofs.visits.has_visit_in_times.Given as goal
+use Rattle.pl_timed.proofs.visits.has_earlier_in_times.Given as goal
 
 abbrev pub invariant-loop-next : goal.invariant-loop-next
 invariant-loop-next g l = OnVisits (g.R.Rows.kept l.rows) l.timed.query.now l.fn.page l.next
