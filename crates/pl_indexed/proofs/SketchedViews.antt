@@ -1,12 +1,12 @@
 -- The pages that may have the words of a query, by the sketches beside the entries by frecency.
 use Rattle.std.proofs.Common.{◌≡◌, ◌∙◌, ◌≤◌, ◌<◌, ◌-◌, ◌^◌, ◌++◌, ◌&&◌, ◌||◌, ◌==◌, ◌⊎◌, inl, inr, ℕ, ℤ, pos, negsuc, Bool, true, false}
-use Rattle.std.proofs.Common.{List, [], ◌∷◌, Some, ap, arith, cond, filter, int_lt, nat_lt, refl, reverse, subst, sym}
+use Rattle.std.proofs.Common.{List, [], ◌∷◌, IfSome, None, Option, Some, ap, arith, cond, filter, if◌then◌else◌, int_lt, map, nat_lt, refl, reverse, subst, sym}
 use Rattle.std.specs.HashSet.{HashSet}
 use Rattle.std.specs.List.{list_all, sum_by}
 use Rattle.std.specs.Ordering.{int_eq}
 use Rattle.std.proofs.lemmas.Bool.{and_parts, false_from_ne_true, false≢true}
 use Rattle.std.proofs.lemmas.Bool.Decides.{nat_tests}
-use Rattle.std.proofs.lemmas.List.{reverse-append}
+use Rattle.std.proofs.lemmas.List.{append-nil, reverse-append}
 use Rattle.std.proofs.lemmas.List.Sums.{get_or-le-sum_by}
 use Rattle.pl_base.specs.declared.id.PageId.{PageId}
 use Rattle.pl_base.specs.declared.view.View.{View}
@@ -29,7 +29,10 @@ use Rattle.pl_conditions.specs.Conditions.{words_asked}
 use Rattle.pl_place.specs.declared.query.Query.{Query}
 use Rattle.pl_query.specs.Decides.{are_tags_in, decides, has_word_in, holds_unfolded}
 use Rattle.pl_indexed.specs.declared.asked.Asked.{Asked}
+use Rattle.pl_indexed.specs.declared.found.Key.{Key}
+use Rattle.pl_indexed.specs.Answer.{taken}
 use Rattle.pl_indexed.specs.Asked.{IsAsked}
+use Rattle.pl_indexed.specs.Found.{seen_of}
 use Rattle.pl_indexed.specs.Sketched.{HaveCovered, HavePossible, has_page}
 
 -- ---- the walk over the entries
@@ -141,7 +144,7 @@ has_covered view own word is =
     (in_address (folded_of view) word))
     (in_tags (folded_of view) word)
 
-pub are_possible : {S : Type 0} (q : Query) (asked : Asked) (views : List View) (words : Sketch)
+are_possible : {S : Type 0} (q : Query) (asked : Asked) (views : List View) (words : Sketch)
     (pages : HashSet PageId S) → IsAsked q asked → words ≡ sketch_of_words asked.words.items
     → HaveCovered views words pages → HavePossible q views pages
 are_possible q asked views words pages made is covered =
@@ -153,9 +156,23 @@ are_possible q asked views words pages made is covered =
     (subst (Covers (sketch_of_texts (folded_of view))) (sym (is ∙ ap sketch_of_words made.words))
     (all_covered (folded_of view) (has_word_in view) (has_covered view own) (words_asked q.terms) all))
 
+pub some_possible : {S : Type 0} (q : Query) (asked : Asked) (views : List View) (words : Sketch)
+    (pages : Option (HashSet PageId S)) → IsAsked q asked → words ≡ sketch_of_words asked.words.items
+    → IfSome pages (HaveCovered views words) → IfSome pages (HavePossible q views)
+some_possible q asked views words None made is covered = tt
+some_possible q asked views words (Some pages) made is covered =
+    are_possible q asked views words pages made is covered
+
 -- a view that has its own title, and whose page is not kept
 pub not_possible : {S : Type 0} (q : Query) (views : List View) (pages : HashSet PageId S) (view : View)
     → HavePossible q views pages → view_of view.id views ≡ Some view → has_page pages view.id ≡ false
     → searched_title view ≡ view.title → decides q view ≡ false
 not_possible q views pages view possible known lacks own =
     false_from_ne_true (decides q view) (λ takes. false≢true (sym lacks ∙ possible view known own takes))
+
+-- a view that the query does not take joins no others
+pub none_joins : (q : Query) (view : View) (seen_before : List (View × Key)) → decides q view ≡ false
+    → seen_before ≡ seen_before ++ map (seen_of q.sort) (taken q (view ∷ []))
+none_joins q view seen_before not =
+    sym (append-nil seen_before)
+    ∙ ap (λ (b : Bool). seen_before ++ map (seen_of q.sort) (if b then view ∷ [] else [])) (sym not)
