@@ -1,19 +1,13 @@
--- What a sketch tells of the words that are looked for in a page.
-use Rattle.std.specs.Prelude.{◌≡◌, ℕ, ℤ, List, [], ◌∷◌, Some}
+-- The sketches beside the pages by frecency.
+use Rattle.std.specs.Prelude.{◌≡◌, ℤ, List, Some}
 use Rattle.std.specs.List.{All}
 use Rattle.pl_base.specs.declared.id.PageId.{PageId}
 use Rattle.pl_base.specs.declared.view.View.{View}
 use Rattle.pl_sketch.specs.declared.sketch.Sketch.{Sketch}
-use Rattle.pl_sketch.specs.Pairs.{nothing, sketch_of, union}
 use Rattle.pl_follow.specs.declared.texts.Folded.{Folded}
 use Rattle.pl_follow.specs.declared.texts.FoldedTexts.{FoldedTexts}
 use Rattle.pl_follow.specs.Order.{sketch_of_texts}
 use Rattle.pl_follow.specs.Texts.{KeepsTexts, texts_of}
-
--- the sketch of words
-abbrev pub sketch_of_words : List (List ℕ) → Sketch
-sketch_of_words [] = nothing
-sketch_of_words (word ∷ words) = union (sketch_of word) (sketch_of_words words)
 
 -- the sketch is that of the folded texts of the page
 abbrev pub TellsTexts : FoldedTexts → PageId → Sketch → Type 0

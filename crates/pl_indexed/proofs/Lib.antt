@@ -7,6 +7,7 @@ pub mod KeyOrder
 mod NextAhead
 mod NextViews
 pub mod PagesTold
+mod SketchedViews
 pub mod SortedParts
 pub mod TakenViews
 mod ViewRows

@@ -1,4 +1,5 @@
 pub mod Answer
 pub mod Asked
 pub mod Found
+pub mod Sketched
 pub mod Walk

@@ -50,8 +50,8 @@ impl<'a> Asked<'a> {
     }
 }
 
-// Whether the title of the page itself is the one that is kept folded.
-fn has_own_title(view: &View) -> bool
+/// Whether the title of the page itself is the one that is kept folded.
+pub fn has_own_title(view: &View) -> bool
     ensures { result ≡ true → searched_title view.now ≡ view.now.title }
 {
     view.mark_title.as_str().is_empty() || view.mark_title == view.title

@@ -5,6 +5,7 @@
 mod answered;
 mod asked;
 mod found;
+mod sketched;
 mod walk;
 mod ways;
 

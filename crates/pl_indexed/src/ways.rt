@@ -5,15 +5,18 @@ ghost use Rattle.pl_known.specs.Known.{AreFollowed, view_of};
 ghost use Rattle.pl_indexed.specs.Answer.{AreEnough, Suffice, taken};
 ghost use Rattle.pl_indexed.specs.Asked.{IsAsked};
 ghost use Rattle.pl_indexed.specs.Found.{AreFound, seen, seen_of};
+ghost use Rattle.pl_indexed.specs.Sketched.{HavePossible};
 ghost use Rattle.pl_indexed.specs.Walk.{sort_of};
 
 use crate::asked::{Asked, decides};
 use crate::found::{Found, key_of};
+use crate::sketched::{is_possible, possible_pages};
 use crate::walk::{KeptOrder, comes_before, kept_order, next_view};
-use pl_base::{NoMemory, View};
+use pl_base::{NoMemory, PageId, View};
 use pl_known::Known;
 use pl_place::Query;
 use std::alloc::Global;
+use std::collections::HashSet;
 
 // No more pages are looked up one by one: to go over all pages takes less time for each.
 const MOST_LOOKED_UP: usize = 4_096;
@@ -40,7 +43,7 @@ pub fn add<'a>(
     Ok(())
 }
 
-// All pages that the query takes.
+// All pages that the query takes, each asked.
 fn all_pages<'a>(
     alloc: Global,
     known: &'a Known,
@@ -56,6 +59,66 @@ fn all_pages<'a>(
         add(alloc, known, asked, view, &mut found)?;
     }
     Ok(found)
+}
+
+// The same, where the query may take it.
+fn add_possible<'a>(
+    alloc: Global,
+    known: &Known,
+    asked: &Asked<'_>,
+    possible: &HashSet<PageId>,
+    view: &'a View,
+    found: &mut Vec<Found<'a>>,
+) -> Result<(), NoMemory>
+    requires followed { AreFollowed known.now }
+    requires asked { IsAsked asked.now.query.now asked.now }
+    requires possible { HavePossible asked.now.query.now known.now.views.items possible.now }
+    requires view { view_of view.now.id known.now.views.items ≡ Some view.now }
+    ensures { OnOk result (map seen found.new.items ≡ map seen found.old.items
+        ++ map (seen_of asked.now.query.now.sort) (taken asked.now.query.now (view.now ∷ []))) }
+{
+    if !is_possible(possible, view) {
+        return Ok(());
+    }
+    add(alloc, known, asked, view, found)
+}
+
+// All pages that the query takes, where these may have its words.
+fn pages_among<'a>(
+    alloc: Global,
+    known: &'a Known,
+    asked: &Asked<'_>,
+    possible: &HashSet<PageId>,
+) -> Result<Vec<Found<'a>>, NoMemory>
+    requires followed { AreFollowed known.now }
+    requires asked { IsAsked asked.now.query.now asked.now }
+    requires possible { HavePossible asked.now.query.now known.now.views.items possible.now }
+    ensures { IfOk result (λ found. AreFound asked.now.query.now.sort
+        (taken asked.now.query.now known.now.views.items) found.items) }
+{
+    let mut found = Vec::new(alloc);
+    for view in &known.views {
+        add_possible(alloc, known, asked, possible, view, &mut found)?;
+    }
+    Ok(found)
+}
+
+// All pages that the query takes. Where it asks for words, no text is searched of most of those that
+// lack one.
+fn pages_taken<'a>(
+    alloc: Global,
+    known: &'a Known,
+    asked: &Asked<'_>,
+) -> Result<Vec<Found<'a>>, NoMemory>
+    requires followed { AreFollowed known.now }
+    requires asked { IsAsked asked.now.query.now asked.now }
+    ensures { IfOk result (λ found. AreFound asked.now.query.now.sort
+        (taken asked.now.query.now known.now.views.items) found.items) }
+{
+    match possible_pages(alloc, known, asked)? {
+        Some(possible) => pages_among(alloc, known, asked, &possible),
+        None => all_pages(alloc, known, asked),
+    }
 }
 
 // The page with the URL, if the query takes it.
@@ -149,5 +212,5 @@ pub fn candidates<'a>(
     {
         return Ok(found);
     }
-    all_pages(alloc, known, asked)
+    pages_taken(alloc, known, asked)
 }

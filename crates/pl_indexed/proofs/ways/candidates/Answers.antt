@@ -11,7 +11,7 @@ returns-in-Some c =
 
 pub returns-2 : goal.returns-2
 returns-2 c =
-    IfOk-weaker c.all_pages.result _ _
+    IfOk-weaker c.pages_taken.result _ _
     (λ found are. taken_suffice c.args.asked.now.query.now c.args.known.now.views.items found.items
     c.requires.followed.order are)
-    c.all_pages.ensures
+    c.pages_taken.ensures

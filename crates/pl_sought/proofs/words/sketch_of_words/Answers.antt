@@ -1,10 +1,10 @@
 use Rattle.std.proofs.Common.{◌∙◌, ap, arith}
 use Rattle.pl_sketch.specs.Pairs.{sketch_of}
-use Rattle.pl_bar.proofs.SketchedWords.{word_more}
-use Rattle.pl_bar.proofs.asked.Asked.of.Goals as goal
+use Rattle.pl_sought.proofs.SoughtWords.{word_more}
+use Rattle.pl_sought.proofs.words.sketch_of_words.Goals as goal
 
 pub loop-word-preserved : goal.loop-word-preserved
 loop-word-preserved c =
-    word_more c.as_slice-word-items.result.now c.loop-word.word-index c.word-item.result c.loop-word.sketch
+    word_more c.args.words.now c.loop-word.word-index c.word-item.result c.loop-word.sketch
     c.of.result c.union-sketch.result (omega arith) c.word-item.is c.loop-word.invariant
     (c.of.ensures ∙ ap sketch_of c.as_str.ensures) c.union-sketch.ensures
