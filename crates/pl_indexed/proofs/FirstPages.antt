@@ -1,12 +1,12 @@
 -- The first pages in a kept order that a query takes, as many as its answer has.
-use Rattle.std.proofs.Common.{◌≡◌, ◌≢◌, ◌∙◌, ◌-◌, ◌<◌, ◌≤◌, ◌++◌, ◌==◌, ◌&&◌, ℕ, Bool, true, false, List, []}
+use Rattle.std.proofs.Common.{◌≡◌, ◌≢◌, ◌∙◌, ◌-◌, ◌<◌, ◌≤◌, ◌++◌, ◌==◌, ℕ, Bool, true, false, List, []}
 use Rattle.std.proofs.Common.{◌∷◌, IfSome, Ordering, ap, arith, filter, if◌then◌else◌, is_lt, length, map}
-use Rattle.std.proofs.Common.{nat_cmp, refl, subst, suc, sym, take, zero}
+use Rattle.std.proofs.Common.{nat_cmp, subst, suc, sym, take, zero}
 use Rattle.std.specs.declared.cmp.Ordering.TheVariants.{Less, Greater}
 use Rattle.std.specs.List.{AllByRecursion, AllPairs, IsDistinct, slice_get}
 use Rattle.std.specs.List.Sorted.{IsPermutation, ties}
 use Rattle.std.specs.Ordering.{ordering_then}
-use Rattle.std.proofs.lemmas.Bool.{and_parts, false_from_ne_true, ne_eqb}
+use Rattle.std.proofs.lemmas.Bool.{ne_eqb}
 use Rattle.std.proofs.lemmas.List.{append-nil, length-map, take-append-le}
 use Rattle.std.proofs.lemmas.List.Elements.{filter-append}
 use Rattle.std.proofs.lemmas.List.Kept.{AllPairs-filter}

@@ -1,18 +1,17 @@
 -- The rank next ahead of a place, as the walks over the entries of views give it.
 use Rattle.std.proofs.Common.{◌≡◌, ◌≢◌, ◌∙◌, ℤ, Bool, true, List, [], ◌∷◌, Option, Some, None, Bor, ap, filter, map, ◌++◌}
-use Rattle.std.proofs.Common.{refl, reverse, subst, sym}
+use Rattle.std.proofs.Common.{refl, reverse, sym}
 use Rattle.std.specs.Cmp.{IsStrictWeakOrder}
 use Rattle.std.specs.List.{AllPairs, IsDistinct, slice_get}
 use Rattle.std.specs.List.Sorted.{ties}
 use Rattle.std.specs.Map.Iter.{TakesFirst, deref, deref_pair}
-use Rattle.std.specs.Option.{option_copied, option_map}
+use Rattle.std.specs.Option.{option_copied}
 use Rattle.std.specs.Ordering.{int_cmp, nat_cmp}
 use Rattle.std.proofs.lemmas.Grind.{reverse_onto}
 use Rattle.std.proofs.lemmas.List.{map-append, reverse-reverse}
 use Rattle.std.proofs.lemmas.List.Kept.{AllPairs-filter}
 use Rattle.std.proofs.lemmas.List.Sorted.{ranks_by}
 use Rattle.std.proofs.lemmas.Map.Lookups.{exact_unsigned}
-use Rattle.std.proofs.lemmas.Option.{slice_get-map}
 use Rattle.pl_base.specs.declared.id.PageId.{PageId}
 use Rattle.pl_base.specs.declared.view.View.{View}
 use Rattle.pl_base.specs.Sorting.{sorted_by}

@@ -1,13 +1,12 @@
 -- The view next behind one in a kept order, told by the ranks that are kept.
-use Rattle.std.proofs.Common.{◌≡◌, ◌∙◌, ◌==◌, ◌&&◌, ◌||◌, ℕ, ℤ, Bool, true, false, List, [], ◌∷◌, Option, Some, None}
-use Rattle.std.proofs.Common.{IfSome, Ordering, ap, arith, filter, if◌then◌else◌, is_lt, is_some, map, nat_cmp, nat_lt}
+use Rattle.std.proofs.Common.{◌≡◌, ◌∙◌, ◌==◌, ◌&&◌, ◌||◌, ℕ, ℤ, Bool, true, List, [], ◌∷◌, Option, Some, None}
+use Rattle.std.proofs.Common.{IfSome, ap, arith, filter, if◌then◌else◌, is_lt, is_some, map, nat_cmp, nat_lt}
 use Rattle.std.proofs.Common.{refl, sym}
 use Rattle.std.specs.List.{AllByRecursion, filter_map, slice_get}
-use Rattle.std.specs.Option.{option_and_then, option_copied, option_map}
+use Rattle.std.specs.Option.{option_and_then, option_map}
 use Rattle.std.specs.Ordering.{ordering_then}
 use Rattle.std.proofs.lemmas.Bool.Decides.{nat_tests}
 use Rattle.std.proofs.lemmas.Option.{slice_get-map}
-use denote.Ref.{Bor}
 use Rattle.pl_base.specs.declared.date.Micros.{Micros}
 use Rattle.pl_base.specs.declared.id.PageId.{PageId}
 use Rattle.pl_base.specs.declared.view.View.{View}

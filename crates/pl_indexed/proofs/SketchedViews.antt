@@ -1,6 +1,7 @@
 -- The pages that may have the words of a query, by the sketches beside the entries by frecency.
-use Rattle.std.proofs.Common.{◌≡◌, ◌∙◌, ◌≤◌, ◌<◌, ◌-◌, ◌^◌, ◌++◌, ◌&&◌, ◌||◌, ◌==◌, ◌⊎◌, inl, inr, ℕ, ℤ, pos, negsuc, Bool, true, false}
-use Rattle.std.proofs.Common.{List, [], ◌∷◌, IfSome, None, Option, Some, ap, arith, cond, filter, if◌then◌else◌, int_lt, map, nat_lt, refl, reverse, subst, sym}
+use Rattle.std.proofs.Common.{◌≡◌, ◌∙◌, ◌≤◌, ◌<◌, ◌^◌, ◌++◌, ◌&&◌, ◌||◌, ◌==◌, ◌⊎◌, inl, inr, ℕ, ℤ, pos, negsuc}
+use Rattle.std.proofs.Common.{Bool, true, false, List, [], ◌∷◌, IfSome, None, Option, Some, ap, arith, cond, filter}
+use Rattle.std.proofs.Common.{if◌then◌else◌, int_lt, map, nat_lt, refl, reverse, subst, sym}
 use Rattle.std.specs.HashSet.{HashSet}
 use Rattle.std.specs.List.{list_all, sum_by}
 use Rattle.std.specs.Ordering.{int_eq}

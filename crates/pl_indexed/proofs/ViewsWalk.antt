@@ -1,9 +1,7 @@
 -- The walk along a kept order of views, with the pages that are found on it.
 use Rattle.std.proofs.Common.{◌≡◌, ◌≢◌, ◌∙◌, ◌++◌, true, List, [], ◌∷◌, Option, Some, None, ap, map, refl, subst}
 use Rattle.std.proofs.Common.{sym}
-use Rattle.std.specs.List.{AllByRecursion}
 use Rattle.std.specs.Option.{option_copied}
-use Rattle.std.proofs.lemmas.Option.{same_Some}
 use denote.Ref.{Bor}
 use Rattle.pl_base.specs.declared.view.View.{View}
 use Rattle.pl_base.proofs.ListLaws.{all-filter, everyone}

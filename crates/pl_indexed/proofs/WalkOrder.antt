@@ -1,9 +1,9 @@
 -- The views in a kept order, and the walk from each to the next.
-use Rattle.std.proofs.Common.{◌≡◌, ◌≢◌, ◌∙◌, ◌<◌, ◌++◌, ℕ, Bool, true, false, List, [], ◌∷◌, Option}
+use Rattle.std.proofs.Common.{◌≡◌, ◌≢◌, ◌∙◌, ◌++◌, ℕ, Bool, true, false, List, [], ◌∷◌, Option}
 use Rattle.std.proofs.Common.{Some, None, Ordering, ap, arith, filter, if◌then◌else◌, is_lt, nat_cmp, refl, subst, sym}
 use Rattle.std.specs.Cmp.{IsStrictWeakOrder, IsTotalOrder}
 use Rattle.std.specs.declared.cmp.Ordering.TheVariants.{Less, Equal, Greater}
-use Rattle.std.specs.List.{AllByRecursion, AllPairs, IsDistinct, slice_get}
+use Rattle.std.specs.List.{AllPairs, IsDistinct, slice_get}
 use Rattle.std.specs.List.Sorted.{IsPermutation, ties}
 use Rattle.std.specs.Ordering.{ordering_reverse, ordering_then}
 use Rattle.std.proofs.lemmas.Bool.{false≢true, false_from_ne_true}
@@ -23,7 +23,7 @@ use Rattle.pl_follow.specs.Changes.{AreInOrder}
 use Rattle.pl_follow.proofs.ViewRanks.{both_equal}
 use Rattle.pl_indexed.specs.declared.walk.KeptOrder.{KeptOrder}
 use Rattle.pl_indexed.specs.declared.walk.KeptOrder.TheVariants.{FrecencyFalling, FrecencyRising, LatestFirst}
-use Rattle.pl_indexed.specs.Found.{directed_cmp, key_of, view_before}
+use Rattle.pl_indexed.specs.Found.{key_of}
 use Rattle.pl_indexed.specs.Walk.{goes_ahead, ids_cmp, keys_cmp, next_in, sort_of, stands_in}
 use Rattle.pl_indexed.proofs.KeyOrder.{directed_total, tied_equal}
 use Rattle.pl_indexed.proofs.SortedParts.{StandsAmong, already_sorted, filter_moves, stands_among}

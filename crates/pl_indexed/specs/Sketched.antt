@@ -1,5 +1,5 @@
 -- Pages that may have the words of a query, by the sketches of their texts.
-use Rattle.std.specs.Prelude.{◌≡◌, ◌==◌, Bool, true, false, List, Some}
+use Rattle.std.specs.Prelude.{◌≡◌, ◌==◌, Bool, true, List, Some}
 use Rattle.std.specs.HashSet.{HashSet, contains_by}
 use Rattle.pl_base.specs.declared.id.PageId.{PageId}
 use Rattle.pl_base.specs.declared.view.View.{View}

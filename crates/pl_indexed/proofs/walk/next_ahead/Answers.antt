@@ -1,4 +1,4 @@
-use Rattle.std.proofs.Common.{◌≡◌, ◌∙◌, Option, ap, sym, ℤ}
+use Rattle.std.proofs.Common.{◌∙◌, Option, ap, sym, ℤ}
 use Rattle.std.specs.Iterator.Adapters.{rev_source}
 use Rattle.pl_base.specs.declared.id.PageId.{PageId}
 use Rattle.pl_follow.specs.Order.{frecency_ranks, is_ahead, next_rank}

@@ -1,4 +1,4 @@
-use Rattle.std.proofs.Common.{◌∙◌, subst, sym}
+use Rattle.std.proofs.Common.{subst, sym}
 use Rattle.std.specs.Option.{option_copied}
 use Rattle.pl_base.specs.declared.view.View.{View}
 use Rattle.pl_base.proofs.Walk.{ends}
