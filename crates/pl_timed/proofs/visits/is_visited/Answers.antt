@@ -12,8 +12,8 @@ returns-then-is_latest_in_times g c =
     (sym (c.is_latest_in_times.ensures (store_of (g.R.Rows.kept c.args.rows.now)) c.requires.asked)
     ∙ c.if-is_latest_in_times.true))
 
-pub has_earlier_in_times-requires-outside : goal.has_earlier_in_times-requires-outside
-has_earlier_in_times-requires-outside g c =
+pub has_earlier_in_times-requires-clause-outside : goal.has_earlier_in_times-requires-clause-outside
+has_earlier_in_times-requires-clause-outside g c =
     let store = store_of (g.R.Rows.kept c.args.rows.now) in
     let q = c.args.timed.now.query.now in
     ap (is_within store q) (sym c.requires.last)
