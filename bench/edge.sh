@@ -76,7 +76,7 @@ mkdir folder
 mkfifo pipe
 python3 -c 'import socket; socket.socket(socket.AF_UNIX).bind("socket")'
 for path in folder pipe socket /dev/null; do
-    for words in new run import export; do
+    for words in new run import export backup; do
         check '5, same' "$path" "$words $path"
     done
     check '5, same' "$path" "drill $path 5 1"
@@ -114,7 +114,7 @@ while [ ! -s answers ] && [ $tries -lt 100 ]; do
     sleep 0.1
     tries=$((tries + 1))
 done
-for words in 'run held' 'new held' 'import held' 'export held' 'drill held 5 1' 'run other_name'; do
+for words in 'run held' 'new held' 'import held' 'export held' 'backup held' 'drill held 5 1' 'run other_name'; do
     check '5, same' held "$words"
 done
 exec 3>&-

@@ -8,8 +8,8 @@ two runs on the same files: one in which this allocation alone is refused, and o
 run has to end with status 6 or to say the same as the first; or with status 5, where a call of the file wanted the memory.
 At 6 and 5 `run` and `try` may have said whole replies and nothing else, the others nothing. The file has to hold the rows
 after just as many lines then, by the reader of `linked_file.py`, or at 5 after one more: after an import none of it or all,
-after an export all that was there, after a drill some of its lines. It needs a C compiler, and a program that takes its
-memory from the system's C library. A file in memory, whose own growth may be refused too, is no part of it.
+after an export or a backup all that was there, after a drill some of its lines. It needs a C compiler, and a program that
+takes its memory from the system's C library. A file in memory, whose own growth may be refused too, is no part of it.
 """
 import collections
 import os
@@ -133,6 +133,7 @@ def main():
         refuse_all(bench, "run", ["run", "FILE"], store, script, held_by(replies, rows))
         refuse_all(bench, "import", ["import", "FILE"], store, BOOKMARKS, unsaid([first], [there]))
         refuse_all(bench, "export", ["export", "FILE"], imported, b"", unsaid([there]))
+        refuse_all(bench, "backup", ["backup", "FILE"], imported, b"", unsaid([there]))
         refuse_all(bench, "drill", ["drill", "FILE", str(DRILL_LINES), str(SEED)], store, b"", unsaid(drilled))
 
 

@@ -20,6 +20,8 @@ pub enum Task {
     Import,
     /// The bookmark file of the store of a file.
     Export,
+    /// The JSON backup of the bookmarks of the store of a file.
+    Backup,
     /// So many generated lines, drawn from a seed, on the store of a file.
     Drill(u32, u64),
 }
@@ -58,6 +60,7 @@ impl Task {
             "run" => Some(Task::Run),
             "import" => Some(Task::Import),
             "export" => Some(Task::Export),
+            "backup" => Some(Task::Backup),
             _ => None,
         }
     }

@@ -4,20 +4,23 @@ use Rattle.std.proofs.Common.{length-append, subst, sym, ⊎_elim}
 use Rattle.std.proofs.lemmas.Bool.{true≢false}
 use Rattle.std.proofs.lemmas.Option.{MatchOption-at_some, same_Some}
 use Rattle.pl_base.specs.Store.{Store}
+use Rattle.pl_base.proofs.Truths.{some_there}
 use Rattle.pl_desk.specs.Counts.{CountsAt, last_count}
 use Rattle.pl_desk.specs.declared.desk.Desk as desks
 use Rattle.pl_desk.specs.declared.source.Source as sources
 use Rattle.pl_step.specs.declared.reply.Reply.{Reply}
 use Rattle.pl_step.specs.Refused.{is_refused}
+use Rattle.pl_store.specs.Session.{Stands}
 use Rattle.pl_task.specs.declared.task.Task.{Task}
 use Rattle.pl_task.specs.Task.{input_limit, script_limit}
 use Rattle.places.specs.declared.status.Status.{Status}
 use Rattle.places.specs.declared.status.Status.TheVariants as status
-use Rattle.places.specs.Completeness.{NoneFailed, NothingFails}
+use Rattle.places.specs.Completeness.{HoldsStore, NoneFailed, NothingFails}
 use Rattle.places.specs.Drilling.{EndsDrill}
 use Rattle.places.specs.Ending.{EndsNew, EndsScript, EndsTask}
-use Rattle.places.specs.Exporting.{EndsExport}
 use Rattle.places.specs.Importing.{EndsImport, IsTaken}
+use Rattle.places.specs.Reporting.{EndsReport}
+use Rattle.places.specs.Serving.{CountsFaults}
 
 -- ---- the outside
 
@@ -95,21 +98,35 @@ module _ {D : Type 0} (desk : desks.Ghosts D) where
   import_done status.NotAStore first start bytes before left now taken read say call ends = absurd ends
   import_done (status.NotEmpty len) first start bytes before left now taken read say call ends = absurd ends
 
-  -- of an export
-  pub export_done : (s : Status) (first : D) (start : Store) (before : List ℕ) (now : D)
+  -- of a report
+  pub report_done : (s : Status) (text : List ℕ) (first : D) (start : Store) (before : List ℕ) (now : D)
       → (s ≡ status.SayFault → ⊥) → (s ≡ status.DeviceFault → ⊥)
-      → EndsExport desk s first start before now → IsDone s
-  export_done status.Done first start before now say call ends = inl refl
-  export_done status.NoMemory first start before now say call ends = inr refl
-  export_done status.SayFault first start before now say call ends = absurd (say refl)
-  export_done status.DeviceFault first start before now say call ends = absurd (call refl)
-  export_done status.Usage first start before now say call ends = absurd ends
-  export_done status.ReadFault first start before now say call ends = absurd ends
-  export_done status.NotAStore first start before now say call ends = absurd ends
-  export_done (status.NotEmpty len) first start before now say call ends = absurd ends
-  export_done (status.NotBookmarks at) first start before now say call ends = absurd ends
-  export_done (status.TooLong limit) first start before now say call ends = absurd ends
-  export_done (status.ImportRefused refusal) first start before now say call ends = absurd ends
+      → EndsReport desk s text first start before now → IsDone s
+  report_done status.Done text first start before now say call ends = inl refl
+  report_done status.NoMemory text first start before now say call ends = inr refl
+  report_done status.SayFault text first start before now say call ends = absurd (say refl)
+  report_done status.DeviceFault text first start before now say call ends = absurd (call refl)
+  report_done status.Usage text first start before now say call ends = absurd ends
+  report_done status.ReadFault text first start before now say call ends = absurd ends
+  report_done status.NotAStore text first start before now say call ends = absurd ends
+  report_done (status.NotEmpty len) text first start before now say call ends = absurd ends
+  report_done (status.NotBookmarks at) text first start before now say call ends = absurd ends
+  report_done (status.TooLong limit) text first start before now say call ends = absurd ends
+  report_done (status.ImportRefused refusal) text first start before now say call ends = absurd ends
+
+  -- of the report that a task asks for, where nothing outside fails it
+  pub report_complete : {S : Type 0} (source : sources.Ghosts S) (task : Task) (s : Status)
+      (text : Store → List ℕ) (input : S) (old new : D)
+      → CountsFaults desk (s ≡ status.SayFault) (s ≡ status.DeviceFault) old new
+      → ((file : List ℕ) (start : Store) (before : List ℕ) → desk.held old ≡ Some file → Stands file start
+      → desk.said old ≡ Some before → EndsReport desk s (text start) old start before new)
+      → HoldsStore source desk old → NothingFails source desk task input old input new → IsDone s
+  report_complete source task s text input old new counted ends holds fails =
+      let said = some_there (desk.said old) fails.told in let start = holds.0 in let held = holds.1 in
+      report_done s (text start) old start said.0 new
+      (none_failed (desk.line_faults old) (desk.line_faults new) counted.says fails.says)
+      (none_failed (desk.device_faults old) (desk.device_faults new) counted.device fails.calls)
+      (ends held.0 start said.0 held.1 held.2 said.1)
 
   -- of a drill
   pub drill_done : (s : Status) (count seed : ℕ) (first : D) (start : Store) (before : List ℕ) (now : D)

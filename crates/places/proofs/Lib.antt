@@ -13,6 +13,7 @@ mod OpeningLemmas
 mod PieceLemmas
 pub mod ProgressLemmas
 mod RefusalLemmas
+mod ReportLemmas
 mod SaidLemmas
 mod SayingLemmas
 mod StopLemmas

@@ -37,6 +37,7 @@ module _ {S D : Type 0} (source : sources.Ghosts S) (desk : desks.Ghosts D) wher
   HasNeeds tasks.Run input now = GivesScript input × HoldsStore now
   HasNeeds tasks.Import input now = GivesBookmarks input now
   HasNeeds tasks.Export input now = HoldsStore now
+  HasNeeds tasks.Backup input now = HoldsStore now
   HasNeeds (tasks.Drill count seed) input now = HoldsStore now
 
   -- Nothing outside fails the task: it has what it needs, the desk tells what was said, and no

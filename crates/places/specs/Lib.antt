@@ -7,6 +7,7 @@ pub mod Importing
 pub mod Limits
 pub mod Lines
 pub mod Progress
+pub mod Reporting
 pub mod Said
 pub mod Serving
 pub mod Status

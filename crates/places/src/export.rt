@@ -1,62 +1,16 @@
-// The bookmark file of the store of the file.
-ghost use Rattle.std.specs.Prelude.{◌≡◌, ℕ, List, Some, IfOk};
-ghost use Rattle.pl_base.specs.Store.{Store};
-ghost use Rattle.pl_desk.specs.Settling.{ShowsThen};
-ghost use Rattle.pl_store.specs.Ending.{KeepsFinished, RefusesFile, StandsForNone};
-ghost use Rattle.pl_store.specs.Session.{Stands, session_store};
-ghost use Rattle.places.specs.Ending.{EndsTask, EndsUnopened};
+// The bookmark file of a store.
+ghost use Rattle.std.specs.Prelude.{◌≡◌, IfOk};
+ghost use Rattle.pl_store.specs.Session.{session_store};
 ghost use Rattle.places.specs.Exporting as spec;
-ghost use Rattle.places.specs.Exporting.{ComesBack, EndsExport, ShowsExport};
-ghost use Rattle.places.specs.Stops.{ShowsUnopened};
-ghost use Rattle.places.specs.Serving.{CountsFaults};
+ghost use Rattle.places.specs.Exporting.{ComesBack};
 
-use crate::say::say_all;
-use crate::status::Status;
 use pl_base::{NoMemory, Txt};
-use pl_desk::Desk;
 use pl_nbwrite::text;
-use pl_store::{SLOT_LIMIT, Session, reopen};
-use pl_task::Task;
+use pl_store::Session;
 use std::alloc::Global;
 
-/// Says the bookmark file of the store that the desk's file stands for. No change is made to the
-/// file but that a change which a stop left in it is brought to its end.
-pub fn export_stored<D: Desk>(alloc: Global, desk: &mut D) -> Status
-    ensures status { EndsTask Task.Export result }
-    ensures ends { (file : List ℕ) (start : Store) (before : List ℕ) → D.held desk.old ≡ Some file
-        → Stands file start → D.said desk.old ≡ Some before
-        → EndsExport D.Desk result desk.old start before desk.new }
-    ensures stops { (file : List ℕ) (start : Store) (before : List ℕ) → D.held desk.old ≡ Some file
-        → Stands file start → D.said desk.old ≡ Some before
-        → ShowsThen D.Desk (result ≡ Status.DeviceFault) desk.old desk.new
-        (ShowsUnopened D.Desk desk.old before)
-        (ShowsExport D.Desk start before) }
-    ensures returns { result ≡ Status.Done → (file : List ℕ) (start : Store)
-        → D.held desk.old ≡ Some file → Stands file start → ComesBack start }
-    ensures finished { KeepsFinished D.Desk desk.old desk.new }
-    ensures refused { result ≡ Status.NotAStore → RefusesFile D.Desk desk.old desk.new }
-    ensures not_said { result ≡ Status.NotAStore → D.said desk.new ≡ D.said desk.old }
-    ensures no_store { (file : List ℕ) → D.held desk.old ≡ Some file → StandsForNone file
-        → EndsUnopened result × (D.said desk.new ≡ D.said desk.old) }
-    ensures counted { CountsFaults D.Desk (result ≡ Status.SayFault)
-        (result ≡ Status.DeviceFault) desk.old desk.new }
-{
-    let session = match reopen(alloc, desk, SLOT_LIMIT) {
-        Ok(session) => session,
-        Err(ended) => return Status::from(ended),
-    };
-    let text = match export_text(alloc, &session) {
-        Ok(text) => text,
-        Err(_) => return Status::NoMemory,
-    };
-    match say_all(desk, text.as_str().as_bytes()) {
-        Ok(()) => Status::Done,
-        Err(_) => Status::SayFault,
-    }
-}
-
-// The bookmark file of an open store.
-fn export_text(alloc: Global, session: &Session) -> Result<Txt, NoMemory>
+/// The bookmark file of an open store.
+pub fn export_text(alloc: Global, session: &Session) -> Result<Txt, NoMemory>
     ensures text { IfOk result (λ text. text ≡ spec.export_text (session_store session.now)) }
     ensures returns { IfOk result (λ _. ComesBack (session_store session.now)) }
 {

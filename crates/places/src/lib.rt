@@ -7,11 +7,13 @@
 
 mod answer;
 mod answer_error;
+mod backup;
 mod drill;
 mod export;
 mod import;
 mod input;
 mod make_store;
+mod report;
 mod run_script;
 mod say;
 mod script;
@@ -31,15 +33,16 @@ ghost use Rattle.places.specs.Completeness.{NothingFails};
 ghost use Rattle.places.specs.Drilling.{EndsDrill, OfDrill, ShowsDrill};
 ghost use Rattle.places.specs.Ending.{EndsNew, EndsScript, EndsUnopened, LeavesAtEnd, MayEnd};
 ghost use Rattle.places.specs.Ending.{OfRun, OfScript, WritesRead};
-ghost use Rattle.places.specs.Exporting.{ComesBack, EndsExport, OfExport, ShowsExport};
+ghost use Rattle.places.specs.Exporting.{ComesBack, export_text};
 ghost use Rattle.places.specs.Importing.{EndsImport, OfImport, ShowsImport};
+ghost use Rattle.places.specs.Reporting.{EndsReport, OfReport, ShowsReport, stored_backup};
 ghost use Rattle.places.specs.Stops.{ShowsAnswered, ShowsRun, ShowsUnopened};
 ghost use Rattle.pl_task.specs.Task.{asked_of, input_limit, opens_store};
 
 use crate::drill::drill_stored;
-use crate::export::export_stored;
 use crate::import::import_stored;
 use crate::make_store::make_store;
+use crate::report::{Report, report_stored};
 use crate::script::{run_stored, try_script};
 use pl_desk::{Desk, Source};
 use pl_task::Task;
@@ -51,10 +54,10 @@ use std::alloc::Global;
 /// `try` on a store in memory, of which the desk's file knows nothing; both say the reply to each
 /// line as it comes, and the file of `run` holds a command before a byte of its reply is said.
 /// `import` puts the bookmark file of the input into the store that the file holds, as one command,
-/// and says its reply. `export` says the bookmark file of the store that the file holds. `drill`
-/// runs a line that says the day and so many generated ones, each committed as those of `run` are,
-/// and says a summary once the file holds them all. `NoMemory` may come at any place: then nothing
-/// of its command was said or is in the file.
+/// and says its reply. `export` says the bookmark file of the store that the file holds, and
+/// `backup` its JSON backup. `drill` runs a line that says the day and so many generated ones, each
+/// committed as those of `run` are, and says a summary once the file holds them all. `NoMemory` may
+/// come at any place: then nothing of its command was said or is in the file.
 pub fn run<S: Source, D: Desk>(alloc: Global, words: &[&str], input: &mut S, desk: &mut D) -> Status
     // Which words may end so. Others are refused, and then nothing is called.
     ensures status { MayEnd (asked_of words.now) result }
@@ -113,16 +116,29 @@ pub fn run<S: Source, D: Desk>(alloc: Global, words: &[&str], input: &mut S, des
     // `export` says the bookmark file of the store, which the file stands for throughout; into a
     // file in which no stop left a change it writes no byte. What it says holds all bookmarks of
     // the store, and brings them into a new one.
-    ensures exports { OfExport D.Desk (asked_of words.now) desk.old (λ start before.
-        EndsExport D.Desk result desk.old start before desk.new) }
-    ensures export_stops { OfExport D.Desk (asked_of words.now) desk.old (λ start before.
+    ensures exports { OfReport D.Desk Task.Export (asked_of words.now) desk.old (λ start before.
+        EndsReport D.Desk result (export_text start) desk.old start before desk.new) }
+    ensures export_stops { OfReport D.Desk Task.Export (asked_of words.now) desk.old
+        (λ start before.
         ShowsThen D.Desk (result ≡ Status.DeviceFault) desk.old desk.new
         (ShowsUnopened D.Desk desk.old before)
-        (ShowsExport D.Desk start before)) }
+        (ShowsReport start (export_text start) before)) }
     ensures export_rests { asked_of words.now ≡ Some Task.Export
         → KeepsFinished D.Desk desk.old desk.new }
     ensures export_returns { result ≡ Status.Done
-        → OfExport D.Desk (asked_of words.now) desk.old (λ start before. ComesBack start) }
+        → OfReport D.Desk Task.Export (asked_of words.now) desk.old
+        (λ start before. ComesBack start) }
+
+    // `backup` says the JSON backup of the store, and leaves the file as `export` does.
+    ensures backups { OfReport D.Desk Task.Backup (asked_of words.now) desk.old (λ start before.
+        EndsReport D.Desk result (stored_backup start) desk.old start before desk.new) }
+    ensures backup_stops { OfReport D.Desk Task.Backup (asked_of words.now) desk.old
+        (λ start before.
+        ShowsThen D.Desk (result ≡ Status.DeviceFault) desk.old desk.new
+        (ShowsUnopened D.Desk desk.old before)
+        (ShowsReport start (stored_backup start) before)) }
+    ensures backup_rests { asked_of words.now ≡ Some Task.Backup
+        → KeepsFinished D.Desk desk.old desk.new }
 
     // A drill runs generated lines, each committed as `run` does, and says nothing until all are in
     // the file. A stop at any moment leaves the store after some of them, and the one after all
@@ -173,7 +189,8 @@ pub fn run<S: Source, D: Desk>(alloc: Global, words: &[&str], input: &mut S, des
         Task::New => make_store(alloc, desk),
         Task::Run => run_stored(alloc, input, desk),
         Task::Import => import_stored(alloc, input, desk),
-        Task::Export => export_stored(alloc, desk),
+        Task::Export => report_stored(alloc, Report::Export, desk),
+        Task::Backup => report_stored(alloc, Report::Backup, desk),
         Task::Drill(count, seed) => drill_stored(alloc, count, seed, desk),
     }
 }

@@ -3,8 +3,8 @@
 //! `places new STORE` makes a store's file, and `places run STORE` answers the commands of its
 //! input, one a line, on the store that the file holds. `places try` does so on a store in memory.
 //! `places import STORE` puts the bookmark file of its input into the store that the file holds,
-//! and `places export STORE` says the bookmarks of that store as such a file. `places drill STORE N
-//! SEED` runs generated lines on it.
+//! and `places export STORE` says the bookmarks of that store as such a file, `places backup STORE`
+//! as a JSON backup. `places drill STORE N SEED` runs generated lines on it.
 #![tactic(auto)]
 
 use pl_file::{FileDesk, StreamSource};

@@ -11,7 +11,7 @@ use Rattle.pl_step.specs.declared.command.Command.TheVariants.{Stats}
 use Rattle.places.specs.declared.status.Status.TheVariants.{DeviceFault, Done, ImportRefused, NoMemory, NotAStore}
 use Rattle.places.specs.declared.status.Status.TheVariants.{NotBookmarks, NotEmpty, ReadFault, SayFault, TooLong}
 use Rattle.places.specs.declared.status.Status.TheVariants.{Usage}
-use Rattle.pl_task.specs.declared.task.Task.TheVariants.{Drill, Export, Import, New, Run, Try}
+use Rattle.pl_task.specs.declared.task.Task.TheVariants.{Backup, Drill, Export, Import, New, Run, Try}
 use Rattle.places.specs.Drilling.{summary}
 use Rattle.places.specs.Exporting.{export_text}
 use Rattle.places.specs.Lines.{ended_lines, open_line}
@@ -25,8 +25,8 @@ use Rattle.pl_task.specs.Task.{input_limit, opens_store, task_of}
 forms :
     map task_of
     ((codes "try" ∷ []) ∷ (codes "new" ∷ codes "s" ∷ []) ∷ (codes "run" ∷ [] ∷ []) ∷ (codes "import" ∷ codes "s" ∷ [])
-    ∷ (codes "export" ∷ codes "try" ∷ []) ∷ [])
-    ≡ Some Try ∷ Some New ∷ Some Run ∷ Some Import ∷ Some Export ∷ []
+    ∷ (codes "export" ∷ codes "try" ∷ []) ∷ (codes "backup" ∷ codes "s" ∷ []) ∷ [])
+    ≡ Some Try ∷ Some New ∷ Some Run ∷ Some Import ∷ Some Export ∷ Some Backup ∷ []
 forms = refl
 
 -- the least and the greatest numbers of a drill
@@ -40,8 +40,9 @@ drills = refl
 no_forms :
     map task_of
     ([] ∷ ([] ∷ []) ∷ (codes "Try" ∷ []) ∷ (codes "try" ∷ codes "s" ∷ []) ∷ (codes "new" ∷ []) ∷ (codes "run" ∷ [])
-    ∷ (codes "run" ∷ codes "s" ∷ codes "t" ∷ []) ∷ (codes "drill" ∷ codes "s" ∷ []) ∷ [])
-    ≡ None ∷ None ∷ None ∷ None ∷ None ∷ None ∷ None ∷ None ∷ []
+    ∷ (codes "run" ∷ codes "s" ∷ codes "t" ∷ []) ∷ (codes "drill" ∷ codes "s" ∷ [])
+    ∷ (codes "backup" ∷ []) ∷ (codes "restore" ∷ codes "s" ∷ []) ∷ [])
+    ≡ None ∷ None ∷ None ∷ None ∷ None ∷ None ∷ None ∷ None ∷ None ∷ None ∷ []
 no_forms = refl
 
 no_drills :
@@ -52,12 +53,12 @@ no_drills :
     ≡ None ∷ None ∷ None ∷ None ∷ None ∷ None ∷ None ∷ []
 no_drills = refl
 
-inputs : map input_limit (Try ∷ New ∷ Run ∷ Import ∷ Export ∷ Drill 1 0 ∷ [])
-    ≡ Some 2_147_483_648 ∷ None ∷ Some 2_147_483_648 ∷ Some 16_777_216 ∷ None ∷ None ∷ []
+inputs : map input_limit (Try ∷ New ∷ Run ∷ Import ∷ Export ∷ Backup ∷ Drill 1 0 ∷ [])
+    ≡ Some 2_147_483_648 ∷ None ∷ Some 2_147_483_648 ∷ Some 16_777_216 ∷ None ∷ None ∷ None ∷ []
 inputs = refl
 
-stores : map opens_store (Try ∷ New ∷ Run ∷ Import ∷ Export ∷ Drill 1 0 ∷ [])
-    ≡ false ∷ false ∷ true ∷ true ∷ true ∷ true ∷ []
+stores : map opens_store (Try ∷ New ∷ Run ∷ Import ∷ Export ∷ Backup ∷ Drill 1 0 ∷ [])
+    ≡ false ∷ false ∷ true ∷ true ∷ true ∷ true ∷ true ∷ []
 stores = refl
 
 -- ---- statuses

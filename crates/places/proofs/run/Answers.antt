@@ -5,8 +5,10 @@ use Rattle.pl_task.specs.declared.task.Task.{Task}
 use Rattle.pl_task.specs.declared.task.Task.TheVariants as tasks
 use Rattle.places.specs.Ending.{BeginsWith}
 use Rattle.pl_task.specs.Task.{asked_of, spelled}
-use Rattle.places.proofs.CompletenessLemmas.{drill_done, export_done, import_done, new_done, none_failed, of_task}
-use Rattle.places.proofs.CompletenessLemmas.{script_done}
+use Rattle.places.specs.Exporting.{export_text}
+use Rattle.places.specs.Reporting.{stored_backup}
+use Rattle.places.proofs.CompletenessLemmas.{drill_done, import_done, new_done, none_failed, of_task}
+use Rattle.places.proofs.CompletenessLemmas.{report_complete, script_done}
 use Rattle.places.proofs.DrillLemmas.{few_lines, same_drill}
 use Rattle.places.proofs.OpeningLemmas.{begins_in_memory, begins_on_file, says_at_end}
 use Rattle.places.proofs.run.Goals as goal
@@ -60,11 +62,15 @@ returns-in-Import-clause-import_stops g c = λ asked start held bytes before tol
 
 pub returns-in-Export-clause-export_stops : goal.returns-in-Export-clause-export_stops
 returns-in-Export-clause-export_stops g c = λ asked start held before begun.
-    c.export_stored.ensures.stops held.0 start before held.1 held.2 begun
+    c.report_stored.ensures.stops held.0 start before held.1 held.2 begun
 
 pub returns-in-Export-clause-export_returns : goal.returns-in-Export-clause-export_returns
 returns-in-Export-clause-export_returns g c = λ done asked start held before begun.
-    c.export_stored.ensures.returns done held.0 start held.1 held.2
+    c.report_stored.ensures.returns refl done held.0 start held.1 held.2
+
+pub returns-in-Backup-clause-backup_stops : goal.returns-in-Backup-clause-backup_stops
+returns-in-Backup-clause-backup_stops g c = λ asked start held before begun.
+    c.report_stored-in-Backup.ensures.stops held.0 start before held.1 held.2 begun
 
 pub drill_stored-requires : goal.drill_stored-requires
 drill_stored-requires g c =
@@ -157,18 +163,25 @@ returns-in-Import-clause-complete g c = λ task wanted nothing.
 
 pub returns-in-Export-clause-complete : goal.returns-in-Export-clause-complete
 returns-in-Export-clause-complete g c = λ task wanted nothing.
-    let source = g.S.Source in let desk = g.D.Desk in let did = c.export_stored.ensures in
-    let old = c.args.desk.now in let new = c.export_stored.new.desk in
+    let source = g.S.Source in let desk = g.D.Desk in let did = c.report_stored.ensures in
+    let old = c.args.desk.now in let new = c.report_stored.new.desk in
     let asked : asked_of c.args.words.now ≡ Some tasks.Export =
     sym c.of.ensures ∙ c.in-Some.is ∙ ap (λ (t : Task). Some t) c.in-Export.is in
     let fails = of_task source desk tasks.Export task (asked_of c.args.words.now) c.args.input.now old
     c.args.input.now new asked wanted nothing in
-    let say = none_failed (desk.line_faults old) (desk.line_faults new) did.counted.says fails.says in
-    let call = none_failed (desk.device_faults old) (desk.device_faults new) did.counted.device fails.calls in
-    let said = some_there (desk.said old) fails.told in
-    let start = fails.needs.0 in let held = fails.needs.1 in
-    export_done desk c.export_stored.result old start said.0 new say call
-    (did.ends held.0 start said.0 held.1 held.2 said.1)
+    report_complete desk source tasks.Export c.report_stored.result export_text c.args.input.now old new did.counted did.ends
+    fails.needs fails
+
+pub returns-in-Backup-clause-complete : goal.returns-in-Backup-clause-complete
+returns-in-Backup-clause-complete g c = λ task wanted nothing.
+    let source = g.S.Source in let desk = g.D.Desk in let did = c.report_stored-in-Backup.ensures in
+    let old = c.args.desk.now in let new = c.report_stored-in-Backup.new.desk in
+    let asked : asked_of c.args.words.now ≡ Some tasks.Backup =
+    sym c.of.ensures ∙ c.in-Some.is ∙ ap (λ (t : Task). Some t) c.in-Backup.is in
+    let fails = of_task source desk tasks.Backup task (asked_of c.args.words.now) c.args.input.now old
+    c.args.input.now new asked wanted nothing in
+    report_complete desk source tasks.Backup c.report_stored-in-Backup.result stored_backup c.args.input.now old new did.counted did.ends
+    fails.needs fails
 
 pub returns-in-Drill-clause-complete : goal.returns-in-Drill-clause-complete
 returns-in-Drill-clause-complete g c = λ task wanted nothing.
@@ -203,4 +216,8 @@ returns-in-Import-clause-imports g c = λ asked start held bytes before told beg
 
 pub returns-in-Export-clause-exports : goal.returns-in-Export-clause-exports
 returns-in-Export-clause-exports g c = λ asked start held before begun.
-    c.export_stored.ensures.ends held.0 start before held.1 held.2 begun
+    c.report_stored.ensures.ends held.0 start before held.1 held.2 begun
+
+pub returns-in-Backup-clause-backups : goal.returns-in-Backup-clause-backups
+returns-in-Backup-clause-backups g c = λ asked start held before begun.
+    c.report_stored-in-Backup.ensures.ends held.0 start before held.1 held.2 begun

@@ -3,43 +3,44 @@ use Rattle.std.proofs.lemmas.Option.{MatchOption-at_some}
 use Rattle.pl_desk.proofs.SettlingLaws.{settles_on}
 use Rattle.pl_base.specs.Store.{Store}
 use Rattle.pl_store.specs.Session.{session_store}
-use Rattle.places.specs.Exporting.{ComesBack, ShowsExport, export_text}
+use Rattle.places.specs.Exporting.{ComesBack}
+use Rattle.places.specs.Reporting.{ShowsReport, report_text}
 use Rattle.places.specs.Stops.{ShowsUnopened}
 use Rattle.places.proofs.AnswerCounts.{rose_from, stood}
-use Rattle.places.proofs.ExportLemmas.{export_unopened, not_done, opened_shows, rests_still, said_part, said_shows}
-use Rattle.places.proofs.ExportLemmas.{said_whole, settled_rests}
 use Rattle.places.proofs.OpeningLemmas.{fault_told, no_fault}
-use Rattle.places.proofs.export.export_stored.Goals as goal
+use Rattle.places.proofs.ReportLemmas.{not_done, opened_shows, report_unopened, rests_still, said_part, said_shows}
+use Rattle.places.proofs.ReportLemmas.{said_whole, settled_rests}
+use Rattle.places.proofs.report.report_stored.Goals as goal
 
 -- ---- no store was opened
 
 pub returns-in-Err-clause-ends : goal.returns-in-Err-clause-ends
 returns-in-Err-clause-ends g c = λ file start before held stands begun.
-    export_unopened g.D.Desk c.in-Err.ended c.from.result file start before c.args.desk.now c.reopen.new.desk
+    report_unopened g.D.Desk c.in-Err.ended c.from.result file start (report_text c.args.report start) before c.args.desk.now c.reopen.new.desk
     g.met.D.Desk.counts_now c.from.ensures held c.in-Err.ensures.ends stands c.reopen.ensures.calls.line.said begun
     (c.in-Err.ensures.any_moment file held)
 
 pub returns-in-Err-clause-stops : goal.returns-in-Err-clause-stops
 returns-in-Err-clause-stops g c = λ file start before held stands begun.
-    opened_shows g.D.Desk file start before c.args.desk.now c.reopen.new.desk stands begun
+    opened_shows g.D.Desk file start (report_text c.args.report start) before c.args.desk.now c.reopen.new.desk stands begun
     (c.in-Err.ensures.any_moment file held) (fault_told c.in-Err.ended c.from.result c.from.ensures)
 
 pub returns-in-Err-clause-returns : goal.returns-in-Err-clause-returns
-returns-in-Err-clause-returns g c = λ done. absurd (not_done c.in-Err.ended c.from.result c.from.ensures done)
+returns-in-Err-clause-returns g c = λ export done. absurd (not_done c.in-Err.ended c.from.result c.from.ensures done)
 
 -- ---- no text was made
 
-pub returns-in-Err-export_text-clause-ends : goal.returns-in-Err-export_text-clause-ends
-returns-in-Err-export_text-clause-ends g c = λ file start before held stands begun.
+pub returns-in-Err-text_of-clause-ends : goal.returns-in-Err-text_of-clause-ends
+returns-in-Err-text_of-clause-ends g c = λ file start before held stands begun.
     let opens = c.in-Ok.ensures.ends.1 in
     let is : session_store c.in-Ok.session ≡ start = sym (MatchOption-at_some _ _ file held opens.only start stands) in (
       c.reopen.ensures.calls.line.said ∙ begun,
       settled_rests g.D.Desk c.in-Ok.session start c.reopen.new.desk is (opens.settled file held),
     )
 
-pub returns-in-Err-export_text-clause-stops : goal.returns-in-Err-export_text-clause-stops
-returns-in-Err-export_text-clause-stops g c = λ file start before held stands begun.
-    opened_shows g.D.Desk file start before c.args.desk.now c.reopen.new.desk stands begun
+pub returns-in-Err-text_of-clause-stops : goal.returns-in-Err-text_of-clause-stops
+returns-in-Err-text_of-clause-stops g c = λ file start before held stands begun.
+    opened_shows g.D.Desk file start (report_text c.args.report start) before c.args.desk.now c.reopen.new.desk stands begun
     (c.in-Ok.ensures.any_moment file held) (λ fault. absurd (cc))
 
 -- ---- the text was said
@@ -49,10 +50,10 @@ returns-in-Ok-say_all-clause-ends g c = λ file start before held stands begun.
     let desk = g.D.Desk in let mid = c.reopen.new.desk in let new = c.say_all.new.desk in
     let opens = c.in-Ok.ensures.ends.1 in
     let is : session_store c.in-Ok.session ≡ start = sym (MatchOption-at_some _ _ file held opens.only start stands) in (
-      said_whole desk before c.as_bytes.result.now (export_text start) mid new (c.reopen.ensures.calls.line.said ∙ begun)
+      said_whole desk before c.as_bytes.result.now (report_text c.args.report start) mid new (c.reopen.ensures.calls.line.said ∙ begun)
           c.in-Ok-say_all.ensures.whole
-          (c.as_bytes.ensures.value ∙ c.as_str.ensures ∙ c.in-Ok-export_text.ensures.text
-          ∙ ap (λ (s : Store). export_text s) is),
+          (c.as_bytes.ensures.value ∙ c.as_str.ensures ∙ c.in-Ok-text_of.ensures.text
+          ∙ ap (λ (s : Store). report_text c.args.report s) is),
       rests_still desk start mid new (settled_rests desk c.in-Ok.session start mid is (opens.settled file held))
           c.say_all.ensures.file.kept,
     )
@@ -62,14 +63,14 @@ returns-in-Ok-say_all-clause-stops g c = λ file start before held stands begun.
     let desk = g.D.Desk in let old = c.args.desk.now in let mid = c.reopen.new.desk in
     let new = c.say_all.new.desk in let opens = c.in-Ok.ensures.ends.1 in
     let is : session_store c.in-Ok.session ≡ start = sym (MatchOption-at_some _ _ file held opens.only start stands) in
-    inr (settles_on desk old mid new (ShowsUnopened desk old before) (ShowsExport desk start before)
+    inr (settles_on desk old mid new (ShowsUnopened desk old before) (ShowsReport start (report_text c.args.report start) before)
     (λ fault. fault)
-    (opened_shows desk file start before old mid stands begun (c.in-Ok.ensures.any_moment file held)
+    (opened_shows desk file start (report_text c.args.report start) before old mid stands begun (c.in-Ok.ensures.any_moment file held)
     (no_fault _))
-    (said_shows desk start before c.as_bytes.result.now mid new
+    (said_shows desk start (report_text c.args.report start) before c.as_bytes.result.now mid new
     (settled_rests desk c.in-Ok.session start mid is (opens.settled file held))
-    (c.as_bytes.ensures.value ∙ c.as_str.ensures ∙ c.in-Ok-export_text.ensures.text
-    ∙ ap (λ (s : Store). export_text s) is)
+    (c.as_bytes.ensures.value ∙ c.as_str.ensures ∙ c.in-Ok-text_of.ensures.text
+    ∙ ap (λ (s : Store). report_text c.args.report s) is)
     (c.say_all.ensures.shows before (c.reopen.ensures.calls.line.said ∙ begun))))
 
 pub returns-in-Ok-say_all-clause-finished : goal.returns-in-Ok-say_all-clause-finished
@@ -88,10 +89,10 @@ returns-clause-ends g c = λ file start before held stands begun.
     let desk = g.D.Desk in let mid = c.reopen.new.desk in let new = c.say_all.new.desk in
     let opens = c.in-Ok.ensures.ends.1 in
     let is : session_store c.in-Ok.session ≡ start = sym (MatchOption-at_some _ _ file held opens.only start stands) in (
-      said_part desk before c.as_bytes.result.now (export_text start) mid new (c.reopen.ensures.calls.line.said ∙ begun)
+      said_part desk before c.as_bytes.result.now (report_text c.args.report start) mid new (c.reopen.ensures.calls.line.said ∙ begun)
           c.in-Err-say_all.ensures.front
-          (c.as_bytes.ensures.value ∙ c.as_str.ensures ∙ c.in-Ok-export_text.ensures.text
-          ∙ ap (λ (s : Store). export_text s) is),
+          (c.as_bytes.ensures.value ∙ c.as_str.ensures ∙ c.in-Ok-text_of.ensures.text
+          ∙ ap (λ (s : Store). report_text c.args.report s) is),
       rests_still desk start mid new (settled_rests desk c.in-Ok.session start mid is (opens.settled file held))
           c.say_all.ensures.file.kept,
     )
@@ -101,14 +102,14 @@ returns-clause-stops g c = λ file start before held stands begun.
     let desk = g.D.Desk in let old = c.args.desk.now in let mid = c.reopen.new.desk in
     let new = c.say_all.new.desk in let opens = c.in-Ok.ensures.ends.1 in
     let is : session_store c.in-Ok.session ≡ start = sym (MatchOption-at_some _ _ file held opens.only start stands) in
-    inr (settles_on desk old mid new (ShowsUnopened desk old before) (ShowsExport desk start before)
+    inr (settles_on desk old mid new (ShowsUnopened desk old before) (ShowsReport start (report_text c.args.report start) before)
     (λ fault. fault)
-    (opened_shows desk file start before old mid stands begun (c.in-Ok.ensures.any_moment file held)
+    (opened_shows desk file start (report_text c.args.report start) before old mid stands begun (c.in-Ok.ensures.any_moment file held)
     (no_fault _))
-    (said_shows desk start before c.as_bytes.result.now mid new
+    (said_shows desk start (report_text c.args.report start) before c.as_bytes.result.now mid new
     (settled_rests desk c.in-Ok.session start mid is (opens.settled file held))
-    (c.as_bytes.ensures.value ∙ c.as_str.ensures ∙ c.in-Ok-export_text.ensures.text
-    ∙ ap (λ (s : Store). export_text s) is)
+    (c.as_bytes.ensures.value ∙ c.as_str.ensures ∙ c.in-Ok-text_of.ensures.text
+    ∙ ap (λ (s : Store). report_text c.args.report s) is)
     (c.say_all.ensures.shows before (c.reopen.ensures.calls.line.said ∙ begun))))
 
 pub returns-clause-counted : goal.returns-clause-counted
@@ -134,7 +135,7 @@ returns-clause-no_store g c = λ file held none.
 -- ---- what was said comes back
 
 pub returns-in-Ok-say_all-clause-returns : goal.returns-in-Ok-say_all-clause-returns
-returns-in-Ok-say_all-clause-returns g c = λ done file start held stands.
+returns-in-Ok-say_all-clause-returns g c = λ export done file start held stands.
     let is : session_store c.in-Ok.session ≡ start =
     sym (MatchOption-at_some _ _ file held c.in-Ok.ensures.ends.1.only start stands) in
-    subst ComesBack is c.in-Ok-export_text.ensures.returns
+    subst ComesBack is (c.in-Ok-text_of.ensures.returns export)
