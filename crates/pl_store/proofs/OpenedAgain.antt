@@ -1,5 +1,5 @@
 -- Openings that are stopped: the files stand for the same stores as before.
-use Rattle.std.proofs.Common.{◌≡◌, ◌∙◌, ℕ, List, Some, IsSome, ⊎_elim, subst, sym}
+use Rattle.std.proofs.Common.{◌≡◌, ℕ, List, Some, IsSome, ⊎_elim, subst, sym}
 use Rattle.pl_base.specs.Store.{Store}
 use Rattle.pl_desk.proofs.AnyMoment.{CountsNow, OnlyNow, ShownNow, held_left, left_now}
 use Rattle.pl_desk.proofs.Moments.{and_on, shows_less}
@@ -20,7 +20,7 @@ one_of file a b first second = one_store (front_bytes (laid file)) a b first.for
 among : (stores : List Store) (file later : List ℕ) → StandsForOneOf stores file → StandsAlike file later
     → StandsForOneOf stores later
 among stores file later one alike =
-    (one.0, one.1.0, one.1.1.0, one.1.1.1.0, (alike one.1.0).0 one.1.1.1.1)
+    (one.0, one.1, one.2, one.3, (alike one.1).0 one.4)
 
 module _ {D : Type 0} (desk : Ghosts D) (only_now : OnlyNow desk) (shown_now : ShownNow desk)
     (counts_now : CountsNow desk) where
