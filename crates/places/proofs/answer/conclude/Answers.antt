@@ -19,6 +19,16 @@ returns-in_err-text-clause-taking g c before ready = let desk = g.D.Desk in
           (ready_store c.args.ready) (reply_text c.args.reply.now) line is kept;
     }
 
+pub returns-in_err-text-clause-serves : goal.returns-in_err-text-clause-serves
+returns-in_err-text-clause-serves g c =
+    let p = err_from_is_err_and c.from_residual.result c.from_residual.ensures.1 in
+    rw (p.1, p.2) (λ before ready. record {
+      kind = tt;
+      kept = tt;
+      alone = λ memory. leaves_self g.D.Desk c.args.desk.now;
+      in_file = λ same. absurd (cc);
+    })
+
 -- the commit
 pub returns-in_err-next-clause-taking : goal.returns-in_err-next-clause-taking
 returns-in_err-next-clause-taking g c before ready = let desk = g.D.Desk in

@@ -18,6 +18,16 @@ returns-in_err-bytes-clause-shows g c bytes before told begun first kept =
     shows_begun g.D.Desk g.met.D.Desk.only_now c.args.keeper first c.args.desk.now bytes before c.requires.file begun
     kept
 
+pub returns-in_err-bytes-clause-reads_counted : goal.returns-in_err-bytes-clause-reads_counted
+returns-in_err-bytes-clause-reads_counted g c =
+    let p = err_from_is_err_and c.from_residual.result c.from_residual.ensures.1 in
+    let counted = c.in_err-bytes.ensures.counted in
+    rw (p.1, p.2) (record {
+      no_less = counted.no_less;
+      rose = λ fault. counted.rose (cc);
+      stands = λ none. counted.stands (λ fault. none (cc));
+    })
+
 -- bytes that hold no tree
 pub returns-in_err-tree-clause-ends : goal.returns-in_err-tree-clause-ends
 returns-in_err-tree-clause-ends g c =
