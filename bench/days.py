@@ -6,13 +6,15 @@
 All visits lie on one day of the week, so that on some days the pages of a week's visits are due, and on others none is.
 Then the days of thirteen weeks come one by one: to `places try`, which got all visits as lines, to `places run` on the
 store's file, and to sqlite3 in memory, which computes the frecencies of the pages whose visits weigh less than the day
-before. How many pages change has to be the same, and so have the sums of all frecencies, and those of some pages.
+before. How many pages change has to be the same, and so have the sums of all frecencies, and those of some pages. The writes
+and syncs of such a day are traced by strace, and timed with nothing between them.
 
 At last the days of two years come one by one to 1,000 pages. On each the store has to say the same as a new one that
 was at this day when it got the same visits. It is no timed test: it fails only where replies differ.
 """
 import pathlib
 import random
+import shutil
 import sqlite3
 import statistics
 import subprocess
@@ -22,6 +24,7 @@ import time
 
 import linked_file
 from answerer import Answerer
+from device_calls import make_calls, traced_calls
 from linked_file import DAY, LINK, TYPED, Page, Store, Visit, roots
 from open import machine
 from program import program
@@ -135,6 +138,23 @@ def tell(name, changed, waits):
           f"| {1e6 * statistics.median(idle):.1f} | {1e6 * max(idle):.1f} |", flush=True)
 
 
+def tell_device_calls(places, room, day):
+    """What the writes and syncs of `places run` take on this day, with nothing between them: the least on three copies of the file."""
+    store = room / "day"
+    store.write_bytes(linked_file.file_bytes(week_store()))
+    days_before = b"".join(map(day_line, range(LAST + 1, day)))
+    subprocess.run([places, "run", store], input=days_before, stdout=subprocess.DEVNULL, check=True)
+    copies = [shutil.copy(store, room / f"copy{number}") for number in range(3)]
+    calls = traced_calls([places, "run", store], day_line(day), room / "trace")
+    # (an opening syncs and writes nothing)
+    while calls[0] is None:
+        del calls[0]
+    syncs, written = calls.count(None), sum(call[1] for call in calls if call)
+    took = min(make_calls(copy, calls) for copy in copies)
+    print(f"\nThe device calls of such a day by `places run`: {syncs} syncs, {len(calls) - syncs} writes, {written} bytes; "
+          f"alone {1e3 * took:.2f} ms", flush=True)
+
+
 def measure_days(places, room):
     store = week_store()
     urls = {page.id: page.url for page in store.pages}
@@ -158,6 +178,7 @@ def measure_days(places, room):
         tell(name, said[0], waits)
     in_memory.end()
     on_file.end()
+    tell_device_calls(places, room, LAST + 1 + told[0].index(DUE))
 
 
 # ---- two years, day by day
