@@ -2,13 +2,15 @@
 ghost use Rattle.std.specs.Prelude.{IfOk};
 ghost use Rattle.pl_nbread.specs.WellFormed.{AreWellFormed};
 
-use crate::shown::{DOCTYPE, expect_tree, read_file, shown};
+use crate::shown::{DOCTYPE, expect_tree, read_file};
 use crate::worked::WORKED;
+use pl_base::MICROS_PER_SECOND;
 use pl_nbread::Tree;
 use pl_nbwrite::text;
 use std::alloc::Global;
 use std::process::Abort;
 use std::test::Fail;
+use trials_shown::shown;
 
 // What is written of the worked file.
 const WRITTEN: &str = "<!DOCTYPE NETSCAPE-Bookmark-file-1>\n\
@@ -63,7 +65,7 @@ fn the_worked_file_is_written(rt: HostRuntime) -> Result<(), Fail> {
 fn expect_read_back(rt: &impl Abort, alloc: Global, body: &str) -> Result<(), Fail> {
     let tree = tree_of(alloc, body)?;
     let file = text(alloc, &tree)?;
-    let told = shown(alloc, &tree)?;
+    let told = shown(alloc, MICROS_PER_SECOND, &tree)?;
     expect_tree(rt, alloc, file.as_str().as_bytes(), told.as_str())
 }
 
