@@ -1,7 +1,9 @@
+mod FoundPages
 mod GainedOrder
 mod GainedPages
 mod GoingOn
 pub mod ItemsKept
+mod KeyLookups
 mod ListSteps
 mod NewItems
 pub mod NodeLaws

@@ -1,9 +1,10 @@
 -- A page more in an import.
 use Rattle.std.proofs.Common.{◌≡◌, ◌∙◌, ◌<◌, ◌++◌, ◌==◌, ◌&&◌, ◌||◌, ℕ, Bool, true, false, List, [], ◌∷◌, Option}
-use Rattle.std.proofs.Common.{Some}
+use Rattle.std.proofs.Common.{Err, Ok, Result, Some}
 use Rattle.std.proofs.Common.{None, ap, arith, bytes_eq, eq-eqb, if◌then◌else◌, map, refl, subst, sym}
 use Rattle.std.specs.List.{AllByRecursion, list_any}
-use Rattle.std.specs.Option.{is_none, option_map}
+use Rattle.std.specs.Result.{OnOk}
+use Rattle.std.specs.Option.{IfSome, is_none, option_map}
 use Rattle.std.proofs.lemmas.Bool.{and_from, and_parts, eqb-true}
 use Rattle.std.proofs.lemmas.List.{append-nil}
 use Rattle.std.proofs.lemmas.List.Elements.{All-from_recursion, All-nil}
@@ -22,8 +23,9 @@ use Rattle.pl_history.proofs.ReadyPage.{own_url}
 use Rattle.pl_history.proofs.VisitRows.{grown_store, store_with_page}
 use Rattle.pl_graft.specs.declared.grafting.Grafting.{Grafting}
 use Rattle.pl_graft.specs.Gained.{Grows, IsBlank}
-use Rattle.pl_graft.specs.KnownPages.{IsOriginPage, KnowsPages}
+use Rattle.pl_graft.specs.KnownPages.{IsOriginPage, KnowsPages, page_id, with_page}
 use Rattle.pl_graft.specs.Standing.{GoesOn, IsStanding}
+use Rattle.pl_graft.proofs.FoundPages.{items_for, knows_for}
 use Rattle.pl_graft.proofs.GoingOn.{goes_by_pages}
 use Rattle.pl_graft.proofs.Ready.{items_page, ready, ready_page}
 
@@ -91,23 +93,29 @@ found_some kept url p (q ∷ pages) found =
         rw (eq-eqb q.page.id.0 p.id.0 (ap (λ (r : Page). r.id.0) same)) refl
     choose false here later = rw (later here) (or_true (q.page.id.0 == p.id.0))
 
--- the id of a page that is found fits
+-- the id of a page that is there fits
+pub page_fits : (kept : Kept) (id : ℕ) → IsWellKept kept → has_page kept (page_id id) ≡ true → id < 4_294_967_296
+page_fits kept id well has =
+    let a : Among (λ (q : KeptPage). q.page.id.0 == id) kept.pages =
+    among (λ (q : KeptPage). q.page.id.0 == id) kept.pages has in
+    omega (
+      arith,
+      among_fits kept (λ (q : KeptPage). q.page.id.0 == id) well a,
+      eqb-true a.page.page.id.0 id a.passes,
+    )
+
+-- and of one that is found
 pub known_fits : (kept : Kept) (url : List ℕ) (id : ℕ) → IsWellKept kept
-    → Some id ≡ option_map (λ (p : Page). p.id.0) (find_page url (store_of kept).pages) → id < 4_294_967_296
+    → option_map (λ (p : Page). p.id.0) (find_page url (store_of kept).pages) ≡ Some id → id < 4_294_967_296
 known_fits kept url id well is = choose (find_page url (store_of kept).pages) refl is
   where
     choose : (found : Option Page) → find_page url (store_of kept).pages ≡ found
-        → Some id ≡ option_map (λ (p : Page). p.id.0) found → id < 4_294_967_296
+        → option_map (λ (p : Page). p.id.0) found ≡ Some id → id < 4_294_967_296
     choose None none here = absurd (cc)
     choose (Some p) some here =
-        let same : id ≡ p.id.0 = cc in
-        let a : Among (λ (q : KeptPage). q.page.id.0 == p.id.0) kept.pages =
-        among (λ (q : KeptPage). q.page.id.0 == p.id.0) kept.pages (found_some kept url p kept.pages some) in
-        omega (
-          arith,
-          among_fits kept (λ (q : KeptPage). q.page.id.0 == p.id.0) well a,
-          eqb-true a.page.page.id.0 p.id.0 a.passes,
-        )
+        let same : p.id.0 ≡ id = cc in
+        page_fits kept id well
+        (ap (λ (n : ℕ). has_page kept (page_id n)) (sym same) ∙ found_some kept url p kept.pages some)
 
 -- ---- a page of the same origin
 
@@ -121,19 +129,11 @@ origin_page kept url id is =
     (sym (list_any-map (λ (p : Page). (p.id.0 == id) && same_origin p.url url) (λ (p : KeptPage). p.page) kept.pages)
     ∙ is)
 
-pub origin_fits : (kept : Kept) (url : List ℕ) (id : ℕ) → IsWellKept kept
-    → IsOriginPage (store_of kept).pages url (Some id) → id < 4_294_967_296
-origin_fits kept url id well is =
-    let a : Among (in_origin url id) kept.pages = origin_page kept url id is in
-    omega (
-      arith,
-      among_fits kept (in_origin url id) well a,
-      eqb-true a.page.page.id.0 id (and_parts (a.page.page.id.0 == id) (same_origin a.page.page.url url) a.passes).0,
-    )
-
-pub origin_there : (kept : Kept) (url : List ℕ) (id : ℕ) → IsOriginPage (store_of kept).pages url (Some id)
-    → has_page kept (record { 0 = id }) ≡ true
-origin_there kept url id is =
+-- it is there
+pub other_there : (kept : Kept) (url : List ℕ) (other : Option ℕ) → IsOriginPage (store_of kept).pages url other
+    → IfSome other (λ (id : ℕ). has_page kept (page_id id) ≡ true)
+other_there kept url None is = tt
+other_there kept url (Some id) is =
     let a : Among (in_origin url id) kept.pages = origin_page kept url id is in
     rw a.whole (there (λ (p : KeptPage). p.page.id.0 == id) a.front a.page a.rest
     (and_parts (a.page.page.id.0 == id) (same_origin a.page.page.url url) a.passes).0)
@@ -210,33 +210,43 @@ grows_origin old url origin sums =
       sums = sums;
     }
 
-pub page_goes_on : (old new : Kept) (url : List ℕ) (origin : Option Slot) (before after : Grafting)
-    → IsWellKept old → IsWellKept new → IsOriginOf old url origin → WithPageIn url origin old new
-    → after.made ≡ before.made → after.gained ≡ before.gained → GoesOn old new before after
-page_goes_on old new url (Some origin) before after well later named made counted gained =
-    goes_by_pages old new before after
-    (subst (Grows old) (sym made) (grows_page old url origin (λ had.
+-- what holds by two facts
+pub on_ok_two : {T E P Q R : Type 0} (r : Result T E) → (P → Q → R) → OnOk r P → OnOk r Q → OnOk r R
+on_ok_two (Ok x) f p q = f p q
+on_ok_two (Err e) f p q = tt
+
+-- there is one page more
+pub page_grows : (old new : Kept) (url : List ℕ) (origin : Option Slot) → IsWellKept old → IsWellKept new
+    → IsOriginOf old url origin → WithPageIn url origin old new → Grows old new
+page_grows old new url (Some origin) well later named made =
+    subst (Grows old) (sym made) (grows_page old url origin (λ had.
     subst HaveSums made
     (sums_with_page old new url (Some origin) well later had (own_url old new url (Some origin) later made) named
-    made))))
-    (ap (λ (k : Kept). k.items) made) (ap (λ (k : Kept). k.ids.item) made) counted gained
-page_goes_on old new url None before after well later named made counted gained =
-    goes_by_pages old new before after
-    (subst (Grows old) (sym made.1) (grows_origin old url made.0 (λ had.
+    made)))
+page_grows old new url None well later named made =
+    subst (Grows old) (sym made.1) (grows_origin old url made.0 (λ had.
     subst HaveSums made.1
-    (sums_with_page old new url None well later had (own_url old new url None later made) named made))))
-    (ap (λ (k : Kept). k.items) made.1) (ap (λ (k : Kept). k.ids.item) made.1) counted gained
+    (sums_with_page old new url None well later had (own_url old new url None later made) named made)))
 
+-- an import goes on so
+pub page_goes_on : (old new : Kept) (url : List ℕ) (before after : Grafting) → Grows old new
+    → store_of new ≡ with_page_for (store_of old) url → after.made ≡ before.made → after.gained ≡ before.gained
+    → GoesOn old new before after
+page_goes_on old new url before after grows made counted gained =
+    goes_by_pages old new before after grows
+    (ap (λ (s : Store). s.items) made ∙ items_page (store_of old) url)
+    (ap (λ (s : Store). s.ids.item) made ∙ items_for (store_of old) url) counted gained
+
+-- the page of a URL is known from now on
 pub page_standing : (old : Kept) (url : List ℕ) (before after : Grafting) → IsWellKept old
-    → IsStanding (store_of old) before → find_page url (store_of old).pages ≡ None
-    → KnowsPages after.pages ((store_of old).pages ++ new_page (store_of old) url ∷ [])
-    → after.tags ≡ before.tags → after.made ≡ before.made
-    → IsStanding (with_page_for (store_of old) url) after
-page_standing old url before after well standing none knows tags made =
+    → IsStanding (store_of old) before
+    → KnowsPages after.pages (with_page (new_page (store_of old) url) (store_of old).pages)
+    → after.tags ≡ before.tags → after.made ≡ before.made → IsStanding (with_page_for (store_of old) url) after
+page_standing old url before after well standing knows tags made =
     let store : Store = store_of old in
     record {
       good = (ready_page store url (ready old well standing.good)).good;
-      pages = subst (λ (s : Store). KnowsPages after.pages s.pages) (sym (grown_is store url none)) knows;
+      pages = knows_for store url after.pages knows;
       tags = rw (items_page store url, tags) standing.tags;
-      made = rw (grown_is store url none, made) standing.made;
+      made = rw (items_for store url, made) standing.made;
     }

@@ -25,26 +25,18 @@ use Rattle.pl_graft.specs.declared.tags.Entering.TheVariants.{Has, Known, New}
 use Rattle.pl_graft.specs.declared.tags.Tags.{Tags}
 use Rattle.pl_graft.specs.Import.{node_row, page_of, tagged_store, with_item_of, with_node, with_page_of, with_row}
 use Rattle.pl_graft.specs.Import.{with_tag, with_tags, with_tags_of}
-use Rattle.pl_graft.specs.KnownPages.{IsOriginPage, KnowsPages}
+use Rattle.pl_graft.specs.KnownPages.{IsOriginPage, KnowsPages, with_page}
 use Rattle.pl_graft.specs.KnownTags.{AreBelow, IsEntering, KnowsTags}
 use Rattle.pl_graft.specs.Ready.{IsReady, Takes}
 use Rattle.pl_graft.specs.TagRows.{TagRow, entered, holds_in, row_with, tag_rows}
 use Rattle.pl_graft.specs.Tally.{IsTallyOf}
+use Rattle.pl_graft.proofs.FoundPages.{found_store, knows_for}
 use Rattle.pl_graft.proofs.NodeLaws.{IsFormed, kind_fits, page_there, pages_tag, pages_tags, takes_page_of}
 use Rattle.pl_graft.proofs.Ready.{below_rows, has_page_for, held, items_page, named, ready_page, ready_row}
 use Rattle.pl_graft.proofs.Ready.{ready_tag, tags_row, tags_tag}
 use Rattle.pl_graft.proofs.Slots.{live_page, live_row, live_tagged}
 
 -- ---- a page
-
-pub not_found : (pages : List Page) (url text : List ℕ) → text ≡ url
-    → ◌≡◌ {A = Option ℕ} None (option_map (λ (p : Page). p.id.0) (find_page text pages)) → find_page url pages ≡ None
-not_found pages url text same none =
-    ap (λ (u : List ℕ). find_page u pages) (sym same) ∙ choose (find_page text pages) none
-  where
-    choose : (o : Option Page) → ◌≡◌ {A = Option ℕ} None (option_map (λ (p : Page). p.id.0) o) → o ≡ None
-    choose None is = refl
-    choose (Some p) is = absurd (cc)
 
 grown : (store : Store) (url : List ℕ) → find_page url store.pages ≡ None
     → with_page_for store url ≡ record store {
@@ -62,7 +54,7 @@ grown store url none =
 
 pub page_taken : (old : Tally) (store : Store) (url : List ℕ) (pages : Pages) (live : ℕ) (origin : Option ℕ)
     → IsTallyOf old store → find_page url store.pages ≡ None → IsOriginPage store.pages url origin
-    → KnowsPages pages (store.pages ++ new_page store url ∷ [])
+    → KnowsPages pages (with_page (new_page store url) store.pages)
     → live ≡ 1 + chunks url + (if is_none origin then 1 else 0)
     → IsTallyOf (record old { pages = pages; live = old.live + live; next_page = old.next_page + 1 })
     (with_page_for store url)
@@ -72,7 +64,7 @@ page_taken old store url pages live origin t none of known slots =
       ids = record store.ids { page = store.ids.page + 1 };
     } = grown store url none in
     record {
-      pages = subst (KnowsPages pages) (sym (ap (λ (s : Store). s.pages) new)) known;
+      pages = knows_for store url pages known;
       tags =
           subst (λ (items : List Item). KnowsTags old.tags (tag_rows items)) (sym (items_page store url)) t.tags;
       live =
@@ -82,6 +74,23 @@ page_taken old store url pages live origin t none of known slots =
       item = t.item ∙ sym (ap (λ (s : Store). s.ids.item) new);
       ready = ready_page store url t.ready;
     }
+
+-- a page that was there is counted no more
+pub page_passed : (old : Tally) (store : Store) (url : List ℕ) (pages : Pages) (page : ℕ) → IsTallyOf old store
+    → option_map (λ (p : Page). p.id.0) (find_page url store.pages) ≡ Some page
+    → KnowsPages pages (with_page (new_page store url) store.pages)
+    → IsTallyOf (record old { pages = pages }) (with_page_for store url)
+page_passed old store url pages page t some known =
+    let same : with_page_for store url ≡ store = found_store store url page some in
+    subst (IsTallyOf (record old { pages = pages })) (sym same)
+    (record {
+      pages = subst (λ (s : Store). KnowsPages pages s.pages) same (knows_for store url pages known);
+      tags = t.tags;
+      live = t.live;
+      page = t.page;
+      item = t.item;
+      ready = t.ready;
+    })
 
 -- ---- a tag
 

@@ -20,10 +20,10 @@ ghost use Rattle.pl_graft.specs.Ready.{Takes};
 ghost use Rattle.pl_graft.specs.Tally.{CanCount, CountsAtMost, IsTallyOf, node_weight};
 ghost use Rattle.pl_graft.specs.Tally.{page_weight, tag_weight, tree_weight, weight};
 
-use crate::pages::Pages;
+use crate::pages::{Entered, Pages};
 use crate::tags::{Entering, Tags};
 use pl_base::{NoMemory, Rows, Steps, chunks, cut_title};
-use pl_link::{Canon, split};
+use pl_link::Canon;
 use pl_nbread::{Node, Tree};
 use pl_words::{TagName, fold};
 use std::alloc::Global;
@@ -93,16 +93,16 @@ impl Tally {
         ensures tally { OnOk result ((store : Store) → IsTallyOf self.old store
             → IsTallyOf self.new (with_page_for store url.now)) }
     {
-        if let Some(page) = self.pages.find(url.text()) {
-            return Ok(page);
+        let entered = self.pages.enter(self.alloc, url, self.next_page)?;
+        match entered {
+            Entered::Found(page) => Ok(page),
+            Entered::Added(other) => {
+                let page = self.next_page;
+                self.next_page += 1;
+                self.live += 1 + chunks(url.text()) + u64::from(other.is_none());
+                Ok(page)
+            }
         }
-        let page = self.next_page;
-        let parts = split(self.alloc, url)?;
-        let origin = self.pages.in_origin(self.alloc, &parts)?;
-        self.pages.add(self.alloc, url.text(), &parts, page)?;
-        self.next_page += 1;
-        self.live += 1 + chunks(url.text()) + u64::from(origin.is_none());
-        Ok(page)
     }
 
     // So many items more, and so many slots of titles.
