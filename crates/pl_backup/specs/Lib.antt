@@ -1,2 +1,3 @@
 pub mod BackupText
+pub mod BackupTree
 pub mod Written
