@@ -3,3 +3,4 @@ mod BackupRows
 mod ListSteps
 mod NodeTexts
 mod RootTexts
+mod TreeRows

@@ -1,5 +1,5 @@
 -- The tree that a JSON backup holds: of the value that `serde_json` reads, by recursion on it.
-use Rattle.std.specs.Prelude.{ℕ, suc, ◌+◌, Bool, true, false, List, [], ◌∷◌, ◌++◌, bytes_eq, codes}
+use Rattle.std.specs.Prelude.{ℕ, suc, ◌+◌, List, [], ◌∷◌, ◌++◌, bytes_eq, codes}
 use Rattle.std.specs.Prelude.{nat_le, unwrap_or, Option, Some, None, Result, Ok, Err}
 use Rattle.std.specs.Prelude.{if◌then◌else◌}
 use Rattle.std.specs.Cmp.Lexicographic.{slice_cmp}
