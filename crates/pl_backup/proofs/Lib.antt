@@ -1,6 +1,16 @@
 mod Appended
 mod BackupRows
+mod FoundDepths
+mod FoundNodes
+mod FoundWeights
 mod ListSteps
 mod NodeTexts
+mod ReadingSteps
+mod RootSteps
 mod RootTexts
+mod StringWeights
+mod TagSteps
+mod TokenWeights
+mod TreeFormed
 mod TreeRows
+mod ValueWeights

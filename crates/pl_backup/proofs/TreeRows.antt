@@ -70,7 +70,7 @@ numbers : backup_tree
     ++ codes "{\"typeCode\":\"2\",\"type\":\"text/x-moz-place-separator\"},"
     ++ codes "{\"typeCode\":2e0},{\"type\":\"text/x-moz-place-Container\"},{},2,[{\"typeCode\":2}],null"))
     ≡ in_toolbar
-      (plain Folder 0 ∷ plain Separator 0 ∷ plain Folder 0 ∷ plain Separator 0 ∷ plain Separator 0 ∷ []) 8
+    (plain Folder 0 ∷ plain Separator 0 ∷ plain Folder 0 ∷ plain Separator 0 ∷ plain Separator 0 ∷ []) 8
 unfolding serde_json_on_literals digits chars encode is_utf8 listed in_toolbar row plain
 numbers = refl
 
@@ -81,9 +81,9 @@ children : backup_tree
     ++ codes "{\"typeCode\":3,\"children\":[{\"typeCode\":3},1]},"
     ++ codes "{\"typeCode\":2,\"children\":{\"typeCode\":3}},{\"typeCode\":2,\"children\":[1],\"children\":[]}"))
     ≡ in_toolbar
-      (row Folder 0 None (codes "A") 0 0 [] ∷ plain Folder 1 ∷ plain Separator 2 ∷ plain Separator 0
-      ∷ plain Folder 0 ∷ plain Folder 0 ∷ [])
-      1
+    (row Folder 0 None (codes "A") 0 0 [] ∷ plain Folder 1 ∷ plain Separator 2 ∷ plain Separator 0
+    ∷ plain Folder 0 ∷ plain Folder 0 ∷ [])
+    1
 unfolding serde_json_on_literals digits chars encode is_utf8 listed in_toolbar row plain
 children = refl
 
@@ -94,7 +94,7 @@ bookmarks : backup_tree
     (codes "{\"typeCode\":1},{\"typeCode\":1,\"uri\":1},{\"typeCode\":1,\"uri\":\"no url\"},"
     ++ codes "{\"typeCode\":1,\"uri\":\"HTTPS://A.example\",\"children\":[1],\"tags\":\"red, RED ,,Blue\",\"title\":1}"))
     ≡ in_toolbar
-      (row Bookmark 0 (Some (codes "https://a.example/")) [] 0 0 (codes "red" ∷ codes "Blue" ∷ []) ∷ []) 3
+    (row Bookmark 0 (Some (codes "https://a.example/")) [] 0 0 (codes "red" ∷ codes "Blue" ∷ []) ∷ []) 3
 unfolding serde_json_on_literals digits chars encode is_utf8 url_on_literals caseless listed in_toolbar row
 bookmarks = refl
 
@@ -107,10 +107,10 @@ dates : backup_tree
     ++ codes "{\"typeCode\":3,\"dateAdded\":-1,\"lastModified\":1.0},{\"typeCode\":3,\"dateAdded\":\"5\"},"
     ++ codes "{\"typeCode\":3,\"dateAdded\":5,\"title\":\"S\"}"))
     ≡ in_toolbar
-      (row Separator 0 None [] 253_402_300_799_999_999 253_402_300_799_999_999 []
-      ∷ row Separator 0 None [] 0 7 [] ∷ plain Separator 0 ∷ plain Separator 0
-      ∷ row Separator 0 None (codes "S") 5 5 [] ∷ [])
-      0
+    (row Separator 0 None [] 253_402_300_799_999_999 253_402_300_799_999_999 []
+    ∷ row Separator 0 None [] 0 7 [] ∷ plain Separator 0 ∷ plain Separator 0
+    ∷ row Separator 0 None (codes "S") 5 5 [] ∷ [])
+    0
 unfolding serde_json_on_literals digits chars encode is_utf8 listed in_toolbar row plain
 dates = refl
 
@@ -124,13 +124,13 @@ roots : backup_tree
     ++ codes "{\"root\":\"unfiledBookmarksFolder\",\"children\":1},{\"root\":\"tagsFolder\",\"children\":[2]},3,"
     ++ codes "{\"guid\":\"toolbar_____\",\"children\":[{\"typeCode\":2},4]}]}")
     ≡ Ok
-      (record {
-        menu = plain Separator 0 ∷ [];
-        toolbar = plain Separator 0 ∷ plain Folder 0 ∷ [];
-        unfiled = [];
-        mobile = plain Folder 0 ∷ [];
-        skipped = 2;
-      })
+    (record {
+      menu = plain Separator 0 ∷ [];
+      toolbar = plain Separator 0 ∷ plain Folder 0 ∷ [];
+      unfiled = [];
+      mobile = plain Folder 0 ∷ [];
+      skipped = 2;
+    })
 unfolding serde_json_on_literals digits chars encode is_utf8 row plain
 roots = refl
 

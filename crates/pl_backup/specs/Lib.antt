@@ -1,3 +1,5 @@
 pub mod BackupText
 pub mod BackupTree
+pub mod Reading
+pub mod Weights
 pub mod Written

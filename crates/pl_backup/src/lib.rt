@@ -2,10 +2,15 @@
 #![tactic(auto)]
 
 mod error;
+mod fields;
+mod found;
 mod lists;
 mod nodes;
+mod reader;
 mod root;
+mod roots;
 mod writer;
 
 pub use error::{BackupError, Fault};
+pub use reader::read;
 pub use writer::text;
