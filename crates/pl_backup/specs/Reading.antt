@@ -4,7 +4,8 @@ use Rattle.std.specs.Prelude.{Option, Some, None}
 use Rattle.pl_base.specs.declared.item.ItemKind.{ItemKind}
 use Rattle.pl_base.specs.declared.item.ItemKind.TheVariants.{Bookmark, Folder, Separator}
 use Rattle.pl_nbread.specs.declared.tree.Tree.{Tree}
-use Rattle.pl_backup.specs.BackupTree.{above, bookmark_found, kind, node, nothing, one_skipped, top, url}
+use Rattle.pl_backup.specs.BackupTree.{above, bookmark_found, kind, node, nothing, one_skipped}
+use Rattle.pl_backup.specs.BackupTree.{top, url}
 use Rattle.pl_backup.specs.BackupTree as tree
 use Rattle.pl_backup.specs.declared.found.Found.{Found}
 use Rattle.pl_backup.specs.declared.roots.Roots.{Roots}

@@ -1,7 +1,8 @@
 // What was found of each root.
 ghost use Rattle.std.specs.Prelude.{◌≡◌, ◌+◌, ◌^◌, ◌<◌, ◌≤◌, IfOk, OnOk};
 ghost use Rattle.pl_nbread.specs.declared.tree.Tree as declared;
-ghost use Rattle.pl_backup.specs.BackupTree.{empty_tree, items_found, tree_of, with_child, with_front};
+ghost use Rattle.pl_backup.specs.BackupTree.{empty_tree, items_found, tree_of, with_child};
+ghost use Rattle.pl_backup.specs.BackupTree.{with_front};
 ghost use Rattle.pl_backup.specs.Reading.{before, skipped_in};
 ghost use Rattle.pl_backup.specs.Weights.{items_weight, weight};
 ghost use Rattle.serde_json.specs.View.{items_view, view};
