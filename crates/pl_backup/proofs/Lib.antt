@@ -3,6 +3,7 @@ mod BackupRows
 mod FoundDepths
 mod FoundNodes
 mod FoundWeights
+mod LineEnds
 mod ListSteps
 mod NodeTexts
 mod ReadingSteps
@@ -14,3 +15,4 @@ mod TokenWeights
 mod TreeFormed
 mod TreeRows
 mod ValueWeights
+mod ValuesRead
