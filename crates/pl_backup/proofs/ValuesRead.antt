@@ -1,10 +1,15 @@
 -- Values of texts, unsigned numbers, arrays and objects, as the backup has them: their text reads
 -- back as the value.
-use Rattle.std.proofs.Common.{◌≡◌, ◌∙◌, ◌++◌, ◌&&◌, ◌≤◌, ◌<◌, ◌^◌, ℕ, Bool, List, [], true, false, ap, ap₂}
+use Rattle.std.proofs.Common.{◌≡◌, ◌∙◌, ◌++◌, ◌&&◌, ◌≤◌, ◌<◌, ◌^◌, ℕ, Bool, List, [], ◌∷◌, true, false, ap, ap₂}
 use Rattle.std.proofs.Common.{Ordering, Less, Equal, Greater, Some, append-nil, arith, max, option_and_then}
 use Rattle.std.proofs.Common.{option_map, refl, sym, suc}
 use Rattle.std.proofs.lemmas.Bool.{and_from, and_parts}
-use Rattle.std.specs.Prelude.{codes, ⊤}
+use Rattle.std.specs.Prelude.{codes, decimal, ⊤}
+use Rattle.std.specs.Str.{IsUtf8, is_utf8}
+use Rattle.std.proofs.lemmas.Fmt.{IsAscii-decimal}
+use Rattle.std.proofs.lemmas.Str.{IsUtf8-append, IsUtf8-from_ascii, IsUtf8-nil, is_utf8-from_IsUtf8}
+use Rattle.json.proofs.Printed.Utf8.{IsUtf8-are_ascii, IsUtf8-boolean, IsUtf8-quoted, are_ascii}
+use Rattle.json.specs.Print.{quoted}
 use Rattle.std.specs.Cmp.Lexicographic.{slice_cmp}
 use Rattle.std.specs.Ordering.{nat_cmp}
 use Rattle.json.specs.Json as json
@@ -17,7 +22,8 @@ use Rattle.serde_json.specs.Data.{Data, Items, Members, array, boolean, depth, f
 use Rattle.serde_json.specs.Data.{members_depth, negative, no_items, no_members, null, number, object, put, string}
 use Rattle.serde_json.specs.Data.{unsigned}
 use Rattle.serde_json.specs.Read.{max_depth, of_items, of_json, of_members, read}
-use Rattle.serde_json.specs.Written.{compact_text, items_outline, members_outline, outline}
+use Rattle.serde_json.specs.Written.{comma_if, compact_text, items_outline, items_text, members_outline, members_text}
+use Rattle.serde_json.specs.Written.{outline}
 use Rattle.serde_json.proofs.Numbers.{number_of-decimal}
 use Rattle.serde_json.proofs.Texts.{print-outline}
 use Rattle.pl_backup.proofs.LineEnds.{line_read}
@@ -44,7 +50,7 @@ abbrev pub ascend : Members → Bool
 ascend no_members = true
 ascend (member key value more) = are_behind more key && ascend more
 
--- a value with whole numbers that are not negative, and with keys in order
+-- a value of texts and of whole numbers that are not negative, its keys ASCII and in order
 abbrev mutual
   pub ReadsBack : Data → Type 0
   ReadsBack null = ⊤
@@ -52,7 +58,7 @@ abbrev mutual
   ReadsBack (number (unsigned n)) = n < 2 ^ 64
   ReadsBack (number (negative z)) = ⊥
   ReadsBack (number (float x)) = ⊥
-  ReadsBack (string s) = ⊤
+  ReadsBack (string s) = IsUtf8 s
   ReadsBack (array ds) = ItemsReadBack ds
   ReadsBack (object ms) = (ascend ms ≡ true) × MembersReadBack ms
 
@@ -62,7 +68,7 @@ abbrev mutual
 
   pub MembersReadBack : Members → Type 0
   MembersReadBack no_members = ⊤
-  MembersReadBack (member k d ms) = ReadsBack d × MembersReadBack ms
+  MembersReadBack (member k d ms) = (are_ascii k ≡ true) × (ReadsBack d × MembersReadBack ms)
 
 -- ---- numbers and depth
 
@@ -83,7 +89,7 @@ mutual
 
   members_numbers : (ms : Members) → MembersReadBack ms → MembersHaveNumbers (members_outline ms)
   members_numbers no_members h = tt
-  members_numbers (member k d ms) h = (numbers d h.0, members_numbers ms h.1)
+  members_numbers (member k d ms) h = (numbers d h.1.0, members_numbers ms h.1.1)
 
 mutual
   outline_depth : (d : Data) → tree.depth (outline d) ≡ depth d
@@ -176,11 +182,47 @@ mutual
   members_read (member k d ms) found follows ascends h =
       let f = and_parts _ _ follows in
       let a = and_parts _ _ ascends in
-      rw (value_read d h.0, put_last k d found f.0)
-      (members_read ms (joined found (member k d no_members)) (follow_joined k d found ms f.1 a.0) a.1 h.1
+      rw (value_read d h.1.0, put_last k d found f.0)
+      (members_read ms (joined found (member k d no_members)) (follow_joined k d found ms f.1 a.0) a.1 h.1.1
       ∙ ap Some (joined_again k d found ms))
 
--- the text of such a value and a line feed
+-- ---- texts
+
+comma_text : (later : Bool) → IsUtf8 (comma_if later)
+comma_text true = IsUtf8-are_ascii (codes ",") refl
+comma_text false = IsUtf8-nil
+
+mutual
+  value_text : (d : Data) → ReadsBack d → IsUtf8 (compact_text d)
+  value_text null h = IsUtf8-are_ascii (codes "null") refl
+  value_text (boolean b) h = IsUtf8-boolean b
+  value_text (number (unsigned n)) h = IsUtf8-from_ascii (decimal n) (IsAscii-decimal n h)
+  value_text (number (negative z)) h = absurd h
+  value_text (number (float x)) h = absurd h
+  value_text (string s) h = IsUtf8-quoted s h
+  value_text (array ds) h =
+      IsUtf8-append (codes "[") (items_text false ds) (IsUtf8-are_ascii (codes "[") refl) (items_texts false ds h)
+  value_text (object ms) h =
+      IsUtf8-append (codes "{") (members_text false ms) (IsUtf8-are_ascii (codes "{") refl)
+      (members_texts false ms h.1)
+
+  items_texts : (later : Bool) (ds : Items) → ItemsReadBack ds → IsUtf8 (items_text later ds)
+  items_texts later no_items h = IsUtf8-are_ascii (codes "]") refl
+  items_texts later (item d ds) h =
+      IsUtf8-append (comma_if later) (compact_text d ++ items_text true ds) (comma_text later)
+      (IsUtf8-append (compact_text d) (items_text true ds) (value_text d h.0) (items_texts true ds h.1))
+
+  members_texts : (later : Bool) (ms : Members) → MembersReadBack ms → IsUtf8 (members_text later ms)
+  members_texts later no_members h = IsUtf8-are_ascii (codes "}") refl
+  members_texts later (member k d ms) h =
+      let rest : List ℕ = compact_text d ++ members_text true ms in
+      IsUtf8-append (comma_if later) (quoted k ++ 58 ∷ rest) (comma_text later)
+      (IsUtf8-append (quoted k) (58 ∷ rest) (IsUtf8-quoted k (IsUtf8-are_ascii k h.0))
+      (IsUtf8-append (codes ":") rest (IsUtf8-are_ascii (codes ":") refl)
+      (IsUtf8-append (compact_text d) (members_text true ms) (value_text d h.1.0) (members_texts true ms h.1.1))))
+
+-- ---- the text of such a value and a line feed
+
 pub text_read : (d : Data) → ReadsBack d → depth d ≤ max_depth → read (compact_text d ++ codes "\n") ≡ Some d
 text_read d h shallow =
     let j = outline d in
@@ -190,3 +232,8 @@ text_read d h shallow =
     ap (λ o. option_and_then of_json (option_and_then (λ p. json.if_last p.0 p.1) o))
     (ap (json.value max_depth) value ∙ value-json_tokens j max_depth [] (omega (arith, outline_depth d)))
     ∙ value_read d h
+
+pub line_text : (d : Data) → ReadsBack d → is_utf8 (compact_text d ++ codes "\n") ≡ true
+line_text d h =
+    is_utf8-from_IsUtf8 (compact_text d ++ codes "\n")
+    (IsUtf8-append (compact_text d) (codes "\n") (value_text d h) (IsUtf8-are_ascii (codes "\n") refl))

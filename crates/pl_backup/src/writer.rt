@@ -1,7 +1,9 @@
 // The text of a tree.
-ghost use Rattle.std.specs.Prelude.{◌≡◌, ◌++◌, IfOk, OnOk};
+ghost use Rattle.std.specs.Prelude.{◌≡◌, ◌++◌, IfOk, Ok, OnOk};
 ghost use Rattle.std.specs.String.{string_bytes};
 ghost use Rattle.pl_backup.specs.BackupText.{backup_text};
+ghost use Rattle.pl_backup.specs.BackupTree.{backup_tree};
+ghost use Rattle.pl_backup.specs.ReadsBack.{KeepsInJson};
 ghost use Rattle.pl_backup.specs.Written.{backup_end, root_end, root_text};
 
 use crate::lists::push_nodes;
@@ -14,7 +16,9 @@ const START: &str = "{\"children\":[";
 
 /// The backup of a tree, as Firefox writes one. The stack stays small, however deep folders lie.
 pub fn text(alloc: Global, tree: &Tree) -> Result<Txt, NoMemory>
-    ensures { IfOk result (λ text. text ≡ backup_text tree.now) }
+    ensures text { IfOk result (λ text. text ≡ backup_text tree.now) }
+    ensures reads_back { IfOk result (λ text. KeepsInJson tree.now
+        → backup_tree text ≡ Ok tree.now) }
 {
     let mut file = String::new(alloc);
     push_root(

@@ -1,9 +1,12 @@
-use Rattle.std.proofs.Common.{◌∙◌, ◌++◌, List, ℕ, ap}
+use Rattle.std.proofs.Common.{◌≡◌, ◌∙◌, ◌++◌, List, ℕ, ap}
 use Rattle.std.specs.Prelude.{codes}
 use Rattle.std.specs.String.{string_bytes}
+use Rattle.pl_backup.specs.BackupText.{backup_text}
+use Rattle.pl_backup.specs.BackupTree.{backup_tree}
 use Rattle.pl_backup.specs.Written.{backup_end, children_start, root_text}
 use Rattle.pl_backup.proofs.Appended.{both}
 use Rattle.pl_backup.proofs.RootTexts.{backup_is}
+use Rattle.pl_backup.proofs.TreeRead.{backup_read}
 use Rattle.pl_backup.proofs.writer.text.Goals as goal
 
 pub returns : goal.returns
@@ -24,4 +27,6 @@ returns c =
     let to_mobile = both s0 s3 s4 (menu ++ toolbar ++ unfiled) mobile to_unfiled c.in_ok-push_root-4.ensures in
     let roots : List ℕ = menu ++ toolbar ++ unfiled ++ mobile in
     let to_end = both s0 s4 s5 roots backup_end to_mobile c.in_ok-push_end.ensures in
-    c.from.ensures ∙ to_end ∙ ap (λ (x : List ℕ). x ++ (roots ++ backup_end)) c.new-file.ensures.bytes ∙ backup_is tree
+    let is : c.from.result ≡ backup_text tree =
+    c.from.ensures ∙ to_end ∙ ap (λ (x : List ℕ). x ++ (roots ++ backup_end)) c.new-file.ensures.bytes ∙ backup_is tree in
+    record { text = is; reads_back = λ kept. ap backup_tree is ∙ backup_read tree kept }
