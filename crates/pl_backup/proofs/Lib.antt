@@ -3,6 +3,7 @@ mod BackupRows
 mod FoundDepths
 mod FoundNodes
 mod FoundWeights
+mod KeptRows
 mod LineEnds
 mod ListSteps
 mod ListsRead

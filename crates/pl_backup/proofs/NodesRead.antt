@@ -20,7 +20,7 @@ use Rattle.pl_nbread.specs.Listed.{IsOwn}
 use Rattle.pl_nbread.specs.WellFormed.{is_bookmark, is_date, is_formed}
 use Rattle.pl_backup.specs.BackupText.{dates, titled}
 use Rattle.pl_backup.specs.BackupText as spec
-use Rattle.pl_backup.specs.BackupTree.{Found, above, added, bookmark_found, items_found, kind, modified, nothing}
+use Rattle.pl_backup.specs.BackupTree.{above, added, bookmark_found, items_found, kind, modified, nothing}
 use Rattle.pl_backup.specs.BackupTree.{if_date, object_found, title, url, value_found}
 use Rattle.pl_backup.specs.BackupTree as read
 use Rattle.pl_backup.specs.ReadsBack.{HasTexts, deepest, is_shallow}

@@ -7,8 +7,8 @@ use Rattle.pl_nbread.specs.declared.tree.Tree.{Tree}
 use Rattle.pl_nbread.specs.Listed.{IsListed, IsOwn}
 use Rattle.pl_nbread.specs.WellFormed.{is_bookmark}
 
--- the depth at which every node can be read: with its own two, a folder there is nested in 126
--- objects and arrays, of which 127 are read
+-- no node stands deeper: of objects and arrays in one another 127 are read, and a folder here ends
+-- 126 of them
 abbrev pub deepest : ℕ
 deepest = 60
 
