@@ -36,7 +36,7 @@ empty = refl
 
 -- ---- kinds
 
--- a value in a list, and another in the children of a folder there
+-- a backup with these values in the list of the toolbar
 listed : List ℕ → List ℕ
 listed values = codes "{\"children\":[{\"guid\":\"toolbar_____\",\"children\":[" ++ values ++ codes "]}]}"
 
