@@ -28,11 +28,11 @@ pub fn behind_lines(alloc: Global, store: &MemDesk, lines: &[&[u8]]) -> Result<V
     let mut all = Vec::new(alloc);
     let mut said = Vec::new(alloc);
     let mut desk = copied(alloc, store, &[])?;
-    all.push(left(alloc, &said, &desk)?)?;
+    all.push(left_by(alloc, &said, &desk)?)?;
     for line in lines {
         desk = done(alloc, &desk, RUN, line)?;
         said.extend_from_slice(desk.said())?;
-        all.push(left(alloc, &said, &desk)?)?;
+        all.push(left_by(alloc, &said, &desk)?)?;
     }
     Ok(all)
 }
@@ -45,13 +45,13 @@ pub fn behind_words(
     bytes: &[u8],
 ) -> Result<Vec<Left>, Fail> {
     let mut all = Vec::new(alloc);
-    all.push(left(alloc, &[], store)?)?;
+    all.push(left_by(alloc, &[], store)?)?;
     let desk = done(alloc, store, words, bytes)?;
-    all.push(left(alloc, desk.said(), &desk)?)?;
+    all.push(left_by(alloc, desk.said(), &desk)?)?;
     Ok(all)
 }
 
-fn left(alloc: Global, said: &[u8], desk: &MemDesk) -> Result<Left, Fail> {
+fn left_by(alloc: Global, said: &[u8], desk: &MemDesk) -> Result<Left, Fail> {
     Ok(Left {
         said: said.to_vec(alloc)?,
         told: told(alloc, desk)?,
@@ -93,7 +93,7 @@ pub fn expect_left(
 ) -> Result<(), Fail> {
     let mut desk = copied(alloc, store, &[])?;
     let status = run_on(alloc, words, bytes, &mut desk);
-    let now = left(alloc, desk.said(), &desk)?;
+    let now = left_by(alloc, desk.said(), &desk)?;
     assert!(rt; may_end(status, &now, all), "status {}", status.number());
     Ok(())
 }
