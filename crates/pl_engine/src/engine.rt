@@ -18,13 +18,14 @@ ghost use Rattle.pl_engine.specs.Returns.{Returns};
 ghost use Rattle.pl_visiting.specs.NewDay.{ReadsFew};
 ghost use Rattle.pl_visiting.specs.VisitPages.{AddsFewPages};
 
+use crate::outline::tree_of;
 use crate::parts::Parts;
 use crate::perform::perform;
 use pl_base::{NoMemory, Refusal, Rows, Steps, Touched};
 use pl_changes::known_of;
 use pl_known::Known;
 use pl_nbread::Tree;
-use pl_outline::{tree, whole_tree};
+use pl_outline::whole_tree;
 use pl_step::{Command, Reply, StepError};
 use std::alloc::Global;
 use std::sync::ledger::Ledger;
@@ -192,7 +193,7 @@ impl<R: Rows + Drop> Engine<R> {
         ensures plain { IfOk result IsPlain }
         ensures returns { IfOk result (λ tree. (limit : ℕ) → Returns limit tree) }
     {
-        tree(self.alloc, &self.rows, steps)
+        tree_of(self.alloc, &self.rows, steps)
     }
 
     /// The same with all that the store has of them.

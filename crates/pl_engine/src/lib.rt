@@ -2,8 +2,10 @@
 #![tactic(auto)]
 
 mod engine;
+mod outline;
 mod parts;
 mod perform;
 
 pub use engine::Engine;
+pub use outline::tree_of;
 pub use parts::Parts;

@@ -5,6 +5,7 @@ use Rattle.std.specs.Prelude.{⊤, IfOk, IsErrAnd}
 use Rattle.std.proofs.lemmas.Bool.{both_ways}
 use Rattle.std.proofs.lemmas.Option.{MatchOption-at_some, same_Some}
 use Rattle.std.proofs.lemmas.Result.{err_from_is_err_and}
+use Rattle.pl_base.specs.Rows.{store_of}
 use Rattle.pl_base.specs.Store.{Store}
 use Rattle.pl_base.specs.Touched.{page_size}
 use Rattle.pl_base.proofs.Truths.{some_there}
@@ -19,14 +20,19 @@ use Rattle.pl_gate.specs.Gate.{has_gate, is_set, laid}
 use Rattle.pl_gate.specs.Recovery.{IsSettledAs, StandsAs, recovery_bytes}
 use Rattle.pl_gate.specs.States.{IsClosed}
 use Rattle.pl_known.specs.Known.{Knows}
+use Rattle.pl_linked.specs.declared.linked.Linked.{Linked}
+use Rattle.pl_linked.specs.Linked.{bytes_of, kept_of}
 use Rattle.pl_reading.specs.File.{HoldStore}
 use Rattle.pl_store.specs.declared.ended.Ended.{Ended}
 use Rattle.pl_store.specs.declared.ended.Ended.TheVariants as ended
+use Rattle.pl_store.specs.declared.reader.Reader.{Reader}
 use Rattle.pl_store.specs.declared.session.Session.{Session}
-use Rattle.pl_store.specs.Ending.{Opens, OpensStore, RefusesFile}
+use Rattle.pl_store.specs.Ending.{OpensStore, OpensToRead, RefusesFile}
 use Rattle.pl_store.specs.Errors.{ended_by_gate}
 use Rattle.pl_store.specs.Reading.{HoldNone, IsReadFrom, EndsReading}
-use Rattle.pl_store.specs.Session.{Stands, StandsAlike, session_bytes, session_store}
+use Rattle.pl_store.specs.Session.{Stands, StandsAlike, session_store}
+use Rattle.pl_store.proofs.OpenedAgain.{one_of}
+use Rattle.pl_store.proofs.StandsLaws.{stands_by}
 
 -- files that stand for the same pages stand for the same store
 pub stands_alike : (file later : List ℕ) → StandsAs file later → StandsAlike file later
@@ -79,7 +85,7 @@ writes_none file old new unset no_less no_more = let most = rw unset at no_more 
 -- ---- how an opening ends, from the settling of the file and the reading behind it
 
 -- a fault of the device within the settling ends it as such a fault
-pub fault_ends : (error : GateError) (result : Result Session Ended)
+pub fault_ends : (error : GateError) (result : Result Reader Ended)
     → IsErrAnd result (λ e. e ≡ ended_by_gate error)
     → ◌≡◌ {A = Result ⊤ GateError} (Err error) (Err gate.DeviceFault) → result ≡ Err ended.DeviceFault
 fault_ends error result is fault =
@@ -90,29 +96,29 @@ module _ {D : Type 0} (desk : Ghosts D) (told : (now : D) → IsSome (desk.held 
     (old mid new : D) (settled : (file : List ℕ) → desk.held old ≡ Some file → Rests desk mid (IsSettledAs file))
     (good : IfSome (desk.held old) (λ file. has_gate file ≡ true)) (line : KeepsLine desk old mid)
     (reads : OnlyReads desk mid new) where
-  opens_store : (session : Session) → IfSome (desk.held mid) (λ file. IsReadFrom session (drop page_size file))
-      → OpensStore desk session old new
-  opens_store session read = record {
+  opens_store : (own : Linked) → IfSome (desk.held mid) (λ file. IsReadFrom own (drop page_size file))
+      → OpensStore desk own old new
+  opens_store own read = record {
     stands = if_some (desk.held old) _ (λ file is. let has = read_of file is in
         stands_settled file (settled file is).file (settled file is).has (MatchOption-at_some _ _ file is good)
-        (session_store session) has.stands);
+        (store_of (kept_of own)) has.stands);
     only = if_some (desk.held old) _ (λ file is store stands.
         (read_of file is).only store (settled_form file (settled file is).file (settled file is).has store stands));
     settled = λ file is. record {
-      rests = still_rests desk mid new (IsClosed (session_bytes session)) reads.file.held reads.file.left (record {
+      rests = still_rests desk mid new (IsClosed (bytes_of own)) reads.file.held reads.file.left (record {
         file = (settled file is).file;
         is_held = (settled file is).is_held;
         only = (settled file is).only;
         has =
-            closed file (settled file is).file (settled file is).has (session_bytes session)
+            closed file (settled file is).file (settled file is).has (bytes_of own)
             (MatchOption-at_some _ _ file is good) (read_of file is).begins;
       });
-      stands = (read_of file is).own;
+      stands = (read_of file is).own_form;
     };
   }
     where
       read_of : (file : List ℕ) (is : desk.held old ≡ Some file)
-          → IsReadFrom session (drop page_size (settled file is).file)
+          → IsReadFrom own (drop page_size (settled file is).file)
       read_of file is = MatchOption-at_some _ _ (settled file is).file (settled file is).is_held read
 
   refuses_file : IfSome (desk.held mid) (λ file. HoldNone (drop page_size file)) → RefusesFile desk old new
@@ -133,16 +139,29 @@ module _ {D : Type 0} (desk : Ghosts D) (told : (now : D) → IsSome (desk.held 
         subst (IsSettledAs file) (same_Some rests.file later (sym (reads.file.held ∙ rests.is_held) ∙ now)) rests.has);
   }
 
-  pub opens : (limit : ℕ) (result : Result Session Ended) → EndsReading limit (desk.held mid) result
-      → Opens desk limit result old new
-  opens limit (Ok session) read = (read.0, opens_store session read.1)
-  opens limit (Err ended.DeviceFault) read = tt
-  opens limit (Err ended.NoMemory) read =
+  pub opens : (result : Result Reader Ended) → EndsReading (desk.held mid) result → OpensToRead desk result old new
+  opens (Ok reader) read = opens_store reader.rows read
+  opens (Err ended.DeviceFault) read = tt
+  opens (Err ended.NoMemory) read =
       λ file is. still_rests desk mid new (StandsAlike file) reads.file.held reads.file.left
       (rests_less desk mid (IsSettledAs file) (StandsAlike file) (settled file is)
       (λ later has. stands_alike file later has.stands))
-  opens limit (Err ended.NotAStore) none = refuses_file none
-  opens limit (Err (ended.NotEmpty len)) read = read
+  opens (Err ended.NotAStore) none = refuses_file none
+  opens (Err (ended.NotEmpty len)) read = read
+
+-- a file that holds the store that it stood for stands for that store alone
+pub opened_alike : {D : Type 0} (desk : Ghosts D) (own : Linked) (old new : D) → OpensStore desk own old new
+    → (file : List ℕ) → desk.held old ≡ Some file → Rests desk new (StandsAlike file)
+opened_alike desk own old new opens file is =
+    let settled = opens.settled file is in
+    let held = MatchOption-at_some _ _ file is opens.stands in
+    let only = MatchOption-at_some _ _ file is opens.only in
+    let still : (later : List ℕ) → IsClosed (bytes_of own) later → Stands later (store_of (kept_of own)) =
+    λ later closed. stands_by (bytes_of own) later (store_of (kept_of own)) settled.stands closed.holds in
+    rests_less desk new (IsClosed (bytes_of own)) (StandsAlike file) settled.rests (λ later closed store. (
+      λ stands. subst (Stands later) (sym (only store stands)) (still later closed),
+      λ stands. subst (Stands file) (one_of later (store_of (kept_of own)) store (still later closed) stands) held,
+    ))
 
 -- what is known of a session's pages is what its store tells
 pub session_knows : (result : Result Session Ended)

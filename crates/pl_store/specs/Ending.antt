@@ -1,6 +1,7 @@
 -- How the making of a store and the opening of a file end.
 use Rattle.std.specs.Prelude.{◌≡◌, ⊤, ℕ, ◌<◌, true, false, List, [], Some, length, Result, Ok, Err}
 use Rattle.std.specs.Prelude.{IfSome}
+use Rattle.pl_base.specs.Rows.{store_of}
 use Rattle.pl_base.specs.Store.{Store, opening}
 use Rattle.pl_base.specs.Live.{slot_limit}
 use Rattle.pl_desk.specs.Calls.{KeepsFile}
@@ -8,10 +9,13 @@ use Rattle.pl_desk.specs.Shown.{AtAnyMoment, Rests}
 use Rattle.pl_desk.specs.declared.desk.Desk.{Ghosts}
 use Rattle.pl_gate.specs.Gate.{has_gate, is_set}
 use Rattle.pl_gate.specs.Recovery.{IsSettledAs}
-use Rattle.pl_store.specs.Session.{IsSettled, LeavesOneOf, Stands, StandsAlike, StandsForOneOf}
-use Rattle.pl_store.specs.Session.{session_limit, session_store}
+use Rattle.pl_linked.specs.declared.linked.Linked.{Linked}
+use Rattle.pl_linked.specs.Linked.{kept_of}
+use Rattle.pl_store.specs.Session.{IsSettled, IsSettledFor, LeavesOneOf, Stands, StandsAlike}
+use Rattle.pl_store.specs.Session.{StandsForOneOf, session_limit, session_store}
 use Rattle.pl_store.specs.declared.ended.Ended.{Ended}
 use Rattle.pl_store.specs.declared.ended.Ended.TheVariants as ended
+use Rattle.pl_store.specs.declared.reader.Reader.{Reader}
 use Rattle.pl_store.specs.declared.session.Session.{Session}
 
 -- ---- files
@@ -60,13 +64,12 @@ Makes desk (Err (ended.NotEmpty len)) old new = FindsBytes desk len old new
 
 -- ---- a file that is opened
 
--- the session is that of the one store that the file stands for, which holds it still
-pub record OpensStore {D : Type 0} (desk : Ghosts D) (session : Session) (old new : D) : Type 0
-  where
-    pub stands : IfSome (desk.held old) (λ file. Stands file (session_store session))
-    pub only : IfSome (desk.held old)
-        (λ file. (store : Store) → Stands file store → store ≡ session_store session)
-    pub settled : (file : List ℕ) → desk.held old ≡ Some file → IsSettled desk session new
+-- the rows are those of the one store that the file stands for, which holds it still
+pub record OpensStore {D : Type 0} (desk : Ghosts D) (own : Linked) (old new : D) : Type 0 where
+  pub stands : IfSome (desk.held old) (λ file. Stands file (store_of (kept_of own)))
+  pub only : IfSome (desk.held old)
+      (λ file. (store : Store) → Stands file store → store ≡ store_of (kept_of own))
+  pub settled : (file : List ℕ) → desk.held old ≡ Some file → IsSettledFor desk own new
 
 -- The file stands for no store, and still for none; one that no stop left is as it was. Of a good
 -- journal the images are in their pages then, and the gate is not set.
@@ -78,15 +81,24 @@ pub record RefusesFile {D : Type 0} (desk : Ghosts D) (old new : D) : Type 0 whe
   pub installed : (file : List ℕ) → desk.held old ≡ Some file → has_gate file ≡ true
       → IfSome (desk.held new) (IsSettledAs file)
 
--- how an opening of a file ends; it never tells how many bytes there are
+-- how an opening of a file fails; it never tells how many bytes there are
+abbrev pub FailsToOpen : {D : Type 0} (desk : Ghosts D) → Ended → D → D → Type 0
+FailsToOpen desk ended.DeviceFault old new = ⊤
+FailsToOpen desk ended.NoMemory old new =
+    (file : List ℕ) → desk.held old ≡ Some file → Rests desk new (StandsAlike file)
+FailsToOpen desk ended.NotAStore old new = RefusesFile desk old new
+FailsToOpen desk (ended.NotEmpty len) old new = ⊥
+
+-- how an opening of a file to be read ends
+abbrev pub OpensToRead : {D : Type 0} (desk : Ghosts D) → Result Reader Ended → D → D → Type 0
+OpensToRead desk (Ok reader) old new = OpensStore desk reader.rows old new
+OpensToRead desk (Err ended) old new = FailsToOpen desk ended old new
+
+-- how an opening of a file for commands ends
 abbrev pub Opens : {D : Type 0} (desk : Ghosts D) → ℕ → Result Session Ended → D → D → Type 0
 Opens desk limit (Ok session) old new =
-    (session_limit session ≡ limit) × OpensStore desk session old new
-Opens desk limit (Err ended.DeviceFault) old new = ⊤
-Opens desk limit (Err ended.NoMemory) old new =
-    (file : List ℕ) → desk.held old ≡ Some file → Rests desk new (StandsAlike file)
-Opens desk limit (Err ended.NotAStore) old new = RefusesFile desk old new
-Opens desk limit (Err (ended.NotEmpty len)) old new = ⊥
+    (session_limit session ≡ limit) × OpensStore desk session.engine.rows old new
+Opens desk limit (Err ended) old new = FailsToOpen desk ended old new
 
 -- ---- openings that are stopped
 

@@ -1,14 +1,16 @@
--- What an opening reads of a file, and what a session is to the bytes that it was read from.
+-- What an opening reads of a file, and what rows are to the bytes that they were read from.
 use Rattle.std.specs.Prelude.{◌≡◌, ⊤, ◌≤◌, ℕ, ◌*◌, List, length, take, drop, Option, Some, None}
 use Rattle.std.specs.Prelude.{Result, Ok, Err, IfSome}
+use Rattle.pl_base.specs.Rows.{store_of}
 use Rattle.pl_base.specs.Store.{Store}
 use Rattle.pl_base.specs.Touched.{page_size}
+use Rattle.pl_linked.specs.declared.linked.Linked.{Linked}
+use Rattle.pl_linked.specs.Linked.{bytes_of, kept_of}
 use Rattle.pl_reading.specs.File.{HoldStore, file_header, front_bytes, most_pages}
 use Rattle.pl_record.specs.Form.{StandsFor}
 use Rattle.pl_store.specs.declared.ended.Ended.{Ended}
 use Rattle.pl_store.specs.declared.ended.Ended.TheVariants as ended
-use Rattle.pl_store.specs.declared.session.Session.{Session}
-use Rattle.pl_store.specs.Session.{session_bytes, session_limit, session_store}
+use Rattle.pl_store.specs.declared.reader.Reader.{Reader}
 
 -- the bytes from page 1 on stand for no store
 abbrev pub HoldNone : List ℕ → Type 0
@@ -30,20 +32,19 @@ pub record IsStoreOf (bytes front : List ℕ) : Type 0 where
   pub begins : take (length front) bytes ≡ front
   pub whole : front_bytes front ≡ front_bytes bytes
 
--- the bytes from page 1 on stand for the session's store and for no other, and begin with its own
--- bytes
-pub record IsReadFrom (session : Session) (bytes : List ℕ) : Type 0 where
-  pub stands : HoldStore bytes (session_store session)
-  pub only : (store : Store) → HoldStore bytes store → store ≡ session_store session
-  pub begins : take (length (session_bytes session)) bytes ≡ session_bytes session
-  pub own : StandsFor (session_bytes session) (session_store session)
+-- the bytes from page 1 on stand for the store of these rows and for no other, and begin with their
+-- own bytes
+pub record IsReadFrom (own : Linked) (bytes : List ℕ) : Type 0 where
+  pub stands : HoldStore bytes (store_of (kept_of own))
+  pub only : (store : Store) → HoldStore bytes store → store ≡ store_of (kept_of own)
+  pub begins : take (length (bytes_of own)) bytes ≡ bytes_of own
+  pub own_form : StandsFor (bytes_of own) (store_of (kept_of own))
 
 -- how the reading of a store ends, of a file whose gate is not set; it never tells how many bytes
 -- there are
-abbrev pub EndsReading : ℕ → Option (List ℕ) → Result Session Ended → Type 0
-EndsReading limit held (Ok session) =
-    (session_limit session ≡ limit) × IfSome held (λ file. IsReadFrom session (drop page_size file))
-EndsReading limit held (Err ended.DeviceFault) = ⊤
-EndsReading limit held (Err ended.NoMemory) = ⊤
-EndsReading limit held (Err ended.NotAStore) = IfSome held (λ file. HoldNone (drop page_size file))
-EndsReading limit held (Err (ended.NotEmpty len)) = ⊥
+abbrev pub EndsReading : Option (List ℕ) → Result Reader Ended → Type 0
+EndsReading held (Ok reader) = IfSome held (λ file. IsReadFrom reader.rows (drop page_size file))
+EndsReading held (Err ended.DeviceFault) = ⊤
+EndsReading held (Err ended.NoMemory) = ⊤
+EndsReading held (Err ended.NotAStore) = IfSome held (λ file. HoldNone (drop page_size file))
+EndsReading held (Err (ended.NotEmpty len)) = ⊥

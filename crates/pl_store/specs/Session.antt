@@ -8,11 +8,13 @@ use Rattle.pl_desk.specs.Shown.{Rests}
 use Rattle.pl_desk.specs.declared.desk.Desk.{Ghosts}
 use Rattle.pl_gate.specs.Gate.{commit_bytes, has_gate, laid}
 use Rattle.pl_gate.specs.States.{IsClosed}
+use Rattle.pl_linked.specs.declared.linked.Linked.{Linked}
 use Rattle.pl_linked.specs.Linked.{bytes_of, kept_of}
 use Rattle.pl_reading.specs.File.{HoldStore}
 use Rattle.pl_record.specs.Form.{StandsFor}
 use Rattle.pl_store.specs.declared.memory.Memory.{Memory}
 use Rattle.pl_store.specs.declared.pending.Pending.{Pending}
+use Rattle.pl_store.specs.declared.reader.Reader.{Reader}
 use Rattle.pl_store.specs.declared.session.Prepared.{Prepared}
 use Rattle.pl_store.specs.declared.session.Session.{Session}
 
@@ -51,6 +53,16 @@ memory_store memory = rows.store_of (kept_of memory.engine.rows)
 abbrev pub memory_limit : Memory → ℕ
 memory_limit memory = memory.engine.limit
 
+-- ---- a store that is read
+
+-- the reader's store
+abbrev pub reader_store : Reader → Store
+reader_store reader = rows.store_of (kept_of reader.rows)
+
+-- the bytes of its store from page 1 on
+abbrev pub reader_bytes : Reader → List ℕ
+reader_bytes reader = bytes_of reader.rows
+
 -- ---- a session
 
 -- the session's store
@@ -65,11 +77,19 @@ session_bytes session = bytes_of session.engine.rows
 abbrev pub session_limit : Session → ℕ
 session_limit session = session.engine.limit
 
--- The desk's file holds the session's store: its gate is not set, it begins with the store's pages,
--- and a stop leaves just what a read gives.
-pub record IsSettled {D : Type 0} (desk : Ghosts D) (session : Session) (now : D) : Type 0 where
-  pub rests : Rests desk now (IsClosed (session_bytes session))
-  pub stands : StandsFor (session_bytes session) (session_store session)
+-- The desk's file holds the store of these rows: its gate is not set, it begins with the store's
+-- pages, and a stop leaves just what a read gives.
+pub record IsSettledFor {D : Type 0} (desk : Ghosts D) (own : Linked) (now : D) : Type 0 where
+  pub rests : Rests desk now (IsClosed (bytes_of own))
+  pub stands : StandsFor (bytes_of own) (rows.store_of (kept_of own))
+
+-- it holds the reader's store
+abbrev pub IsSettledToRead : {D : Type 0} (desk : Ghosts D) → Reader → D → Type 0
+IsSettledToRead desk reader now = IsSettledFor desk reader.rows now
+
+-- it holds the session's store
+abbrev pub IsSettled : {D : Type 0} (desk : Ghosts D) → Session → D → Type 0
+IsSettled desk session now = IsSettledFor desk session.engine.rows now
 
 -- ---- a prepared command
 

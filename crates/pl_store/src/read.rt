@@ -1,17 +1,15 @@
 // What an opening reads of a file.
-ghost use Rattle.std.specs.Prelude.{◌≡◌, ◌≤◌, ℕ, List, Err, Some, drop, IfOk};
+ghost use Rattle.std.specs.Prelude.{◌≡◌, ℕ, List, Err, Some, drop, IfOk};
 ghost use Rattle.pl_base.specs.Touched.{page_size};
-ghost use Rattle.pl_base.specs.Live.{slot_limit};
 ghost use Rattle.pl_desk.specs.Calls.{OnlyReads};
 ghost use Rattle.pl_desk.specs.Counts.{Counts, CountsAt};
 ghost use Rattle.pl_desk.specs.Settling.{Settles};
 ghost use Rattle.pl_gate.specs.FileCalls.{CallsFile};
 ghost use Rattle.pl_gate.specs.Recovery.{SettlesGate, StandsAs};
 ghost use Rattle.pl_store.specs.Reading.{HoldNone, IsReadFrom, EndsReading, TellsPages};
-ghost use Rattle.pl_store.specs.Session.{session_limit};
 
 use crate::ended::Ended;
-use crate::session::Session;
+use crate::reader::Reader;
 use crate::uncounted;
 use pl_base::{CheckError, PAGE_SIZE};
 use pl_desk::{Desk, Failed};
@@ -59,29 +57,21 @@ fn store_pages<D: Desk>(desk: &mut D) -> Result<Option<u32>, Failed>
     Ok(Some(pages))
 }
 
-/// A session of the store that the bytes of a file stand for where its gate is not set.
-fn session_of(alloc: Global, bytes: Vec<u8>, limit: u32) -> Result<Session, CheckError>
-    requires { limit ≤ slot_limit }
-    ensures read { IfOk result (λ session. IsReadFrom session (drop page_size bytes.items)) }
-    ensures limit { IfOk result (λ session. session_limit session ≡ limit) }
+/// What reads the store that the bytes of a file stand for where its gate is not set.
+fn reader_of(alloc: Global, bytes: Vec<u8>) -> Result<Reader, CheckError>
+    ensures read { IfOk result (λ reader. IsReadFrom reader.rows (drop page_size bytes.items)) }
     ensures not_a_store { result ≡ Err CheckError.NotAStore
         → HoldNone (drop page_size bytes.items) }
 {
     let rows = uncounted::check::<Brand>(Blank::new(1), alloc, bytes)?;
-    let engine = uncounted::over::<Brand>(Blank::new(1), alloc, rows, limit)?;
-    Ok(Session { engine })
+    Ok(Reader { alloc, rows })
 }
 
-/// A session of the store that a file stands for where its gate is not set. The header's page is
+/// What reads the store that a file stands for where its gate is not set. The header's page is
 /// read, and then the store's pages, into a vector with room for some more. What lies behind them
 /// is not read.
-pub(crate) fn read_session<D: Desk>(
-    alloc: Global,
-    desk: &mut D,
-    limit: u32,
-) -> Result<Session, Ended>
-    requires { limit ≤ slot_limit }
-    ensures ends { EndsReading limit (D.held desk.old) result }
+pub(crate) fn read_store<D: Desk>(alloc: Global, desk: &mut D) -> Result<Reader, Ended>
+    ensures ends { EndsReading (D.held desk.old) result }
     ensures reads { OnlyReads D.Desk desk.old desk.new }
     ensures counted { CountsAt (result ≡ Err Ended.DeviceFault)
         (D.device_faults desk.old) (D.device_faults desk.new) }
@@ -92,5 +82,5 @@ pub(crate) fn read_session<D: Desk>(
     let mut bytes = Vec::with_capacity(alloc, PAGE_SIZE * (pages as usize + ROOM))?;
     bytes.resize(PAGE_SIZE * pages as usize, 0)?;
     desk.read_at(0, &mut bytes)?;
-    Ok(session_of(alloc, bytes, limit)?)
+    Ok(reader_of(alloc, bytes)?)
 }

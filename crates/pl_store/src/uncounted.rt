@@ -2,6 +2,7 @@
 // for `Brand`, and its `Invariants.antt` says that the ledger is the blank's.
 ghost use Rattle.std.specs.Prelude.{◌≡◌, ◌≤◌, ℕ, List, false, length, Err, IfOk, IfSome, OnOk};
 ghost use Rattle.std.specs.List.{All};
+ghost use Rattle.pl_base.specs.Good.{IsGood};
 ghost use Rattle.pl_base.specs.Live.{slot_limit};
 ghost use Rattle.pl_base.specs.Rows.{IsSound, store_of};
 ghost use Rattle.pl_base.specs.Store.{Store};
@@ -124,7 +125,36 @@ pub(crate) fn touched<L: Ledger>(
     engine.touched(&mut Steps::<L>::none(blank))
 }
 
-/// The bookmarks of the store.
+/// The bookmarks of the store that the rows hold.
+pub(crate) fn tree_of<L: Ledger>(
+    blank: Blank,
+    alloc: Global,
+    rows: &Linked,
+) -> Result<Tree, NoMemory>
+    requires blank { IsBlankOf L.Ledger blank }
+    requires good { IsGood (store_of (kept_of rows.now)) }
+    ensures tree { IfOk result (λ tree. tree ≡ bookmarks (store_of (kept_of rows.now))) }
+    ensures plain { IfOk result IsPlain }
+    ensures returns { IfOk result (λ tree. (limit : ℕ) → Returns limit tree) }
+{
+    pl_engine::tree_of(alloc, rows, &mut Steps::<L>::none(blank))
+}
+
+/// The same with all that the store has of them.
+pub(crate) fn whole_tree_of<L: Ledger>(
+    blank: Blank,
+    alloc: Global,
+    rows: &Linked,
+) -> Result<Tree, NoMemory>
+    requires blank { IsBlankOf L.Ledger blank }
+    requires good { IsGood (store_of (kept_of rows.now)) }
+    ensures tree { IfOk result (λ tree. tree ≡ whole (store_of (kept_of rows.now))) }
+    ensures whole { IfOk result IsWhole }
+{
+    pl_outline::whole_tree(alloc, rows, &mut Steps::<L>::none(blank))
+}
+
+/// The bookmarks of an engine's store.
 pub(crate) fn tree<L: Ledger>(blank: Blank, engine: &Engine<Linked>) -> Result<Tree, NoMemory>
     requires blank { IsBlankOf L.Ledger blank }
     ensures tree { IfOk result (λ tree. tree ≡ bookmarks (store_of (kept_of engine.now.rows))) }

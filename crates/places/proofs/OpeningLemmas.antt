@@ -19,7 +19,6 @@ use Rattle.pl_step.specs.Run.{replies, after}
 use Rattle.pl_step.specs.Step.{step}
 use Rattle.pl_store.specs.declared.ended.Ended.{Ended}
 use Rattle.pl_store.specs.declared.ended.Ended.TheVariants as ended
-use Rattle.pl_store.specs.declared.session.Session.{Session}
 use Rattle.pl_store.specs.Session.{Stands, StandsAlike}
 use Rattle.pl_store.specs.Keeper.{Keeps}
 use Rattle.pl_store.specs.Ending.{Opens}
@@ -166,11 +165,11 @@ script_may_end task (Err stop.NoMemory) s reads in_file is = subst (EndsTask tas
 script_may_end task (Err stop.TooLong) s reads in_file is = subst (EndsTask task) (sym is) reads
 
 -- a store that was opened is no fault of the device, and such a fault is told by the status
-pub no_fault : (session : Session) → ◌≡◌ {A = Result Session Ended} (Ok session) (Err ended.DeviceFault) → ⊥
-no_fault session is = absurd (cc)
+pub no_fault : {T : Type 0} (opened : T) → ◌≡◌ {A = Result T Ended} (Ok opened) (Err ended.DeviceFault) → ⊥
+no_fault opened is = absurd (cc)
 
-pub fault_told : (e : Ended) (s : Status) → s ≡ without_session e
-    → ◌≡◌ {A = Result Session Ended} (Err e) (Err ended.DeviceFault) → s ≡ status.DeviceFault
+pub fault_told : {T : Type 0} (e : Ended) (s : Status) → s ≡ without_session e
+    → ◌≡◌ {A = Result T Ended} (Err e) (Err ended.DeviceFault) → s ≡ status.DeviceFault
 fault_told e s is fault = let same : e ≡ ended.DeviceFault = cc in is ∙ ap without_session same
 
 pub no_refusal : (end : Result ⊤ Stop) (s : Status) → EndsAs end s → s ≡ status.NotAStore → ⊥

@@ -2,7 +2,6 @@
 use Rattle.std.proofs.Common.{◌≡◌, ◌<◌, ℕ, List, ◌++◌, length, take, Some, Err}
 use Rattle.std.proofs.Common.{ap, append-nil, inl, inr, subst, sym, ◌∙◌, ⊎_elim}
 use Rattle.std.proofs.lemmas.Option.{MatchOption-at_some, same_Some}
-use Rattle.pl_base.specs.Live.{slot_limit}
 use Rattle.pl_base.specs.Store.{Store}
 use Rattle.pl_desk.proofs.AnyMoment.{CountsNow, rests_less, still_rests}
 use Rattle.pl_desk.specs.Calls.{KeepsFile}
@@ -13,9 +12,9 @@ use Rattle.pl_desk.specs.Shown.{Rests, ShowsOnly, Unsaid}
 use Rattle.pl_desk.specs.declared.desk.Desk.{Ghosts}
 use Rattle.pl_store.specs.declared.ended.Ended.{Ended}
 use Rattle.pl_store.specs.declared.ended.Ended.TheVariants as ended
-use Rattle.pl_store.specs.declared.session.Session.{Session}
-use Rattle.pl_store.specs.Ending.{Opens}
-use Rattle.pl_store.specs.Session.{IsSettled, Stands, StandsAlike, session_bytes, session_store}
+use Rattle.pl_store.specs.declared.reader.Reader.{Reader}
+use Rattle.pl_store.specs.Ending.{FailsToOpen}
+use Rattle.pl_store.specs.Session.{IsSettledToRead, Stands, StandsAlike, reader_bytes, reader_store}
 use Rattle.pl_store.proofs.StandsLaws.{stands_by}
 use Rattle.places.specs.declared.status.Status.{Status}
 use Rattle.places.specs.declared.status.Status.TheVariants as status
@@ -52,7 +51,7 @@ module _ {D : Type 0} (desk : Ghosts D) where
   pub report_unopened : {Fault : Type 0} (e : Ended) (s : Status) (file : List ℕ) (start : Store)
       (text before : List ℕ)
       (old new : D)
-      → CountsNow desk → s ≡ without_session e → desk.held old ≡ Some file → Opens desk slot_limit (Err e) old new
+      → CountsNow desk → s ≡ without_session e → desk.held old ≡ Some file → FailsToOpen desk e old new
       → Stands file start → desk.said new ≡ desk.said old → desk.said old ≡ Some before
       → Settles desk Fault old new (StandsAlike file) → EndsReport desk s text old start before new
   report_unopened ended.DeviceFault s file start text before old new counts_now is held opens stands kept begun settles =
@@ -74,12 +73,12 @@ module _ {D : Type 0} (desk : Ghosts D) where
 
   -- ---- the file
 
-  -- it holds the store of the session
-  pub settled_rests : (session : Session) (start : Store) (mid : D) → session_store session ≡ start
-      → IsSettled desk session mid → Rests desk mid (λ f. Stands f start)
-  settled_rests session start mid is settled =
+  -- it holds the store of the reader
+  pub settled_rests : (reader : Reader) (start : Store) (mid : D) → reader_store reader ≡ start
+      → IsSettledToRead desk reader mid → Rests desk mid (λ f. Stands f start)
+  settled_rests reader start mid is settled =
       rests_less desk mid _ (λ f. Stands f start) settled.rests (λ f closed.
-      subst (Stands f) is (stands_by (session_bytes session) f (session_store session) settled.stands closed.holds))
+      subst (Stands f) is (stands_by (reader_bytes reader) f (reader_store reader) settled.stands closed.holds))
 
   -- and holds it still
   pub rests_still : (start : Store) (mid new : D) → Rests desk mid (λ f. Stands f start) → KeepsFile desk mid new

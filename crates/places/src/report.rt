@@ -3,7 +3,7 @@ ghost use Rattle.std.specs.Prelude.{◌≡◌, ℕ, List, Some, IfOk};
 ghost use Rattle.pl_base.specs.Store.{Store};
 ghost use Rattle.pl_desk.specs.Settling.{ShowsThen};
 ghost use Rattle.pl_store.specs.Ending.{KeepsFinished, RefusesFile, StandsForNone};
-ghost use Rattle.pl_store.specs.Session.{Stands, session_store};
+ghost use Rattle.pl_store.specs.Session.{Stands, reader_store};
 ghost use Rattle.places.specs.Ending.{EndsTask, EndsUnopened};
 ghost use Rattle.places.specs.Exporting.{ComesBack};
 ghost use Rattle.places.specs.Reporting.{EndsReport, ShowsReport, report_text};
@@ -16,7 +16,7 @@ use crate::say::say_all;
 use crate::status::Status;
 use pl_base::{NoMemory, Txt};
 use pl_desk::Desk;
-use pl_store::{SLOT_LIMIT, Session, reopen};
+use pl_store::{Reader, open_to_read};
 use pl_task::Task;
 use std::alloc::Global;
 
@@ -53,11 +53,11 @@ pub fn report_stored<D: Desk>(alloc: Global, report: Report, desk: &mut D) -> St
     ensures counted { CountsFaults D.Desk (result ≡ Status.SayFault)
         (result ≡ Status.DeviceFault) desk.old desk.new }
 {
-    let session = match reopen(alloc, desk, SLOT_LIMIT) {
-        Ok(session) => session,
+    let reader = match open_to_read(alloc, desk) {
+        Ok(reader) => reader,
         Err(ended) => return Status::from(ended),
     };
-    let text = match text_of(alloc, report, &session) {
+    let text = match text_of(alloc, report, &reader) {
         Ok(text) => text,
         Err(_) => return Status::NoMemory,
     };
@@ -67,14 +67,14 @@ pub fn report_stored<D: Desk>(alloc: Global, report: Report, desk: &mut D) -> St
     }
 }
 
-// The report of an open store.
-fn text_of(alloc: Global, report: Report, session: &Session) -> Result<Txt, NoMemory>
-    ensures text { IfOk result (λ text. text ≡ report_text report (session_store session.now)) }
+// The report of a store that is read.
+fn text_of(alloc: Global, report: Report, reader: &Reader) -> Result<Txt, NoMemory>
+    ensures text { IfOk result (λ text. text ≡ report_text report (reader_store reader.now)) }
     ensures returns { report ≡ Report.Export
-        → IfOk result (λ _. ComesBack (session_store session.now)) }
+        → IfOk result (λ _. ComesBack (reader_store reader.now)) }
 {
     match report {
-        Report::Export => export_text(alloc, session),
-        Report::Backup => backup_text(alloc, session),
+        Report::Export => export_text(alloc, reader),
+        Report::Backup => backup_text(alloc, reader),
     }
 }

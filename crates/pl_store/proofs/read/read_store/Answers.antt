@@ -5,19 +5,20 @@ use Rattle.std.proofs.lemmas.List.{drop-take, length-drop, length-take, length-t
 use Rattle.std.proofs.Math.Seq.{take-append_seam}
 use Rattle.std.proofs.lemmas.Option.{MatchOption-at_some}
 use Rattle.std.proofs.lemmas.Result.{err_from_is_err_and}
+use Rattle.pl_base.specs.Rows.{store_of}
 use Rattle.pl_base.specs.Touched.{bytes_before, page_size}
 use Rattle.pl_desk.proofs.AnyMoment.{read_call}
 use Rattle.pl_base.specs.declared.check_error.CheckError.{CheckError}
 use Rattle.pl_desk.proofs.Told.{if_some}
 use Rattle.pl_base.specs.declared.check_error.CheckError.TheVariants as check
+use Rattle.pl_linked.specs.declared.linked.Linked.{Linked}
+use Rattle.pl_linked.specs.Linked.{bytes_of, kept_of}
 use Rattle.pl_reading.specs.File.{first_header, front_bytes}
 use Rattle.pl_record.specs.Form.{StandsFor}
 use Rattle.pl_reading.proofs.Fronts.{front_again}
-use Rattle.pl_store.specs.declared.session.Session.{Session}
 use Rattle.pl_store.specs.Errors.{ended_by_check}
 use Rattle.pl_store.specs.Reading.{HoldNone, IsReadFrom, IsStoreOf, EndsReading}
-use Rattle.pl_store.specs.Session.{session_bytes, session_store}
-use Rattle.pl_store.proofs.read.read_session.Goals as goal
+use Rattle.pl_store.proofs.read.read_store.Goals as goal
 
 -- as many of the bytes as the header says
 front_of : (bytes : List ℕ) (pages : ℕ) → 2 ≤ pages → bytes_before pages ≤ length bytes
@@ -48,18 +49,18 @@ read_back : (out rest : List ℕ) (len : ℕ) → len ≡ length out → take le
 read_back out rest len same = rw same (take-append_seam out rest)
 
 -- what was read from the store's bytes was read from all of them
-read_from : (session : Session) (bytes front : List ℕ) → IsStoreOf bytes front → IsReadFrom session front
-    → IsReadFrom session bytes
-read_from session bytes front is read =
-    let own : List ℕ = session_bytes session in
+read_from : (rows : Linked) (bytes front : List ℕ) → IsStoreOf bytes front → IsReadFrom rows front
+    → IsReadFrom rows bytes
+read_from rows bytes front is read =
+    let own : List ℕ = bytes_of rows in
     record {
-      stands = subst (λ (bs : List ℕ). StandsFor bs (session_store session)) is.whole read.stands;
+      stands = subst (λ (bs : List ℕ). StandsFor bs (store_of (kept_of rows))) is.whole read.stands;
       only = λ store stands. read.only store (subst (λ (bs : List ℕ). StandsFor bs store) (sym is.whole) stands);
       begins =
           sym (take-take (length own) (length front) bytes
           (omega (arith, length-take (length own) front, ap length read.begins))) ∙ ap (take (length own)) is.begins
           ∙ read.begins;
-      own = read.own;
+      own_form = read.own_form;
     }
 
 pub returns-clause-reads : goal.returns-clause-reads
@@ -69,21 +70,21 @@ returns-clause-reads g c =
     read.line read.leaves read.time
 
 -- a check that failed for want of memory tells nothing of the file
-check_failed : (limit : ℕ) (held : Option (List ℕ)) (error : CheckError)
+check_failed : (held : Option (List ℕ)) (error : CheckError)
     → (error ≡ check.NotAStore → IfSome held (λ file. HoldNone (drop page_size file)))
-    → EndsReading limit held (Err (ended_by_check error))
-check_failed limit held check.NotAStore none = none refl
-check_failed limit held check.NoMemory none = tt
+    → EndsReading held (Err (ended_by_check error))
+check_failed held check.NotAStore none = none refl
+check_failed held check.NoMemory none = tt
 
-pub returns-in_err-session_of-clause-ends : goal.returns-in_err-session_of-clause-ends
-returns-in_err-session_of-clause-ends g c =
+pub returns-in_err-reader_of-clause-ends : goal.returns-in_err-reader_of-clause-ends
+returns-in_err-reader_of-clause-ends g c =
     let held = g.D.Desk.held in
     let told = rw c.in-Some.is at c.in_ok-pages.ensures.pages in
     let pages : ℕ = c.in-Some.pages in
     let len : length c.deref_mut.result.now ≡ page_size * pages =
     omega (arith, c.deref_mut.ensures.len, c.in_ok-resize.ensures.len) in
-    let p = err_from_is_err_and c.from_residual-in_err-session_of.result c.from_residual-in_err-session_of.ensures.1 in
-    rw (p.1, p.2) (check_failed c.args.limit (held c.args.desk.now) c.in_err-session_of.field-0.0 (λ error_is.
+    let p = err_from_is_err_and c.from_residual-in_err-reader_of.result c.from_residual-in_err-reader_of.ensures.1 in
+    rw (p.1, p.2) (check_failed (held c.args.desk.now) c.in_err-reader_of.field-0.0 (λ error_is.
     if_some (held c.args.desk.now) _ (λ file is store stands.
     let are = MatchOption-at_some _ _ file is told.2 in
     let read : c.read_at.new.out ≡ slice_range file 0 (0 + length c.deref_mut.result.now) =
@@ -91,7 +92,7 @@ returns-in_err-session_of-clause-ends g c =
     let back = read_back c.read_at.new.out _ _ (omega (arith, c.deref_mut.ensures.len, c.read_at.auto.out)) in
     let front =
     pages_read file _ pages (length c.deref_mut.result.now) told.0 are.within are.told len (back ∙ read) in
-    c.session_of.ensures.not_a_store (c.in_err-session_of.was ∙ ap Err error_is) store
+    c.reader_of.ensures.not_a_store (c.in_err-reader_of.was ∙ ap Err error_is) store
     (subst (λ (bs : List ℕ). StandsFor bs store) (sym front.whole) stands))))
 
 pub returns-clause-ends : goal.returns-clause-ends
@@ -100,15 +101,12 @@ returns-clause-ends g c =
     let told = rw c.in-Some.is at c.in_ok-pages.ensures.pages in
     let pages : ℕ = c.in-Some.pages in
     let len : length c.deref_mut.result.now ≡ page_size * pages =
-    omega (arith, c.deref_mut.ensures.len, c.in_ok-resize.ensures.len) in (
-      c.in_ok-session_of.ensures.limit,
-      if_some (held c.args.desk.now) _ (λ file is.
-          let are = MatchOption-at_some _ _ file is told.2 in
-          let read : c.read_at.new.out ≡ slice_range file 0 (0 + length c.deref_mut.result.now) =
-          MatchOption-at_some _ _ file (c.store_pages.ensures.reads.file.held ∙ is)
-          c.in_ok-read_at.ensures.read in
-          let back = read_back c.read_at.new.out _ _ (omega (arith, c.deref_mut.ensures.len, c.read_at.auto.out)) in
-          read_from c.in_ok-session_of.field-0 (drop page_size file) _
-          (pages_read file _ pages (length c.deref_mut.result.now) told.0 are.within are.told len
-          (back ∙ read)) c.in_ok-session_of.ensures.read),
-    )
+    omega (arith, c.deref_mut.ensures.len, c.in_ok-resize.ensures.len) in
+    if_some (held c.args.desk.now) _ (λ file is.
+    let are = MatchOption-at_some _ _ file is told.2 in
+    let read : c.read_at.new.out ≡ slice_range file 0 (0 + length c.deref_mut.result.now) =
+    MatchOption-at_some _ _ file (c.store_pages.ensures.reads.file.held ∙ is) c.in_ok-read_at.ensures.read in
+    let back = read_back c.read_at.new.out _ _ (omega (arith, c.deref_mut.ensures.len, c.read_at.auto.out)) in
+    read_from c.in_ok-reader_of.field-0.rows (drop page_size file) _
+    (pages_read file _ pages (length c.deref_mut.result.now) told.0 are.within are.told len (back ∙ read))
+    c.in_ok-reader_of.ensures.read)

@@ -5,7 +5,7 @@ use Rattle.pl_graft.specs.Import.{imported}
 use Rattle.pl_outline.specs.Outline.{bookmarks}
 use Rattle.pl_engine.specs.Returns.{Returns}
 use Rattle.pl_engine.proofs.BroughtBack.{brought_back}
-use Rattle.pl_engine.proofs.engine.Engine.tree.Goals as goal
+use Rattle.pl_engine.proofs.outline.tree_of.Goals as goal
 
 pub returns-clause-returns : goal.returns-clause-returns
 returns-clause-returns g c =

@@ -9,7 +9,7 @@ use Rattle.pl_linked.specs.Linked.{bytes_of, kept_of}
 use Rattle.pl_reading.specs.File.{HoldStore, first_header, front_bytes}
 use Rattle.pl_record.specs.Form.{StandsFor}
 use Rattle.pl_store.specs.OwnBase.{HasOwnBase}
-use Rattle.pl_store.proofs.read.session_of.Goals as goal
+use Rattle.pl_store.proofs.read.reader_of.Goals as goal
 
 -- the store's bytes stand at the front
 own_front : (bytes own : List ℕ) → own ≡ front_bytes bytes → take (length own) bytes ≡ own
@@ -18,26 +18,15 @@ own_front bytes own is =
     subst (λ (front : List ℕ). take (length front) bytes ≡ front) (sym is)
     (ap (λ (n : ℕ). take n bytes) (length-take most bytes) ∙ take_min most bytes)
 
-pub invariant_of-result : goal.invariant_of-result
-invariant_of-result c = record {
-  base = subst HasOwnBase (sym c.in_ok-engine.ensures.rows) c.in_ok-rows.ensures.base;
-}
-
 pub returns-clause-read : goal.returns-clause-read
 returns-clause-read c =
-    let same = sym c.in_ok-engine.ensures.rows in let bytes = drop page_size c.args.bytes.items in
-    let read = c.in_ok-rows.ensures in
+    let bytes = drop page_size c.args.bytes.items in let read = c.in_ok-rows.ensures in
+    let own = c.in_ok-rows.rows in
     record {
-      stands = subst (λ (rows : Linked). HoldStore bytes (store_of (kept_of rows))) same read.stands;
-      only =
-          subst (λ (rows : Linked). (store : Store) → HoldStore bytes store → store ≡ store_of (kept_of rows)) same
-          (λ store held. read.one store (store_of (kept_of c.in_ok-rows.rows)) held read.stands);
-      begins =
-          subst (λ (rows : Linked). take (length (bytes_of rows)) bytes ≡ bytes_of rows) same
-          (own_front bytes (bytes_of c.in_ok-rows.rows) read.bytes);
-      own =
-          subst (λ (rows : Linked). StandsFor (bytes_of rows) (store_of (kept_of rows))) same
-          c.in_ok-engine.ensures.stands;
+      stands = read.stands;
+      only = λ store held. read.one store (store_of (kept_of own)) held read.stands;
+      begins = own_front bytes (bytes_of own) read.bytes;
+      own_form = subst (λ (bs : List ℕ). StandsFor bs (store_of (kept_of own))) (sym read.bytes) read.stands;
     }
 
 pub returns-in_err-rows-clause-not_a_store : goal.returns-in_err-rows-clause-not_a_store
