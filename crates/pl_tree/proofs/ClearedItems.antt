@@ -15,7 +15,7 @@ use Rattle.pl_base.specs.Good.{HasGoodItems, IsGood, IsTopFolder}
 use Rattle.pl_base.specs.Marks.{is_referenced}
 use Rattle.pl_base.specs.Rows.{Kept, store_of, with_items}
 use Rattle.pl_base.specs.Store.{Item, item_id, root_folder, roots, top_folders}
-use Rattle.pl_base.specs.Tree.{children_of, first_item, has_item, is_page, item_at, parent_of}
+use Rattle.pl_base.specs.Tree.{children_of, first_item, has_item, is_page, item_at}
 use Rattle.pl_base.proofs.Among.{In, all_from_in, any_from_in, at_in, from_any, from_filter, from_map, in_filter}
 use Rattle.pl_base.proofs.Among.{in_map}
 use Rattle.pl_base.proofs.ItemLookUps.{same_item_number}
@@ -166,7 +166,8 @@ module _ (old now : Kept) (pages : List PageId) (up : Ascends item_key old.items
   top_is : (n : ℕ) → In n tops → (i : Item) × (item_at items (item_id n) ≡ Some i) × (i ≡ root_folder n i.children)
   top_is n h =
       choose (item_at items (item_id n)) refl
-      (at_in (IsTopFolder (store_of old)) tops n (recursion_from_All (IsTopFolder (store_of old)) tops good.roots.top) h)
+      (at_in (IsTopFolder (store_of old)) tops n
+      (recursion_from_All (IsTopFolder (store_of old)) tops good.roots.top) h)
     where
       choose : (o : Option Item) → item_at items (item_id n) ≡ o
           → IsSomeAnd o (λ (i : Item). i ≡ root_folder n i.children)

@@ -1,9 +1,8 @@
 -- All items below items 2 to 6 go, step by step: down to a first child, up from a leaf that goes, or
 -- on to the next of the five.
-use Rattle.std.proofs.Common.{◌≡◌, ◌≢◌, ◌∙◌, ◌+◌, ◌-◌, ◌<◌, ◌≤◌, ◌==◌, ◌||◌, ℕ, Bool, true, false, List, [], ◌∷◌}
-use Rattle.std.proofs.Common.{Option, Some, None, ap, arith, filter, inl, inr, is_some, length, refl, subst, suc, sym}
+use Rattle.std.proofs.Common.{◌≡◌, ◌≢◌, ◌∙◌, ◌+◌, ◌-◌, ◌<◌, ◌≤◌, ◌==◌, ◌||◌, ℕ, Bool, true, false, List, []}
+use Rattle.std.proofs.Common.{Some, None, ap, arith, filter, inl, inr, is_some, length, refl, subst, sym}
 use Rattle.std.specs.Prelude.{not}
-use Rattle.std.specs.Option.{option_map}
 use Rattle.std.proofs.lemmas.Bool.{cases_eq, false_from_ne_true, ne_eqb, not_from_false}
 use Rattle.std.proofs.lemmas.Option.{same_Some}
 use Rattle.pl_base.specs.declared.id.ItemId.{ItemId}
@@ -223,8 +222,8 @@ module _ (old : Kept) (up : Ascends item_key old.items) (good : HasGoodItems (st
               ∙ ap (without_id at) (w.emptied n h before);
         },
         (let less =
-        less_up old (item_id 1) up good.tree some at parent now new (clearing_there folder at pages now w) is u.1 in
-        omega arith),
+            less_up old (item_id 1) up good.tree some at parent now new (clearing_there folder at pages now w) is u.1 in
+            omega arith),
       )
 
   -- ---- on to the next of the five
