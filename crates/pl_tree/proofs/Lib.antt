@@ -3,7 +3,9 @@ pub mod AncestorLaws
 mod Causes
 mod ChildLists
 pub mod ChildSlots
-pub mod CountedChildren
+pub mod ClearedItems
+mod ClearingSteps
+mod CountedChildren
 mod EntryRemoved
 pub mod GoodChanges
 mod GoodEntered

@@ -83,7 +83,7 @@ removal_starts old item has =
       inside = lies_in_self old.items item has;
     }
 
-no_first : (ids : List ItemId) → None ≡ first_item ids → ids ≡ []
+pub no_first : (ids : List ItemId) → None ≡ first_item ids → ids ≡ []
 no_first [] is = refl
 no_first (c ∷ ids) is = absurd (cc)
 

@@ -1,9 +1,10 @@
 //! The bookmark tree, changed over any rows of a store: items are inserted, moved, given titles and
-//! removed with all below them.
+//! removed with all below them, or all are removed at once.
 #![tactic(auto)]
 
 mod ancestors;
 mod children;
+mod clearing;
 mod error;
 mod insertion;
 mod moves;
@@ -16,6 +17,7 @@ mod titles;
 mod tree_change;
 
 pub use children::child_at;
+pub use clearing::clear;
 pub use error::TreeError;
 pub use insertion::{append, insert, insert_allowed};
 pub use moves::move_to;

@@ -18,7 +18,7 @@ use std::alloc::Global;
 use std::sync::ledger::Ledger;
 
 // The pages by ascending id, each once.
-fn put_in_order(pages: &mut Vec<PageId>)
+pub(crate) fn put_in_order(pages: &mut Vec<PageId>)
     ensures ascending { IsStrictlyIncreasing (map (λ (page : PageId). page.0) pages.new.items) }
     ensures same { (page : PageId)
         → has_lost page pages.new.items ≡ has_lost page pages.old.items }
@@ -29,7 +29,7 @@ fn put_in_order(pages: &mut Vec<PageId>)
 
 // An item without children goes, and its page, if it has one, joins the others. The answer is the
 // item whose child it was.
-fn remove_leaf<R: Rows, L: Ledger>(
+pub(crate) fn remove_leaf<R: Rows, L: Ledger>(
     rows: &mut R,
     leaf: ItemId,
     pages: &mut Vec<PageId>,
