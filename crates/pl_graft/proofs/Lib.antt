@@ -11,7 +11,10 @@ pub mod NodesLeft
 mod OpenSteps
 mod PageLookups
 mod PageSteps
+mod PagesCut
+mod PagesNamed
 pub mod Ready
+pub mod RestoredLaws
 mod Rooms
 mod Slots
 mod TagLookups
