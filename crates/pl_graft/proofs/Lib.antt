@@ -18,6 +18,7 @@ pub mod RestoredLaws
 mod Rooms
 mod Slots
 mod TagLookups
+mod SparedSteps
 pub mod TagRowLaws
 mod TagSteps
 pub mod TagsKept

@@ -20,6 +20,10 @@ ghost use Rattle.pl_graft.specs.Ready.{Takes};
 ghost use Rattle.pl_graft.specs.Tally.{CanCount, CountsAtMost, IsTallyOf, node_weight};
 ghost use Rattle.pl_graft.specs.Tally.{page_weight, tag_weight, tree_weight, weight};
 
+mod anew;
+
+pub use anew::needed_anew;
+
 use crate::pages::{Entered, Pages};
 use crate::tags::{Entering, Tags};
 use pl_base::{NoMemory, Rows, Steps, chunks, cut_title};
