@@ -210,14 +210,14 @@ first_tally kept tally h pages tags live page item =
             ascending = roots_ascend;
             below = let late = h.item_ids.next_first in
                 All-from_recursion (λ (i : Item). i.id.0 < kept.ids.item) roots
-                (omega arith, omega arith, omega arith, omega arith, omega arith, omega arith, tt);
+                (omega arith, (omega arith, (omega arith, (omega arith, (omega arith, (omega arith, tt))))));
             first = h.item_ids.next_first;
           };
     }
 
 -- the tally is that of the pages in front that stay
 pub record IsTallied (tree : Tree) (store : Store) (tally : Tally) (front : List KeptPage) : Type 0 where
-  pub tally :
+  pub counted :
       IsTallyOf tally
       (with_pages (filter (is_spared tree store) (map (λ (p : KeptPage). p.page) front)) store)
   pub few : size tally ≤ first_weight + spared_weight * length front
@@ -263,9 +263,9 @@ module _ (kept : Kept) (h : IsWellKept kept) (tree : Tree) where
       → IsTallied tree (emptied (store_of kept)) new (w.front ++ w.element ∷ [])
   tallied_more named old new id same w few makes =
       record {
-        tally =
+        counted =
             subst (λ (ps : List Page). IsTallyOf new (with_pages ps (emptied (store_of kept)))) pages
-            (makes (with_pages (left w.front) (emptied (store_of kept))) w.element w.so_far.tally
+            (makes (with_pages (left w.front) (emptied (store_of kept))) w.element w.so_far.counted
             (found_at kept id w.front w.element w.rest h w.whole w.is)
             (none_left (is_spared tree (emptied (store_of kept))) w.element.page.url
             (map (λ (p : KeptPage). p.page) w.front)
@@ -290,3 +290,9 @@ module _ (kept : Kept) (h : IsWellKept kept) (tree : Tree) where
       → IsTallied tree (emptied (store_of kept)) tally kept.pages → size tally + more < 2 ^ 62
   room_left more tally le t =
       omega (arith, le, t.few, length-map kept.pages (λ (p : KeptPage). p.page), h.live)
+
+-- none are in front at first
+pub first_tallied : (kept : Kept) (tree : Tree) (tally : Tally)
+    → IsTallyOf tally (with_pages [] (emptied (store_of kept))) → size tally ≤ first_weight
+    → IsTallied tree (emptied (store_of kept)) tally []
+first_tallied kept tree tally t few = record { counted = t; few = omega (arith, few) }
