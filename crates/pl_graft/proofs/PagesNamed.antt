@@ -1,23 +1,21 @@
 -- The pages that have an item where a tree is imported into a store without bookmarks: those that it names.
-use Rattle.std.proofs.Common.{◌≡◌, ◌≢◌, ◌<◌, ◌∙◌, ◌+◌, ◌-◌, ◌++◌, ◌==◌, ◌||◌, ◌⊎◌, ℕ, Bool, true, false, List, [], ◌∷◌}
-use Rattle.std.proofs.Common.{Option, Some, None, ap, arith, bytes_eq, eq-eqb, if◌then◌else◌, inl, inr, map, refl}
-use Rattle.std.proofs.Common.{subst, suc, sym, unwrap_or}
-use Rattle.std.specs.List.{AllByRecursion, AllPairs, list_any}
+use Rattle.std.proofs.Common.{◌≡◌, ◌<◌, ◌∙◌, ◌+◌, ◌-◌, ◌++◌, ◌==◌, ◌||◌, ◌⊎◌, ℕ, Bool, true, false, List, [], ◌∷◌}
+use Rattle.std.proofs.Common.{Option, Some, None, ap, arith, bytes_eq, eq-eqb, if◌then◌else◌, inl, inr, refl}
+use Rattle.std.proofs.Common.{subst, sym, unwrap_or}
+use Rattle.std.specs.List.{list_any}
 use Rattle.std.specs.Option.{is_none, is_some}
 use Rattle.std.proofs.Math.Bool.{or_assoc}
 use Rattle.std.proofs.lemmas.Bool.{eqb-true, false_from_ne_true, ne_eqb}
-use Rattle.std.proofs.lemmas.List.Elements.{recursion_from_All}
 use Rattle.std.proofs.lemmas.List.Folds.{list_any-append}
 use Rattle.std.proofs.lemmas.Slice.Eq.{bytes_eq-Decides}
 use Rattle.pl_base.specs.declared.date.Micros.{Micros}
 use Rattle.pl_base.specs.declared.id.ItemId.{ItemId}
 use Rattle.pl_base.specs.declared.id.PageId.{PageId}
-use Rattle.pl_base.specs.declared.item.ItemRow.{ItemRow}
-use Rattle.pl_base.specs.Store.{Item, Page, Store, Visit, item_id}
+use Rattle.pl_base.specs.Store.{Item, Page, Store, item_id}
 use Rattle.pl_base.specs.Title.{cut_title}
 use Rattle.pl_base.specs.Tree.{is_page, new_item}
 use Rattle.pl_base.specs.Visiting.{find_page, new_page, page_for, with_page_for}
-use Rattle.pl_base.proofs.Among.{In, any_from_in, from_found, in_either}
+use Rattle.pl_base.proofs.Among.{In, from_found, in_either}
 use Rattle.pl_base.proofs.ListLaws.{list_any-alike, list_any-map}
 use Rattle.pl_history.proofs.VisitRows.{grown_store}
 use Rattle.pl_nbread.specs.declared.tree.Node.{Node}
@@ -28,7 +26,7 @@ use Rattle.pl_tree.specs.Changes.{item_of, put, with_child, with_new}
 use Rattle.pl_tree.specs.Tagged as tagged
 use Rattle.pl_tree.specs.Tagged.{new_entry, new_tag, tag_entry, tag_id, tag_named, tagged_items, new_items}
 use Rattle.pl_base.specs.Tags.{tags_root}
-use Rattle.pl_graft.specs.Import.{folder_of, folders_behind, imported, node_row, page_of, tagged_store, with_item_of}
+use Rattle.pl_graft.specs.Import.{folder_of, folders_behind, imported, node_row, page_of, tagged_store}
 use Rattle.pl_graft.specs.Import.{with_list, with_node, with_nodes, with_page_of, with_row, with_tag, with_tags}
 use Rattle.pl_graft.specs.Import.{with_tags_of}
 use Rattle.pl_graft.specs.Spared.{has_url, is_named, is_url}

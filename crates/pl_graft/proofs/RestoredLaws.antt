@@ -1,6 +1,6 @@
 -- A restore is the same where the pages that neither stand nor are named go before it.
 use Rattle.std.proofs.Common.{◌≡◌, ◌≢◌, ◌<◌, ◌∙◌, ◌==◌, ◌||◌, ℕ, Bool, true, false, List, [], ◌∷◌, Option, Some}
-use Rattle.std.proofs.Common.{None, ap, arith, bytes_eq, eq-eqb, filter, inl, inr, map, refl, subst, suc, sym}
+use Rattle.std.proofs.Common.{None, ap, arith, bytes_eq, eq-eqb, inl, inr, map, refl, suc, sym}
 use Rattle.std.specs.List.{AllPairs, list_any}
 use Rattle.std.proofs.lemmas.Bool.{eqb-true, or_left, or_right}
 use Rattle.std.proofs.lemmas.List.Elements.{recursion_from_All}

@@ -1,20 +1,19 @@
 -- The URLs that a tree names, list by list, and the tally of the pages that it leaves.
-use Rattle.std.proofs.Common.{◌≡◌, ◌≢◌, ◌<◌, ◌≤◌, ◌∙◌, ◌+◌, ◌*◌, ◌^◌, ◌==◌, ◌||◌, ◌++◌, ℕ, Bool, true, false, List, []}
-use Rattle.std.proofs.Common.{◌∷◌, Option, Some, None, ap, arith, bytes_eq, filter, find, get_or, if◌then◌else◌}
+use Rattle.std.proofs.Common.{◌≡◌, ◌<◌, ◌≤◌, ◌∙◌, ◌+◌, ◌*◌, ◌^◌, ◌==◌, ◌||◌, ◌++◌, ℕ, Bool, true, false, List, []}
+use Rattle.std.proofs.Common.{◌∷◌, Option, Some, None, ap, arith, bytes_eq, filter, get_or, if◌then◌else◌}
 use Rattle.std.proofs.Common.{length, map, refl, subst, sym, take}
-use Rattle.std.specs.List.{AllByRecursion, list_any}
 use Rattle.std.specs.Option.{is_none, is_some, option_map}
 use Rattle.std.proofs.Math.Bool.{or_assoc}
 use Rattle.std.proofs.lemmas.Bool.{eqb-true, false≢true}
 use Rattle.std.proofs.lemmas.List.{append-nil, length-append, length-map, length_push, map-append, map_push, take_more}
-use Rattle.std.proofs.lemmas.List.Elements.{All-from_recursion, All-map, filter-append, recursion_from_All}
+use Rattle.std.proofs.lemmas.List.Elements.{All-from_recursion, filter-append, recursion_from_All}
 use Rattle.std.proofs.lemmas.List.Folds.{list_any-append}
 use Rattle.std.proofs.lemmas.List.Sums.{sum_by_push}
 use Rattle.std.proofs.lemmas.Option.{same_Some}
 use Rattle.pl_base.specs.declared.id.PageId.{PageId}
 use Rattle.pl_base.specs.declared.id.VisitId.{VisitId}
-use Rattle.pl_base.specs.Good.{HasGoodItems, IsTitle, longest_title}
-use Rattle.pl_base.specs.Live.{chunks, live_slots, origin_count, slot_limit}
+use Rattle.pl_base.specs.Good.{IsTitle, longest_title}
+use Rattle.pl_base.specs.Live.{chunks, live_slots, origin_count}
 use Rattle.pl_base.specs.Removal.{is_standing}
 use Rattle.pl_base.specs.Rows.{IsWellKept, Kept, KeptPage, first_id, page_at, page_visits, store_of, title_of, url_of}
 use Rattle.pl_base.specs.Rows.{with_items}
@@ -33,7 +32,6 @@ use Rattle.pl_nbread.specs.declared.tree.Tree.{Tree}
 use Rattle.pl_graft.specs.declared.cost.Tally.{Tally}
 use Rattle.pl_graft.specs.declared.pages.Pages.{Pages}
 use Rattle.pl_graft.specs.declared.pages.urls.Named.{Named}
-use Rattle.pl_graft.specs.declared.tags.Tags.{Tags}
 use Rattle.pl_graft.specs.KnownPages.{IsOriginPage, KnowsPages, names}
 use Rattle.pl_graft.specs.KnownTags.{KnowsTags}
 use Rattle.pl_graft.specs.Ready.{IsReady}

@@ -13,8 +13,6 @@ ghost use Rattle.pl_graft.specs.KnownPages.{page_of_origin, page_of_url, with_pa
 
 mod urls;
 
-pub use urls::Named;
-
 use pl_base::{NoMemory, Rows, Steps};
 use pl_digest::digest;
 use pl_link::{Canon, Parts, split};
@@ -23,6 +21,7 @@ use std::alloc::Global;
 use std::collections::BTreeMap;
 use std::collections::btree_map::Entry;
 use std::sync::ledger::Ledger;
+pub use urls::Named;
 
 // A URL behind its digest, so that two are mostly told apart by one number.
 #[derive(PartialEq, Eq, PartialOrd, Ord, Drop)]

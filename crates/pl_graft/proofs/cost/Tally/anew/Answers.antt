@@ -1,11 +1,10 @@
 -- A walk over all pages, at whose end those that stay are counted.
-use Rattle.std.proofs.Common.{◌∙◌, refl}
+use Rattle.std.proofs.Common.{◌∙◌}
 use Rattle.pl_base.specs.Rows.{Kept, store_of}
 use Rattle.pl_base.proofs.PagesRun.{first_behind, following, has_page_here, page_names, pages_run}
-use Rattle.pl_base.proofs.Walk.{StandsAt, ends, goes_on, nears, stands, starts}
+use Rattle.pl_base.proofs.Walk.{StandsAt, goes_on, nears, stands, starts}
 use Rattle.pl_graft.specs.Restored.{emptied}
-use Rattle.pl_graft.proofs.SparedSteps.{IsTallied, first_tallied, room_here, room_left, tallied_more}
-use Rattle.pl_graft.proofs.cost.Tally.anew.Given.{Over}
+use Rattle.pl_graft.proofs.SparedSteps.{IsTallied, first_tallied, room_here, tallied_more}
 use Rattle.pl_graft.proofs.cost.Tally.anew.Goals as goal
 
 pub loop-next-init : goal.loop-next-init
