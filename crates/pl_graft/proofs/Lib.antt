@@ -11,10 +11,14 @@ pub mod NodesLeft
 mod OpenSteps
 mod PageLookups
 mod PageSteps
+mod PagesCut
+mod PagesNamed
 pub mod Ready
+pub mod RestoredLaws
 mod Rooms
 mod Slots
 mod TagLookups
+mod SparedSteps
 pub mod TagRowLaws
 mod TagSteps
 pub mod TagsKept

@@ -4,7 +4,7 @@ use Rattle.std.specs.Prelude.{None, IsFalse, bytes_eq, if◌then◌else◌, stri
 use Rattle.std.specs.BTreeMap.{BTreeMap}
 use Rattle.std.specs.List.{All, list_any}
 use Rattle.std.specs.Map.{lookup}
-use Rattle.std.specs.Option.{is_none, option_map, option_or}
+use Rattle.std.specs.Option.{is_none, is_some, option_map, option_or}
 use Rattle.pl_base.specs.declared.id.PageId.{PageId}
 use Rattle.pl_base.specs.Address.{origin_of_url, same_origin}
 use Rattle.pl_base.specs.Store.{Page}
@@ -15,6 +15,7 @@ use Rattle.pl_graft.specs.declared.pages.Entered.{Entered}
 use Rattle.pl_graft.specs.declared.pages.Entered.TheVariants.{Added, Found}
 use Rattle.pl_graft.specs.declared.pages.Origin.{Origin}
 use Rattle.pl_graft.specs.declared.pages.Pages.{Pages}
+use Rattle.pl_graft.specs.declared.pages.urls.Named.{Named}
 
 -- ---- keys
 
@@ -85,3 +86,7 @@ abbrev pub IsEntered : List Page → List ℕ → Entered → Type 0
 IsEntered pages url (Found page) =
     option_map (λ (p : Page). p.id.0) (find_page url pages) ≡ Some page
 IsEntered pages url (Added other) = (find_page url pages ≡ None) × IsOriginPage pages url other
+
+-- the URL is one of those that a tree names
+abbrev pub names : Named → List ℕ → Bool
+names named url = is_some (page_of_url named.urls url)

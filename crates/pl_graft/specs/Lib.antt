@@ -4,6 +4,8 @@ pub mod KnownPages
 pub mod KnownTags
 pub mod OpenFolders
 pub mod Ready
+pub mod Restored
+pub mod Spared
 pub mod Standing
 pub mod TagRows
 pub mod Tally

@@ -52,3 +52,11 @@ weight nodes = sum_by node_weight nodes
 -- no tree counts more
 abbrev pub tree_weight : ℕ
 tree_weight = 2 ^ 38
+
+-- no page that is spared counts more
+abbrev pub spared_weight : ℕ
+spared_weight = 600
+
+-- a store without pages counts no more
+abbrev pub first_weight : ℕ
+first_weight = 2 ^ 34

@@ -20,8 +20,11 @@ ghost use Rattle.pl_graft.specs.Ready.{Takes};
 ghost use Rattle.pl_graft.specs.Tally.{CanCount, CountsAtMost, IsTallyOf, node_weight};
 ghost use Rattle.pl_graft.specs.Tally.{page_weight, tag_weight, tree_weight, weight};
 
+mod anew;
+
 use crate::pages::{Entered, Pages};
 use crate::tags::{Entering, Tags};
+pub use anew::needed_anew;
 use pl_base::{NoMemory, Rows, Steps, chunks, cut_title};
 use pl_link::Canon;
 use pl_nbread::{Node, Tree};

@@ -7,5 +7,5 @@ mod grafting;
 mod pages;
 mod tags;
 
-pub use cost::{Cost, MOST_ROWS, needed, row_count};
+pub use cost::{Cost, MOST_ROWS, needed, needed_anew, row_count};
 pub use grafting::{Grafted, graft};

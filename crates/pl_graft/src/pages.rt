@@ -1,12 +1,17 @@
 // The pages of a store, found by their URLs.
 ghost use Rattle.std.specs.Prelude.{◌≡◌, ◌∷◌, ◌++◌, [], List, None, IfOk, OnOk, string_bytes};
+ghost use Rattle.std.specs.Prelude.{true};
+ghost use Rattle.pl_base.specs.Address.{is_store_url};
 ghost use Rattle.pl_base.specs.Rows.{store_of};
 ghost use Rattle.pl_base.specs.Store.{Page};
 ghost use Rattle.pl_base.specs.Visiting.{find_page};
 ghost use Rattle.pl_digest.specs.Digest.{digest_of};
 ghost use Rattle.pl_marks.specs.UrlParts.{HasParts};
-ghost use Rattle.pl_graft.specs.KnownPages.{EntersOrigin, EntersUrl, IsEntered, KnowsPages};
+ghost use Rattle.pl_graft.specs.KnownPages.{EntersOrigin, EntersUrl, IsEntered, IsOriginPage};
+ghost use Rattle.pl_graft.specs.KnownPages.{KnowsPages};
 ghost use Rattle.pl_graft.specs.KnownPages.{page_of_origin, page_of_url, with_page};
+
+mod urls;
 
 use pl_base::{NoMemory, Rows, Steps};
 use pl_digest::digest;
@@ -16,6 +21,7 @@ use std::alloc::Global;
 use std::collections::BTreeMap;
 use std::collections::btree_map::Entry;
 use std::sync::ledger::Ledger;
+pub use urls::Named;
 
 // A URL behind its digest, so that two are mostly told apart by one number.
 #[derive(PartialEq, Eq, PartialOrd, Ord, Drop)]
@@ -73,6 +79,31 @@ impl Pages {
             next = rows.page_after(Some(page), steps);
         }
         Ok(pages)
+    }
+
+    /// None yet.
+    pub fn none(alloc: Global) -> Pages
+        ensures { KnowsPages result [] }
+    {
+        Pages {
+            urls: BTreeMap::new(alloc),
+            origins: BTreeMap::new(alloc),
+        }
+    }
+
+    /// A page more, whose URL is that of no other. A page that had its origin is the answer.
+    pub fn put(&mut self, alloc: Global, url: &str, page: u64) -> Result<Option<u64>, NoMemory>
+        requires url { is_store_url url.now ≡ true }
+        ensures origin { IfOk result (λ other. (all : List Page) → KnowsPages self.old all
+            → IsOriginPage all url.now other) }
+        ensures pages { OnOk result ((all : List Page) (p : Page) → KnowsPages self.old all
+            → find_page url.now all ≡ None → p.url ≡ url.now → p.id.0 ≡ page
+            → KnowsPages self.new (all ++ p ∷ [])) }
+    {
+        let parts = parts_of(alloc, url)?;
+        enter_url(&mut self.urls, alloc, url, page)?;
+        let other = enter_origin(&mut self.origins, alloc, &parts, page)?;
+        Ok(other)
     }
 
     // A page more, whose URL has these parts and is that of no other.

@@ -71,6 +71,17 @@ impl Tags {
         Ok(tags)
     }
 
+    /// None yet.
+    pub fn none(alloc: Global) -> Tags
+        ensures { KnowsTags result [] }
+    {
+        Tags {
+            folders: BTreeMap::new(alloc),
+            entries: BTreeSet::new(alloc),
+            last: None,
+        }
+    }
+
     /// The page, which may have the tag already, gets it: an entry with the next id, or a folder
     /// with the next id and an entry with the one behind it.
     pub fn enter(
