@@ -1,14 +1,7 @@
-ghost use Rattle.std.specs.Prelude.{◌≡◌, ◌≤◌, ℕ, IfOk};
 ghost use Rattle.std.proofs.Props.{props};
-ghost use Rattle.pl_base.specs.Live.{slot_limit};
 ghost use Rattle.pl_base.specs.Rows.{IsSound};
-ghost use Rattle.pl_engine.specs.Returns.{Returns};
 ghost use Rattle.pl_linked.specs.Linked.{kept_of};
-ghost use Rattle.pl_nbwrite.specs.Plain.{IsPlain};
-ghost use Rattle.pl_outline.specs.Outline.{bookmarks, whole};
-ghost use Rattle.pl_outline.specs.Whole.{IsWhole};
 ghost use Rattle.pl_store.specs.OwnBase.{HasOwnBase};
-ghost use Rattle.pl_store.specs.Session.{reader_store, session_limit};
 
 use crate::session::Session;
 use crate::uncounted;
@@ -30,6 +23,14 @@ pub struct Reader {
 }
 
 impl Reader {
+    ghost use Rattle.std.specs.Prelude.{◌≡◌, ◌≤◌, ℕ, IfOk};
+    ghost use Rattle.pl_base.specs.Live.{slot_limit};
+    ghost use Rattle.pl_engine.specs.Returns.{Returns};
+    ghost use Rattle.pl_nbwrite.specs.Plain.{IsPlain};
+    ghost use Rattle.pl_outline.specs.Outline.{bookmarks, whole};
+    ghost use Rattle.pl_outline.specs.Whole.{IsWhole};
+    ghost use Rattle.pl_store.specs.Session.{reader_store, session_limit};
+
     /// The bookmarks of the store.
     pub fn tree(&self) -> Result<Tree, NoMemory>
         ensures tree { IfOk result (λ tree. tree ≡ bookmarks (reader_store self.now)) }

@@ -1,5 +1,5 @@
 -- A report from the opening of the file to the text that is said.
-use Rattle.std.proofs.Common.{◌≡◌, ◌<◌, ℕ, List, ◌++◌, length, take, Some, Err}
+use Rattle.std.proofs.Common.{◌≡◌, ◌<◌, ℕ, List, ◌++◌, length, take, Some}
 use Rattle.std.proofs.Common.{ap, append-nil, inl, inr, subst, sym, ◌∙◌, ⊎_elim}
 use Rattle.std.proofs.lemmas.Option.{MatchOption-at_some, same_Some}
 use Rattle.pl_base.specs.Store.{Store}

@@ -2,13 +2,10 @@ use Rattle.std.proofs.Common.{◌≡◌, ◌∙◌, ℕ, List, ap, length, take,
 use Rattle.std.proofs.lemmas.List.{length-take, take_min}
 use Rattle.std.proofs.lemmas.Result.{err_from_is_err_and}
 use Rattle.pl_base.specs.Rows.{store_of}
-use Rattle.pl_base.specs.Store.{Store}
 use Rattle.pl_base.specs.Touched.{bytes_before, page_size}
-use Rattle.pl_linked.specs.declared.linked.Linked.{Linked}
 use Rattle.pl_linked.specs.Linked.{bytes_of, kept_of}
-use Rattle.pl_reading.specs.File.{HoldStore, first_header, front_bytes}
+use Rattle.pl_reading.specs.File.{first_header, front_bytes}
 use Rattle.pl_record.specs.Form.{StandsFor}
-use Rattle.pl_store.specs.OwnBase.{HasOwnBase}
 use Rattle.pl_store.proofs.read.reader_of.Goals as goal
 
 -- the store's bytes stand at the front
