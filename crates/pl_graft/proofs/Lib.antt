@@ -14,11 +14,11 @@ mod PageSteps
 mod PagesCut
 mod PagesNamed
 pub mod Ready
-pub mod RestoredLaws
+mod RestoredLaws
 mod Rooms
 mod Slots
-mod TagLookups
 mod SparedSteps
+mod TagLookups
 pub mod TagRowLaws
 mod TagSteps
 pub mod TagsKept

@@ -3,9 +3,9 @@ pub mod AncestorLaws
 mod Causes
 mod ChildLists
 pub mod ChildSlots
-pub mod ClearedItems
+mod ClearedItems
 mod ClearingSteps
-mod CountedChildren
+pub mod CountedChildren
 mod EntryRemoved
 pub mod GoodChanges
 mod GoodEntered
