@@ -6,6 +6,8 @@
 #[cfg(test)]
 mod files;
 #[cfg(test)]
+mod firefox;
+#[cfg(test)]
 mod large;
 #[cfg(test)]
 mod nodes;
