@@ -1,0 +1,13 @@
+//! Tests of a restore of bookmarks, by public names: what it takes, told beforehand, and the rows
+//! that lose all bookmarks before it. There is nothing else here, since a crate with tests of its
+//! own is proved twice.
+#![tactic(auto)]
+
+#[cfg(test)]
+mod cases;
+#[cfg(test)]
+mod cleared;
+#[cfg(test)]
+mod costs;
+#[cfg(test)]
+mod stores;
