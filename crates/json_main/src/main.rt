@@ -1,5 +1,6 @@
 //! Reads a JSON backup from standard input, and says how many nodes it holds and how many values
-//! were left out, or why it is none. `bench/backups.py` times it.
+//! were left out, or why it is none. `bench/backups_read.py` times
+//! it.
 #![tactic(auto)]
 
 ghost use Rattle.std.specs.Prelude.{◌<◌, IfOk};
