@@ -1,6 +1,5 @@
 //! Reads a JSON backup from standard input, and says how many nodes it holds and how many values
-//! were left out, or why it is none. `bench/backups_read.py` times
-//! it.
+//! were left out, or why it is none. It is timed by `bench/backups_read.py`.
 #![tactic(auto)]
 
 ghost use Rattle.std.specs.Prelude.{◌<◌, IfOk};
