@@ -158,3 +158,19 @@ module _ {X Y : Type 0} where
         | inl g ↦ (x, inl refl, g)
         | inr g ↦ let r = from_flat_map f xs y g in (r.0, inr r.1, r.2)
       ]
+
+-- ---- a list around one of its elements
+
+module _ {X : Type 0} where
+  pub record Around (z : X) (xs : List X) : Type 0 where
+    pub front : List X
+    pub back : List X
+    pub whole : xs ≡ front ++ z ∷ back
+
+  pub around : (z : X) (xs : List X) → In z xs → Around z xs
+  around z [] within = absurd within
+  around z (x ∷ xs) (inl same) =
+      record { front = []; back = xs; whole = ap (λ (y : X). y ∷ xs) (sym same) }
+  around z (x ∷ xs) (inr within) =
+      let a = around z xs within in
+      record { front = x ∷ a.front; back = a.back; whole = ap (λ (ys : List X). x ∷ ys) a.whole }

@@ -5,8 +5,11 @@ use Rattle.pl_base.specs.declared.id.PageId.{PageId}
 use Rattle.pl_base.specs.declared.id.Slot.{Slot}
 use Rattle.pl_base.specs.Good.{AreIds, end_of_ids}
 
+pub same_page_number : (a b : PageId) → a.0 ≡ b.0 → a ≡ b
+same_page_number a b same = ap (λ (n : ℕ). record { 0 = n }) same
+
 pub same_page : (a b : PageId) → (a.0 == b.0) ≡ true → a ≡ b
-same_page a b h = ap (λ (n : ℕ). record { 0 = n }) (eqb-true a.0 b.0 h)
+same_page a b h = same_page_number a b (eqb-true a.0 b.0 h)
 
 pub same_slot : (a b : Slot) → a.0 ≡ b.0 → a ≡ b
 same_slot a b same = ap (λ (n : ℕ). record { 0 = n }) same

@@ -12,7 +12,9 @@ use Rattle.pl_base.specs.declared.item.ItemRow.{ItemRow}
 use Rattle.pl_base.specs.Store.{Item}
 use Rattle.pl_base.specs.Tree.{has_item, item_at, item_row, item_title, last_item, parent_of}
 use Rattle.pl_base.proofs.Among.{In}
+use Rattle.pl_base.proofs.ListLaws.{found_in}
 use Rattle.pl_base.proofs.LookUps.{found_passes, there_told}
+use Rattle.pl_base.proofs.Truths.{some_there}
 
 -- ---- ids and kinds
 
@@ -26,6 +28,11 @@ same_item a b same = same_item_number a b (eqb-true a.0 b.0 same)
 pub item_there : (items : List Item) (id : ItemId) (row : ItemRow)
     → Some row ≡ option_map (item_row items) (item_at items id) → has_item items id ≡ true
 item_there items id row told = there_told (λ (i : Item). i.id.0 == id.0) (item_row items) items row told
+
+pub item_found : (items : List Item) (id : ItemId) → has_item items id ≡ true
+    → (i : Item) × (item_at items id ≡ Some i)
+item_found items id has =
+    some_there (item_at items id) (found_in (λ (i : Item). i.id.0 == id.0) items has)
 
 -- the item that is found has the id
 pub id_of_item : (items : List Item) (id : ItemId) (i : Item) → item_at items id ≡ Some i → i.id ≡ id

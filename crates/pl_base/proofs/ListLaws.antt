@@ -6,11 +6,11 @@ use Rattle.std.proofs.Common.{nat_eq, not, sym, take}
 use Rattle.std.proofs.Math.Seq.{take-append_seam}
 use Rattle.std.specs.List.{AllByRecursion, AllPairs, list_all, list_any, starts_with, sum_by, zip}
 use Rattle.std.specs.Option.{IsSome, option_map}
-use Rattle.std.proofs.lemmas.Bool.{and_parts, or_left, or_right}
+use Rattle.std.proofs.lemmas.Bool.{and_from, and_parts, or_left, or_right}
 use Rattle.std.proofs.lemmas.List.{get_or-map, length-map}
 use Rattle.std.proofs.lemmas.List.Elements.{All-head, All-tail}
 use Rattle.std.proofs.lemmas.List.Folds.{fold-map, list_any-append}
-use Rattle.std.proofs.lemmas.List.Sums.{sum_by-cons}
+use Rattle.std.proofs.lemmas.List.Sums.{count_by-le-length, length-filter, sum_by-cons}
 use Rattle.std.proofs.lemmas.Slice.Eq.{bytes_eq-Decides}
 
 pub map-map : {X Y Z : Type 0} (g : Y → Z) (f : X → Y) (xs : List X) → map g (map f xs) ≡ map (λ x. g (f x)) xs
@@ -165,6 +165,20 @@ all-filter P q (x ∷ xs) all = choose (q x) (all-filter P q xs all.1)
     choose true rest = (all.0, rest)
     choose false rest = rest
 
+pub list_all-filter : {X : Type 0} (p q : X → Bool) (xs : List X) → list_all p xs ≡ true
+    → list_all p (filter q xs) ≡ true
+list_all-filter p q [] all = refl
+list_all-filter {X} p q (x ∷ xs) all =
+    choose (q x) (and_parts _ _ all).0 (list_all-filter p q xs (and_parts _ _ all).1)
+  where
+    choose : (v : Bool) → p x ≡ true → list_all p (filter q xs) ≡ true
+        → list_all p (if v then x ∷ filter q xs else filter q xs) ≡ true
+    choose true this rest = and_from _ _ this rest
+    choose false this rest = rest
+
+pub filter-le : {X : Type 0} (q : X → Bool) (xs : List X) → length (filter q xs) ≤ length xs
+filter-le q xs = omega (arith, length-filter q xs, count_by-le-length q xs)
+
 pub everyone : {X : Type 0} (P : X → Type 0) (xs : List X) → ((x : X) → P x) → AllByRecursion P xs
 everyone P [] holds = tt
 everyone P (x ∷ xs) holds = (holds x, everyone P xs holds)
@@ -250,6 +264,12 @@ pub starts_with-append : (xs ys : List ℕ) → starts_with nat_eq (xs ++ ys) xs
 starts_with-append xs ys = (bytes_eq-Decides xs (take (length xs) (xs ++ ys))).1 (sym (take-append_seam xs ys))
 
 -- grouped from the back
+
+-- one piece appended, and then another
+pub append_twice : {X : Type 0} (xs ys zs one two : List X) → ys ≡ xs ++ one → zs ≡ ys ++ two
+    → zs ≡ xs ++ (one ++ two)
+append_twice {X} xs ys zs one two first second =
+    second ∙ ap (λ (s : List X). s ++ two) first ∙ append_assoc xs one two
 
 pub regroup_four : {X : Type 0} (a b c d : List X) → ((a ++ b) ++ c) ++ d ≡ a ++ (b ++ (c ++ d))
 regroup_four a b c d = simp append_assoc

@@ -1,6 +1,7 @@
 -- Pages among the rows: their ids, and what is told of the page with an id.
 use Rattle.std.proofs.Common.{◌≡◌, ◌∙◌, ◌<◌, ◌==◌, ℕ, All, true, IsTrue, List, IfSome, Option, Some, None}
 use Rattle.std.proofs.Common.{ap, sym}
+use Rattle.std.specs.List.{AllByRecursion}
 use Rattle.std.specs.Option.{option_map}
 use Rattle.std.proofs.lemmas.Option.{same_Some}
 use Rattle.pl_base.specs.declared.id.PageId.{PageId}
@@ -11,7 +12,7 @@ use Rattle.pl_base.specs.Store.{Store}
 use Rattle.pl_base.specs.Tree.{is_page}
 use Rattle.pl_base.proofs.IdsLaws.{same_page}
 use Rattle.pl_base.proofs.ListLaws.{All-from_map}
-use Rattle.pl_base.proofs.LookUps.{Apart, apart_increasing, found_passes, there_told}
+use Rattle.pl_base.proofs.LookUps.{Apart, apart_increasing, found_passes, found_self, there_told}
 
 -- ---- the ids of pages
 
@@ -23,6 +24,11 @@ ids_below kept h k d within =
 pub pages_apart : (kept : Kept) → IsWellKept kept → Apart (λ (p : KeptPage). p.page.id.0) kept.pages
 pages_apart kept h =
     apart_increasing (λ (p : KeptPage). p.page.id.0) kept.pages h.page_ids.ascending
+
+-- each page is found by its id
+pub pages_found : (kept : Kept) → IsWellKept kept
+    → AllByRecursion (λ (p : KeptPage). page_at kept p.page.id ≡ Some p) kept.pages
+pages_found kept h = found_self (λ (p : KeptPage). p.page.id.0) kept.pages (pages_apart kept h)
 
 -- a page that an item has is there
 pub page_of_item : (store : Store) (page : PageId) (own : Option PageId) → is_page page own ≡ true

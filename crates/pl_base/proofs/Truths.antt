@@ -1,7 +1,7 @@
 -- Truth values, and what is some or none.
-use Rattle.std.proofs.Common.{◌≡◌, ◌≢◌, ◌==◌, ◌&&◌, ◌||◌, Bool, true, false, not, List, [], ◌∷◌}
+use Rattle.std.proofs.Common.{◌≡◌, ◌≢◌, ◌==◌, ◌∙◌, ◌&&◌, ◌||◌, Bool, true, false, not, List, [], ◌∷◌}
 use Rattle.std.proofs.Common.{Option, Some, None, arith, is_some, length, refl, suc, sym}
-use Rattle.std.specs.Option.{IsSome, is_none}
+use Rattle.std.specs.Option.{IsSome, is_none, option_or}
 use Rattle.std.proofs.lemmas.Bool.{eqb-true, false≢true, or_left}
 
 -- two tests agree where each tells the other
@@ -46,3 +46,23 @@ no_elements (x ∷ xs) none = absurd (none (λ same. absurd (cc)))
 pub no_length : {X : Type 0} (xs : List X) → (length xs == 0) ≡ true → xs ≡ []
 no_length [] is = refl
 no_length (x ∷ xs) is = absurd (omega (arith, eqb-true (suc (length xs)) 0 is))
+
+-- ---- one test, or another
+
+pub or_same : (a b : Bool) → (b ≡ true → a ≡ true) → (a || b) ≡ a
+or_same true b so = refl
+or_same false true so = sym (so refl)
+or_same false false so = refl
+
+-- what is told where the first test passes, and where the second is asked
+pub or_first : (a b told : Bool) → told ≡ a → told ≡ true → told ≡ (a || b)
+or_first true b told is here = is
+or_first false b told is here = absurd (false≢true (sym is ∙ here))
+
+pub or_second : (a b told other : Bool) → told ≡ a → told ≡ false → other ≡ b → other ≡ (a || b)
+or_second true b told other is none there = absurd (false≢true (sym none ∙ is))
+or_second false b told other is none there = there
+
+pub neither : {X : Type 0} (first second : Option X) → option_or first second ≡ None → (first ≡ None) × (second ≡ None)
+neither None second none = (refl, none)
+neither (Some x) second none = absurd (cc)

@@ -1,9 +1,9 @@
 -- Laws of lists in which each member stands once.
 use Rattle.std.proofs.Common.{◌≡◌, ◌∙◌, ◌||◌, ℕ, Bool, true, false, not, List, [], ◌∷◌, ◌++◌, ap}
-use Rattle.std.proofs.Common.{refl, sym}
+use Rattle.std.proofs.Common.{◌≤◌, arith, length, refl, sym}
 use Rattle.std.proofs.Common.{if◌then◌else◌, cond}
 use Rattle.std.specs.Cmp.Lexicographic.{slice_cmp}
-use Rattle.std.specs.List.{filter, list_any}
+use Rattle.std.specs.List.{filter, list_all, list_any}
 use Rattle.std.specs.Ordering.{is_eq, nat_cmp}
 use Rattle.std.proofs.lemmas.Bool.{and_from, and_parts, cond-false, cond-true, not-true, true≢false}
 use Rattle.std.proofs.lemmas.Slice.Eq.{bytes_eq-Decides}
@@ -13,6 +13,7 @@ use Rattle.std.proofs.lemmas.List.Folds.{list_any-append}
 use Rattle.std.proofs.lemmas.Map.Text.{is_eq-slice_cmp}
 use Rattle.std.specs.Prelude.{bytes_eq}
 use Rattle.pl_base.specs.Fold.{folded}
+use Rattle.pl_base.proofs.ListLaws.{filter-le, list_all-filter}
 use Rattle.pl_words.specs.TagLists.{each_once, firsts, is_same_tag}
 
 module _ {A : Type 0} (same : A → A → Bool) where
@@ -60,6 +61,16 @@ module _ {A : Type 0} (same : A → A → Bool) where
   once-firsts (x ∷ xs) =
       and_from _ _ (ap not (none_same x (firsts same xs)))
       (once_less (λ y. not (same x y)) (firsts same xs) (once-firsts xs))
+
+  pub firsts-all : (p : A → Bool) (xs : List A) → list_all p xs ≡ true → list_all p (firsts same xs) ≡ true
+  firsts-all p [] all = refl
+  firsts-all p (x ∷ xs) all =
+      let parts = and_parts _ _ all in
+      and_from _ _ parts.0 (list_all-filter p (λ y. not (same x y)) (firsts same xs) (firsts-all p xs parts.1))
+
+  pub firsts-le : (xs : List A) → length (firsts same xs) ≤ length xs
+  firsts-le [] = omega arith
+  firsts-le (x ∷ xs) = omega (arith, filter-le (λ y. not (same x y)) (firsts same xs), firsts-le xs)
 
 module _ {A : Type 0} (same : A → A → Bool) where
   -- what is left out, being the same as y, is not the same as x
