@@ -19,12 +19,13 @@ use Rattle.pl_base.proofs.Among.{In}
 use Rattle.pl_base.proofs.ItemLookUps.{same_item, same_item_number}
 use Rattle.pl_base.proofs.ListLaws.{find-map, map-map}
 use Rattle.pl_base.proofs.LookUps.{found_passes}
+use Rattle.pl_base.proofs.Truths.{neither}
 use Rattle.pl_tree.specs.declared.place.Place.{Place}
 use Rattle.pl_tree.specs.declared.tree_change.TreeChange.TheVariants.{Move, Retitle}
 use Rattle.pl_tree.specs.Changes.{put, with_moved}
 use Rattle.pl_tree.specs.Refused.{folder_refusal, inside_refusal, is_closed, is_entry, is_fixed, is_root, is_tag}
 use Rattle.pl_tree.specs.Refused.{item_refusal, parent_refusal, place_refusal, refusal}
-use Rattle.pl_tree.proofs.StoreItems.{if_none, or_none}
+use Rattle.pl_tree.proofs.StoreItems.{if_none}
 use Rattle.pl_marks.specs.Alike.{is_one_of}
 use Rattle.pl_marks.specs.TagFolders.{tag_title}
 use Rattle.pl_bearing.specs.References.{AreReferencesAlike, reference, references_of}
@@ -52,7 +53,7 @@ may_change items item none = choose (not (has_item items item)) refl none
 not_tags : (items : List Item) (parent : ItemId) → parent_refusal items parent ≡ None
     → (parent.0 == tags_root.0) ≡ false
 not_tags items parent none =
-    let parts = or_none (folder_refusal items parent) (if is_closed items parent then Some (Fixed parent) else None)
+    let parts = neither (folder_refusal items parent) (if is_closed items parent then Some (Fixed parent) else None)
     none in
     let free = if_none (is_closed items parent) (Fixed parent) parts.1 in
     let first = or_parts ((parent.0 == 1) || (parent.0 == tags_root.0)) (is_tag items parent) free in
@@ -179,9 +180,9 @@ pub moved_alike : (kept : Kept) (item parent : ItemId) (place : Place) (date : M
 moved_alike kept item parent place date ids h none within page out =
     let items : List Item = kept.items in
     let at_place : Option Refusal = place_refusal place (length (without_id item (children_of items parent))) in
-    let all = or_none (item_refusal items item)
+    let all = neither (item_refusal items item)
     (option_or (parent_refusal items parent) (option_or (inside_refusal items item parent) at_place)) none in
-    let parts = or_none (parent_refusal items parent) (option_or (inside_refusal items item parent) at_place) all.1 in
+    let parts = neither (parent_refusal items parent) (option_or (inside_refusal items item parent) at_place) all.1 in
     move_alike items item parent place date (not_tags items parent parts.0) (may_change items item all.0).1 page
     (other_item kept item ids page h within out)
 

@@ -13,10 +13,11 @@ use Rattle.pl_base.specs.declared.id.PageId.{PageId}
 use Rattle.pl_base.specs.declared.view.View.{View}
 use Rattle.pl_base.specs.Sorting.{sorted_by}
 use Rattle.pl_base.proofs.SortLaws.{sorted_same}
+use Rattle.pl_base.proofs.IdsLaws.{same_page_number}
 use Rattle.pl_follow.specs.Changes.{AreInOrder, Suits, changed}
 use Rattle.pl_follow.specs.Order.{IsExact, Replaces, is_below}
 use Rattle.pl_follow.proofs.RanksChange.{follows}
-use Rattle.pl_follow.proofs.ViewRanks.{both_equal, same_id}
+use Rattle.pl_follow.proofs.ViewRanks.{both_equal}
 use Rattle.pl_calendar.specs.Days.{due_entries, entry_of, is_sooner}
 
 -- by the day, and by the id where the days are the same
@@ -37,7 +38,7 @@ entry_exact x y is =
     both_equal (nat_cmp x.0.0 y.0.0) (nat_cmp x.1.0 y.1.0) is in
     λ i. (
       same_day x.0 y.0 (exact_unsigned x.0.0 y.0.0 parts.0) i,
-      same_id x.1 y.1 (exact_unsigned x.1.0 y.1.0 parts.1) i,
+      same_page_number x.1 y.1 (exact_unsigned x.1.0 y.1.0 parts.1) i,
     )
 
 sooner_below : (x y : Day × PageId) → is_sooner x y ≡ is_below entry_cmp x y

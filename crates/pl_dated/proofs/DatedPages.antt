@@ -17,6 +17,7 @@ use Rattle.pl_base.specs.Visits.{is_later, visits_of}
 use Rattle.pl_base.proofs.ListLaws.{weaker}
 use Rattle.pl_base.proofs.VisitOrder.{InOrder, latest_in_order}
 use Rattle.pl_base.proofs.VisitsLaws.{Differ-ascending, Differ-filter}
+use Rattle.pl_marks.proofs.DatedVisits.{behind_in_order}
 use Rattle.pl_conditions.specs.Conditions.{is_not_before, moment}
 use Rattle.pl_place.specs.declared.kinds.TimeRef.{TimeRef}
 
@@ -39,24 +40,6 @@ abbrev pub first_date : List Visit → Option Micros
 first_date [] = None
 first_date (v ∷ vs) = Some v.date
 
-pub visits_ordered : (kept : Kept) (page : PageId) → IsWellKept kept → InOrder (page_visits kept page)
-visits_ordered kept page h =
-    latest_in_order (visits_of (store_of kept) page)
-    (Differ-filter (λ (v : Visit). v.page.0 == page.0) kept.visits
-    (Differ-ascending kept.visits
-    (AllPairs-from_increasing (map (λ (v : Visit). v.id.0) kept.visits) h.visit_ids.ascending)))
-
--- those behind a visit are of no later date
-pub later_back : (front : List Visit) (v : Visit) (rest : List Visit) → InOrder (front ++ v ∷ rest)
-    → AllByRecursion (λ (w : Visit). w.date.0 ≤ v.date.0) rest
-later_back [] v rest up =
-    weaker (λ (w : Visit). is_later v w ≡ true) (λ (w : Visit). w.date.0 ≤ v.date.0) rest
-    (λ w later. dates w.date.0 v.date.0 w.id.0 v.id.0 later) up.0
-  where
-    dates : (a b m n : ℕ) → (nat_lt a b || ((a == b) && nat_lt m n)) ≡ true → a ≤ b
-    dates a b m n later = grind (arith, nat_tests, later)
-later_back (u ∷ front) v rest up = later_back front v rest up.1
-
 -- none is later than the first
 pub up_to_first : (visits : List Visit) → InOrder visits → (date : Micros) → first_date visits ≡ Some date
     → AllByRecursion (λ (v : Visit). v.date.0 ≤ date.0) visits
@@ -64,7 +47,7 @@ up_to_first [] up date none = tt
 up_to_first (v ∷ visits) up date first =
     let same : v.date ≡ date = same_Some v.date date first in
     subst (λ (d : Micros). AllByRecursion (λ (w : Visit). w.date.0 ≤ d.0) (v ∷ visits)) same
-    (omega arith, later_back [] v visits up)
+    (omega arith, behind_in_order [] v visits up)
 
 pub no_visits : (visits : List Visit) → first_date visits ≡ None → visits ≡ []
 no_visits [] none = refl

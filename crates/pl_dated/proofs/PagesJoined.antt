@@ -16,6 +16,7 @@ use Rattle.pl_base.specs.Store.{Store, Visit}
 use Rattle.pl_base.proofs.ListLaws.{all_append, weaker}
 use Rattle.pl_base.proofs.LookUps.{both, rest_of, where_passes}
 use Rattle.pl_base.proofs.SortLaws.{Ascends, all_sorted}
+use Rattle.pl_marks.proofs.DatedVisits.{visits_in_order}
 use Rattle.pl_conditions.specs.Conditions.{in_times}
 use Rattle.pl_place.specs.declared.query.Query.{Query}
 use Rattle.pl_query.specs.Decides.{decides}
@@ -28,7 +29,7 @@ use Rattle.pl_indexed.proofs.WalkOrder.{not_behind, standing, walked}
 use Rattle.pl_dated.specs.declared.first.First.{First}
 use Rattle.pl_dated.specs.Latest.{AreApart, Keeps, Seen, seen_before}
 use Rattle.pl_dated.specs.Listed.{is_over, part_of, parts_of, seen_visits}
-use Rattle.pl_dated.proofs.DatedPages.{IsOfPage, no_visits, up_to_first, visits_ordered}
+use Rattle.pl_dated.proofs.DatedPages.{IsOfPage, no_visits, up_to_first}
 use Rattle.pl_dated.proofs.OverVisits.{AreTimed, AreUpTo, keeps_over, seen_timed, seen_up_to}
 use Rattle.pl_dated.proofs.SeenOrder.{seen_ranks}
 use Rattle.pl_dated.proofs.SkipLaws.{apart_front}
@@ -51,7 +52,7 @@ module _ (kept : Kept) (q : Query) (h : IsWellKept kept) where
           seen_up_to kept q v date (page_visits kept v.id)
           (weaker (λ (w : Visit). w.date.0 ≤ last.0) (λ (w : Visit). w.date.0 ≤ date.0) (page_visits kept v.id)
           (λ w early. omega (arith, early, le))
-          (up_to_first (page_visits kept v.id) (visits_ordered kept v.id h) last (sym of ∙ is)))
+          (up_to_first (page_visits kept v.id) (visits_in_order kept v.id h) last (sym of ∙ is)))
       choose false = tt
 
   part_timed : (v : View) → AreTimed store q (part_of kept q v)

@@ -10,12 +10,12 @@ use Rattle.pl_base.specs.Rows.{IsWellKept, Kept, older_visit, page_visits, row_o
 use Rattle.pl_base.proofs.VisitOrder.{InOrder}
 use Rattle.pl_base.proofs.VisitsRun.{visit_here, visit_names, visits_run}
 use Rattle.pl_base.proofs.Walk.{StandsAt, Walk, goes_on, left, nears, stands}
+use Rattle.pl_marks.proofs.DatedVisits.{behind_in_order, visits_in_order}
 use Rattle.pl_conditions.specs.Conditions.{in_times}
 use Rattle.pl_place.specs.declared.query.Query.{Query}
 use Rattle.pl_dated.specs.declared.first.First.{First}
 use Rattle.pl_dated.specs.Latest.{Keeps, Seen}
 use Rattle.pl_dated.specs.Listed.{is_over}
-use Rattle.pl_dated.proofs.DatedPages.{later_back, visits_ordered}
 use Rattle.pl_dated.proofs.OverVisits.{Joins, one_joined, over_joined}
 
 -- the visits in front have joined
@@ -46,7 +46,7 @@ module _ (kept : Kept) (q : Query) (view : View) (h : IsWellKept kept) (old now 
           → Joins kept q view old now (page_visits kept view.id)
       over_here over =
           over_joined kept q view old now here.front here.element here.rest here.whole
-          (later_back here.front here.element here.rest (subst InOrder here.whole (visits_ordered kept view.id h)))
+          (behind_in_order here.front here.element here.rest (subst InOrder here.whole (visits_in_order kept view.id h)))
           (subst (λ (date : Micros). is_over (store_of kept) q now.floor date ≡ true) date_is over) here.so_far
 
       -- this visit joins

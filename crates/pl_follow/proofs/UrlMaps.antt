@@ -77,7 +77,3 @@ pub second_changed : {X : Type 0} (e : Bool) (new first second : Option X) → (
 second_changed true new first second rest = rw (rest refl) refl
 second_changed false new first second rest = refl
 
-pub neither : {X : Type 0} (first second : Option X) → option_or first second ≡ None
-    → (first ≡ None) × (second ≡ None)
-neither None second none = (refl, none)
-neither (Some x) second none = absurd (cc)

@@ -13,6 +13,7 @@ use Rattle.std.proofs.lemmas.Map.Text.{btree_map_updates_text}
 use Rattle.std.proofs.lemmas.Slice.Eq.{bytes_eq-Decides}
 use Rattle.pl_base.specs.declared.id.PageId.{PageId}
 use Rattle.pl_base.specs.declared.view.View.{View}
+use Rattle.pl_base.proofs.Truths.{neither}
 use Rattle.pl_digest.specs.Digest.{digest_of}
 use Rattle.pl_follow.specs.Changes.{Suits, changed, has_view, with_view, without_id}
 use Rattle.pl_follow.specs.Urls.{IndexesUrls, found_by, hashed_page, other_page, page_of}
@@ -21,7 +22,7 @@ use Rattle.pl_follow.specs.declared.urls.UrlPage.{UrlPage}
 use Rattle.pl_follow.proofs.ChangedLists.{added_in_order, old_parted, parted_pairs, parted_url}
 use Rattle.pl_follow.proofs.Parted.{Parted, added_parted, ascend, removed_in_order, removed_parted}
 use Rattle.pl_follow.proofs.Told.{IsOnly, none_told, told_others, told_same, told_with}
-use Rattle.pl_follow.proofs.UrlMaps.{Hashed, HasNoOther, Others, first_changed, found_its_own, neither, only_its_own}
+use Rattle.pl_follow.proofs.UrlMaps.{Hashed, HasNoOther, Others, first_changed, found_its_own, only_its_own}
 use Rattle.pl_follow.proofs.UrlMaps.{page_changed, second_changed}
 
 -- the views have distinct URLs

@@ -13,6 +13,7 @@ use Rattle.pl_base.specs.declared.date.Micros.{Micros}
 use Rattle.pl_base.specs.declared.id.PageId.{PageId}
 use Rattle.pl_base.specs.declared.view.View.{View}
 use Rattle.pl_base.specs.Sorting.{sorted_by}
+use Rattle.pl_base.proofs.IdsLaws.{same_page_number}
 use Rattle.pl_follow.specs.Changes.{AreInOrder, Suits, changed}
 use Rattle.pl_follow.specs.Order.{IsExact, Replaces, is_above, is_ahead, is_below, is_later}
 use Rattle.pl_follow.specs.Order.{next_rank, visit_rank_of, visit_ranks}
@@ -42,9 +43,6 @@ both_equal Less b is = absurd (cc)
 both_equal Equal b is = (refl, is)
 both_equal Greater b is = absurd (cc)
 
-pub same_id : (p q : PageId) → p.0 ≡ q.0 → p ≡ q
-same_id p q is = ap (λ (n : ℕ). record { 0 = n }) is
-
 same_date : (p q : Micros) → p.0 ≡ q.0 → p ≡ q
 same_date p q is = ap (λ (n : ℕ). record { 0 = n }) is
 
@@ -52,7 +50,7 @@ pub frecency_exact : IsExact frecency_cmp
 frecency_exact x y is =
     let parts : (int_cmp x.0 y.0 ≡ Equal) × (nat_cmp x.1.0 y.1.0 ≡ Equal) =
     both_equal (int_cmp x.0 y.0) (nat_cmp x.1.0 y.1.0) is in
-    λ i. (exact_signed x.0 y.0 parts.0 i, same_id x.1 y.1 (exact_unsigned x.1.0 y.1.0 parts.1) i)
+    λ i. (exact_signed x.0 y.0 parts.0 i, same_page_number x.1 y.1 (exact_unsigned x.1.0 y.1.0 parts.1) i)
 
 pub visit_exact : IsExact visit_cmp
 visit_exact x y is =
@@ -60,7 +58,7 @@ visit_exact x y is =
     both_equal (nat_cmp x.0.0 y.0.0) (nat_cmp x.1.0 y.1.0) is in
     λ i. (
       same_date x.0 y.0 (exact_unsigned x.0.0 y.0.0 parts.0) i,
-      same_id x.1 y.1 (exact_unsigned x.1.0 y.1.0 parts.1) i,
+      same_page_number x.1 y.1 (exact_unsigned x.1.0 y.1.0 parts.1) i,
     )
 
 -- a comparison by which of two numbers is greater, and then by two more

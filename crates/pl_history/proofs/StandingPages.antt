@@ -14,6 +14,7 @@ use Rattle.pl_base.specs.Tree.{first_item, references}
 use Rattle.pl_base.specs.Visits.{latest_first}
 use Rattle.pl_base.specs.Removal.{is_standing}
 use Rattle.pl_base.proofs.VisitLists.{one_in_place}
+use Rattle.pl_base.proofs.Truths.{or_first, or_second}
 use Rattle.pl_marks.proofs.PageScore.{referenced_by_first}
 
 first_of : (test : Visit → Bool) (vs : List Visit)
@@ -31,14 +32,6 @@ visited_by_latest : (kept : Kept) (page : PageId) (latest : Option VisitId) (som
     → latest ≡ first_id (page_visits kept page) → some ≡ is_some latest → some ≡ is_visited (store_of kept) page
 visited_by_latest kept page latest some is there =
     there ∙ ap is_some is ∙ first_of (λ (v : Visit). v.page.0 == page.0) kept.visits
-
-or_first : (a b some : Bool) → some ≡ a → some ≡ true → some ≡ (a || b)
-or_first true b some is here = is
-or_first false b some is here = absurd (false≢true (sym is ∙ here))
-
-or_second : (a b some other : Bool) → some ≡ a → some ≡ false → other ≡ b → other ≡ (a || b)
-or_second true b some other is none there = absurd (false≢true (sym none ∙ is))
-or_second false b some other is none there = there
 
 pub stands_by_visit : (kept : Kept) (page : PageId) (latest : Option VisitId) (some : Bool)
     → latest ≡ first_id (page_visits kept page) → some ≡ is_some latest → some ≡ true

@@ -25,12 +25,13 @@ use Rattle.pl_base.specs.Tree.{retitled}
 use Rattle.pl_base.specs.Visiting.{after_visit, find_page, page_for}
 use Rattle.pl_base.specs.Visits.{visits_of}
 use Rattle.pl_base.proofs.LookUps.{found_some}
+use Rattle.pl_base.proofs.Truths.{neither}
 use Rattle.pl_tree.specs.declared.place.Place.{Place}
 use Rattle.pl_tree.specs.declared.tree_change.TreeChange.TheVariants.{Insert, Move, Remove, Retitle}
 use Rattle.pl_tree.specs.Changes.{with_moved, with_removed}
 use Rattle.pl_tree.specs.Refused.{folder_refusal, refusal}
 use Rattle.pl_tree.specs.Tagged.{new_items, untagged_items}
-use Rattle.pl_tree.proofs.StoreItems.{item_moved, item_removed, item_retitled, or_none, tag_taken}
+use Rattle.pl_tree.proofs.StoreItems.{item_moved, item_removed, item_retitled, tag_taken}
 use Rattle.pl_history.proofs.ItemMarks.{reference_changed, reference_moved}
 use Rattle.pl_graft.specs.Import.{imported, most_rows, row_count}
 use Rattle.pl_nbread.specs.declared.tree.Tree.{Tree}
@@ -119,7 +120,7 @@ module _ (limit : ℕ) (store : Store) (good : IsGood store) where
       let visits : Option Refusal = if store.ids.visit == end_of_ids then Some (NoIds VisitIds) else full in
       let a = none_first (is_unrecorded_url url) NotRecorded
       (option_or (source_refusal store source) (room_refusal limit store url slots)) none in
-      let b = or_none (source_refusal store source) (room_refusal limit store url slots) a.1 in
+      let b = neither (source_refusal store source) (room_refusal limit store url slots) a.1 in
       let c = none_first (is_none (find_page url store.pages) && (store.ids.page == end_of_ids)) (NoIds PageIds) visits
       b.1 in
       let d = none_first (store.ids.visit == end_of_ids) (NoIds VisitIds) full c.1 in
@@ -139,7 +140,7 @@ module _ (limit : ℕ) (store : Store) (good : IsGood store) where
       let items : Option Refusal = if store.ids.item == end_of_ids then Some (NoIds ItemIds) else full in
       let pages : Option Refusal =
       if with_page && (store.ids.page == end_of_ids) then Some (NoIds PageIds) else items in
-      let a = or_none (refusal store.items (Insert parent place)) pages none in
+      let a = neither (refusal store.items (Insert parent place)) pages none in
       let b = none_first (with_page && (store.ids.page == end_of_ids)) (NoIds PageIds) items a.1 in
       let c = none_first (store.ids.item == end_of_ids) (NoIds ItemIds) full b.1 in
       (a.0, b.0, c.0)
@@ -163,7 +164,7 @@ module _ (limit : ℕ) (store : Store) (good : IsGood store) where
   good_retitled item title date dated utf8 none =
       let slots : ℕ = live_slots (after_retitle item title date store) in
       let change : Item → Item = λ (i : Item). record i { title = cut_title title; modified = date } in
-      let free = or_none (refusal store.items (Retitle item))
+      let free = neither (refusal store.items (Retitle item))
       (if is_full limit (live_slots store) slots then Some (Full slots) else None) none in
       good_items store good (retitled item (cut_title title) date store.items)
       (numbers_retitled store.ids.item item (cut_title title) date store.items l.item_ids)

@@ -5,7 +5,7 @@ use Rattle.std.proofs.Common.{if◌then◌else◌, inl, inr, map, refl, subst, s
 use Rattle.std.specs.List.Sorted.{IsPermutation}
 use Rattle.std.proofs.lemmas.List.Sorted.{IsPermutation-cons, IsPermutation-middle, IsPermutation-refl}
 use Rattle.std.proofs.lemmas.List.Sorted.{IsPermutation-sym, IsPermutation-trans}
-use Rattle.pl_base.proofs.Among.{In, at_in, from_filter, from_map, in_map}
+use Rattle.pl_base.proofs.Among.{Around, In, around, at_in, from_filter, from_map, in_map}
 use Rattle.pl_base.proofs.LookUps.{Apart}
 
 -- ---- by a number that stands once
@@ -57,19 +57,6 @@ once_kept {X} {Y} f test (x ∷ xs) one = choose (test x) (once_kept f test xs o
 -- ---- a list at one of its elements
 
 module _ {X : Type 0} where
-  pub record Around (z : X) (xs : List X) : Type 0 where
-    pub front : List X
-    pub back : List X
-    pub whole : xs ≡ front ++ z ∷ back
-
-  pub around : (z : X) (xs : List X) → In z xs → Around z xs
-  around z [] within = absurd within
-  around z (x ∷ xs) (inl same) =
-      record { front = []; back = xs; whole = ap (λ (y : X). y ∷ xs) (sym same) }
-  around z (x ∷ xs) (inr within) =
-      let a = around z xs within in
-      record { front = x ∷ a.front; back = a.back; whole = ap (λ (ys : List X). x ∷ ys) a.whole }
-
   in_with : (front : List X) (z : X) (back : List X) (x : X) → In x (front ++ back) → In x (front ++ z ∷ back)
   in_with [] z back x within = inr within
   in_with (y ∷ front) z back x (inl same) = inl same

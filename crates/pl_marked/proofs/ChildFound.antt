@@ -26,13 +26,6 @@ use Rattle.pl_marked.proofs.OwnViews as views
 use Rattle.pl_marked.proofs.PageRows.{none_more}
 
 -- the item that is there
-item_found : (items : List Item) (id : ItemId) → has_item items id ≡ true → (i : Item) × (item_at items id ≡ Some i)
-item_found items id has = choose (item_at items id) refl (found_in (λ (i : Item). i.id.0 == id.0) items has)
-  where
-    choose : (o : Option Item) → item_at items id ≡ o → IsSome o → (i : Item) × (item_at items id ≡ Some i)
-    choose None at some = absurd (cc)
-    choose (Some i) at some = (i, at)
-
 no_value : {X : Type 0} (o : Option X) → ((x : X) → o ≢ Some x) → o ≡ None
 no_value None no_one = refl
 no_value (Some x) no_one = absurd (no_one x refl)

@@ -102,7 +102,7 @@ no_later : (date other id than : ℕ) → ltb other date || (eqb other date && l
 no_later date other id than later = grind (arith, nat_tests)
 
 -- those behind a visit are no later
-behind_in_order : (seen : List Visit) (v : Visit) (behind : List Visit) → InOrder (seen ++ v ∷ behind)
+pub behind_in_order : (seen : List Visit) (v : Visit) (behind : List Visit) → InOrder (seen ++ v ∷ behind)
     → AllByRecursion (λ (w : Visit). w.date.0 ≤ v.date.0) behind
 behind_in_order [] v behind ordered =
     weaker (λ (w : Visit). is_later v w ≡ true) (λ (w : Visit). w.date.0 ≤ v.date.0) behind

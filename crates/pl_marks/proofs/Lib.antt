@@ -1,4 +1,4 @@
-mod DatedVisits
+pub mod DatedVisits
 pub mod FreshestItem
 pub mod KeptUrls
 pub mod LatestVisit

@@ -18,6 +18,7 @@ use Rattle.pl_base.proofs.LookUps.{found_holds}
 use Rattle.pl_base.proofs.OneParent.{root_alone}
 use Rattle.pl_base.proofs.ItemLookUps.{same_item_number}
 use Rattle.pl_base.proofs.ChildrenRun.{parent_here, sibling_here}
+use Rattle.pl_base.proofs.Truths.{neither}
 use Rattle.pl_tree.specs.Refused.{folder_refusal, is_closed, is_tag, parent_refusal}
 use Rattle.pl_tree.proofs.GoodStores as stores
 use Rattle.pl_graft.specs.Import.{innermost}
@@ -26,10 +27,6 @@ use Rattle.pl_outline.proofs.OneMore.{WayDown, children_in}
 use Rattle.pl_outline.proofs.Preorders.{have_parent, own_id}
 
 -- ---- folders that take items
-
-or_none : (a b : Option Refusal) → option_or a b ≡ None → (a ≡ None) × (b ≡ None)
-or_none None b none = (refl, none)
-or_none (Some x) b none = absurd (cc)
 
 if_none : (b : Bool) (x : Refusal) → (if b then Some x else None) ≡ None → b ≡ false
 if_none true x none = absurd (cc)
@@ -45,7 +42,7 @@ pub record IsTaking (items : List Item) (c : ItemId) : Type 0 where
 
 pub taking : (items : List Item) (c : ItemId) → parent_refusal items c ≡ None → IsTaking items c
 taking items c none =
-    let parts = or_none (folder_refusal items c) (if is_closed items c then Some (Fixed c) else None) none in
+    let parts = neither (folder_refusal items c) (if is_closed items c then Some (Fixed c) else None) none in
     let free = if_none (is_closed items c) (Fixed c) parts.1 in
     let first = or_parts ((c.0 == 1) || (c.0 == tags_root.0)) (is_tag items c) free in
     let second = or_parts (c.0 == 1) (c.0 == tags_root.0) first.0 in

@@ -8,6 +8,7 @@ use Rattle.pl_base.specs.Address.{same_origin}
 use Rattle.pl_base.specs.Live.{new_origins, origin_count}
 use Rattle.pl_base.proofs.OriginLaws.{new_origins-append, same_origin-sym, same_origin-trans}
 use Rattle.pl_base.proofs.Truths.{same_tests}
+use Rattle.pl_base.proofs.Truths.{or_same}
 
 -- two lists have the same origins
 abbrev SameOrigins : List (List ℕ) → List (List ℕ) → Type 0
@@ -36,11 +37,6 @@ alike_first a b url same =
     same_tests (same_origin a url) (same_origin b url)
     (λ to. same_origin-trans b a url (same_origin-sym a b same) to)
     (λ to. same_origin-trans a b url same to)
-
-or_same : (a b : Bool) → (b ≡ true → a ≡ true) → (a || b) ≡ a
-or_same true b so = refl
-or_same false true so = absurd (false≢true (so refl))
-or_same false false so = refl
 
 -- a URL whose origin is there brings none
 nothing_more : (s : List (List ℕ)) (u : List ℕ) → list_any (same_origin u) s ≡ true → SameOrigins (s ++ u ∷ []) s

@@ -20,7 +20,7 @@ use Rattle.pl_base.specs.Visits.{is_later, visits_of}
 use Rattle.pl_base.proofs.IdsLaws.{same_page}
 use Rattle.pl_base.proofs.ListLaws.{all-filter, to_map, weaker}
 use Rattle.pl_base.proofs.LookUps.{Apart, apart_increasing, found_self, where_passes}
-use Rattle.pl_base.proofs.PageLaws.{pages_apart}
+use Rattle.pl_base.proofs.PageLaws.{pages_found, pages_apart}
 use Rattle.pl_base.proofs.ReferencesRun.{having, items_found}
 use Rattle.pl_base.proofs.VisitsRun.{IsVisitOf, visits_stand}
 use Rattle.pl_place.specs.declared.kinds.QueryType.{QueryType}
@@ -68,10 +68,6 @@ parts_more kept q now new front p so_far added =
     part k = part_of q.query_type q.result_type kept q k
 
 -- ---- the pages
-
-pages_found : (kept : Kept) → IsWellKept kept
-    → AllByRecursion (λ (p : KeptPage). page_at kept p.page.id ≡ Some p) kept.pages
-pages_found kept h = found_self (λ (p : KeptPage). p.page.id.0) kept.pages (pages_apart kept h)
 
 found_with : (n : ℕ) (ps : List KeptPage) → find (λ (p : Page). p.id.0 == n) (map (λ (k : KeptPage). k.page) ps)
     ≡ option_map (λ (k : KeptPage). k.page) (find (λ (k : KeptPage). k.page.id.0 == n) ps)

@@ -87,7 +87,7 @@ covers_front (a ∷ b ∷ word) behind =
     (covers_front (b ∷ word) behind))
 
 -- with a byte before it
-covers_rest : (byte : ℕ) (text : List ℕ) → Covers (sketch_of (byte ∷ text)) (sketch_of text)
+pub covers_rest : (byte : ℕ) (text : List ℕ) → Covers (sketch_of (byte ∷ text)) (sketch_of text)
 covers_rest byte [] = covers_nothing nothing
 covers_rest byte (b ∷ text) = covers_second (at_place (place_of byte b)) (sketch_of (b ∷ text))
 

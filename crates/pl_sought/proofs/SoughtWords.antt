@@ -8,7 +8,7 @@ use Rattle.std.proofs.lemmas.Slice.Eq.{bytes_eq-Decides}
 use Rattle.pl_sketch.specs.declared.sketch.Sketch.{Sketch}
 use Rattle.pl_sketch.specs.Pairs.{Covers, nothing, sketch_of, union}
 use Rattle.pl_sketch.proofs.CoverLaws.{covers_both, covers_first, covers_nothing, covers_on, covers_second, covers_word}
-use Rattle.pl_sketch.proofs.CoverLaws.{union_assoc, union_comm}
+use Rattle.pl_sketch.proofs.CoverLaws.{covers_rest, union_assoc, union_comm}
 use Rattle.pl_follow.specs.declared.texts.Folded.{Folded}
 use Rattle.pl_follow.specs.Order.{sketch_of_texts}
 use Rattle.pl_words.specs.Pieces.{occurs}
@@ -24,11 +24,6 @@ begins word text is =
     (ap (λ start. start ++ drop (length word) text) front ∙ take-append-drop (length word) text)
     (covers_word [] word (drop (length word) text))
 
--- a text with one byte more in front
-goes_on : (byte : ℕ) (text : List ℕ) → Covers (sketch_of (byte ∷ text)) (sketch_of text)
-goes_on byte text =
-    subst (λ whole. Covers (sketch_of (byte ∷ whole)) (sketch_of text)) (append-nil text) (covers_word (byte ∷ []) text [])
-
 occurring : (word text : List ℕ) → occurs word text ≡ true → Covers (sketch_of text) (sketch_of word)
 occurring word [] is = begins word [] is
 occurring word (b ∷ text) is =
@@ -39,7 +34,7 @@ occurring word (b ∷ text) is =
         → Covers (sketch_of (b ∷ text)) (sketch_of word)
     choose true front some rest = begins word (b ∷ text) front
     choose false front some rest =
-        covers_on (sketch_of (b ∷ text)) (sketch_of text) (sketch_of word) (goes_on b text) (rest some)
+        covers_on (sketch_of (b ∷ text)) (sketch_of text) (sketch_of word) (covers_rest b text) (rest some)
 
 -- ---- a word in the texts of a page
 

@@ -21,7 +21,7 @@ use Rattle.pl_base.proofs.ListLaws.{sum_by-map, weaker}
 use Rattle.pl_base.proofs.LookUps.{Apart, both, found_holds, found_passes, found_self, found_where}
 use Rattle.pl_base.proofs.OriginLaws.{same_origin-self}
 use Rattle.pl_base.proofs.OriginSums.{origin_named, sums_of_totals, totals_of_sums}
-use Rattle.pl_base.proofs.PageLaws.{pages_apart}
+use Rattle.pl_base.proofs.PageLaws.{pages_found, pages_apart}
 use Rattle.pl_base.proofs.SmallFrecencies.{small_in}
 use Rattle.pl_base.proofs.Truths.{same_tests}
 use Rattle.pl_load.specs.Reads.{place_at}
@@ -118,10 +118,6 @@ abbrev pub IsTotaled : Kept → KeptOrigin → Type 0
 IsTotaled kept a = kept_sum kept.pages a.origin.0 ≡ a.total
 
 -- each page is found by its id
-each_found : (kept : Kept) → IsWellKept kept
-    → AllByRecursion (λ (p : KeptPage). page_at kept p.page.id ≡ Some p) kept.pages
-each_found kept well = found_self (λ (p : KeptPage). p.page.id.0) kept.pages (pages_apart kept well)
-
 apart_pairs : {X : Type 0} (key : X → ℕ) (xs : List X) → AllPairs (λ x y. key x ≢ key y) xs → Apart key xs
 apart_pairs key [] pairs = tt
 apart_pairs key (x ∷ xs) pairs = (
@@ -156,12 +152,12 @@ module _ (kept : Kept) (well : IsWellKept kept) where
   told_all : AllByRecursion (IsSummed kept) kept.pages → AllByRecursion Told kept.pages
   told_all all =
       both (λ (p : KeptPage). page_at kept p.page.id ≡ Some p) (IsSummed kept) Told kept.pages
-      (λ p at summed. summed ∙ sym (named_total kept p.page.id p well at)) (each_found kept well) all
+      (λ p at summed. summed ∙ sym (named_total kept p.page.id p well at)) (pages_found kept well) all
 
   summed_all : AllByRecursion Told kept.pages → AllByRecursion (IsSummed kept) kept.pages
   summed_all all =
       both (λ (p : KeptPage). page_at kept p.page.id ≡ Some p) Told (IsSummed kept) kept.pages
-      (λ p at told. told ∙ named_total kept p.page.id p well at) (each_found kept well) all
+      (λ p at told. told ∙ named_total kept p.page.id p well at) (pages_found kept well) all
 
   -- ---- from the origins to the pages
 
@@ -190,7 +186,7 @@ module _ (kept : Kept) (well : IsWellKept kept) where
       (λ p at.
       summed_by p
       (origin_named kept p.page.id p.origin well (sym (ap (option_map (λ (q : KeptPage). q.origin)) at))) all)
-      (each_found kept well) in
+      (pages_found kept well) in
       totals_of_sums kept right
       (record { sums = All-from_recursion Told kept.pages (told_all summed); small = all_small kept well right })
 

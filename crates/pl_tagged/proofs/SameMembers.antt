@@ -3,25 +3,12 @@ use Rattle.std.proofs.Common.{◌≡◌, ◌≢◌, ◌++◌, ◌⊎◌, inl, in
 use Rattle.std.specs.List.{AllByRecursion}
 use Rattle.std.specs.List.Sorted.{IsPermutation}
 use Rattle.std.proofs.lemmas.List.Sorted.{IsPermutation-cons, IsPermutation-refl, IsPermutation-trans}
-use Rattle.pl_base.proofs.Among.{In, at_in, in_back, in_either, in_front}
+use Rattle.pl_base.proofs.Among.{Around, In, around, at_in, in_back, in_either, in_front}
 use Rattle.pl_base.proofs.ListLaws.{all_append}
 use Rattle.pl_base.proofs.LookUps.{Apart, front, part, rest_of}
 use Rattle.pl_query.proofs.PartLists.{to_front}
 
 module _ {X : Type 0} (key : X → ℕ) where
-  -- a list around one of its members
-  record Around (x : X) (xs : List X) : Type 0 where
-    ahead : List X
-    behind : List X
-    whole : xs ≡ ahead ++ x ∷ behind
-
-  around : (x : X) (xs : List X) → In x xs → Around x xs
-  around x [] h = absurd h
-  around x (y ∷ ys) (inl e) = record { ahead = []; behind = ys; whole = ap (λ z. z ∷ ys) (sym e) }
-  around x (y ∷ ys) (inr h) =
-      let a : Around x ys = around x ys h in
-      record { ahead = y ∷ a.ahead; behind = a.behind; whole = ap (λ zs. y ∷ zs) a.whole }
-
   all_others : (P : X → Type 0) (xs : List X) (x : X) (ys : List X) → AllByRecursion P (xs ++ x ∷ ys)
       → AllByRecursion P (xs ++ ys)
   all_others P xs x ys all = all_append P xs ys (front P xs (x ∷ ys) all) (rest_of P xs (x ∷ ys) all).1
@@ -45,35 +32,35 @@ module _ {X : Type 0} (key : X → ℕ) where
   same_members [] (y ∷ ys) one two to from = absurd (from y (inl refl))
   same_members (x ∷ xs) ys one two to from =
       subst (IsPermutation (x ∷ xs)) (sym a.whole)
-      (IsPermutation-trans (x ∷ xs) (x ∷ (a.ahead ++ a.behind)) (a.ahead ++ x ∷ a.behind)
-      (IsPermutation-cons x xs (a.ahead ++ a.behind)
-      (same_members xs (a.ahead ++ a.behind) one.1 (apart_others a.ahead x a.behind apart) there back))
-      (to_front (x ∷ []) a.ahead a.behind))
+      (IsPermutation-trans (x ∷ xs) (x ∷ (a.front ++ a.back)) (a.front ++ x ∷ a.back)
+      (IsPermutation-cons x xs (a.front ++ a.back)
+      (same_members xs (a.front ++ a.back) one.1 (apart_others a.front x a.back apart) there back))
+      (to_front (x ∷ []) a.front a.back))
     where
       a : Around x ys
       a = around x ys (to x (inl refl))
 
-      apart : Apart key (a.ahead ++ x ∷ a.behind)
+      apart : Apart key (a.front ++ x ∷ a.back)
       apart = subst (Apart key) a.whole two
 
-      there : (z : X) → In z xs → In z (a.ahead ++ a.behind)
+      there : (z : X) → In z xs → In z (a.front ++ a.back)
       there z h =
-          choose (in_either a.ahead (x ∷ a.behind) z (subst (In z) a.whole (to z (inr h))))
+          choose (in_either a.front (x ∷ a.back) z (subst (In z) a.whole (to z (inr h))))
         where
-          choose : In z a.ahead ⊎ In z (x ∷ a.behind) → In z (a.ahead ++ a.behind)
-          choose (inl g) = in_front a.ahead a.behind z g
+          choose : In z a.front ⊎ In z (x ∷ a.back) → In z (a.front ++ a.back)
+          choose (inl g) = in_front a.front a.back z g
           choose (inr (inl e)) = absurd (at_in (λ y. key y ≢ key x) xs z one.0 h (ap key e))
-          choose (inr (inr g)) = in_back a.ahead a.behind z g
+          choose (inr (inr g)) = in_back a.front a.back z g
 
-      back : (z : X) → In z (a.ahead ++ a.behind) → In z xs
-      back z h = choose (from z (subst (In z) (sym a.whole) (more (in_either a.ahead a.behind z h))))
+      back : (z : X) → In z (a.front ++ a.back) → In z xs
+      back z h = choose (from z (subst (In z) (sym a.whole) (more (in_either a.front a.back z h))))
         where
-          more : In z a.ahead ⊎ In z a.behind → In z (a.ahead ++ x ∷ a.behind)
-          more (inl g) = in_front a.ahead (x ∷ a.behind) z g
-          more (inr g) = in_back a.ahead (x ∷ a.behind) z (inr g)
+          more : In z a.front ⊎ In z a.back → In z (a.front ++ x ∷ a.back)
+          more (inl g) = in_front a.front (x ∷ a.back) z g
+          more (inr g) = in_back a.front (x ∷ a.back) z (inr g)
 
           choose : In z (x ∷ xs) → In z xs
           choose (inl e) =
               absurd
-              (at_in (λ y. key y ≢ key x) (a.ahead ++ a.behind) z (none_alike a.ahead x a.behind apart) h (ap key e))
+              (at_in (λ y. key y ≢ key x) (a.front ++ a.back) z (none_alike a.front x a.back apart) h (ap key e))
           choose (inr g) = g

@@ -16,6 +16,7 @@ use Rattle.pl_base.specs.Tags.{has_tag, tags_of}
 use Rattle.pl_base.specs.Tree.{child_items, children_of, is_page, item_at}
 use Rattle.pl_base.proofs.Among.{In, at_in, from_any, from_filter_map, from_found, in_filter_map}
 use Rattle.pl_base.proofs.LookUps.{Apart, found_passes}
+use Rattle.pl_base.proofs.IdsLaws.{same_page_number}
 use Rattle.pl_conditions.specs.Conditions.{has_tag_named}
 use Rattle.pl_known.specs.Known.{view_of}
 use Rattle.pl_marks.proofs.TagEntries.{Differ, differ_named}
@@ -24,9 +25,6 @@ use Rattle.pl_words.specs.TagLists.{is_same_tag}
 use Rattle.pl_tagged.specs.Entered.{entered_in, entry_view, tagged}
 
 -- ---- pages and views
-
-page_is : (p r : PageId) → p.0 ≡ r.0 → p ≡ r
-page_is p r same = ap (λ (n : ℕ). record { 0 = n }) same
 
 -- the page whose view was found
 record Entry (items : List Item) (views : List View) (id : ItemId) (v : View) : Type 0 where
@@ -43,7 +41,7 @@ entry_of items views id v is = choose (item_at items id) refl is
         → Entry items views id v
     at i there p of found =
         let same : v.id ≡ p =
-        page_is v.id p (eqb-true v.id.0 p.0 (found_passes (λ (w : View). w.id.0 == p.0) views v found)) in
+        same_page_number v.id p (eqb-true v.id.0 p.0 (found_passes (λ (w : View). w.id.0 == p.0) views v found)) in
         record {
           item = i;
           there = there;
@@ -114,7 +112,7 @@ module _ (items : List Item) (views : List View) where
       choose (Some w) is rest =
           let e : Entry items views id w = entry_of items views id w is in
           rw is (
-            (λ same. first e.item e.there (e.page ∙ ap (λ (p : PageId). Some p) (page_is w.id v.id same) ∙ sym of)),
+            (λ same. first e.item e.there (e.page ∙ ap (λ (p : PageId). Some p) (same_page_number w.id v.id same) ∙ sym of)),
             rest,
           )
 
@@ -217,7 +215,7 @@ module _ (store : Store) (views : List View) (name : List ℕ) (good : HasTags s
 
       page : (o : Option PageId) → is_page v.id o ≡ true → o ≡ Some v.id
       page None is = absurd (false≢true is)
-      page (Some p) is = ap (λ (r : PageId). Some r) (page_is p v.id (eqb-true p.0 v.id.0 is))
+      page (Some p) is = ap (λ (r : PageId). Some r) (same_page_number p v.id (eqb-true p.0 v.id.0 is))
 
       shown : entry_view store.items views at.0 ≡ Some v
       shown = view_at store.items views at.0 entry.0 v at.2 (page entry.0.page entry.2) known

@@ -8,8 +8,9 @@ use Rattle.pl_base.specs.declared.view.View.{View}
 use Rattle.pl_base.specs.Marks.{last_date_of}
 use Rattle.pl_base.specs.Rows.{IsWellKept, Kept, page_visits, store_of}
 use Rattle.pl_base.specs.Store.{Store, Visit}
+use Rattle.pl_marks.proofs.DatedVisits.{visits_in_order}
 use Rattle.pl_conditions.specs.Conditions.{in_times, is_not_after, is_not_before}
-use Rattle.pl_dated.proofs.DatedPages.{first_date, no_visits, not_before_on, up_to_first, visits_ordered}
+use Rattle.pl_dated.proofs.DatedPages.{first_date, no_visits, not_before_on, up_to_first}
 use Rattle.pl_place.specs.declared.query.Query.{Query}
 use Rattle.pl_query.specs.QueryAnswer.{has_visit_in_times}
 use Rattle.pl_query.proofs.PageParts.{NoneInTimes, any_of_page}
@@ -64,7 +65,7 @@ module _ (kept : Kept) (q : Query) (h : IsWellKept kept) (view : View)
       choose (Some date) is early =
           none_behind store q date (not-true (is_not_before store q.begin_time q.begin_ref date) early)
           (page_visits kept view.id)
-          (up_to_first (page_visits kept view.id) (visits_ordered kept view.id h) date (sym of ∙ is))
+          (up_to_first (page_visits kept view.id) (visits_in_order kept view.id h) date (sym of ∙ is))
 
   -- the latest date lies within the times
   pub latest_visited : is_within store q view.last ≡ true → has_visit_in_times store q view.id ≡ true

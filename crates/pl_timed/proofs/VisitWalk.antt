@@ -16,8 +16,9 @@ use Rattle.pl_base.proofs.PagesRun.{there}
 use Rattle.pl_base.proofs.VisitOrder.{InOrder}
 use Rattle.pl_base.proofs.VisitsRun.{visit_here, visit_names, visits_run}
 use Rattle.pl_base.proofs.Walk.{StandsAt, Walk, ends, goes_on, left, nears, stands, starts}
+use Rattle.pl_marks.proofs.DatedVisits.{behind_in_order, visits_in_order}
 use Rattle.pl_conditions.specs.Conditions.{in_times}
-use Rattle.pl_dated.proofs.DatedPages.{first_date, later_back, visits_ordered}
+use Rattle.pl_dated.proofs.DatedPages.{first_date}
 use Rattle.pl_place.specs.declared.query.Query.{Query}
 use Rattle.pl_query.specs.QueryAnswer.{has_visit_in_times}
 use Rattle.pl_query.proofs.PageParts.{NoneInTimes, any_of_page, none_more}
@@ -89,7 +90,7 @@ module _ (kept : Kept) (q : Query) (page : PageId) (h : IsWellKept kept) (next :
             ∙ none_behind (store_of kept) q here.element.date
             (subst (IsEarly (store_of kept) q) date_is early) (here.element ∷ here.rest) (
               omega arith,
-              later_back here.front here.element here.rest (subst InOrder here.whole (visits_ordered kept page h)),
+              behind_in_order here.front here.element here.rest (subst InOrder here.whole (visits_in_order kept page h)),
             )
 
         pub goes_further : (further : Option VisitId) → in_times (store_of kept) q row.date ≡ false

@@ -16,11 +16,12 @@ use Rattle.pl_base.specs.Store.{Item, item_id}
 use Rattle.pl_base.specs.Tree.{IsFolder, adopting, children_of, has_item, leaving, lies_in, moved, parent_of}
 use Rattle.pl_base.specs.Tree.{put_behind, without_id}
 use Rattle.pl_base.proofs.ItemLaws.{count_inserted, slots_inserted}
+use Rattle.pl_base.proofs.Truths.{neither}
 use Rattle.pl_tree.specs.declared.place.Place.{Place}
 use Rattle.pl_tree.specs.declared.tree_change.TreeChange.TheVariants.{Insert, Move}
 use Rattle.pl_tree.specs.Places.{before}
 use Rattle.pl_tree.specs.Refused.{insert_refusal, inside_refusal, item_refusal, parent_refusal, place_refusal, refusal}
-use Rattle.pl_tree.proofs.Causes.{may_change, not_inside, or_none, takes}
+use Rattle.pl_tree.proofs.Causes.{may_change, not_inside, takes}
 use Rattle.pl_tree.proofs.ChildLists.{from_without}
 use Rattle.pl_tree.proofs.LookedUp.{folder_at, parent_of_child}
 use Rattle.pl_tree.proofs.MappedItems.{has_map}
@@ -34,7 +35,7 @@ use Rattle.pl_tree.proofs.TreeLaws.{child_once}
 pub takes_item : (kept : Kept) (parent : ItemId) (place : Place) → insert_refusal parent place kept ≡ None
     → None ≡ refusal kept.items (Insert parent place)
 takes_item kept parent place none =
-    sym (or_none (refusal kept.items (Insert parent place))
+    sym (neither (refusal kept.items (Insert parent place))
     (if kept.ids.item == end_of_ids then Some (NoIds ItemIds) else None) none).0
 
 pub insert_allowed : (kept : Kept) (parent : ItemId) (place : Place) → None ≡ refusal kept.items (Insert parent place)
@@ -54,7 +55,7 @@ pub parent_there : (items : List Item) (parent : ItemId) (place : Place)
     → None ≡ refusal items (Insert parent place) → IsFolder items parent
 parent_there items parent place none =
     taking_folder items parent
-    (or_none (parent_refusal items parent) (place_refusal place (length (children_of items parent))) (sym none)).0
+    (neither (parent_refusal items parent) (place_refusal place (length (children_of items parent))) (sym none)).0
 
 pub after_there : (items : List Item) (parent : ItemId) (place : Place) (after : Option ItemId) → IsTree items
     → after ≡ before place (children_of items parent) → IfSome after (λ id. parent_of items id ≡ Some parent)
@@ -79,12 +80,12 @@ pub move_parent_there : (items : List Item) (item parent : ItemId) (place : Plac
     → IsFolder items parent × (lies_in items item parent ≡ false)
 move_parent_there items item parent place none =
     let at_place = place_refusal place (length (without_id item (children_of items parent))) in
-    let all = or_none (item_refusal items item)
+    let all = neither (item_refusal items item)
     (option_or (parent_refusal items parent) (option_or (inside_refusal items item parent) at_place)) (sym none)
     in
-    let parts = or_none (parent_refusal items parent) (option_or (inside_refusal items item parent) at_place) all.1 in (
+    let parts = neither (parent_refusal items parent) (option_or (inside_refusal items item parent) at_place) all.1 in (
       taking_folder items parent parts.0,
-      not_inside items item parent (or_none (inside_refusal items item parent) at_place parts.1).0,
+      not_inside items item parent (neither (inside_refusal items item parent) at_place parts.1).0,
     )
 
 pub move_item_there : (items : List Item) (item parent : ItemId) (place : Place)
@@ -92,7 +93,7 @@ pub move_item_there : (items : List Item) (item parent : ItemId) (place : Place)
 move_item_there items item parent place none =
     let at_place = place_refusal place (length (without_id item (children_of items parent))) in
     (may_change items item
-    (or_none (item_refusal items item)
+    (neither (item_refusal items item)
     (option_or (parent_refusal items parent) (option_or (inside_refusal items item parent) at_place))
     (sym none)).0).there
 

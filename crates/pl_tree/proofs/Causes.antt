@@ -12,12 +12,9 @@ use Rattle.pl_base.specs.declared.refusal.Refusal.TheVariants.{Fixed, Inside, No
 use Rattle.pl_base.specs.Store.{Item}
 use Rattle.pl_base.specs.Tags.{tags_root}
 use Rattle.pl_base.specs.Tree.{has_item, item_at, lies_in}
+use Rattle.pl_base.proofs.Truths.{neither}
 use Rattle.pl_tree.specs.Refused.{folder_refusal, inside_refusal, is_closed, is_entry, is_fixed, is_folder_kind}
 use Rattle.pl_tree.specs.Refused.{is_root, is_tag, item_refusal, parent_refusal}
-
-pub or_none : {A : Type 0} (a b : Option A) → option_or a b ≡ None → (a ≡ None) × (b ≡ None)
-or_none None b none = (refl, none)
-or_none (Some x) b none = absurd (cc)
 
 pub if_none : {A : Type 0} (b : Bool) (x : A) → (if b then Some x else None) ≡ None → b ≡ false
 if_none true x none = absurd (cc)
@@ -52,7 +49,7 @@ a_folder id i none = choose (is_folder_kind i.kind) refl none
 
 pub takes : (items : List Item) (id : ItemId) → parent_refusal items id ≡ None → Takes items id
 takes items id none =
-    let parts = or_none (folder_refusal items id) (if is_closed items id then Some (Fixed id) else None) none in
+    let parts = neither (folder_refusal items id) (if is_closed items id then Some (Fixed id) else None) none in
     let free = if_none (is_closed items id) (Fixed id) parts.1 in
     let first = or_parts ((id.0 == 1) || (id.0 == tags_root.0)) (is_tag items id) free in
     let second = or_parts (id.0 == 1) (id.0 == tags_root.0) first.0 in

@@ -15,6 +15,7 @@ use Rattle.pl_base.specs.Store.{Item, Page, item_id}
 use Rattle.pl_base.specs.Tree.{children_of, lies_in, retitled, without_id}
 use Rattle.pl_base.proofs.ListLaws.{All-from_map, list_any-map}
 use Rattle.pl_base.proofs.Among.{In, at_in}
+use Rattle.pl_base.proofs.Truths.{neither}
 use Rattle.pl_tree.specs.declared.new_item.NewItem.{NewItem}
 use Rattle.pl_tree.specs.declared.place.Place.{Place}
 use Rattle.pl_tree.specs.declared.tree_change.TreeChange.TheVariants.{Move, Remove, Retitle}
@@ -22,7 +23,7 @@ use Rattle.pl_tree.specs.Changes.{with_inserted, with_moved, with_removed}
 use Rattle.pl_tree.specs.Refused.{insert_refusal, inside_refusal, item_refusal, parent_refusal, place_refusal, refusal}
 use Rattle.pl_tree.proofs.Allowed.{takes_item}
 use Rattle.pl_tree.proofs.AncestorLaws.{lies_in_child, lies_in_parent, lies_in_self}
-use Rattle.pl_tree.proofs.Causes.{may_change, not_inside, or_none, takes}
+use Rattle.pl_tree.proofs.Causes.{may_change, not_inside, takes}
 use Rattle.pl_tree.proofs.GoodInserted.{inserted_good}
 use Rattle.pl_tree.proofs.GoodMoved.{moved_good}
 use Rattle.pl_tree.proofs.GoodRemoved.{removed_good}
@@ -50,7 +51,7 @@ pub good_put : (kept : Kept) (parent : ItemId) (place : Place) (row : ItemRow) (
     → IsDate row.modified → (IsSome row.page ↔ (row.kind ≡ Bookmark))
     → IfSome row.page (λ id. has_page kept id ≡ true) → HasGoodItems (store_of (with_put parent place row title kept))
 good_put kept parent place row title h good none named added modified bookmark page =
-    let first = or_none (parent_refusal kept.items parent)
+    let first = neither (parent_refusal kept.items parent)
     (place_refusal place (length (children_of kept.items parent))) (sym (takes_item kept parent place none))
     in
     inserted_good (store_of kept) (record kept.ids { item = kept.ids.item + 1 }) (item_id kept.ids.item) parent place
@@ -84,11 +85,11 @@ pub good_moved : (kept : Kept) (item parent : ItemId) (place : Place) (date : Mi
 good_moved kept item parent place date h good dated none =
     let items = kept.items in
     let at_place = place_refusal place (length (without_id item (children_of items parent))) in
-    let all = or_none (item_refusal items item)
+    let all = neither (item_refusal items item)
     (option_or (parent_refusal items parent) (option_or (inside_refusal items item parent) at_place)) none
     in
-    let rest = or_none (parent_refusal items parent) (option_or (inside_refusal items item parent) at_place) all.1 in
-    let last = or_none (inside_refusal items item parent) at_place rest.1 in
+    let rest = neither (parent_refusal items parent) (option_or (inside_refusal items item parent) at_place) all.1 in
+    let last = neither (inside_refusal items item parent) at_place rest.1 in
     moved_good (store_of kept) item parent place date (ids_ascend items h.item_ids.ascending) good
     (may_change items item all.0) (takes items parent rest.0) (lies_laws items item good.tree)
     (not_inside items item parent last.0) dated

@@ -17,6 +17,7 @@ use Rattle.pl_base.specs.Store.{Item, Store, item_id}
 use Rattle.pl_base.specs.Tags.{tags_root}
 use Rattle.pl_base.specs.Tree.{child_items, children_of, is_page, lies_in, retitled, without_id}
 use Rattle.pl_base.proofs.Among.{at_in, from_found}
+use Rattle.pl_base.proofs.Truths.{neither}
 use Rattle.pl_tree.specs.declared.new_item.NewItem.{NewItem}
 use Rattle.pl_tree.specs.declared.place.Place.{Place}
 use Rattle.pl_tree.specs.declared.tree_change.TreeChange.TheVariants.{Insert, Move, Remove, Retitle}
@@ -35,7 +36,7 @@ use Rattle.pl_base.proofs.KeyCounts.{Ascends}
 use Rattle.pl_tree.proofs.LookedUp.{item_key}
 use Rattle.pl_tree.proofs.PutPlaces.{row_of_new}
 use Rattle.pl_tree.proofs.TreeLaws.{ids_ascend}
-pub use Rattle.pl_tree.proofs.Causes.{if_none, or_none}
+pub use Rattle.pl_tree.proofs.Causes.{if_none}
 
 module _ (old : Store) (good : HasGoodItems old)
     (ascending : IsStrictlyIncreasing (map (λ (i : Item). i.id.0) old.items)) where
@@ -59,7 +60,7 @@ module _ (old : Store) (good : HasGoodItems old)
       → IfSome new.page (λ page. IsTrue (has_page_at old page))
       → HasGoodItems (record old { ids = ids; items = with_new (item_id next) parent place new old.items })
   item_inserted ids next parent place new below late none named dated bookmark page =
-      let free = or_none (parent_refusal items parent) (place_refusal place (length (children_of items parent))) none in
+      let free = neither (parent_refusal items parent) (place_refusal place (length (children_of items parent))) none in
       inserted_good old ids (item_id next) parent place (row_of_new parent new) new.title up good
       (takes items parent free.0)
       (λ i h.
@@ -71,11 +72,11 @@ module _ (old : Store) (good : HasGoodItems old)
       → HasGoodItems (record old { items = with_moved item parent place date old.items })
   item_moved item parent place date dated none =
       let at_place = place_refusal place (length (without_id item (children_of items parent))) in
-      let all = or_none (item_refusal items item)
+      let all = neither (item_refusal items item)
       (option_or (parent_refusal items parent) (option_or (inside_refusal items item parent) at_place)) none
       in
-      let rest = or_none (parent_refusal items parent) (option_or (inside_refusal items item parent) at_place) all.1 in
-      let last = or_none (inside_refusal items item parent) at_place rest.1 in
+      let rest = neither (parent_refusal items parent) (option_or (inside_refusal items item parent) at_place) all.1 in
+      let last = neither (inside_refusal items item parent) at_place rest.1 in
       moved_good old item parent place date up good (may_change items item all.0) (takes items parent rest.0)
       (lies item) (not_inside items item parent last.0) dated
 
