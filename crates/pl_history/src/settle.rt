@@ -40,9 +40,9 @@ fn drop_page<R: Rows, L: Ledger>(rows: &mut R, page: PageId, steps: &mut Steps<L
     rows.remove_page(page, steps);
 }
 
-// A page that has neither a visit nor an item goes, and the answer is whether it does. What is
-// computed of any other is computed afresh.
-fn settle<R: Rows, L: Ledger>(
+/// A page that has neither a visit nor an item goes, and the answer is whether it does. What is
+/// computed of any other is computed afresh.
+pub fn settle<R: Rows, L: Ledger>(
     alloc: Global,
     rows: &mut R,
     views: &[View],
@@ -55,6 +55,10 @@ fn settle<R: Rows, L: Ledger>(
     requires views { HaveAddresses views.now (R.kept rows.old) }
     ensures store { OnOk result (spec.without_idle_pages (store_of (R.kept rows.new))
         ≡ spec.without_idle_pages (store_of (R.kept rows.old))) }
+    ensures stays { OnOk result (spec.is_standing (store_of (R.kept rows.old)) page ≡ true
+        → store_of (R.kept rows.new) ≡ store_of (R.kept rows.old)) }
+    ensures goes { OnOk result (spec.is_standing (store_of (R.kept rows.old)) page ≡ false
+        → Drops page (R.kept rows.old) (R.kept rows.new)) }
     ensures went { IfOk result (λ went. length (R.kept rows.old).pages
         ≡ length (R.kept rows.new).pages + (if went then 1 else 0)) }
     ensures settled { OnOk result ((rest : List PageId)

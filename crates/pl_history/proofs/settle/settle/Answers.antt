@@ -1,4 +1,5 @@
 use Rattle.std.proofs.Common.{◌==◌, ◌∙◌, ap, sym}
+use Rattle.std.proofs.lemmas.Bool.{false≢true}
 use Rattle.pl_base.specs.Rows.{KeptPage, mark_of}
 use Rattle.pl_base.specs.Removal.{without_idle_pages}
 use Rattle.pl_base.proofs.LookUps.{found_where}
@@ -39,6 +40,23 @@ returns-clause-store g c =
     (source_store (g.R.Rows.kept c.args.rows.now) (g.R.Rows.kept c.refresh.new.rows) c.args.page c.unwrap-mark.result
     c.in_ok-is_place.is_place c.in_ok-refresh.field-0 (g.met.R.Rows.well_kept c.args.rows.now)
     (sym c.unwrap-mark.ensures ∙ c.page_at.ensures.mark) c.in_ok-refresh.ensures.refreshed)
+
+pub returns-then-not-is_standing-clause-stays : goal.returns-then-not-is_standing-clause-stays
+returns-then-not-is_standing-clause-stays g c stands =
+    absurd (false≢true (sym (sym c.is_standing.ensures ∙ c.if-not-is_standing.true) ∙ stands))
+
+pub returns-then-not-is_standing-clause-goes : goal.returns-then-not-is_standing-clause-goes
+returns-then-not-is_standing-clause-goes g c idle = c.drop_page.ensures.dropped
+
+pub returns-clause-stays : goal.returns-clause-stays
+returns-clause-stays g c stands =
+    source_store (g.R.Rows.kept c.args.rows.now) (g.R.Rows.kept c.refresh.new.rows) c.args.page c.unwrap-mark.result
+    c.in_ok-is_place.is_place c.in_ok-refresh.field-0 (g.met.R.Rows.well_kept c.args.rows.now)
+    (sym c.unwrap-mark.ensures ∙ c.page_at.ensures.mark) c.in_ok-refresh.ensures.refreshed
+
+pub returns-clause-goes : goal.returns-clause-goes
+returns-clause-goes g c idle =
+    absurd (false≢true (sym idle ∙ (sym c.is_standing.ensures ∙ c.if-not-is_standing.false)))
 
 pub returns-clause-settled : goal.returns-clause-settled
 returns-clause-settled g c rest s =
