@@ -20,7 +20,7 @@ pub use days::age_page;
 pub use expiration::{expire, forget};
 pub use find::{Target, is_place};
 pub use removal::{Removal, Removed, put_in_order, remove_visits};
-pub use settle::{settle, settle_all};
+pub use settle::{settle_all, settle_page};
 pub use slots::slots_after;
 pub use tags::{add_tag, is_tagged};
 pub use trimming::trim;

@@ -42,7 +42,7 @@ fn drop_page<R: Rows, L: Ledger>(rows: &mut R, page: PageId, steps: &mut Steps<L
 
 /// A page that has neither a visit nor an item goes, and the answer is whether it does. What is
 /// computed of any other is computed afresh.
-pub fn settle<R: Rows, L: Ledger>(
+pub fn settle_page<R: Rows, L: Ledger>(
     alloc: Global,
     rows: &mut R,
     views: &[View],
@@ -95,7 +95,7 @@ pub fn settle_all<R: Rows, L: Ledger>(
 {
     let mut went = 0;
     for page in pages {
-        went += u32::from(settle(alloc, rows, views, *page, steps)?);
+        went += u32::from(settle_page(alloc, rows, views, *page, steps)?);
     }
     Ok(went)
 }

@@ -8,7 +8,7 @@ use Rattle.pl_history.proofs.KeptAddresses.{addresses_dropped, addresses_refresh
 use Rattle.pl_history.proofs.KeptMark.{count_at, mark_at}
 use Rattle.pl_history.proofs.Settled.{refreshed_settled}
 use Rattle.pl_history.proofs.SourcePage.{source_store}
-use Rattle.pl_history.proofs.settle.settle.Goals as goal
+use Rattle.pl_history.proofs.settle.settle_page.Goals as goal
 
 pub returns-then-not-is_standing-clause-store : goal.returns-then-not-is_standing-clause-store
 returns-then-not-is_standing-clause-store g c =
