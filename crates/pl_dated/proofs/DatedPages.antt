@@ -1,22 +1,16 @@
 -- The dates of the visits to pages: those to one page stand by them, and its view has the latest.
-use Rattle.std.proofs.Common.{◌≡◌, ◌≤◌, ◌+ℤ◌, ◌++◌, ◌==◌, ◌&&◌, ◌||◌, ℕ, ℤ, true, List, [], ◌∷◌, Option}
-use Rattle.std.proofs.Common.{Some, None, arith, map, nat_lt, negsuc, pos, refl, subst}
+use Rattle.std.proofs.Common.{◌≡◌, ◌≤◌, ◌+ℤ◌, ℕ, ℤ, true, List, [], ◌∷◌, Option}
+use Rattle.std.proofs.Common.{Some, None, arith, negsuc, pos, refl, subst}
 use Rattle.std.specs.Prelude.{int_le}
 use Rattle.std.specs.List.{AllByRecursion}
 use Rattle.std.proofs.lemmas.Bool.Decides.{nat_tests}
-use Rattle.std.proofs.lemmas.List.Kept.{AllPairs-from_increasing}
 use Rattle.std.proofs.lemmas.Option.{same_Some}
 use Rattle.pl_base.specs.declared.date.Micros.{Micros}
-use Rattle.pl_base.specs.declared.id.PageId.{PageId}
 use Rattle.pl_base.specs.declared.view.View.{View}
 use Rattle.pl_base.specs.Marks.{last_date_of}
-use Rattle.pl_base.specs.Rows.{IsWellKept, Kept, page_visits, store_of}
 use Rattle.pl_base.specs.Store.{Page, Store, Visit}
 use Rattle.pl_base.specs.View.{AreViews}
-use Rattle.pl_base.specs.Visits.{is_later, visits_of}
-use Rattle.pl_base.proofs.ListLaws.{weaker}
-use Rattle.pl_base.proofs.VisitOrder.{InOrder, latest_in_order}
-use Rattle.pl_base.proofs.VisitsLaws.{Differ-ascending, Differ-filter}
+use Rattle.pl_base.proofs.VisitOrder.{InOrder}
 use Rattle.pl_marks.proofs.DatedVisits.{behind_in_order}
 use Rattle.pl_conditions.specs.Conditions.{is_not_before, moment}
 use Rattle.pl_place.specs.declared.kinds.TimeRef.{TimeRef}

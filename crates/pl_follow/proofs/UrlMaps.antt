@@ -76,4 +76,3 @@ pub second_changed : {X : Type 0} (e : Bool) (new first second : Option X) → (
     → option_or first (cond e new second) ≡ cond e new (option_or first second)
 second_changed true new first second rest = rw (rest refl) refl
 second_changed false new first second rest = refl
-

@@ -1,8 +1,7 @@
 -- A page stands there where the rows tell a visit or an item of it.
 use Rattle.std.proofs.Common.{◌≡◌, ◌∙◌, ◌==◌, ◌||◌, Bool, true, false, List, [], ◌∷◌, filter, if◌then◌else◌}
-use Rattle.std.proofs.Common.{Option, ap, is_some, refl, sym}
+use Rattle.std.proofs.Common.{Option, ap, is_some, refl}
 use Rattle.std.specs.List.{list_any}
-use Rattle.std.proofs.lemmas.Bool.{false≢true}
 use Rattle.pl_base.specs.declared.id.ItemId.{ItemId}
 use Rattle.pl_base.specs.declared.id.PageId.{PageId}
 use Rattle.pl_base.specs.declared.id.VisitId.{VisitId}

@@ -5,7 +5,7 @@ use Rattle.std.proofs.Common.{if◌then◌else◌, inl, inr, map, refl, subst, s
 use Rattle.std.specs.List.Sorted.{IsPermutation}
 use Rattle.std.proofs.lemmas.List.Sorted.{IsPermutation-cons, IsPermutation-middle, IsPermutation-refl}
 use Rattle.std.proofs.lemmas.List.Sorted.{IsPermutation-sym, IsPermutation-trans}
-use Rattle.pl_base.proofs.Among.{Around, In, around, at_in, from_filter, from_map, in_map}
+use Rattle.pl_base.proofs.Among.{In, around, at_in, from_filter, from_map, in_map}
 use Rattle.pl_base.proofs.LookUps.{Apart}
 
 -- ---- by a number that stands once

@@ -1,6 +1,6 @@
 -- What is found of a child of a folder.
 use Rattle.std.proofs.Common.{◌≡◌, ◌≢◌, ◌∙◌, ◌==◌, Bool, true, false, List, [], ◌∷◌, Option, Some, None, ap, refl, subst, sym}
-use Rattle.std.specs.Option.{IsSome, option_copied}
+use Rattle.std.specs.Option.{option_copied}
 use denote.Ref.{Bor}
 use Rattle.pl_base.specs.declared.id.ItemId.{ItemId}
 use Rattle.pl_base.specs.declared.id.PageId.{PageId}
@@ -11,9 +11,9 @@ use Rattle.pl_base.specs.Store.{Item}
 use Rattle.pl_base.specs.Tree.{has_item, item_at}
 use Rattle.pl_base.specs.Tree as tree
 use Rattle.pl_base.specs.View.{AreViewsOf, IsViewOf}
-use Rattle.pl_base.proofs.ListLaws.{found_in}
 use Rattle.pl_base.proofs.LookUps.{found_passes}
 use Rattle.pl_base.proofs.IdsLaws.{same_page}
+use Rattle.pl_base.proofs.ItemLookUps.{item_found}
 use Rattle.pl_conditions.specs.Conditions.{page_holds}
 use Rattle.pl_known.specs.Known.{view_of}
 use Rattle.pl_place.specs.declared.query.Query.{Query}

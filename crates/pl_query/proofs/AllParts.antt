@@ -19,7 +19,7 @@ use Rattle.pl_base.specs.Tree.{is_page, item_at}
 use Rattle.pl_base.specs.Visits.{is_later, visits_of}
 use Rattle.pl_base.proofs.IdsLaws.{same_page}
 use Rattle.pl_base.proofs.ListLaws.{all-filter, to_map, weaker}
-use Rattle.pl_base.proofs.LookUps.{Apart, apart_increasing, found_self, where_passes}
+use Rattle.pl_base.proofs.LookUps.{Apart, apart_increasing, where_passes}
 use Rattle.pl_base.proofs.PageLaws.{pages_found, pages_apart}
 use Rattle.pl_base.proofs.ReferencesRun.{having, items_found}
 use Rattle.pl_base.proofs.VisitsRun.{IsVisitOf, visits_stand}

@@ -3,7 +3,7 @@ use Rattle.std.proofs.Common.{◌≡◌, ◌∙◌, ◌||◌, ◌++◌, ◌+◌,
 use Rattle.std.proofs.Common.{get_or, length, nat_eq, refl, subst, sym, take}
 use Rattle.std.specs.List.{list_all, starts_with}
 use Rattle.std.proofs.lemmas.Bool.{and_parts}
-use Rattle.std.proofs.lemmas.List.{append-nil, take-append-drop, take_more}
+use Rattle.std.proofs.lemmas.List.{take-append-drop, take_more}
 use Rattle.std.proofs.lemmas.Slice.Eq.{bytes_eq-Decides}
 use Rattle.pl_sketch.specs.declared.sketch.Sketch.{Sketch}
 use Rattle.pl_sketch.specs.Pairs.{Covers, nothing, sketch_of, union}

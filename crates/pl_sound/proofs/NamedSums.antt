@@ -21,7 +21,7 @@ use Rattle.pl_base.proofs.ListLaws.{sum_by-map, weaker}
 use Rattle.pl_base.proofs.LookUps.{Apart, both, found_holds, found_passes, found_self, found_where}
 use Rattle.pl_base.proofs.OriginLaws.{same_origin-self}
 use Rattle.pl_base.proofs.OriginSums.{origin_named, sums_of_totals, totals_of_sums}
-use Rattle.pl_base.proofs.PageLaws.{pages_found, pages_apart}
+use Rattle.pl_base.proofs.PageLaws.{pages_found}
 use Rattle.pl_base.proofs.SmallFrecencies.{small_in}
 use Rattle.pl_base.proofs.Truths.{same_tests}
 use Rattle.pl_load.specs.Reads.{place_at}
