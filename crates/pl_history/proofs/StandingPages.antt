@@ -27,7 +27,7 @@ first_of test (v ∷ vs) = choose (test v) (first_of test vs)
     choose true rest = one_in_place v (latest_first (filter test vs))
     choose false rest = rest
 
-visited_by_latest : (kept : Kept) (page : PageId) (latest : Option VisitId) (some : Bool)
+pub visited_by_latest : (kept : Kept) (page : PageId) (latest : Option VisitId) (some : Bool)
     → latest ≡ first_id (page_visits kept page) → some ≡ is_some latest → some ≡ is_visited (store_of kept) page
 visited_by_latest kept page latest some is there =
     there ∙ ap is_some is ∙ first_of (λ (v : Visit). v.page.0 == page.0) kept.visits
