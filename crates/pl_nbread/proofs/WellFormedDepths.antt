@@ -1,12 +1,11 @@
--- The depths of a list's nodes: the first is a child of the root, and each may stand behind the one
--- before it.
-use Rattle.std.proofs.Common.{◌≡◌, ◌∙◌, ◌≤◌, ◌+◌, ◌==◌, ◌&&◌, ◌||◌, ℕ, Bool, true, false, List, [], ◌∷◌}
-use Rattle.std.proofs.Common.{◌++◌, arith, cond, nat_le, refl, subst, sym}
+-- The depths of the nodes that a file makes: the first of a list is a child of the root, and each may
+-- stand behind the one before it.
+use Rattle.std.proofs.Common.{◌≡◌, ◌≤◌, ◌==◌, ℕ, Bool, true, false, List, [], ◌∷◌}
+use Rattle.std.proofs.Common.{◌++◌, arith, cond, refl, subst, sym}
 use Rattle.std.proofs.Common.{Option, Some, None, if◌then◌else◌}
-use Rattle.std.specs.Prelude.{⊤}
 use Rattle.std.specs.List.{cons_option}
 use Rattle.std.specs.Option.{unwrap_or}
-use Rattle.std.proofs.lemmas.Bool.{and_from, and_parts, eq-eqb, eqb-true, le-leb, leb-false, true≢false}
+use Rattle.std.proofs.lemmas.Bool.{and_parts, eqb-true}
 use Rattle.std.proofs.lemmas.List.Elements.{filter_map-append}
 use Rattle.pl_nbread.specs.declared.open_list.OpenList.{OpenList}
 use Rattle.pl_nbread.specs.declared.open_list.Root.{Root}
@@ -18,70 +17,8 @@ use Rattle.pl_nbread.specs.BookmarkTree.{made_of_all, menu, node_in, nodes_in, r
 use Rattle.pl_nbread.specs.BookmarkTree.{separator, title, url}
 use Rattle.pl_nbread.specs.Parts.{Heading, Link, ListStart, ListEnd, Rule, TitleEnd, Words, Other}
 use Rattle.pl_nbread.specs.Tokens.{Attribute}
-use Rattle.pl_nbread.specs.WellFormed.{begins, goes_on, is_folder, may_follow}
-
--- ---- lists of nodes
-
--- no node behind this one is deeper
-abbrev reach_of : Node → ℕ
-reach_of node = node.depth + cond (is_folder node.kind) 1 0
-
--- each node may stand where it does, the first one no deeper than this
-abbrev Fits : ℕ → List Node → Type 0
-Fits reach [] = ⊤
-Fits reach (node ∷ nodes) = (node.depth ≤ reach) × Fits (reach_of node) nodes
-
--- how deep a node may be behind these
-abbrev reach_after : ℕ → List Node → ℕ
-reach_after reach [] = reach
-reach_after reach (node ∷ nodes) = reach_after (reach_of node) nodes
-
-follows : (a b : Node) → b.depth ≤ reach_of a → may_follow a b ≡ true
-follows a b within = choose (is_folder a.kind) within (nat_le b.depth a.depth) refl
-  where
-    choose : (f : Bool) → b.depth ≤ a.depth + cond f 1 0 → (v : Bool) → nat_le b.depth a.depth ≡ v
-        → (v || f && b.depth == a.depth + 1) ≡ true
-    choose f deep true is = refl
-    choose true deep false is =
-        let past : a.depth + 1 ≤ b.depth = omega (arith, leb-false b.depth a.depth is) in
-        eq-eqb b.depth (a.depth + 1) (omega arith)
-    choose false deep false is = absurd (true≢false (sym (le-leb b.depth a.depth (omega arith)) ∙ is))
-
-fits_on : (a : Node) (nodes : List Node) → Fits (reach_of a) nodes → goes_on (a ∷ nodes) ≡ true
-fits_on a [] fits = refl
-fits_on a (b ∷ nodes) fits = and_from _ _ (follows a b fits.0) (fits_on b nodes fits.1)
-
-fits_begin : (nodes : List Node) → Fits 0 nodes → begins nodes ≡ true
-fits_begin [] fits = refl
-fits_begin (node ∷ nodes) fits = eq-eqb node.depth 0 (omega (arith, fits.0))
-
-fits_go_on : (nodes : List Node) → Fits 0 nodes → goes_on nodes ≡ true
-fits_go_on [] fits = refl
-fits_go_on (node ∷ nodes) fits = fits_on node nodes fits.1
-
--- nodes fit behind others, and a child of a folder at this depth may stand behind them
-pub record Stays (reach depth : ℕ) (nodes : List Node) : Type 0 where
-  pub fits : Fits reach nodes
-  pub leaves : depth ≤ reach_after reach nodes
-
-fits_both : (reach : ℕ) (xs ys : List Node) → Fits reach xs → Fits (reach_after reach xs) ys → Fits reach (xs ++ ys)
-fits_both reach [] ys front behind = behind
-fits_both reach (x ∷ xs) ys front behind = (front.0, fits_both (reach_of x) xs ys front.1 behind)
-
-reach_both : (reach : ℕ) (xs ys : List Node)
-    → reach_after reach (xs ++ ys) ≡ reach_after (reach_after reach xs) ys
-reach_both reach [] ys = refl
-reach_both reach (x ∷ xs) ys = reach_both (reach_of x) xs ys
-
--- one list behind another
-stays_both : (reach between depth : ℕ) (xs ys : List Node) → Stays reach between xs
-    → ((n : ℕ) → between ≤ n → Stays n depth ys) → Stays reach depth (xs ++ ys)
-stays_both reach between depth xs ys front behind = record {
-  fits = fits_both reach xs ys front.fits (behind _ front.leaves).fits;
-  leaves = subst (λ (n : ℕ). depth ≤ n) (sym (reach_both reach xs ys)) (behind _ front.leaves).leaves;
-}
-
--- ---- what is made
+use Rattle.pl_nbread.specs.WellFormed.{begins, goes_on}
+use Rattle.pl_nbread.proofs.FittingDepths.{Stays, fits_begin, fits_go_on, stays_both, stays_none}
 
 -- how deep nodes of this root's list are in an open list
 abbrev depth_in : Root → OpenList → ℕ
@@ -102,12 +39,12 @@ module _ (root : Root) where
       choose : (v : Bool) → cond v here.depth 0 ≤ reach
           → Stays reach (cond v here.depth 0) (cons_option (if v then Some node else None) [])
       choose true within = record { fits = (omega arith, tt); leaves = omega arith }
-      choose false within = record { fits = tt; leaves = within }
+      choose false within = stays_none reach 0 within
 
   stays_link : (url : Option (List ℕ)) (here : OpenList) (a : List Attribute) (title : List ℕ) (reach : ℕ)
       → depth_in root here ≤ reach
       → Stays reach (depth_in root here) (nodes_in root (bookmark_if url here a title ∷ []))
-  stays_link None here a title reach within = record { fits = tt; leaves = within }
+  stays_link None here a title reach within = stays_none reach (depth_in root here) within
   stays_link (Some url) here a title reach within =
       stays_child here (bookmark here url a title) refl reach within
 
@@ -172,7 +109,7 @@ module _ (root : Root) where
       → depth_in root here ≤ depth_in root (unwrap_or pending here)
       → depth_in root (unwrap_or pending here) ≤ reach
       → Stays reach (depth_in root here) (nodes_in root (made here pending content))
-  made_stays here pending Nothing reach deeper within = record { fits = tt; leaves = omega arith }
+  made_stays here pending Nothing reach deeper within = stays_none reach (depth_in root here) (omega arith)
   made_stays here pending (Inner inner behind) reach deeper within =
       stays_made reach (depth_in root (unwrap_or pending here)) (depth_in root here)
       (made (unwrap_or pending here) None inner) (made here None behind)
@@ -210,7 +147,7 @@ module _ (root : Root) where
       choose false = omega arith
 
   all_stay : (levels : List Content) (reach : ℕ) → Stays reach 0 (nodes_in root (made_of_all levels))
-  all_stay [] reach = record { fits = tt; leaves = omega arith }
+  all_stay [] reach = stays_none reach 0 (omega arith)
   all_stay (content ∷ outer) reach =
       stays_made reach (depth_in root menu) 0 (made menu None content) (made_of_all outer)
       (made_stays menu None content reach (omega arith) (menu_first reach)) (λ n past. all_stay outer n)

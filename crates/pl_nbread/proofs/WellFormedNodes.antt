@@ -1,28 +1,26 @@
 -- Each node that a file makes is formed.
 use Rattle.std.proofs.Common.{◌≡◌, ◌∙◌, ◌<◌, ◌*◌, ℕ, Bool, true, false, List, [], ◌∷◌, ◌++◌}
-use Rattle.std.proofs.Common.{arith, cond, refl, nat_lt, not}
+use Rattle.std.proofs.Common.{arith, refl, nat_lt}
 use Rattle.std.proofs.Common.{Option, Some, None, if◌then◌else◌}
 use Rattle.std.specs.Prelude.{codes}
-use Rattle.std.specs.List.{cons_option, filter, filter_map, list_all, slice_split}
+use Rattle.std.specs.List.{cons_option, list_all}
 use Rattle.std.specs.Option.{option_and_then, unwrap_or}
 use Rattle.std.proofs.lemmas.Bool.{and_from, and_parts, le-leb, ltb-true}
 use Rattle.std.proofs.lemmas.List.Folds.{list_all-append}
 use Rattle.pl_base.specs.Date.{last_date}
 use Rattle.pl_base.specs.NumberText.{number_of}
-use Rattle.pl_words.specs.TagLists.{each_once, firsts, is_same_tag}
-use Rattle.pl_words.specs.TagName.{is_tag_name, tag_named, trimmed}
-use Rattle.pl_words.proofs.TagListLaws.{once-firsts}
 use Rattle.pl_nbread.specs.declared.open_list.OpenList.{OpenList}
 use Rattle.pl_nbread.specs.declared.open_list.Root.{Root}
 use Rattle.pl_nbread.specs.BookmarkTree.{Content, Nothing, Then, Inner, Made, Child, Skipped}
 use Rattle.pl_nbread.specs.BookmarkTree.{added, added_seconds, bookmark, bookmark_if, folder}
 use Rattle.pl_nbread.specs.BookmarkTree.{folder_unless, if_date, inside, is_same_root, made}
 use Rattle.pl_nbread.specs.BookmarkTree.{made_of_all, menu, micros, modified, nodes_in, root_at}
-use Rattle.pl_nbread.specs.BookmarkTree.{seconds_limit, tags_in, title}
+use Rattle.pl_nbread.specs.BookmarkTree.{seconds_limit, title}
 use Rattle.pl_nbread.specs.BookmarkTree.{url, value}
 use Rattle.pl_nbread.specs.Parts.{Heading, Link, ListStart, ListEnd, Rule, TitleEnd, Words, Other}
 use Rattle.pl_nbread.specs.Tokens.{Attribute}
 use Rattle.pl_nbread.specs.WellFormed.{is_date, is_formed}
+use Rattle.pl_nbread.proofs.TagsInText.{tags_named, tags_once}
 
 -- ---- dates
 
@@ -49,42 +47,6 @@ modified_dated : (a : List Attribute) → is_date (modified a) ≡ true
 modified_dated a =
     dated _
     (in_time (number_of (value (codes "last_modified") a)) (added_seconds a) (added_in_time a))
-
--- ---- tags
-
-module _ {A : Type 0} (p : A → Bool) where
-  all-filter : (q : A → Bool) (xs : List A) → list_all p xs ≡ true → list_all p (filter q xs) ≡ true
-  all-filter q [] all = refl
-  all-filter q (x ∷ xs) all = choose (q x) (and_parts _ _ all).0 (all-filter q xs (and_parts _ _ all).1)
-    where
-      choose : (v : Bool) → p x ≡ true → list_all p (filter q xs) ≡ true
-          → list_all p (cond v (x ∷ filter q xs) (filter q xs)) ≡ true
-      choose true this rest = and_from _ _ this rest
-      choose false this rest = rest
-
-  all-firsts : (same : A → A → Bool) (xs : List A) → list_all p xs ≡ true
-      → list_all p (firsts same xs) ≡ true
-  all-firsts same [] all = refl
-  all-firsts same (x ∷ xs) all =
-      and_from _ _ (and_parts _ _ all).0
-      (all-filter (λ y. not (same x y)) (firsts same xs) (all-firsts same xs (and_parts _ _ all).1))
-
-all_named : (pieces : List (List ℕ)) → list_all is_tag_name (filter_map tag_named pieces) ≡ true
-all_named [] = refl
-all_named (piece ∷ pieces) = choose (is_tag_name (trimmed piece)) refl (all_named pieces)
-  where
-    choose : (v : Bool) → is_tag_name (trimmed piece) ≡ v
-        → list_all is_tag_name (filter_map tag_named pieces) ≡ true
-        → list_all is_tag_name (cons_option (if v then Some (trimmed piece) else None)
-        (filter_map tag_named pieces)) ≡ true
-    choose true is rest = and_from _ _ is rest
-    choose false is rest = rest
-
-tags_named : (text : List ℕ) → list_all is_tag_name (tags_in text) ≡ true
-tags_named text = all-firsts is_tag_name is_same_tag (filter_map tag_named (slice_split _ text)) (all_named _)
-
-tags_once : (text : List ℕ) → each_once is_same_tag (tags_in text) ≡ true
-tags_once text = once-firsts is_same_tag (filter_map tag_named (slice_split _ text))
 
 -- ---- nodes
 

@@ -1,16 +1,13 @@
 -- The bookmarks of a file have few tags in all.
-use Rattle.std.proofs.Common.{◌≡◌, ◌<◌, ◌≤◌, ◌+◌, ◌*◌, ◌^◌, ◌==◌, ℕ, zero, suc, Bool, true, false}
-use Rattle.std.proofs.Common.{List, [], ◌∷◌, ◌++◌, arith, length, length-append, map, not}
+use Rattle.std.proofs.Common.{◌≡◌, ◌<◌, ◌≤◌, ◌+◌, ◌*◌, ◌^◌, ℕ, zero, suc, Bool, true, false}
+use Rattle.std.proofs.Common.{List, [], ◌∷◌, ◌++◌, arith, length, length-append, map}
 use Rattle.std.proofs.Common.{refl, sum}
 use Rattle.std.proofs.Common.{Option, Some, None, if◌then◌else◌}
 use Rattle.std.specs.Prelude.{codes}
-use Rattle.std.specs.List.{cons_option, filter, filter_map, slice_split, sum_by}
+use Rattle.std.specs.List.{cons_option, sum_by}
 use Rattle.std.specs.Option.{unwrap_or}
-use Rattle.std.proofs.lemmas.List.Splits.{length-slice_split}
-use Rattle.std.proofs.lemmas.List.Sums.{count_by-le-length, length-filter, sum-map, sum_by-cons}
+use Rattle.std.proofs.lemmas.List.Sums.{sum-map, sum_by-cons}
 use Rattle.std.proofs.lemmas.Str.{length-encode, len_utf8_bounds}
-use Rattle.pl_words.specs.TagLists.{firsts, is_same_tag}
-use Rattle.pl_words.specs.TagName.{is_tag_name, tag_named, trimmed}
 use Rattle.pl_nbread.specs.declared.open_list.OpenList.{OpenList}
 use Rattle.pl_nbread.specs.declared.open_list.Root.{Root}
 use Rattle.pl_nbread.specs.declared.tree.Node.{Node}
@@ -18,12 +15,13 @@ use Rattle.pl_nbread.specs.BookmarkFile.{file_limit}
 use Rattle.pl_nbread.specs.BookmarkTree.{Content, Nothing, Then, Inner, Made, Child, Skipped}
 use Rattle.pl_nbread.specs.BookmarkTree.{bookmark_if, enclosed, folder_unless, inside, is_same_root}
 use Rattle.pl_nbread.specs.BookmarkTree.{levels, made, made_of, made_of_all, menu, nodes_in, put_front}
-use Rattle.pl_nbread.specs.BookmarkTree.{raw, root_at, tags, tags_in, title, url, value}
+use Rattle.pl_nbread.specs.BookmarkTree.{raw, root_at, tags, title, url, value}
 use Rattle.pl_nbread.specs.Parts.{Part, Heading, Link, ListStart, ListEnd, Rule, TitleEnd, Words}
 use Rattle.pl_nbread.specs.Parts.{Other, part_of}
 use Rattle.pl_nbread.specs.References.{Reference, decoded_from, meant, reference_at}
 use Rattle.pl_nbread.specs.Tokens.{Attribute, tokens}
 use Rattle.pl_nbread.proofs.WellFormedSizes.{total, total_within, weight}
+use Rattle.pl_nbread.proofs.TagsInText.{tags_in-le}
 
 -- ---- the tags of a text
 
@@ -45,40 +43,11 @@ decoded_few zero (b ∷ text) =
           (decoded_from (meant b (reference_at (b ∷ text))).1 text),
     )
 
-fewer : {A : Type 0} (q : A → Bool) (xs : List A) → length (filter q xs) ≤ length xs
-fewer q xs = omega (arith, length-filter q xs, count_by-le-length q xs)
-
-firsts_fewer : {A : Type 0} (same : A → A → Bool) (xs : List A) → length (firsts same xs) ≤ length xs
-firsts_fewer same [] = omega arith
-firsts_fewer same (x ∷ xs) =
-    omega (arith, fewer (λ y. not (same x y)) (firsts same xs), firsts_fewer same xs)
-
-named_fewer : (pieces : List (List ℕ)) → length (filter_map tag_named pieces) ≤ length pieces
-named_fewer [] = omega arith
-named_fewer (piece ∷ pieces) = choose (is_tag_name (trimmed piece)) (named_fewer pieces)
-  where
-    choose : (v : Bool) → length (filter_map tag_named pieces) ≤ length pieces
-        → length (cons_option (if v then Some (trimmed piece) else None) (filter_map tag_named pieces))
-        ≤ suc (length pieces)
-    choose true rest = omega arith
-    choose false rest = omega arith
-
-in_text : (text : List ℕ) → length (tags_in text) ≤ length text + 1
-in_text text =
-    let pieces : List (List ℕ) = slice_split (λ b. b == 44) text in
-    omega (
-      arith,
-      firsts_fewer is_same_tag (filter_map tag_named pieces),
-      named_fewer pieces,
-      length-slice_split (λ b. b == 44) text,
-      count_by-le-length (λ b. b == 44) text,
-    )
-
 tags_few : (a : List Attribute) → length (tags a) ≤ 4 * weight (Link a)
 tags_few a =
     omega (
       arith,
-      in_text (value (codes "tags") a),
+      tags_in-le (value (codes "tags") a),
       decoded_few 0 (unwrap_or (raw (codes "tags") a) []),
     )
 
