@@ -1,86 +1,18 @@
 -- The depths of the nodes that are found: each may stand behind the one before it.
-use Rattle.std.proofs.Common.{◌≡◌, ◌∙◌, ◌≤◌, ◌+◌, ◌==◌, ◌&&◌, ◌||◌, ℕ, suc, Bool, true, false, List, [], ◌∷◌}
-use Rattle.std.proofs.Common.{◌++◌, arith, cond, nat_le, refl, subst, sym}
+use Rattle.std.proofs.Common.{◌≤◌, ◌+◌, ℕ, suc, List, []}
+use Rattle.std.proofs.Common.{arith}
 use Rattle.std.proofs.Common.{Option, Some, None}
 use Rattle.std.proofs.Common.{Ordering, Less, Equal, Greater}
-use Rattle.std.specs.Prelude.{⊤, codes}
+use Rattle.std.specs.Prelude.{codes}
 use Rattle.std.specs.Cmp.Lexicographic.{slice_cmp}
 use Rattle.std.specs.Ordering.{match_ordering, nat_cmp}
-use Rattle.std.proofs.lemmas.Bool.{and_from, eq-eqb, le-leb, leb-false, true≢false}
 use Rattle.pl_base.specs.declared.item.ItemKind.{ItemKind}
 use Rattle.pl_base.specs.declared.item.ItemKind.TheVariants.{Bookmark, Folder, Separator}
-use Rattle.pl_nbread.specs.declared.tree.Node.{Node}
-use Rattle.pl_nbread.specs.WellFormed.{begins, goes_on, is_folder, may_follow}
+use Rattle.pl_nbread.proofs.FittingDepths.{Stays, stays_both, stays_none}
 use Rattle.pl_backup.specs.BackupTree.{Found, array_found, bookmark_found, children_found, items_found}
 use Rattle.pl_backup.specs.BackupTree.{kind, object_found, url, value_found}
 use Rattle.serde_json.specs.Data.{Data, Items, Members, array, boolean, item, member, no_items}
 use Rattle.serde_json.specs.Data.{no_members, null, number, object, string}
-
--- ---- lists of nodes
-
--- no node behind this one is deeper
-abbrev reach_of : Node → ℕ
-reach_of node = node.depth + cond (is_folder node.kind) 1 0
-
--- each node may stand where it does, the first one no deeper than this
-abbrev Fits : ℕ → List Node → Type 0
-Fits reach [] = ⊤
-Fits reach (node ∷ nodes) = (node.depth ≤ reach) × Fits (reach_of node) nodes
-
--- how deep a node may be behind these
-abbrev reach_after : ℕ → List Node → ℕ
-reach_after reach [] = reach
-reach_after reach (node ∷ nodes) = reach_after (reach_of node) nodes
-
-follows : (a b : Node) → b.depth ≤ reach_of a → may_follow a b ≡ true
-follows a b within = choose (is_folder a.kind) within (nat_le b.depth a.depth) refl
-  where
-    choose : (f : Bool) → b.depth ≤ a.depth + cond f 1 0 → (v : Bool) → nat_le b.depth a.depth ≡ v
-        → (v || f && b.depth == a.depth + 1) ≡ true
-    choose f deep true is = refl
-    choose true deep false is =
-        let past : a.depth + 1 ≤ b.depth = omega (arith, leb-false b.depth a.depth is) in
-        eq-eqb b.depth (a.depth + 1) (omega arith)
-    choose false deep false is = absurd (true≢false (sym (le-leb b.depth a.depth (omega arith)) ∙ is))
-
-fits_on : (a : Node) (nodes : List Node) → Fits (reach_of a) nodes → goes_on (a ∷ nodes) ≡ true
-fits_on a [] fits = refl
-fits_on a (b ∷ nodes) fits = and_from _ _ (follows a b fits.0) (fits_on b nodes fits.1)
-
--- nodes fit behind others, and a node at this depth may stand behind them
-pub record Stays (reach depth : ℕ) (nodes : List Node) : Type 0 where
-  fits : Fits reach nodes
-  leaves : depth ≤ reach_after reach nodes
-
-pub stays_begin : (depth : ℕ) (nodes : List Node) → Stays 0 depth nodes → begins nodes ≡ true
-stays_begin depth [] stays = refl
-stays_begin depth (node ∷ nodes) stays = eq-eqb node.depth 0 (omega (arith, stays.fits.0))
-
-pub stays_go_on : (depth : ℕ) (nodes : List Node) → Stays 0 depth nodes → goes_on nodes ≡ true
-stays_go_on depth [] stays = refl
-stays_go_on depth (node ∷ nodes) stays = fits_on node nodes stays.fits.1
-
-pub stays_none : (reach depth : ℕ) → depth ≤ reach → Stays reach depth []
-stays_none reach depth within = record { fits = tt; leaves = within }
-
-fits_both : (reach : ℕ) (xs ys : List Node) → Fits reach xs → Fits (reach_after reach xs) ys → Fits reach (xs ++ ys)
-fits_both reach [] ys front behind = behind
-fits_both reach (x ∷ xs) ys front behind = (front.0, fits_both (reach_of x) xs ys front.1 behind)
-
-reach_both : (reach : ℕ) (xs ys : List Node)
-    → reach_after reach (xs ++ ys) ≡ reach_after (reach_after reach xs) ys
-reach_both reach [] ys = refl
-reach_both reach (x ∷ xs) ys = reach_both (reach_of x) xs ys
-
--- one list behind another
-pub stays_both : (reach depth : ℕ) (xs ys : List Node) → Stays reach depth xs
-    → ((n : ℕ) → depth ≤ n → Stays n depth ys) → Stays reach depth (xs ++ ys)
-stays_both reach depth xs ys front behind = record {
-  fits = fits_both reach xs ys front.fits (behind _ front.leaves).fits;
-  leaves = subst (λ (n : ℕ). depth ≤ n) (sym (reach_both reach xs ys)) (behind _ front.leaves).leaves;
-}
-
--- ---- what is found
 
 -- what is found at a depth may stand behind a node that is as deep
 abbrev pub Lies : ℕ → Found → Type 0
@@ -122,7 +54,7 @@ mutual
   items_lie depth no_items = lies_none depth 0
   items_lie depth (item value more) =
       λ reach within.
-      stays_both reach depth (value_found depth value).nodes (items_found depth more).nodes
+      stays_both reach depth depth (value_found depth value).nodes (items_found depth more).nodes
       (value_lies depth value reach within) (items_lie depth more)
 
   pub children_lie : (depth : ℕ) (fields : Members) → Lies depth (children_found depth fields)

@@ -1,23 +1,20 @@
 -- Each node that is found is formed.
-use Rattle.std.proofs.Common.{◌≡◌, ◌∙◌, ◌&&◌, ℕ, suc, Bool, true, false, List, [], ◌∷◌}
-use Rattle.std.proofs.Common.{cond, nat_le, not, refl}
+use Rattle.std.proofs.Common.{◌≡◌, ◌∙◌, ◌&&◌, ℕ, suc, Bool, true, false, List, []}
+use Rattle.std.proofs.Common.{nat_le, refl}
 use Rattle.std.proofs.Common.{Option, Some, None, option_and_then, if◌then◌else◌}
 use Rattle.std.proofs.Common.{Ordering, Less, Equal, Greater}
 use Rattle.std.specs.Prelude.{codes, unwrap_or}
 use Rattle.std.specs.Cmp.Lexicographic.{slice_cmp}
-use Rattle.std.specs.List.{cons_option, filter, filter_map, list_all, slice_split}
+use Rattle.std.specs.List.{list_all}
 use Rattle.std.specs.Ordering.{match_ordering, nat_cmp}
-use Rattle.std.proofs.lemmas.Bool.{and_from, and_parts}
+use Rattle.std.proofs.lemmas.Bool.{and_from}
 use Rattle.std.proofs.lemmas.List.Folds.{list_all-append}
 use Rattle.pl_base.specs.declared.date.Micros.{Micros}
 use Rattle.pl_base.specs.declared.item.ItemKind.{ItemKind}
 use Rattle.pl_base.specs.declared.item.ItemKind.TheVariants.{Bookmark, Folder, Separator}
 use Rattle.pl_base.specs.Date.{last_date}
-use Rattle.pl_words.specs.TagLists.{each_once, firsts, is_same_tag}
-use Rattle.pl_words.specs.TagName.{is_tag_name, tag_named, trimmed}
-use Rattle.pl_words.proofs.TagListLaws.{once-firsts}
-use Rattle.pl_nbread.specs.BookmarkTree.{tags_in}
 use Rattle.pl_nbread.specs.WellFormed.{is_date, is_formed}
+use Rattle.pl_nbread.proofs.TagsInText.{tags_named, tags_once}
 use Rattle.pl_backup.specs.BackupTree.{Found, added, array_found, bookmark_found, children_found}
 use Rattle.pl_backup.specs.BackupTree.{if_date, items_found, kind, modified, num, object_found, text, url}
 use Rattle.pl_backup.specs.BackupTree.{value_found}
@@ -43,42 +40,6 @@ added_dated fields = in_range (option_and_then as_u64 (num (codes "dateAdded") f
 modified_dated : (fields : Members) → is_date (modified fields) ≡ true
 modified_dated fields =
     in_range (option_and_then as_u64 (num (codes "lastModified") fields)) (added fields) (added_dated fields)
-
--- ---- tags
-
-module _ {A : Type 0} (p : A → Bool) where
-  all-filter : (q : A → Bool) (xs : List A) → list_all p xs ≡ true → list_all p (filter q xs) ≡ true
-  all-filter q [] all = refl
-  all-filter q (x ∷ xs) all = choose (q x) (and_parts _ _ all).0 (all-filter q xs (and_parts _ _ all).1)
-    where
-      choose : (v : Bool) → p x ≡ true → list_all p (filter q xs) ≡ true
-          → list_all p (cond v (x ∷ filter q xs) (filter q xs)) ≡ true
-      choose true this rest = and_from _ _ this rest
-      choose false this rest = rest
-
-  all-firsts : (same : A → A → Bool) (xs : List A) → list_all p xs ≡ true
-      → list_all p (firsts same xs) ≡ true
-  all-firsts same [] all = refl
-  all-firsts same (x ∷ xs) all =
-      and_from _ _ (and_parts _ _ all).0
-      (all-filter (λ y. not (same x y)) (firsts same xs) (all-firsts same xs (and_parts _ _ all).1))
-
-all_named : (pieces : List (List ℕ)) → list_all is_tag_name (filter_map tag_named pieces) ≡ true
-all_named [] = refl
-all_named (piece ∷ pieces) = choose (is_tag_name (trimmed piece)) refl (all_named pieces)
-  where
-    choose : (v : Bool) → is_tag_name (trimmed piece) ≡ v
-        → list_all is_tag_name (filter_map tag_named pieces) ≡ true
-        → list_all is_tag_name (cons_option (if v then Some (trimmed piece) else None)
-        (filter_map tag_named pieces)) ≡ true
-    choose true is rest = and_from _ _ is rest
-    choose false is rest = rest
-
-tags_named : (text : List ℕ) → list_all is_tag_name (tags_in text) ≡ true
-tags_named text = all-firsts is_tag_name is_same_tag (filter_map tag_named (slice_split _ text)) (all_named _)
-
-tags_once : (text : List ℕ) → each_once is_same_tag (tags_in text) ≡ true
-tags_once text = once-firsts is_same_tag (filter_map tag_named (slice_split _ text))
 
 -- ---- what is found
 

@@ -1,20 +1,17 @@
 -- What is counted of a value is no more than its weight: the values that are skipped, and the tags.
-use Rattle.std.proofs.Common.{◌≡◌, ◌≤◌, ◌+◌, ◌==◌, ℕ, suc, Bool, true, false, List, [], ◌∷◌, ◌++◌}
-use Rattle.std.proofs.Common.{arith, length, map, not, sum}
-use Rattle.std.proofs.Common.{Option, Some, None, option_and_then, if◌then◌else◌}
+use Rattle.std.proofs.Common.{◌≡◌, ◌≤◌, ◌+◌, ℕ, suc, List, [], ◌∷◌, ◌++◌}
+use Rattle.std.proofs.Common.{arith, length, map, sum}
+use Rattle.std.proofs.Common.{Option, Some, None, option_and_then}
 use Rattle.std.proofs.Common.{Ordering, Less, Equal, Greater}
 use Rattle.std.specs.Prelude.{⊤, codes, unwrap_or}
 use Rattle.std.specs.Cmp.Lexicographic.{slice_cmp}
-use Rattle.std.specs.List.{cons_option, filter, filter_map, slice_split, sum_by}
+use Rattle.std.specs.List.{sum_by}
 use Rattle.std.specs.Ordering.{match_ordering, nat_cmp}
-use Rattle.std.proofs.lemmas.List.Splits.{length-slice_split}
-use Rattle.std.proofs.lemmas.List.Sums.{count_by-le-length, length-filter, sum-map, sum_by-cons}
+use Rattle.std.proofs.lemmas.List.Sums.{sum-map, sum_by-cons}
 use Rattle.pl_base.specs.declared.item.ItemKind.{ItemKind}
 use Rattle.pl_base.specs.declared.item.ItemKind.TheVariants.{Bookmark, Folder, Separator}
-use Rattle.pl_words.specs.TagLists.{firsts, is_same_tag}
-use Rattle.pl_words.specs.TagName.{is_tag_name, tag_named, trimmed}
-use Rattle.pl_nbread.specs.BookmarkTree.{tags_in}
 use Rattle.pl_nbread.specs.declared.tree.Node.{Node}
+use Rattle.pl_nbread.proofs.TagsInText.{tags_in-le}
 use Rattle.pl_backup.specs.BackupTree.{Found, array_found, children_found, items_found, kind}
 use Rattle.pl_backup.specs.BackupTree.{bookmark_found, object_found, tags, text, url, value_found}
 use Rattle.pl_backup.specs.Weights.{items_weight, members_weight, weight}
@@ -58,40 +55,11 @@ text_bytes n (Some (object fields)) small = omega arith
 
 -- ---- tags
 
-fewer : {A : Type 0} (q : A → Bool) (xs : List A) → length (filter q xs) ≤ length xs
-fewer q xs = omega (arith, length-filter q xs, count_by-le-length q xs)
-
-firsts_fewer : {A : Type 0} (same : A → A → Bool) (xs : List A) → length (firsts same xs) ≤ length xs
-firsts_fewer same [] = omega arith
-firsts_fewer same (x ∷ xs) =
-    omega (arith, fewer (λ y. not (same x y)) (firsts same xs), firsts_fewer same xs)
-
-named_fewer : (pieces : List (List ℕ)) → length (filter_map tag_named pieces) ≤ length pieces
-named_fewer [] = omega arith
-named_fewer (piece ∷ pieces) = choose (is_tag_name (trimmed piece)) (named_fewer pieces)
-  where
-    choose : (v : Bool) → length (filter_map tag_named pieces) ≤ length pieces
-        → length (cons_option (if v then Some (trimmed piece) else None) (filter_map tag_named pieces))
-        ≤ suc (length pieces)
-    choose true rest = omega arith
-    choose false rest = omega arith
-
-in_text : (text : List ℕ) → length (tags_in text) ≤ length text + 1
-in_text text =
-    let pieces : List (List ℕ) = slice_split (λ b. b == 44) text in
-    omega (
-      arith,
-      firsts_fewer is_same_tag (filter_map tag_named pieces),
-      named_fewer pieces,
-      length-slice_split (λ b. b == 44) text,
-      count_by-le-length (λ b. b == 44) text,
-    )
-
 tags_few : (fields : Members) → length (tags fields) ≤ 1 + members_weight fields
 tags_few fields =
     omega (
       arith,
-      in_text (unwrap_or (text (codes "tags") fields) []),
+      tags_in-le (unwrap_or (text (codes "tags") fields) []),
       text_bytes (members_weight fields) (get_member (codes "tags") fields) (member_weight (codes "tags") fields),
     )
 

@@ -14,8 +14,6 @@ mod ReadingSteps
 mod RootSteps
 mod RootTexts
 mod StringWeights
-mod TagSteps
-mod TagsRead
 mod TokenWeights
 mod TreeFormed
 mod TreeRead

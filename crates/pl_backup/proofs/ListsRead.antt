@@ -8,6 +8,7 @@ use Rattle.pl_base.specs.declared.item.ItemKind.{ItemKind}
 use Rattle.pl_base.specs.declared.item.ItemKind.TheVariants.{Bookmark, Folder, Separator}
 use Rattle.pl_nbread.specs.declared.tree.Node.{Node}
 use Rattle.pl_nbread.specs.WellFormed.{begins, goes_on, is_folder, may_follow}
+use Rattle.pl_nbread.proofs.NodeLaws.{goes_later}
 use Rattle.pl_backup.specs.BackupText.{Placed, count_below, items, put_front, values}
 use Rattle.pl_backup.specs.BackupTree.{Found, above, items_found, joined, nothing, value_found}
 use Rattle.pl_backup.proofs.NodesRead.{IsFit, bookmark_read, folder_read, separator_read}
@@ -93,10 +94,6 @@ room_for Folder here next follows =
       | inl up ↦ let no : next ≤ here = leb-true next here up in omega arith
       | inr down ↦ let one : next ≡ here + 1 = eqb-true next (here + 1) down in omega arith
     ]
-
-pub goes_later : (node : Node) (nodes : List Node) → goes_on (node ∷ nodes) ≡ true → goes_on nodes ≡ true
-goes_later node [] goes = refl
-goes_later node (next ∷ nodes) goes = (and_parts _ _ goes).1
 
 -- the values behind a node
 pub falls_below : (node : Node) (nodes : List Node) → goes_on (node ∷ nodes) ≡ true

@@ -1,11 +1,10 @@
 -- The values of nodes read back from their text, and nest no deeper than is read.
-use Rattle.std.proofs.Common.{◌≡◌, ◌≤◌, ◌<◌, ◌+◌, ◌*◌, ◌^◌, ℕ, zero, suc, true, List, [], ◌∷◌, Option, Some, None, arith}
+use Rattle.std.proofs.Common.{◌≡◌, ◌≤◌, ◌<◌, ◌+◌, ◌*◌, ◌^◌, ℕ, zero, suc, true, List, [], ◌∷◌, arith}
 use Rattle.std.proofs.Common.{drop, refl, take}
 use Rattle.std.specs.Prelude.{codes, unwrap_or}
 use Rattle.std.specs.List.{AllByRecursion}
 use Rattle.std.specs.Str.{IsUtf8}
 use Rattle.std.proofs.lemmas.Bool.{leb-true}
-use Rattle.std.proofs.lemmas.Str.{IsUtf8-from_is_utf8, IsUtf8-nil}
 use Rattle.json.proofs.Printed.Utf8.{IsUtf8-are_ascii, are_ascii}
 use Rattle.pl_base.specs.declared.date.Micros.{Micros}
 use Rattle.pl_base.specs.declared.item.ItemKind.{ItemKind}
@@ -14,14 +13,14 @@ use Rattle.pl_base.specs.Date.{last_date}
 use Rattle.pl_base.specs.Tags.{comma_joined}
 use Rattle.pl_base.proofs.ListLaws.{all_take}
 use Rattle.pl_nbread.specs.declared.tree.Node.{Node}
-use Rattle.pl_nbread.specs.Listed.{IsOwn}
 use Rattle.pl_nbread.specs.WellFormed.{goes_on, is_date}
+use Rattle.pl_nbread.proofs.NodeLaws.{goes_later, url_text}
+use Rattle.pl_nbread.proofs.TagsRead.{tags_text}
 use Rattle.pl_backup.specs.BackupText.{Placed, bookmark, container, count_below, dates, folder, items, put_front}
 use Rattle.pl_backup.specs.BackupText.{separator, tags, text, titled, values}
 use Rattle.pl_backup.specs.ReadsBack.{deepest}
-use Rattle.pl_backup.proofs.ListsRead.{Falls, IsAt, children_at, falls_below, goes_later, room}
+use Rattle.pl_backup.proofs.ListsRead.{Falls, IsAt, children_at, falls_below, room}
 use Rattle.pl_backup.proofs.NodesRead.{IsFit, link}
-use Rattle.pl_backup.proofs.TagsRead.{tags_text}
 use Rattle.pl_backup.proofs.ValuesRead.{ItemsReadBack, MembersReadBack, ReadsBack, ascend}
 use Rattle.serde_json.specs.Data.{Data, Items, Members, depth, items_depth, members_depth, no_members}
 
@@ -42,11 +41,7 @@ tags_kept (tag ∷ names) more joined kept = (refl, (joined, kept))
 dates_kept : (node : Node) (more : Members) → IsFit node → MembersReadBack more
     → MembersReadBack (dates node.added node.modified more)
 dates_kept node more own kept =
-    (refl, (small_date node.added own.added, (refl, (small_date node.modified own.modified, kept))))
-
-url_kept : (url : Option (List ℕ)) → IsOwn url → IsUtf8 (unwrap_or url [])
-url_kept None own = IsUtf8-nil
-url_kept (Some text) own = IsUtf8-from_is_utf8 text own.0
+    (refl, (small_date node.added own.formed.added, (refl, (small_date node.modified own.formed.modified, kept))))
 
 pub plain : (text : List ℕ) → are_ascii text ≡ true → IsUtf8 text
 plain = IsUtf8-are_ascii
@@ -78,12 +73,12 @@ bookmark_kept node own =
     let uri : Members = text (codes "uri") address no_members in
     let kind : Members = titled node.title type 1 uri in
     let kind_kept = titled_kept node.title type 1 uri own.title (plain type refl) (omega arith)
-    (refl, (url_kept node.url own.url, tt)) in
+    (refl, (url_text node.url own.url, tt)) in
     record {
       reads = (
         link_ascends node.added node.modified node.tags node.title address,
         dates_kept node (tags node.tags kind) own
-            (tags_kept node.tags kind (tags_text node.tags own.named) kind_kept),
+            (tags_kept node.tags kind (tags_text node.tags own.formed.named) kind_kept),
       );
       nests = omega (arith, link_depth node.added node.modified node.tags node.title address, own.shallow);
     }

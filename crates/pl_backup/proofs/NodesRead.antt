@@ -2,29 +2,27 @@
 use Rattle.std.proofs.Common.{◌≡◌, ◌∙◌, ◌≤◌, ℕ, suc, true, false, not, List, [], ◌∷◌, Option, Some, None, ap}
 use Rattle.std.proofs.Common.{is_some, refl, sym}
 use Rattle.std.specs.Prelude.{codes, unwrap_or, if◌then◌else◌}
-use Rattle.std.specs.List.{list_all}
 use Rattle.std.specs.Option.{option_and_then}
 use Rattle.std.specs.Str.{IsUtf8}
-use Rattle.std.proofs.lemmas.Bool.{and_parts, leb-true}
+use Rattle.std.proofs.lemmas.Bool.{leb-true}
 use Rattle.std.proofs.lemmas.Str.{IsUtf8-from_is_utf8}
 use Rattle.pl_base.specs.declared.date.Micros.{Micros}
 use Rattle.pl_base.specs.declared.item.ItemKind.{ItemKind}
 use Rattle.pl_base.specs.declared.item.ItemKind.TheVariants.{Bookmark, Folder, Separator}
 use Rattle.pl_base.specs.Address.{canon}
 use Rattle.pl_base.specs.Tags.{comma_joined}
-use Rattle.pl_words.specs.TagLists.{each_once, is_same_tag}
-use Rattle.pl_words.specs.TagName.{is_tag_name}
 use Rattle.pl_nbread.specs.declared.tree.Node.{Node}
 use Rattle.pl_nbread.specs.BookmarkTree.{tags_in}
 use Rattle.pl_nbread.specs.Listed.{IsOwn}
 use Rattle.pl_nbread.specs.WellFormed.{is_bookmark, is_date, is_formed}
+use Rattle.pl_nbread.proofs.NodeLaws.{IsFormed, formed}
+use Rattle.pl_nbread.proofs.TagsRead.{tags_read}
 use Rattle.pl_backup.specs.BackupText.{dates, titled}
 use Rattle.pl_backup.specs.BackupText as spec
 use Rattle.pl_backup.specs.BackupTree.{above, added, bookmark_found, items_found, kind, modified, nothing}
 use Rattle.pl_backup.specs.BackupTree.{if_date, object_found, title, url, value_found}
 use Rattle.pl_backup.specs.BackupTree as read
 use Rattle.pl_backup.specs.ReadsBack.{HasTexts, deepest, is_shallow}
-use Rattle.pl_backup.proofs.TagsRead.{tags_read}
 use Rattle.serde_json.specs.Data.{Items, Members, no_members}
 
 -- ---- what holds of each node
@@ -32,31 +30,18 @@ use Rattle.serde_json.specs.Data.{Items, Members, no_members}
 pub record IsFit (node : Node) : Type 0 where
   pub shallow : node.depth ≤ deepest
   pub title : IsUtf8 node.title
-  pub linked : (if is_bookmark node.kind then is_some node.url else not (is_some node.url)) ≡ true
+  pub formed : IsFormed node
   pub url : IsOwn node.url
-  pub added : is_date node.added ≡ true
-  pub modified : is_date node.modified ≡ true
-  pub named : list_all is_tag_name node.tags ≡ true
-  pub once : each_once is_same_tag node.tags ≡ true
   pub bare : is_bookmark node.kind ≡ false → node.tags ≡ []
 
 pub fit : (node : Node) → is_formed node ≡ true → is_shallow node ≡ true → HasTexts node → IsFit node
-fit node formed shallow texts =
-    let a = and_parts _ _ formed in
-    let b = and_parts _ _ a.0 in
-    let c = and_parts _ _ b.0 in
-    let d = and_parts _ _ c.0 in
-    record {
-      shallow = leb-true node.depth deepest shallow;
-      title = IsUtf8-from_is_utf8 node.title texts.title;
-      linked = d.0;
-      url = texts.url;
-      added = d.1;
-      modified = c.1;
-      named = b.1;
-      once = a.1;
-      bare = texts.tags;
-    }
+fit node is shallow texts = record {
+  shallow = leb-true node.depth deepest shallow;
+  title = IsUtf8-from_is_utf8 node.title texts.title;
+  formed = formed node is;
+  url = texts.url;
+  bare = texts.tags;
+}
 
 same_node : (node : Node) (kind : ItemKind) (url : Option (List ℕ)) (title : List ℕ) (added modified : Micros)
     (tags : List (List ℕ)) → kind ≡ node.kind → url ≡ node.url → title ≡ node.title → added ≡ node.added
@@ -115,7 +100,7 @@ taken depth (Some text) ms there = refl
 
 linked_as : (node : Node) (kind : ItemKind) → IsFit node → node.kind ≡ kind
     → (if is_bookmark kind then is_some node.url else not (is_some node.url)) ≡ true
-linked_as node kind own is = rw is at own.linked
+linked_as node kind own is = rw is at own.formed.linked
 
 bare_as : (node : Node) (kind : ItemKind) → IsFit node → node.kind ≡ kind → is_bookmark kind ≡ false → [] ≡ node.tags
 bare_as node kind own is other = sym (own.bare (ap is_bookmark is ∙ other))
@@ -160,9 +145,10 @@ bookmark_read node own is =
     ∙ ap (λ (n : Node). above n nothing)
     (same_node node Bookmark node.url (title ms) (added ms) (modified ms) (read.tags ms) (sym is) refl
     (link_title node.added node.modified node.tags node.title address)
-    (date_read node.added zero_date own.added)
-    (date_read node.modified (first_date node) own.modified)
-    (link_tags node.added node.modified node.tags node.title address ∙ tags_read node.tags own.named own.once))
+    (date_read node.added zero_date own.formed.added)
+    (date_read node.modified (first_date node) own.formed.modified)
+    (link_tags node.added node.modified node.tags node.title address
+    ∙ tags_read node.tags own.formed.named own.formed.once))
 
 -- ---- others
 
@@ -171,13 +157,13 @@ pub separator_read : (node : Node) → IsFit node → node.kind ≡ Separator
 separator_read node own is =
     ap (λ (n : Node). above n nothing)
     (same_node node Separator None node.title (first_date node) (last_date node) [] (sym is) (no_url node.url (linked_as node Separator own is)) refl
-    (date_read node.added zero_date own.added)
-    (date_read node.modified (first_date node) own.modified) (bare_as node Separator own is refl))
+    (date_read node.added zero_date own.formed.added)
+    (date_read node.modified (first_date node) own.formed.modified) (bare_as node Separator own is refl))
 
 pub folder_read : (node : Node) (children : Items) → IsFit node → node.kind ≡ Folder
     → value_found node.depth (spec.folder node children) ≡ above node (items_found (suc node.depth) children)
 folder_read node children own is =
     ap (λ (n : Node). above n (items_found (suc node.depth) children))
     (same_node node Folder None node.title (first_date node) (last_date node) [] (sym is) (no_url node.url (linked_as node Folder own is)) refl
-    (date_read node.added zero_date own.added)
-    (date_read node.modified (first_date node) own.modified) (bare_as node Folder own is refl))
+    (date_read node.added zero_date own.formed.added)
+    (date_read node.modified (first_date node) own.formed.modified) (bare_as node Folder own is refl))

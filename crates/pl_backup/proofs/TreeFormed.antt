@@ -7,11 +7,12 @@ use Rattle.std.proofs.lemmas.List.Folds.{list_all-append}
 use Rattle.pl_nbread.specs.declared.tree.Node.{Node}
 use Rattle.pl_nbread.specs.declared.tree.Tree.{Tree}
 use Rattle.pl_nbread.specs.WellFormed.{AreWellFormed, IsWellFormed, is_formed}
+use Rattle.pl_nbread.proofs.FittingDepths.{Stays, fits_begin, fits_go_on, stays_both, stays_none}
 use Rattle.pl_backup.specs.declared.root.Root.{Root}
 use Rattle.pl_backup.specs.declared.root.Root.TheVariants.{Menu, Toolbar, Unfiled, Mobile}
 use Rattle.pl_backup.specs.BackupTree.{children_found, root, tree_of, with_child, with_front, with_root}
 use Rattle.pl_backup.specs.Weights.{items_weight, members_weight, weight}
-use Rattle.pl_backup.proofs.FoundDepths.{Stays, children_lie, stays_begin, stays_both, stays_go_on, stays_none}
+use Rattle.pl_backup.proofs.FoundDepths.{children_lie}
 use Rattle.pl_backup.proofs.FoundNodes.{children_formed}
 use Rattle.pl_backup.proofs.FoundWeights.{children_few, count_both, count_is, tags_count}
 use Rattle.serde_json.specs.Data.{Data, Items, Members, array, boolean, item, no_items, null, number}
@@ -31,7 +32,7 @@ fine_more m n nodes room fine = record { stays = fine.stays; formed = fine.forme
 
 fine_both : (m n : ℕ) (xs ys : List Node) → Fine m xs → Fine n ys → Fine (m + n) (xs ++ ys)
 fine_both m n xs ys front behind = record {
-  stays = λ reach. stays_both reach 0 xs ys (front.stays reach) (λ k within. behind.stays k);
+  stays = λ reach. stays_both reach 0 0 xs ys (front.stays reach) (λ k within. behind.stays k);
   formed = list_all-append is_formed xs ys ∙ and_from _ _ front.formed behind.formed;
   tags = omega (arith, count_both xs ys, front.tags, behind.tags);
 }
@@ -118,8 +119,8 @@ all_fine (item value more) = child_fine value (items_weight more) (tree_of more)
 
 list_formed : (n : ℕ) (nodes : List Node) → n < 2 ^ 32 → Fine n nodes → IsWellFormed nodes
 list_formed n nodes short fine = record {
-  begins = stays_begin 0 nodes (fine.stays 0);
-  goes_on = stays_go_on 0 nodes (fine.stays 0);
+  begins = fits_begin nodes (fine.stays 0).fits;
+  goes_on = fits_go_on nodes (fine.stays 0).fits;
   formed = fine.formed;
   few_tags = omega (arith, count_is nodes, fine.tags);
 }

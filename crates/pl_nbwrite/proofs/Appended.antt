@@ -1,10 +1,6 @@
 -- A text that is appended to, piece by piece.
 use Rattle.std.proofs.Common.{◌≡◌, ◌∙◌, ◌++◌, ℕ, List, ap, append_assoc, sym}
 
--- one piece, and then another
-pub both : (a b c p q : List ℕ) → b ≡ a ++ p → c ≡ b ++ q → c ≡ a ++ (p ++ q)
-both a b c p q first second = second ∙ ap (λ (x : List ℕ). x ++ q) first ∙ append_assoc a p q
-
 -- a piece of what is still to come
 pub carried : (a b piece left more whole : List ℕ) → a ++ left ≡ whole → left ≡ piece ++ more → b ≡ a ++ piece
     → b ++ more ≡ whole

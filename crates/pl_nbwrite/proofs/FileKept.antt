@@ -1,5 +1,5 @@
 -- The file of a plain tree is UTF-8.
-use Rattle.std.proofs.Common.{◌≡◌, ◌+◌, ◌-◌, ◌*◌, ℕ, zero, suc, true, List, [], ◌∷◌, ◌++◌, None, Some, Option, refl}
+use Rattle.std.proofs.Common.{◌≡◌, ◌+◌, ◌-◌, ◌*◌, ℕ, zero, suc, true, List, [], ◌∷◌, ◌++◌, refl}
 use Rattle.std.proofs.Common.{replicate}
 use Rattle.std.specs.Prelude.{codes, unwrap_or}
 use Rattle.std.specs.List.{All, AllByRecursion, list_all}
@@ -14,15 +14,15 @@ use Rattle.pl_base.specs.Tags.{comma_joined}
 use Rattle.pl_words.specs.TagName.{is_tag_name}
 use Rattle.pl_nbread.specs.declared.tree.Node.{Node}
 use Rattle.pl_nbread.specs.declared.tree.Tree.{Tree}
+use Rattle.pl_nbread.specs.Listed.{IsListed}
 use Rattle.pl_nbread.specs.WellFormed.{is_date, is_formed}
+use Rattle.pl_nbread.proofs.NodeLaws.{IsFormed, formed, url_text}
+use Rattle.pl_nbread.proofs.TagsRead as read
 use Rattle.pl_nbwrite.specs.BookmarkText.{attribute, dates, escaped, file_text, header, heading, line, lines_of, link}
 use Rattle.pl_nbwrite.specs.BookmarkText.{list_end, list_ends, list_start, lists_open, node_text, nodes_text, root_text}
 use Rattle.pl_nbwrite.specs.BookmarkText.{seconds, tags_text, title_text}
-use Rattle.pl_nbread.specs.Listed.{IsListed, IsOwn}
 use Rattle.pl_nbwrite.specs.Plain.{IsKept, IsPlain}
-use Rattle.pl_nbwrite.proofs.LinesBack.{IsRead}
-use Rattle.pl_nbwrite.proofs.ListsBack.{formed}
-use Rattle.pl_nbwrite.proofs.TextKept.{are_low, escaped_text, low_digits, low_spaces, low_text, names_kept, text_both}
+use Rattle.pl_nbwrite.proofs.TextKept.{are_low, escaped_text, low_digits, low_spaces, low_text, text_both}
 use Rattle.pl_nbwrite.proofs.TextKept.{title_kept}
 use Rattle.pl_nbwrite.proofs.ValuesBack.{digits_date}
 
@@ -55,11 +55,7 @@ tags_kept : (tags : List (List ℕ)) → list_all is_tag_name tags ≡ true → 
 tags_kept [] own = IsUtf8-nil
 tags_kept (tag ∷ tags) own =
     attribute_kept (codes "TAGS") (escaped (comma_joined (tag ∷ tags))) refl
-    (escaped_text (comma_joined (tag ∷ tags)) (names_kept (tag ∷ tags) own))
-
-url_kept : (url : Option (List ℕ)) → IsOwn url → IsUtf8 (unwrap_or url [])
-url_kept None own = IsUtf8-nil
-url_kept (Some url) own = IsUtf8-from_is_utf8 url own.0
+    (escaped_text (comma_joined (tag ∷ tags)) (read.tags_text (tag ∷ tags) own))
 
 heading_kept : (added modified : Micros) (more title : List ℕ) → is_date added ≡ true → is_date modified ≡ true
     → IsUtf8 more → IsUtf8 title → IsUtf8 (heading added modified more title)
@@ -76,7 +72,7 @@ heading_kept added modified more title a m own utf8 =
     (title_kept title utf8))
     (low_text (codes "</H3>") refl)
 
-link_kept : (node : Node) → IsRead node → IsKept node → IsUtf8 (link node)
+link_kept : (node : Node) → IsFormed node → IsKept node → IsUtf8 (link node)
 link_kept node good kept =
     let value : List ℕ = escaped (unwrap_or node.url []) in
     let href : List ℕ = codes "<DT><A" ++ attribute (codes "HREF") value in
@@ -87,9 +83,9 @@ link_kept node good kept =
     (text_both said (tags_text node.tags)
     (text_both href (dates node.added node.modified)
     (text_both (codes "<DT><A") (attribute (codes "HREF") value) (low_text (codes "<DT><A") refl)
-    (attribute_kept (codes "HREF") value refl (escaped_text (unwrap_or node.url []) (url_kept node.url kept.url))))
+    (attribute_kept (codes "HREF") value refl (escaped_text (unwrap_or node.url []) (url_text node.url kept.url))))
     (dates_kept node.added node.modified good.added good.modified))
-    (tags_kept node.tags good.names))
+    (tags_kept node.tags good.named))
     (low_text (codes ">") refl))
     (title_kept node.title (IsUtf8-from_is_utf8 node.title kept.title)))
     (low_text (codes "</A>") refl)
@@ -100,7 +96,8 @@ start_kept level = line_kept level (codes "<DL><p>") (low_text (codes "<DL><p>")
 end_kept : (level : ℕ) → IsUtf8 (list_end level)
 end_kept level = line_kept level (codes "</DL><p>") (low_text (codes "</DL><p>") refl)
 
-lines_kept : (kind : ItemKind) (level : ℕ) (node : Node) → IsRead node → IsKept node → IsUtf8 (lines_of kind level node)
+lines_kept : (kind : ItemKind) (level : ℕ) (node : Node) → IsFormed node → IsKept node
+    → IsUtf8 (lines_of kind level node)
 lines_kept Bookmark level node good kept = line_kept level (link node) (link_kept node good kept)
 lines_kept Folder level node good kept =
     text_both (line level (heading node.added node.modified [] node.title)) (list_start level)
@@ -121,7 +118,7 @@ node_kept : (level : ℕ) (node : Node) (next : ℕ) → is_formed node ≡ true
     → IsUtf8 (node_text level node next)
 node_kept level node next good kept =
     text_both (lines_of node.kind (level + node.depth) node) (list_ends (level + next) (lists_open node - next))
-    (lines_kept node.kind (level + node.depth) node (formed node node.kind refl good kept).own kept)
+    (lines_kept node.kind (level + node.depth) node (formed node good) kept)
     (ends_kept (level + next) (lists_open node - next))
 
 nodes_kept : (level : ℕ) (nodes : List Node) → list_all is_formed nodes ≡ true → AllByRecursion IsKept nodes

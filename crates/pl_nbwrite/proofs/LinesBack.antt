@@ -3,29 +3,27 @@ use Rattle.std.proofs.Common.{◌≡◌, ◌∙◌, ◌*◌, ◌==◌, ℕ, zero
 use Rattle.std.proofs.Common.{◌++◌, Some, None, Option, ap, append-nil, append_assoc, arith, drop, eqb-true, length, map}
 use Rattle.std.proofs.Common.{refl, replicate, sym}
 use Rattle.std.specs.Prelude.{codes, is_some, unwrap_or}
-use Rattle.std.specs.List.{list_all}
 use Rattle.std.proofs.lemmas.Bool.{true≢false}
 use Rattle.pl_base.specs.declared.date.Micros.{Micros}
 use Rattle.pl_base.specs.declared.item.ItemKind.TheVariants.{Bookmark, Folder, Separator}
 use Rattle.pl_base.specs.Address.{canon}
 use Rattle.pl_base.specs.Tags.{comma_joined}
 use Rattle.pl_base.proofs.ListLaws.{regroup_four, regroup_seven}
-use Rattle.pl_words.specs.TagLists.{each_once, is_same_tag}
-use Rattle.pl_words.specs.TagName.{is_tag_name}
 use Rattle.pl_nbread.specs.declared.tree.Node.{Node}
 use Rattle.pl_nbread.specs.BookmarkTree as read
 use Rattle.pl_nbread.specs.BookmarkTree.{Made, Child, bookmark, bookmark_if, folder, folder_unless, inside, micros}
 use Rattle.pl_nbread.specs.BookmarkTree.{root_at, separator, title_in, url}
 use Rattle.pl_nbread.specs.Building.{made_within, title_ahead}
+use Rattle.pl_nbread.specs.Listed.{IsOwn}
 use Rattle.pl_nbread.specs.Parts.{Part, ListStart, ListEnd, Rule, TitleEnd, Other, part_of}
 use Rattle.pl_nbread.specs.References.{decoded}
 use Rattle.pl_nbread.specs.Tokens.{Attribute, Read, Open, Token, attributes, is_less, tokens, with_attribute}
 use Rattle.pl_nbread.specs.WellFormed.{is_date}
+use Rattle.pl_nbread.proofs.NodeLaws.{IsFormed}
 use Rattle.pl_nbread.proofs.TokenLaws.{attributes-end, tokens-step}
 use Rattle.pl_nbwrite.specs.BookmarkText.{attribute, dates, escaped, heading, line, link, list_end, list_start, seconds}
 use Rattle.pl_nbwrite.specs.BookmarkText.{tags_text, title_text}
-use Rattle.pl_nbread.specs.Listed.{IsOwn}
-use Rattle.pl_nbwrite.specs.Plain.{is_whole}
+use Rattle.pl_nbwrite.specs.Plain.{IsKept}
 use Rattle.pl_nbwrite.proofs.DecodedBack.{calm-escaped, calm-title, decoded-escaped, decoded-title, trimmed-title}
 use Rattle.pl_nbwrite.proofs.TokenSteps.{Place, ahead_run, attribute-step, lacks, named, open-tag, parts_of, skip, skip_run}
 use Rattle.pl_nbwrite.proofs.ValuesBack.{date_back, no_less, no_quote, no_quote_date, seconds_back, tags_back, tags_said}
@@ -143,26 +141,18 @@ pub none_of : {A : Type 0} → (o : Option A) → not (is_some o) ≡ true → o
 none_of None none = refl
 none_of (Some x) none = absurd (true≢false (sym none))
 
--- what a line keeps of a node
-pub record IsRead (node : Node) : Type 0 where
-  pub added : is_date node.added ≡ true
-  pub modified : is_date node.modified ≡ true
-  pub whole_added : is_whole node.added ≡ true
-  pub whole_modified : is_whole node.modified ≡ true
-  pub names : list_all is_tag_name node.tags ≡ true
-  pub once : each_once is_same_tag node.tags ≡ true
-
-module _ (here : Place) (node : Node) (own : IsRead node) (depth : node.depth ≡ here.depth) where
+-- what is read of the line of a node is that node
+module _ (here : Place) (node : Node) (own : IsFormed node) (kept : IsKept node) (depth : node.depth ≡ here.depth) where
   link_added : read.added (link_said node) ≡ node.added
   link_added =
       ap (λ (s : Option ℕ). micros (unwrap_or s 0)) (seconds_back node.added own.added)
-      ∙ date_back node.added own.added own.whole_added
+      ∙ date_back node.added own.added kept.added
 
   link_modified : read.modified (link_said node) ≡ node.modified
   link_modified =
       ap (λ (s : Option ℕ). micros (unwrap_or s (read.added_seconds (link_said node))))
       (seconds_back node.modified own.modified)
-      ∙ date_back node.modified own.modified own.whole_modified
+      ∙ date_back node.modified own.modified kept.modified
 
   bookmark_back : (address : List ℕ) → node.kind ≡ Bookmark → node.url ≡ Some address
       → bookmark here address (link_said node) node.title ≡ node
@@ -174,7 +164,7 @@ module _ (here : Place) (node : Node) (own : IsRead node) (depth : node.depth �
         title = node.title;
         added = link_added i;
         modified = link_modified i;
-        tags = tags_back node.tags own.names own.once i;
+        tags = tags_back node.tags own.named own.once i;
       }
 
   pub link_back : (address : Option (List ℕ)) → node.kind ≡ Bookmark → node.url ≡ address → is_some address ≡ true
@@ -194,7 +184,7 @@ module _ (here : Place) (node : Node) (own : IsRead node) (depth : node.depth �
   folder_modified =
       ap (λ (s : Option ℕ). micros (unwrap_or s (read.added_seconds (dates_said node.added node.modified []))))
       (seconds_back node.modified own.modified)
-      ∙ date_back node.modified own.modified own.whole_modified
+      ∙ date_back node.modified own.modified kept.modified
 
   pub folder_back : node.kind ≡ Folder → node.url ≡ None → node.tags ≡ []
       → folder here (dates_said node.added node.modified []) node.title ≡ node

@@ -2,11 +2,11 @@
 use Rattle.std.proofs.Common.{◌≡◌, ◌<◌, ◌+◌, ◌-◌, ◌==◌, ℕ, zero, suc, false, List, [], ◌∷◌, ◌++◌}
 use Rattle.std.proofs.Common.{ap, append-nil, append_assoc, arith, length, refl, sym}
 use Rattle.std.specs.Prelude.{codes}
+use Rattle.pl_base.proofs.ListLaws.{append_twice}
 use Rattle.pl_nbread.specs.declared.tree.Node.{Node}
 use Rattle.pl_nbwrite.specs.BookmarkText.{attribute, heading, line, list_end, list_ends, list_start}
 use Rattle.pl_nbwrite.specs.BookmarkText.{node_text, nodes_text, root_text}
 use Rattle.pl_nbwrite.specs.Written.{next_depth, root_list}
-use Rattle.pl_nbwrite.proofs.Appended.{both}
 
 pub nodes-step : (level : ℕ) (node : Node) (nodes : List Node)
     → nodes_text level (node ∷ nodes) ≡ node_text level node (next_depth nodes) ++ nodes_text level nodes
@@ -38,4 +38,4 @@ pub root-pushed : (more title : List ℕ) (nodes : List Node) (s0 s1 s2 s3 : Lis
     → s2 ≡ s1 ++ nodes_text 2 nodes → s3 ≡ s2 ++ list_end 1 → s3 ≡ s0 ++ root_list more title nodes
 root-pushed more title [] s0 s1 s2 s3 some head inner last = cc
 root-pushed more title (node ∷ nodes) s0 s1 s2 s3 some head inner last =
-    both s0 s2 s3 _ (list_end 1) (both s0 s1 s2 _ (nodes_text 2 (node ∷ nodes)) head inner) last
+    append_twice s0 s2 s3 _ (list_end 1) (append_twice s0 s1 s2 _ (nodes_text 2 (node ∷ nodes)) head inner) last

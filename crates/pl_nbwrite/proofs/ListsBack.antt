@@ -8,20 +8,19 @@ use Rattle.std.proofs.lemmas.Bool.{and_parts, leb-true, or_cases, true≢false}
 use Rattle.std.proofs.lemmas.List.Elements.{recursion_from_All}
 use Rattle.pl_base.specs.declared.item.ItemKind.{ItemKind}
 use Rattle.pl_base.specs.declared.item.ItemKind.TheVariants.{Bookmark, Folder, Separator}
-use Rattle.pl_words.specs.TagLists.{each_once, is_same_tag}
-use Rattle.pl_words.specs.TagName.{is_tag_name}
 use Rattle.pl_nbread.specs.declared.tree.Node.{Node}
 use Rattle.pl_nbread.specs.BookmarkTree.{Made, Child, folder_unless, inside_of, is_menu}
 use Rattle.pl_nbread.specs.BookmarkTree.{root_named}
 use Rattle.pl_nbread.specs.Building.{made_within}
+use Rattle.pl_nbread.specs.Listed.{IsListed}
 use Rattle.pl_nbread.specs.Tokens.{Attribute}
-use Rattle.pl_nbread.specs.WellFormed.{begins, goes_on, is_bookmark, is_date, is_folder, is_formed, may_follow}
+use Rattle.pl_nbread.specs.WellFormed.{begins, goes_on, is_bookmark, is_folder, is_formed, may_follow}
+use Rattle.pl_nbread.proofs.NodeLaws.{IsFormed, formed, goes_later}
 use Rattle.pl_nbread.proofs.TokenLaws.{attributes-end}
 use Rattle.pl_nbwrite.specs.BookmarkText.{lines_of, list_end, list_ends, lists_open, node_text, nodes_text}
-use Rattle.pl_nbread.specs.Listed.{IsListed}
 use Rattle.pl_nbwrite.specs.Plain.{IsKept, is_bare}
 use Rattle.pl_nbwrite.specs.Written.{next_depth}
-use Rattle.pl_nbwrite.proofs.LinesBack.{IsRead, dates_said, end_made, folder_back, heading_made, link_back, link_made}
+use Rattle.pl_nbwrite.proofs.LinesBack.{dates_said, end_made, folder_back, heading_made, link_back, link_made}
 use Rattle.pl_nbwrite.proofs.LinesBack.{nil_of, none_of, rule_made, separator_back}
 use Rattle.pl_nbwrite.proofs.ListSteps.{nodes-step}
 use Rattle.pl_nbwrite.proofs.TokenSteps.{Place, Root, parts_of}
@@ -56,30 +55,22 @@ ends_made root base level next (suc count) (suc lists) rest is =
 abbrev open_at : ItemKind → ℕ → ℕ
 open_at kind depth = if is_folder kind then depth + 1 else depth
 
-pub record Formed (node : Node) (kind : ItemKind) : Type 0 where
-  pub url : (if is_bookmark kind then is_some node.url else not (is_some node.url)) ≡ true
-  pub bare : is_bare kind node ≡ true
-  pub own : IsRead node
+-- what holds of a node of this kind
+record FormedAs (node : Node) (kind : ItemKind) : Type 0 where
+  url : (if is_bookmark kind then is_some node.url else not (is_some node.url)) ≡ true
+  bare : is_bare kind node ≡ true
+  own : IsFormed node
 
-pub formed : (node : Node) (kind : ItemKind) → node.kind ≡ kind → is_formed node ≡ true → IsKept node → Formed node kind
-formed node kind is good kept =
-    let all = and_parts _ (each_once is_same_tag node.tags) good in
-    let names = and_parts _ (list_all is_tag_name node.tags) all.0 in
-    let modified = and_parts _ (is_date node.modified) names.0 in
-    let added = and_parts _ (is_date node.added) modified.0 in
+formed_as : (node : Node) (kind : ItemKind) → node.kind ≡ kind → is_formed node ≡ true → IsKept node
+    → FormedAs node kind
+formed_as node kind is good kept =
+    let own = formed node good in
     record {
       url =
           subst (λ (k : ItemKind). (if is_bookmark k then is_some node.url else not (is_some node.url)) ≡ true) is
-          added.0;
+          own.linked;
       bare = subst (λ (k : ItemKind). is_bare k node ≡ true) is kept.bare;
-      own = record {
-        added = added.1;
-        modified = modified.1;
-        whole_added = kept.added;
-        whole_modified = kept.modified;
-        names = names.1;
-        once = all.1;
-      };
+      own = own;
     }
 
 -- a heading with dates alone stands for no root
@@ -95,7 +86,7 @@ stack_more root depth base =
     ap (λ (n : ℕ). stack root n base) more
 
 lines_made : (root : Root) (base : List Place) (level : ℕ) (node : Node) (rest : List ℕ) (kind : ItemKind)
-    → node.kind ≡ kind → IsKept node → Formed node kind
+    → node.kind ≡ kind → IsKept node → FormedAs node kind
     → made_within (at root node.depth) (stack root node.depth base) None (parts_of (lines_of kind level node ++ rest))
     ≡ Child root node
     ∷ made_within (at root (open_at kind node.depth)) (stack root (open_at kind node.depth) base) None (parts_of rest)
@@ -104,7 +95,7 @@ lines_made root base level node rest Bookmark is kept good =
     let outer : List Place = stack root node.depth base in
     link_made here outer level node rest good.own.added good.own.modified
     ∙ ap (λ (m : Made). m ∷ made_within here outer None (parts_of rest))
-    (link_back here node good.own refl node.url is refl good.url kept.url)
+    (link_back here node good.own kept refl node.url is refl good.url kept.url)
 lines_made root base level node rest Separator is kept good =
     let here : Place = at root node.depth in
     let outer : List Place = stack root node.depth base in
@@ -124,7 +115,7 @@ lines_made root base level node rest Folder is kept good =
     ∙ ap (λ (o : Option Root). folder_unless o here said node.title
     ++ made_within (inside_of here o) (here ∷ outer) None (parts_of rest)) (no_root (is_menu here) node)
     ∙ ap (λ (n : Node). Child root n ∷ made_within (at root (node.depth + 1)) (here ∷ outer) None (parts_of rest))
-    (folder_back here node good.own refl is (none_of node.url good.url) (nil_of node.tags good.bare))
+    (folder_back here node good.own kept refl is (none_of node.url good.url) (nil_of node.tags good.bare))
     ∙ ap (λ (l : List Place). Child root node ∷ made_within (at root (node.depth + 1)) l None (parts_of rest))
     (stack_more root node.depth base)
 
@@ -137,7 +128,7 @@ node_made root base level node next rest good kept few =
     ap (λ (l : List ℕ). made_within (at root node.depth) (stack root node.depth base) None (parts_of l))
     (append_assoc (lines_of node.kind (level + node.depth) node) ends rest)
     ∙ lines_made root base (level + node.depth) node (ends ++ rest) node.kind refl kept
-    (formed node node.kind refl good kept)
+    (formed_as node node.kind refl good kept)
     ∙ ap (λ (more : List Made). Child root node ∷ more)
     (ends_made root base (level + next) next (lists_open node - next) (lists_open node) rest (omega arith))
 
@@ -164,10 +155,6 @@ next_fits : (node : Node) (nodes : List Node) → goes_on (node ∷ nodes) ≡ t
 next_fits node [] on = omega arith
 next_fits node (next ∷ nodes) on = follows node next (and_parts (may_follow node next) (goes_on (next ∷ nodes)) on).0
 
-rest_goes_on : (node : Node) (nodes : List Node) → goes_on (node ∷ nodes) ≡ true → goes_on nodes ≡ true
-rest_goes_on node [] on = refl
-rest_goes_on node (next ∷ nodes) on = (and_parts (may_follow node next) (goes_on (next ∷ nodes)) on).1
-
 nodes_made : (root : Root) (base : List Place) (level : ℕ) (nodes : List Node) (rest : List ℕ) → goes_on nodes ≡ true
     → list_all is_formed nodes ≡ true → AllByRecursion IsKept nodes
     → made_within (at root (next_depth nodes)) (stack root (next_depth nodes) base) None
@@ -183,7 +170,7 @@ nodes_made root base level (node ∷ nodes) rest on good kept =
     (append_assoc (node_text level node (next_depth nodes)) (nodes_text level nodes) rest)
     ∙ node_made root base level node (next_depth nodes) more all.0 kept.0 (next_fits node nodes on)
     ∙ ap (λ (l : List Made). Child root node ∷ l)
-    (nodes_made root base level nodes rest (rest_goes_on node nodes on) all.1 kept.1)
+    (nodes_made root base level nodes rest (goes_later node nodes on) all.1 kept.1)
 
 first_depth : (nodes : List Node) → begins nodes ≡ true → next_depth nodes ≡ 0
 first_depth [] own = refl

@@ -15,9 +15,6 @@ use Rattle.std.proofs.lemmas.Str.{IsCharBoundary-after_ascii, IsCharBoundary-bef
 use Rattle.std.proofs.lemmas.Str.{IsUtf8-from_ascii, IsUtf8-nil, IsUtf8-take}
 use Rattle.std.proofs.lemmas.Str.Ascii.{IsAscii-cons, IsAscii-nil}
 use lib.Utf8.{scalar, scalars}
-use Rattle.pl_base.specs.Tags.{comma_joined}
-use Rattle.pl_words.specs.TagName.{is_tag_name}
-use Rattle.pl_words.proofs.TagTests.{named_by_test}
 use Rattle.pl_nbwrite.specs.BookmarkText.{escape, escaped, title_end, title_text}
 use Rattle.pl_nbwrite.proofs.DecodedBack.{each_byte, stands}
 use Rattle.pl_nbwrite.proofs.EscapeSteps.{escape-high, escaped-low, escaped-plain, title-other, title_end-other, title_end-space}
@@ -137,13 +134,3 @@ title_kept (b ∷ text) utf8 =
     (end_text text (behind_text text (subst (λ (x : ℕ). IsUtf8 (x ∷ text)) is utf8)))))
     (λ other. subst IsUtf8 (sym (title-other (b ∷ text) (λ rest is. other (cc)))) (end_text (b ∷ text) utf8))
     (cases_eq b 32)
-
--- ---- tags
-
-pub names_kept : (tags : List (List ℕ)) → list_all is_tag_name tags ≡ true → IsUtf8 (comma_joined tags)
-names_kept [] own = IsUtf8-nil
-names_kept (tag ∷ []) own = (named_by_test tag (and_parts (is_tag_name tag) true own).0).text
-names_kept (tag ∷ next ∷ tags) own =
-    let parts = and_parts (is_tag_name tag) (list_all is_tag_name (next ∷ tags)) own in
-    text_both tag (44 ∷ comma_joined (next ∷ tags)) (named_by_test tag parts.0).text
-    (text_both (codes ",") (comma_joined (next ∷ tags)) (low_text (codes ",") refl) (names_kept (next ∷ tags) parts.1))

@@ -6,13 +6,13 @@ use Rattle.std.proofs.lemmas.Iterator.Consumers.{YieldsList-end}
 use Rattle.std.proofs.lemmas.Iterator.Splits.{YieldsList-from_str_split}
 use Rattle.pl_words.specs.TagLists.{firsts, is_same_tag}
 use Rattle.pl_words.specs.TagName.{tag_named}
-use Rattle.pl_backup.proofs.TagSteps.{tags_more}
+use Rattle.pl_nbread.proofs.ValueSteps.{tags-more}
 use Rattle.pl_backup.proofs.fields.tags_in.Goals as goal
 
 pub loop-name-preserved : goal.loop-name-preserved
 loop-name-preserved c =
     c.in_ok-push_tag.ensures ∙ ap (λ (tags : List (List ℕ)). tags ++ option_to_list (tag_named c.in-Some.name.now)) c.loop-name.invariant
-    ∙ tags_more c.loop-name.yielded c.in-Some.name
+    ∙ tags-more c.loop-name.yielded c.in-Some.name
 
 pub returns : goal.returns
 returns c =

@@ -1,5 +1,5 @@
 use Rattle.std.proofs.Common.{◌≡◌}
-use Rattle.pl_backup.proofs.TagSteps.{tags_of}
+use Rattle.pl_nbread.proofs.ValueSteps.{tags_of}
 use Rattle.pl_backup.proofs.fields.tags_in.Given as goal
 
 abbrev pub invariant-loop-name : goal.invariant-loop-name

@@ -1,7 +1,7 @@
 use Rattle.std.proofs.Common.{◌∙◌, ◌++◌, List, ℕ, ap}
 use Rattle.std.specs.Prelude.{codes}
 use Rattle.std.specs.String.{string_bytes}
-use Rattle.pl_backup.proofs.Appended.{both}
+use Rattle.pl_base.proofs.ListLaws.{append_twice}
 use Rattle.pl_backup.specs.Written.{dates_text, titled_text}
 use Rattle.pl_backup.proofs.nodes.push_folder_end.Goals as goal
 
@@ -13,7 +13,7 @@ returns c =
     let s2 : List ℕ = string_bytes c.push_titled.new.file in
     let front : List ℕ = dates_text (codes ",") node.added node.modified in
     let kind : List ℕ → List ℕ = λ title. titled_text title (codes "text/x-moz-place-container") 2 in
-    both s0 s2 (string_bytes c.push_str.new.self) (front ++ kind node.title) (codes "}")
-    (both s0 s1 s2 front (kind node.title) c.in_ok-push_dates.ensures
+    append_twice s0 s2 (string_bytes c.push_str.new.self) (front ++ kind node.title) (codes "}")
+    (append_twice s0 s1 s2 front (kind node.title) c.in_ok-push_dates.ensures
     (c.in_ok-push_titled.ensures ∙ ap (λ (x : List ℕ). s1 ++ kind x) c.as_str-title.ensures))
     c.in_ok-push_str.ensures.bytes

@@ -4,7 +4,7 @@ use Rattle.std.proofs.lemmas.Result.{on_ok_weaker}
 use Rattle.pl_nbread.specs.declared.tree.Node.{Node}
 use Rattle.pl_backup.specs.BackupText.{items, values}
 use Rattle.pl_backup.specs.Written.{children_start, root_end, root_text}
-use Rattle.pl_backup.proofs.Appended.{both}
+use Rattle.pl_base.proofs.ListLaws.{append_twice}
 use Rattle.pl_backup.proofs.writer.push_root.Goals as goal
 use Rattle.serde_json.specs.Written.{items_text}
 
@@ -20,8 +20,8 @@ returns c =
     let end : List ℕ = root_end c.args.guid.now c.args.name.now in
     let listed = c.in_ok-push_nodes.ensures ∙ ap (λ (x : List Node). s2 ++ list x) c.as_slice.ensures in
     on_ok_weaker c.push_root_end.result
-    (λ last. both s0 s1 s4 c.args.before.now (root_text c.args.guid.now c.args.name.now nodes)
+    (λ last. append_twice s0 s1 s4 c.args.before.now (root_text c.args.guid.now c.args.name.now nodes)
     c.in_ok-push_str.ensures.bytes
-    (both s1 s3 s4 (children_start ++ list nodes) end
-    (both s1 s2 s3 children_start (list nodes) c.in_ok-push_str-2.ensures.bytes listed) last))
+    (append_twice s1 s3 s4 (children_start ++ list nodes) end
+    (append_twice s1 s2 s3 children_start (list nodes) c.in_ok-push_str-2.ensures.bytes listed) last))
     c.push_root_end.ensures

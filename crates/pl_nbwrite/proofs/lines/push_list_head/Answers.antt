@@ -2,7 +2,7 @@ use Rattle.std.proofs.Common.{◌∙◌, ◌++◌, ◌*◌, List, ℕ, ap, appen
 use Rattle.std.specs.Prelude.{codes}
 use Rattle.std.specs.String.{string_bytes}
 use Rattle.pl_nbwrite.specs.BookmarkText.{heading, line, list_start}
-use Rattle.pl_nbwrite.proofs.Appended.{both}
+use Rattle.pl_base.proofs.ListLaws.{append_twice}
 use Rattle.pl_nbwrite.proofs.lines.push_list_head.Goals as goal
 
 pub returns : goal.returns
@@ -17,8 +17,9 @@ returns c =
     let text : List ℕ = heading c.args.added c.args.modified c.args.more.now c.args.title.now in
     let start : List ℕ = codes "<DL><p>" in
     let end : List ℕ = codes "\n" in
-    both s0 s3 s5 (line c.args.level text) (list_start c.args.level)
-    (both s0 s2 s3 (spaces ++ text) end (both s0 s1 s2 spaces text c.in_ok-push_indent.ensures c.in_ok-push_heading.ensures)
+    append_twice s0 s3 s5 (line c.args.level text) (list_start c.args.level)
+    (append_twice s0 s2 s3 (spaces ++ text) end
+    (append_twice s0 s1 s2 spaces text c.in_ok-push_indent.ensures c.in_ok-push_heading.ensures)
     c.in_ok-push_str.ensures.bytes)
-    (both s3 s4 s5 spaces (start ++ end) c.in_ok-push_indent-2.ensures c.in_ok-push_str-2.ensures.bytes
+    (append_twice s3 s4 s5 spaces (start ++ end) c.in_ok-push_indent-2.ensures c.in_ok-push_str-2.ensures.bytes
     ∙ ap (λ (x : List ℕ). s3 ++ x) (sym (append_assoc spaces start end)))

@@ -3,7 +3,8 @@ use Rattle.std.specs.String.{string_bytes}
 use Rattle.pl_base.specs.Tags.{comma_joined}
 use Rattle.pl_nbwrite.specs.BookmarkText.{escaped}
 use Rattle.pl_nbwrite.specs.Written.{comma_before}
-use Rattle.pl_nbwrite.proofs.Appended.{both, carried}
+use Rattle.pl_base.proofs.ListLaws.{append_twice}
+use Rattle.pl_nbwrite.proofs.Appended.{carried}
 use Rattle.pl_nbwrite.proofs.EscapeSteps.{names-step}
 use Rattle.pl_nbwrite.proofs.lines.push_names.Goals as goal
 
@@ -21,4 +22,4 @@ loop-tag-preserved c =
     let first = c.in_ok-push_escaped.ensures ∙ ap (λ (x : List ℕ). s0 ++ escaped x) c.text.ensures.value in
     carried s0 s2 (escaped tag ++ comma_before behind) (escaped (comma_joined c.loop-tag.left.now))
     (escaped (comma_joined behind)) _ c.loop-tag.invariant step
-    (both s0 s1 s2 (escaped tag) (comma_before behind) first c.in_ok-push_comma.ensures)
+    (append_twice s0 s1 s2 (escaped tag) (comma_before behind) first c.in_ok-push_comma.ensures)
