@@ -5,8 +5,8 @@ use Rattle.std.specs.Option.{is_none, option_map}
 use Rattle.pl_base.specs.Store.{Page, Store}
 use Rattle.pl_base.specs.Visiting.{find_page, new_page, page_for, with_page_for}
 use Rattle.pl_history.proofs.VisitRows.{grown_store}
-use Rattle.pl_graft.specs.declared.pages.Pages.{Pages}
-use Rattle.pl_graft.specs.KnownPages.{KnowsPages, with_page}
+use Rattle.pl_keyed.specs.declared.pages.Pages.{Pages}
+use Rattle.pl_keyed.specs.KnownPages.{KnowsPages, with_page}
 
 abbrev number : Page → ℕ
 number p = p.id.0

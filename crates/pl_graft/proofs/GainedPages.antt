@@ -5,6 +5,7 @@ use Rattle.std.specs.List.{list_any}
 use Rattle.std.specs.Ordering.{match_ordering, nat_cmp}
 use Rattle.std.specs.declared.cmp.Ordering.{Ordering}
 use Rattle.std.specs.declared.cmp.Ordering.TheVariants.{Less, Equal, Greater}
+use Rattle.std.proofs.Math.Bool.{or-false}
 use Rattle.std.proofs.lemmas.Map.Lookups.{exact_unsigned}
 use Rattle.pl_base.specs.declared.id.PageId.{PageId}
 
@@ -33,11 +34,7 @@ onward a false c = refl
 
 pub inserted : (pages : List PageId) (page other : PageId)
     → holds other (insert_key by_number pages page) ≡ (holds other pages || (page.0 == other.0))
-inserted [] page other = or_false (page.0 == other.0)
-  where
-    or_false : (b : Bool) → (b || false) ≡ b
-    or_false true = refl
-    or_false false = refl
+inserted [] page other = or-false (page.0 == other.0)
 inserted (x ∷ xs) page other =
     choose (nat_cmp page.0 x.0) refl (inserted xs page other)
   where

@@ -7,6 +7,7 @@ use Rattle.std.proofs.lemmas.List.Elements.{All-append, All-nil}
 use Rattle.pl_base.specs.declared.id.PageId.{PageId}
 use Rattle.pl_base.specs.Rows.{Kept, KeptOrigin, KeptPage}
 use Rattle.pl_base.specs.Store.{Item}
+use Rattle.pl_base.proofs.ListLaws.{append_twice}
 use Rattle.pl_base.proofs.OriginSums.{sums_still}
 use Rattle.pl_graft.specs.declared.grafting.Grafting.{Grafting}
 use Rattle.pl_graft.specs.Gained.{Grows, IsBlank, has_new_item}
@@ -39,14 +40,11 @@ grows_then a b c first next =
       visits = next.visits ∙ first.visits;
       visit_ids = next.visit_ids ∙ first.visit_ids;
       added = first.added ++ next.added;
-      pages =
-          next.pages ∙ ap (λ (ps : List KeptPage). ps ++ next.added) first.pages
-          ∙ append_assoc a.pages first.added next.added;
+      pages = append_twice a.pages b.pages c.pages first.added next.added first.pages next.pages;
       blank = All-append IsBlank first.added next.added first.blank next.blank;
       opened = first.opened ++ next.opened;
       origins =
-          next.origins ∙ ap (λ (os : List KeptOrigin). os ++ next.opened) first.origins
-          ∙ append_assoc a.origins first.opened next.opened;
+          append_twice a.origins b.origins c.origins first.opened next.opened first.origins next.origins;
       no_totals =
           All-append (λ (a : KeptOrigin). a.total ≡ 0) first.opened next.opened first.no_totals next.no_totals;
       sums = λ had. next.sums (first.sums had);

@@ -20,7 +20,7 @@ use Rattle.pl_graft.specs.Import.{entry_count, node_row, page_of, with_item_of, 
 use Rattle.pl_graft.specs.Ready.{Takes}
 use Rattle.pl_graft.specs.Standing.{GoesOn, HasRoom, IsStanding, KeepsFolders, Puts, holds_page}
 use Rattle.pl_graft.specs.Standing.{with_item}
-use Rattle.pl_graft.specs.TagRows.{TagRow, tag_rows}
+use Rattle.pl_keyed.specs.TagRows.{TagRow, tag_rows}
 use Rattle.pl_graft.proofs.GoingOn.{grows_same}
 use Rattle.pl_graft.proofs.NewItems.{row_items}
 use Rattle.pl_graft.proofs.Ready.{IsReady, children_new, children_row, counted, has_page_for, items_page, tags_row}

@@ -2,6 +2,7 @@
 use Rattle.std.proofs.Common.{◌≡◌, ◌∙◌, ◌≤◌, ◌+◌, ◌-◌, ◌++◌, ◌==◌, ◌&&◌, ◌||◌, ℕ, Bool, true, false, List, [], ◌∷◌}
 use Rattle.std.proofs.Common.{ap, arith, if◌then◌else◌, nat_le, refl, sym}
 use Rattle.std.specs.Option.{is_none, is_some}
+use Rattle.std.proofs.Math.Bool.{or-false}
 use Rattle.std.proofs.lemmas.Bool.{le-leb}
 use Rattle.std.proofs.lemmas.List.Folds.{list_any-append}
 use Rattle.pl_base.specs.declared.date.Micros.{Micros}
@@ -20,10 +21,6 @@ use Rattle.pl_tree.specs.Tagged.{new_entry, new_items, new_tag, tag_entry, tag_i
 use Rattle.pl_tree.specs.Tagged as tagged
 use Rattle.pl_graft.specs.Gained.{has_new_item}
 use Rattle.pl_graft.specs.Import.{tagged_store, with_row, with_tag}
-
-or_false : (b : Bool) → (b || false) ≡ b
-or_false true = refl
-or_false false = refl
 
 -- ---- an item
 
@@ -56,7 +53,7 @@ more first parent place new items page least =
     list_any-append test (with_child parent place new.id items) (new ∷ [])
     ∙ ap (λ (b : Bool). b || (test new || false)) (child first parent place new.id items page)
     ∙ ap (λ (b : Bool). has_new_item first items page || b)
-    (or_false (test new) ∙ ap (λ (b : Bool). b && is_page page new.page) (le-leb first new.id.0 least))
+    (or-false (test new) ∙ ap (λ (b : Bool). b && is_page page new.page) (le-leb first new.id.0 least))
 
 pub row_items : (first : ℕ) (store : Store) (parent : ItemId) (row : ItemRow) (title : List ℕ) (page : PageId)
     → first ≤ store.ids.item
@@ -76,7 +73,7 @@ folder_items first next name date items page least = choose (is_none (tag_named 
         ≡ has_new_item first items page
     choose true =
         more first tags_root End (item_of (item_id next) (new_tag name date)) items page least
-        ∙ or_false (has_new_item first items page)
+        ∙ or-false (has_new_item first items page)
     choose false = refl
 
 tagged_new : (first : ℕ) (store : Store) (page : PageId) (date : Micros) (name : List ℕ) (other : PageId)
@@ -102,7 +99,7 @@ tag_items first store page date name other least has = choose (is_some (tag_entr
         let all : has_new_item first store.items other ≡ true =
         ap (has_new_item first store.items) (sym (same_page page other same)) ∙ has in
         ap (λ (b : Bool). b || true) all ∙ sym all
-    either false apart = or_false (has_new_item first store.items other)
+    either false apart = or-false (has_new_item first store.items other)
 
     choose : (b : Bool)
         → has_new_item first (if b then store else tagged_store page name date store).items other

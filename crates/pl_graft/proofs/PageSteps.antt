@@ -5,6 +5,7 @@ use Rattle.std.proofs.Common.{None, ap, arith, bytes_eq, eq-eqb, if◌then◌els
 use Rattle.std.specs.List.{AllByRecursion, list_any}
 use Rattle.std.specs.Result.{OnOk}
 use Rattle.std.specs.Option.{IfSome, is_none, option_map}
+use Rattle.std.proofs.Math.Bool.{or-true}
 use Rattle.std.proofs.lemmas.Bool.{and_from, and_parts, eqb-true}
 use Rattle.std.proofs.lemmas.List.{append-nil}
 use Rattle.std.proofs.lemmas.List.Elements.{All-from_recursion, All-nil}
@@ -15,6 +16,7 @@ use Rattle.pl_base.specs.Rows.{HaveSums, IsOriginOf, IsWellKept, Kept, KeptOrigi
 use Rattle.pl_base.specs.Rows.{next_page, origin_of, page_at, store_of, with_new_page, with_origin}
 use Rattle.pl_base.specs.Store.{Page, Store}
 use Rattle.pl_base.specs.Visiting.{find_page, new_page, with_page_for}
+use Rattle.pl_base.proofs.Among.{Around, around, from_any}
 use Rattle.pl_base.proofs.ListLaws.{All-from_map, list_any-map}
 use Rattle.pl_base.proofs.LookUps.{part}
 use Rattle.pl_base.proofs.OriginSums.{sums_with_page}
@@ -23,7 +25,7 @@ use Rattle.pl_history.proofs.ReadyPage.{own_url}
 use Rattle.pl_history.proofs.VisitRows.{grown_store, store_with_page}
 use Rattle.pl_graft.specs.declared.grafting.Grafting.{Grafting}
 use Rattle.pl_graft.specs.Gained.{Grows, IsBlank}
-use Rattle.pl_graft.specs.KnownPages.{IsOriginPage, KnowsPages, page_id, with_page}
+use Rattle.pl_keyed.specs.KnownPages.{IsOriginPage, KnowsPages, page_id, with_page}
 use Rattle.pl_graft.specs.Standing.{GoesOn, IsStanding}
 use Rattle.pl_graft.proofs.FoundPages.{items_for, knows_for}
 use Rattle.pl_graft.proofs.GoingOn.{goes_by_pages}
@@ -40,21 +42,10 @@ record Among (test : KeptPage → Bool) (pages : List KeptPage) : Type 0 where
   pub passes : test page ≡ true
 
 among : (test : KeptPage → Bool) (pages : List KeptPage) → list_any test pages ≡ true → Among test pages
-among test [] none = absurd (cc)
-among test (p ∷ pages) some = choose (test p) refl some (among test pages)
-  where
-    choose : (b : Bool) → test p ≡ b → (b || list_any test pages) ≡ true
-        → (list_any test pages ≡ true → Among test pages) → Among test (p ∷ pages)
-    choose true is here later = record { front = []; page = p; rest = pages; whole = refl; passes = is }
-    choose false is here later =
-        let a : Among test pages = later here in
-        record {
-          front = p ∷ a.front;
-          page = a.page;
-          rest = a.rest;
-          whole = ap (λ (ps : List KeptPage). p ∷ ps) a.whole;
-          passes = a.passes;
-        }
+among test pages some =
+    let found = from_any test pages some in
+    let here : Around found.0 pages = around found.0 pages found.1 in
+    record { front = here.front; page = found.0; rest = here.back; whole = here.whole; passes = found.2 }
 
 -- an id of the pages is below the end
 among_fits : (kept : Kept) (test : KeptPage → Bool) → IsWellKept kept → (a : Among test kept.pages)
@@ -79,10 +70,6 @@ found_some kept url p [] found = absurd (cc)
 found_some kept url p (q ∷ pages) found =
     choose (bytes_eq q.page.url url) found (found_some kept url p pages)
   where
-    or_true : (b : Bool) → (b || true) ≡ true
-    or_true true = refl
-    or_true false = refl
-
     choose : (b : Bool)
         → (if b then Some q.page else find_page url (map (λ (r : KeptPage). r.page) pages)) ≡ Some p
         → (find_page url (map (λ (r : KeptPage). r.page) pages) ≡ Some p
@@ -91,7 +78,7 @@ found_some kept url p (q ∷ pages) found =
     choose true here later =
         let same : q.page ≡ p = cc in
         rw (eq-eqb q.page.id.0 p.id.0 (ap (λ (r : Page). r.id.0) same)) refl
-    choose false here later = rw (later here) (or_true (q.page.id.0 == p.id.0))
+    choose false here later = rw (later here) (or-true (q.page.id.0 == p.id.0))
 
 -- the id of a page that is there fits
 pub page_fits : (kept : Kept) (id : ℕ) → IsWellKept kept → has_page kept (page_id id) ≡ true → id < 4_294_967_296

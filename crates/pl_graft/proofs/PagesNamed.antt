@@ -4,7 +4,7 @@ use Rattle.std.proofs.Common.{Option, Some, None, ap, arith, bytes_eq, eq-eqb, i
 use Rattle.std.proofs.Common.{subst, sym, unwrap_or}
 use Rattle.std.specs.List.{list_any}
 use Rattle.std.specs.Option.{is_none, is_some}
-use Rattle.std.proofs.Math.Bool.{or_assoc}
+use Rattle.std.proofs.Math.Bool.{or-false, or-true, or_assoc}
 use Rattle.std.proofs.lemmas.Bool.{eqb-true, false_from_ne_true, ne_eqb}
 use Rattle.std.proofs.lemmas.List.Folds.{list_any-append}
 use Rattle.std.proofs.lemmas.Slice.Eq.{bytes_eq-Decides}
@@ -17,6 +17,7 @@ use Rattle.pl_base.specs.Tree.{is_page, new_item}
 use Rattle.pl_base.specs.Visiting.{find_page, new_page, page_for, with_page_for}
 use Rattle.pl_base.proofs.Among.{In, from_found, in_either}
 use Rattle.pl_base.proofs.ListLaws.{list_any-alike, list_any-map}
+use Rattle.pl_base.proofs.Truths.{or_same}
 use Rattle.pl_history.proofs.VisitRows.{grown_store}
 use Rattle.pl_nbread.specs.declared.tree.Node.{Node}
 use Rattle.pl_nbread.specs.declared.tree.Tree.{Tree}
@@ -29,21 +30,13 @@ use Rattle.pl_base.specs.Tags.{tags_root}
 use Rattle.pl_graft.specs.Import.{folder_of, folders_behind, imported, node_row, page_of, tagged_store}
 use Rattle.pl_graft.specs.Import.{with_list, with_node, with_nodes, with_page_of, with_row, with_tag, with_tags}
 use Rattle.pl_graft.specs.Import.{with_tags_of}
-use Rattle.pl_graft.specs.Spared.{has_url, is_named, is_url}
+use Rattle.pl_keyed.specs.NamedUrls.{has_url, is_named, is_url}
 
 -- ---- the items that have a page
 
 -- one of the items has the page
 abbrev pub refers : PageId → List Item → Bool
 refers page items = list_any (λ (i : Item). is_page page i.page) items
-
-or_false : (b : Bool) → (b || false) ≡ b
-or_false true = refl
-or_false false = refl
-
-or_true : (b : Bool) → (b || true) ≡ true
-or_true true = refl
-or_true false = refl
 
 child_page : (page : PageId) (place : Place) (id : ItemId) (i : Item) (b : Bool)
     → is_page page (if b then record i { children = put place id i.children } else i).page ≡ is_page page i.page
@@ -66,22 +59,17 @@ refers_more : (page : PageId) (parent : ItemId) (place : Place) (id : ItemId) (n
 refers_more page parent place id new items =
     list_any-append (λ (i : Item). is_page page i.page) (with_child parent place id items) (new ∷ [])
     ∙ ap (λ (b : Bool). b || (is_page page new.page || false)) (refers_child page parent place id items)
-    ∙ ap (λ (b : Bool). refers page items || b) (or_false (is_page page new.page))
+    ∙ ap (λ (b : Bool). refers page items || b) (or-false (is_page page new.page))
 
 refers_folder : (page : PageId) (b : Bool) (next : ℕ) (name : List ℕ) (date : Micros) (items : List Item)
     → refers page (if b then with_new (item_id next) tags_root End (new_tag name date) items else items)
     ≡ refers page items
 refers_folder page true next name date items =
     refers_more page tags_root End (item_id next) (item_of (item_id next) (new_tag name date)) items
-    ∙ or_false (refers page items)
+    ∙ or-false (refers page items)
 refers_folder page false next name date items = refl
 
 -- a tag of a page that has an item
-already : (a b : Bool) → (b ≡ true → a ≡ true) → (a || b) ≡ a
-already true b so = refl
-already false true so = sym (so refl)
-already false false so = refl
-
 refers_tagged : (page id : PageId) (name : List ℕ) (date : Micros) (store : Store)
     → ((id.0 == page.0) ≡ true → refers page store.items ≡ true)
     → refers page (tagged_store id name date store).items ≡ refers page store.items
@@ -92,7 +80,7 @@ refers_tagged page id name date store so =
     (tagged.with_tag next name date store.items)
     ∙ ap (λ (b : Bool). b || (id.0 == page.0))
     (refers_folder page (is_none (tag_named name store.items)) next name date store.items)
-    ∙ already (refers page store.items) (id.0 == page.0) so
+    ∙ or_same (refers page store.items) (id.0 == page.0) so
 
 -- what tags leave as it is
 record SameButTags (page : PageId) (old new : Store) : Type 0 where
@@ -242,8 +230,8 @@ module _ (named : List ℕ → Bool) (url : List ℕ) (store : Store) (t : IsTol
           ap (λ (b : Bool). b || (store.ids.page == p.id.0)) (t.refers p h)
           ∙ ap (λ (b : Bool). named p.url || b) (is_old p h)
       refers_either p (inr (inl e)) =
-          ap (λ (b : Bool). refers p.id store.items || b) (id_here p e) ∙ or_true (refers p.id store.items)
-          ∙ sym (ap (λ (b : Bool). named p.url || b) (url_here p e) ∙ or_true (named p.url))
+          ap (λ (b : Bool). refers p.id store.items || b) (id_here p e) ∙ or-true (refers p.id store.items)
+          ∙ sym (ap (λ (b : Bool). named p.url || b) (url_here p e) ∙ or-true (named p.url))
       refers_either p (inr (inr never)) = absurd never
 
   has_page_for : HasPage named url (page_for store url).id (with_page_for store url)
@@ -314,7 +302,7 @@ told_node named parent node store t = choose node.url
         λ p. refers_more p.id parent End (item_id s.ids.item)
         (new_item (item_id s.ids.item) (node_row parent (Some id) node) (cut_title node.title)) s.items in
         told_tags (with_url named (Some url)) id node.added node.tags (row_of (Some id) s)
-        (λ p at is. made p ∙ ap (λ (b : Bool). refers p.id s.items || b) is ∙ or_true (refers p.id s.items))
+        (λ p at is. made p ∙ ap (λ (b : Bool). refers p.id s.items || b) is ∙ or-true (refers p.id s.items))
         (record {
           alike = h.alike;
           below = h.below;
@@ -332,7 +320,7 @@ told_nodes : (named : List ℕ → Bool) (root : ItemId) (nodes : List Node) (fo
     → IsTold named store
     → IsTold (λ url. named url || has_url nodes url) (with_nodes root nodes folders store)
 told_nodes named root [] folders store t =
-    told_as named (λ url. named url || false) store (λ url. sym (or_false (named url))) t
+    told_as named (λ url. named url || false) store (λ url. sym (or-false (named url))) t
 told_nodes named root (node ∷ nodes) folders store t =
     let folder : ItemId = folder_of root folders node in
     let behind : List ItemId = folders_behind folders node (item_id store.ids.item) in

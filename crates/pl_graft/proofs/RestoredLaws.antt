@@ -2,6 +2,7 @@
 use Rattle.std.proofs.Common.{◌≡◌, ◌≢◌, ◌<◌, ◌∙◌, ◌==◌, ◌||◌, ℕ, Bool, true, false, List, [], ◌∷◌, Option, Some}
 use Rattle.std.proofs.Common.{None, ap, arith, bytes_eq, eq-eqb, inl, inr, map, refl, suc, sym}
 use Rattle.std.specs.List.{AllPairs, list_any}
+use Rattle.std.proofs.Math.Bool.{or-false}
 use Rattle.std.proofs.lemmas.Bool.{eqb-true, or_left, or_right}
 use Rattle.std.proofs.lemmas.List.Elements.{recursion_from_All}
 use Rattle.std.proofs.lemmas.List.Kept.{AllPairs-from_increasing}
@@ -16,7 +17,8 @@ use Rattle.pl_nbread.specs.declared.tree.Node.{Node}
 use Rattle.pl_nbread.specs.declared.tree.Tree.{Tree}
 use Rattle.pl_graft.specs.Import.{imported}
 use Rattle.pl_graft.specs.Restored.{emptied, restored}
-use Rattle.pl_graft.specs.Spared.{has_url, is_named, is_spared, is_url, spared}
+use Rattle.pl_keyed.specs.NamedUrls.{has_url, is_named, is_url}
+use Rattle.pl_graft.specs.Spared.{is_spared, spared}
 use Rattle.pl_graft.proofs.PagesCut.{Keeps, KeepsOf, cut, imported_cut}
 use Rattle.pl_graft.proofs.PagesNamed.{IsTold, refers, told_tree, visits_tree}
 
@@ -114,9 +116,5 @@ restored_spared tree store good =
     ap (λ (vs : List Visit). list_any (λ (v : Visit). v.page.0 == p.id.0) vs || refers p.id whole.items)
     (visits_tree tree first)
     ∙ ap (λ (b : Bool). is_visited first p.id || b) (told.refers p h)
-    ∙ ap (λ (b : Bool). b || is_named tree p.url) (sym (or_none (is_visited first p.id))))))
+    ∙ ap (λ (b : Bool). b || is_named tree p.url) (sym (or-false (is_visited first p.id))))))
     ∙ sym (imported_spared tree first)
-  where
-    or_none : (b : Bool) → (b || false) ≡ b
-    or_none true = refl
-    or_none false = refl

@@ -1,4 +1,4 @@
--- The URLs that a tree names, list by list, and the tally of the pages that it leaves.
+-- The tally of the pages that stay where a tree is to come.
 use Rattle.std.proofs.Common.{◌≡◌, ◌<◌, ◌≤◌, ◌∙◌, ◌+◌, ◌*◌, ◌^◌, ◌==◌, ◌||◌, ◌++◌, ℕ, Bool, true, false, List, []}
 use Rattle.std.proofs.Common.{◌∷◌, Option, Some, None, ap, arith, bytes_eq, filter, get_or, if◌then◌else◌}
 use Rattle.std.proofs.Common.{length, map, refl, subst, sym, take}
@@ -20,7 +20,8 @@ use Rattle.pl_base.specs.Rows.{with_items}
 use Rattle.pl_base.specs.Store.{Item, Page, Store, roots}
 use Rattle.pl_base.specs.Visiting.{find_page, new_page, with_page_for}
 use Rattle.pl_base.proofs.ListLaws.{list_any_push}
-use Rattle.pl_base.proofs.LookUps.{found_holds, found_passes}
+use Rattle.pl_base.proofs.LookUps.{found_holds}
+use Rattle.pl_base.proofs.PageLaws.{id_at}
 use Rattle.pl_base.proofs.PagesRun.{found_at, page_names}
 use Rattle.pl_base.proofs.RootsLaws.{has_roots, no_tags, roots_are_good, roots_are_tree, roots_ascend}
 use Rattle.pl_base.proofs.Walk.{StandsAt}
@@ -30,36 +31,17 @@ use Rattle.pl_history.proofs.VisitRows.{grown_store}
 use Rattle.pl_nbread.specs.declared.tree.Node.{Node}
 use Rattle.pl_nbread.specs.declared.tree.Tree.{Tree}
 use Rattle.pl_graft.specs.declared.cost.Tally.{Tally}
-use Rattle.pl_graft.specs.declared.pages.Pages.{Pages}
-use Rattle.pl_graft.specs.declared.pages.urls.Named.{Named}
-use Rattle.pl_graft.specs.KnownPages.{IsOriginPage, KnowsPages, names}
-use Rattle.pl_graft.specs.KnownTags.{KnowsTags}
+use Rattle.pl_keyed.specs.declared.pages.Pages.{Pages}
+use Rattle.pl_keyed.specs.declared.pages.urls.Named.{Named}
+use Rattle.pl_keyed.specs.KnownPages.{IsOriginPage, KnowsPages, names}
+use Rattle.pl_keyed.specs.KnownTags.{KnowsTags}
 use Rattle.pl_graft.specs.Ready.{IsReady}
 use Rattle.pl_graft.specs.Restored.{emptied}
-use Rattle.pl_graft.specs.Spared.{has_url, is_named, is_spared, is_url, stays, with_last, with_pages}
+use Rattle.pl_keyed.specs.NamedUrls.{is_named}
+use Rattle.pl_graft.specs.Spared.{is_spared, stays, with_last, with_pages}
 use Rattle.pl_graft.specs.Tally.{IsTallyOf, first_weight, size, spared_weight}
-use Rattle.pl_graft.proofs.PageLookups.{not_in_front}
+use Rattle.pl_keyed.proofs.PageLookups.{not_in_front}
 use Rattle.pl_graft.proofs.Slots.{live_page}
-
-or_none : (b : Bool) → (b || false) ≡ b
-or_none true = refl
-or_none false = refl
-
--- a node more
-pub named_more : (nodes : List Node) (i : ℕ) (node : Node) (url : List ℕ) (a : Bool) → i < length nodes
-    → node ≡ get_or nodes i node
-    → (a || has_url (take i nodes) url || is_url url node.url) ≡ (a || has_url (take (i + 1) nodes) url)
-named_more nodes i node url a within is =
-    or_assoc a (has_url (take i nodes) url) (is_url url node.url)
-    ∙ ap (λ (b : Bool). a || (has_url (take i nodes) url || b)) (sym (or_none (is_url url node.url)))
-    ∙ ap (λ (b : Bool). a || b)
-    (sym (list_any-append (λ (n : Node). is_url url n.url) (take i nodes) (node ∷ [])))
-    ∙ ap (λ (n : Node). a || has_url (take i nodes ++ n ∷ []) url) is
-    ∙ ap (λ (ns : List Node). a || has_url ns url) (sym (take_more nodes i node within))
-
--- no node yet
-pub named_none : (nodes : List Node) (url : List ℕ) (a : Bool) → a ≡ (a || has_url (take 0 nodes) url)
-named_none nodes url a = sym (or_none a)
 
 -- ---- a page more
 
@@ -151,15 +133,6 @@ title_fits kept page title h is = choose (page_at kept page) refl is
         (found_holds (λ (q : KeptPage). IsTitle q.page.title) (λ (q : KeptPage). q.page.id.0 == page.0) kept.pages p
         (recursion_from_All (λ (q : KeptPage). IsTitle q.page.title) kept.pages h.titles) at).1
 
--- a page with a visit stays, and one without where it is named
-pub spared_first : (a b some : Bool) → some ≡ a → some ≡ true → some ≡ (a || b)
-spared_first true b some is here = is
-spared_first false b some is here = absurd (false≢true (sym is ∙ here))
-
-pub spared_second : (a b some named : Bool) → some ≡ a → some ≡ false → named ≡ b → named ≡ (a || b)
-spared_second true b some named is none there = absurd (false≢true (sym none ∙ is))
-spared_second false b some named is none there = there
-
 module _ (kept : Kept) (page : PageId) (p : KeptPage) (at : page_at kept page ≡ Some p) where
   pub url_told : (url : List ℕ) → Some url ≡ url_of kept page → p.page.url ≡ url
   url_told url is =
@@ -170,9 +143,7 @@ module _ (kept : Kept) (page : PageId) (p : KeptPage) (at : page_at kept page �
       sym (same_Some title p.page.title (is ∙ ap (option_map (λ (q : KeptPage). q.page.title)) at))
 
   pub id_told : p.page.id ≡ page
-  id_told =
-      ap (λ (n : ℕ). record { 0 = n })
-      (eqb-true p.page.id.0 page.0 (found_passes (λ (q : KeptPage). q.page.id.0 == page.0) kept.pages p at))
+  id_told = id_at kept page p at
 
   pub stays_told : (named : Named) (url : List ℕ) (b : Bool) → Some url ≡ url_of kept page
       → b ≡ (is_standing (emptied (store_of kept)) page || names named url)

@@ -1,11 +1,8 @@
 pub mod Gained
 pub mod Import
-pub mod KnownPages
-pub mod KnownTags
 pub mod OpenFolders
 pub mod Ready
 pub mod Restored
 pub mod Spared
 pub mod Standing
-pub mod TagRows
 pub mod Tally

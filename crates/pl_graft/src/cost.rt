@@ -22,8 +22,8 @@ ghost use Rattle.pl_graft.specs.Tally.{page_weight, tag_weight, tree_weight, wei
 
 mod anew;
 
-use crate::pages::{Entered, Pages};
-use crate::tags::{Entering, Tags};
+use pl_keyed::{Entered, Pages};
+use pl_keyed::{Entering, Tags};
 pub use anew::needed_anew;
 use pl_base::{NoMemory, Rows, Steps, chunks, cut_title};
 use pl_link::Canon;

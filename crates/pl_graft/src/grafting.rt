@@ -18,8 +18,8 @@ mod page;
 mod tag;
 
 use crate::cost::row_count;
-use crate::pages::Pages;
-use crate::tags::Tags;
+use pl_keyed::Pages;
+use pl_keyed::Tags;
 use pl_base::{ItemId, NoMemory, PageId, Rows, Seq, Steps};
 use pl_nbread::Tree;
 use std::alloc::Global;

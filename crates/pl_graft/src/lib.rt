@@ -4,8 +4,6 @@
 
 mod cost;
 mod grafting;
-mod pages;
-mod tags;
 
 pub use cost::{Cost, MOST_ROWS, needed, needed_anew, row_count};
 pub use grafting::{Grafted, graft};

@@ -11,15 +11,15 @@ ghost use Rattle.pl_base.specs.Visiting.{find_page};
 ghost use Rattle.pl_nbread.specs.WellFormed.{AreWellFormed};
 ghost use Rattle.pl_graft.specs.Import as spec;
 ghost use Rattle.pl_graft.specs.Import.{imported, most_rows};
-ghost use Rattle.pl_graft.specs.KnownPages.{names};
+ghost use Rattle.pl_keyed.specs.KnownPages.{names};
 ghost use Rattle.pl_graft.specs.Restored.{emptied, restored};
 ghost use Rattle.pl_graft.specs.Spared.{spared, stays, with_last, with_pages};
 ghost use Rattle.pl_graft.specs.Tally.{CanCount, CountsAtMost, IsTallyOf, first_weight, size};
 ghost use Rattle.pl_graft.specs.Tally.{spared_weight, tree_weight};
 
 use crate::cost::{Cost, Tally};
-use crate::pages::{Named, Pages};
-use crate::tags::Tags;
+use pl_keyed::{Named, Pages};
+use pl_keyed::Tags;
 use pl_base::{NoMemory, PageId, Rows, Steps, chunks};
 use pl_nbread::Tree;
 use std::alloc::Global;

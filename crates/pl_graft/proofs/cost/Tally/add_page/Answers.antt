@@ -3,7 +3,7 @@ use Rattle.std.proofs.Common.{◌≡◌, ◌∙◌, ◌+◌, ℕ, List, ap, if�
 use Rattle.std.specs.Option.{is_none}
 use Rattle.pl_base.specs.Live.{chunks}
 use Rattle.pl_base.specs.Visiting.{find_page}
-use Rattle.pl_graft.specs.KnownPages.{IsOriginPage}
+use Rattle.pl_keyed.specs.KnownPages.{IsOriginPage}
 use Rattle.pl_graft.proofs.SparedSteps.{last_taken}
 use Rattle.pl_graft.proofs.cost.Tally.add_page.Goals as goal
 

@@ -3,7 +3,7 @@ use Rattle.std.proofs.Common.{◌≡◌, ◌∙◌, ◌+◌, ℕ, List, ap, if�
 use Rattle.std.specs.Option.{is_none}
 use Rattle.pl_base.specs.Live.{chunks}
 use Rattle.pl_base.specs.Visiting.{new_page}
-use Rattle.pl_graft.specs.KnownPages.{IsEntered}
+use Rattle.pl_keyed.specs.KnownPages.{IsEntered}
 use Rattle.pl_graft.proofs.FoundPages.{found_number, new_number}
 use Rattle.pl_graft.proofs.TallyLaws.{page_passed, page_taken}
 use Rattle.pl_graft.proofs.cost.Tally.take_page.Goals as goal

@@ -2,9 +2,9 @@
 use Rattle.std.proofs.Common.{◌≡◌, ◌∙◌, ◌+◌, ℕ, List, add-zero, ap, refl, subst, sym}
 use Rattle.pl_base.specs.Fold.{folded}
 use Rattle.pl_base.specs.Live.{chunks}
-use Rattle.pl_graft.specs.declared.tags.Entering.TheVariants.{Has, Known, New}
-use Rattle.pl_graft.specs.KnownTags.{IsEntering, KnowsTags}
-use Rattle.pl_graft.specs.TagRows.{entered, tag_rows}
+use Rattle.pl_keyed.specs.declared.tags.Entering.TheVariants.{Has, Known, New}
+use Rattle.pl_keyed.specs.KnownTags.{IsEntering, KnowsTags}
+use Rattle.pl_keyed.specs.TagRows.{entered, tag_rows}
 use Rattle.pl_graft.proofs.TallyLaws.{below_item, tag_taken}
 use Rattle.pl_graft.proofs.cost.Tally.take_tag.Goals.{in-Has, in-Known, in-New}
 use Rattle.pl_graft.proofs.cost.Tally.take_tag.Goals as goal

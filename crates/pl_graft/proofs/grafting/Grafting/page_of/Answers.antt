@@ -4,7 +4,7 @@ use Rattle.pl_base.specs.declared.id.Ids.{Ids}
 use Rattle.pl_base.specs.Rows.{Kept, store_of}
 use Rattle.pl_base.specs.Store.{Store}
 use Rattle.pl_base.specs.Visiting.{new_page}
-use Rattle.pl_graft.specs.KnownPages.{IsEntered, page_id}
+use Rattle.pl_keyed.specs.KnownPages.{IsEntered, page_id}
 use Rattle.pl_graft.specs.Standing.{IsStanding}
 use Rattle.pl_graft.specs.declared.grafting.Grafting.{Grafting}
 use Rattle.pl_graft.proofs.FoundPages.{found_number, found_store}

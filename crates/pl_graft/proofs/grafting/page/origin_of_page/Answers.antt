@@ -1,6 +1,6 @@
 use Rattle.std.proofs.Common.{arith, subst}
 use Rattle.pl_base.specs.Rows.{store_of}
-use Rattle.pl_graft.specs.KnownPages.{IsOriginPage}
+use Rattle.pl_keyed.specs.KnownPages.{IsOriginPage}
 use Rattle.pl_graft.proofs.PageSteps.{origin_known, origin_none, page_fits}
 use Rattle.pl_graft.proofs.grafting.page.origin_of_page.Goals as goal
 

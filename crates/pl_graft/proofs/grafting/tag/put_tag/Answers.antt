@@ -2,8 +2,8 @@ use Rattle.std.proofs.Common.{◌∙◌, ap, not, refl, subst, sym}
 use Rattle.pl_base.specs.Fold.{folded}
 use Rattle.pl_base.specs.Rows.{Kept, store_of}
 use Rattle.pl_base.specs.Store.{Store}
-use Rattle.pl_graft.specs.KnownTags.{IsEntering}
-use Rattle.pl_graft.specs.TagRows.{tag_rows}
+use Rattle.pl_keyed.specs.KnownTags.{IsEntering}
+use Rattle.pl_keyed.specs.TagRows.{tag_rows}
 use Rattle.pl_graft.proofs.GoingOn.{grows_same}
 use Rattle.pl_graft.proofs.Ready.{IsReady, ready}
 use Rattle.pl_graft.proofs.TagSteps.{Enters, enters_known, enters_new, grows_tagged, has_already, known_fits, last_fits}

@@ -1,0 +1,4 @@
+pub mod KnownPages
+pub mod KnownTags
+pub mod NamedUrls
+pub mod TagRows
