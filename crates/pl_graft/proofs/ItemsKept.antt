@@ -14,13 +14,13 @@ use Rattle.pl_base.specs.Tree.{children_of, is_page}
 use Rattle.pl_base.specs.Visiting.{page_for}
 use Rattle.pl_nbread.specs.declared.tree.Node.{Node}
 use Rattle.pl_tree.specs.Changes.{with_appended}
+use Rattle.pl_keyed.specs.TagRows.{TagRow, tag_rows}
 use Rattle.pl_graft.specs.declared.grafting.Grafting.{Grafting}
 use Rattle.pl_graft.specs.Gained.{Grows, has_new_item}
 use Rattle.pl_graft.specs.Import.{entry_count, node_row, page_of, with_item_of, with_node, with_page_of, with_row}
 use Rattle.pl_graft.specs.Ready.{Takes}
 use Rattle.pl_graft.specs.Standing.{GoesOn, HasRoom, IsStanding, KeepsFolders, Puts, holds_page}
 use Rattle.pl_graft.specs.Standing.{with_item}
-use Rattle.pl_keyed.specs.TagRows.{TagRow, tag_rows}
 use Rattle.pl_graft.proofs.GoingOn.{grows_same}
 use Rattle.pl_graft.proofs.NewItems.{row_items}
 use Rattle.pl_graft.proofs.Ready.{IsReady, children_new, children_row, counted, has_page_for, items_page, tags_row}

@@ -23,9 +23,9 @@ use Rattle.pl_base.proofs.OriginSums.{sums_with_page}
 use Rattle.pl_base.proofs.PagesRun.{found_at, given, there}
 use Rattle.pl_history.proofs.ReadyPage.{own_url}
 use Rattle.pl_history.proofs.VisitRows.{grown_store, store_with_page}
+use Rattle.pl_keyed.specs.KnownPages.{IsOriginPage, KnowsPages, page_id, with_page}
 use Rattle.pl_graft.specs.declared.grafting.Grafting.{Grafting}
 use Rattle.pl_graft.specs.Gained.{Grows, IsBlank}
-use Rattle.pl_keyed.specs.KnownPages.{IsOriginPage, KnowsPages, page_id, with_page}
 use Rattle.pl_graft.specs.Standing.{GoesOn, IsStanding}
 use Rattle.pl_graft.proofs.FoundPages.{items_for, knows_for}
 use Rattle.pl_graft.proofs.GoingOn.{goes_by_pages}

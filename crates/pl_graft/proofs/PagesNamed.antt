@@ -27,10 +27,10 @@ use Rattle.pl_tree.specs.Changes.{item_of, put, with_child, with_new}
 use Rattle.pl_tree.specs.Tagged as tagged
 use Rattle.pl_tree.specs.Tagged.{new_entry, new_tag, tag_entry, tag_id, tag_named, tagged_items, new_items}
 use Rattle.pl_base.specs.Tags.{tags_root}
+use Rattle.pl_keyed.specs.NamedUrls.{has_url, is_named, is_url}
 use Rattle.pl_graft.specs.Import.{folder_of, folders_behind, imported, node_row, page_of, tagged_store}
 use Rattle.pl_graft.specs.Import.{with_list, with_node, with_nodes, with_page_of, with_row, with_tag, with_tags}
 use Rattle.pl_graft.specs.Import.{with_tags_of}
-use Rattle.pl_keyed.specs.NamedUrls.{has_url, is_named, is_url}
 
 -- ---- the items that have a page
 

@@ -30,12 +30,12 @@ use Rattle.pl_tree.specs.Tagged.{tag_entry, tag_named}
 use Rattle.pl_tree.proofs.GoodStores as stores
 use Rattle.pl_tree.proofs.GoodStores.{tag_lists}
 use Rattle.pl_history.proofs.GoodRows.{items_still}
-use Rattle.pl_graft.specs.Import.{entry_count, tagged_store, with_row, with_tag}
 use Rattle.pl_keyed.specs.KnownTags.{AreBelow, last_of}
 use Rattle.pl_keyed.specs.TagRows.{TagEntry, TagRow, entered, entry_row, holds_in, new_row, row_with, tag_row}
 use Rattle.pl_keyed.specs.TagRows.{tag_rows, with_entry, with_entry_in}
 use Rattle.pl_keyed.proofs.TagRowLaws.{before_end, last_map, row_named, row_of, rows_known, rows_new, rows_of}
 pub use Rattle.pl_keyed.proofs.TagRowLaws.{count_entered, held, named}
+use Rattle.pl_graft.specs.Import.{entry_count, tagged_store, with_row, with_tag}
 pub use Rattle.pl_graft.specs.Ready.{IsReady, Takes}
 
 pub ready : (kept : Kept) → IsWellKept kept → HasGoodItems (store_of kept) → IsReady (store_of kept)

@@ -15,9 +15,9 @@ use Rattle.pl_base.proofs.ListLaws.{AllPairs-from_map, filter-where, from_map}
 use Rattle.pl_base.proofs.Truths.{same_tests}
 use Rattle.pl_nbread.specs.declared.tree.Node.{Node}
 use Rattle.pl_nbread.specs.declared.tree.Tree.{Tree}
+use Rattle.pl_keyed.specs.NamedUrls.{has_url, is_named, is_url}
 use Rattle.pl_graft.specs.Import.{imported}
 use Rattle.pl_graft.specs.Restored.{emptied, restored}
-use Rattle.pl_keyed.specs.NamedUrls.{has_url, is_named, is_url}
 use Rattle.pl_graft.specs.Spared.{is_spared, spared}
 use Rattle.pl_graft.proofs.PagesCut.{Keeps, KeepsOf, cut, imported_cut}
 use Rattle.pl_graft.proofs.PagesNamed.{IsTold, refers, told_tree, visits_tree}

@@ -28,9 +28,9 @@ use Rattle.pl_tree.specs.Changes.{item_of, put, with_child, with_new}
 use Rattle.pl_tree.specs.Tagged.{new_entry, new_items, new_tag, tag_entry, tag_id, tag_named, tagged_items}
 use Rattle.pl_tree.specs.Tagged as tagged
 use Rattle.pl_tree.proofs.ChildSlots.{slots_child}
+use Rattle.pl_keyed.specs.KnownPages.{IsOriginPage}
 use Rattle.pl_graft.specs.Import.{folder_of, folders_behind, node_row, page_of, tagged_store, with_item_of, with_list}
 use Rattle.pl_graft.specs.Import.{with_node, with_nodes, with_page_of, with_row, with_tag, with_tags, with_tags_of}
-use Rattle.pl_keyed.specs.KnownPages.{IsOriginPage}
 
 -- ---- a page
 

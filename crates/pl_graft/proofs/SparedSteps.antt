@@ -30,17 +30,17 @@ use Rattle.pl_history.proofs.StandingPages.{stands_by_item, stands_by_visit}
 use Rattle.pl_history.proofs.VisitRows.{grown_store}
 use Rattle.pl_nbread.specs.declared.tree.Node.{Node}
 use Rattle.pl_nbread.specs.declared.tree.Tree.{Tree}
-use Rattle.pl_graft.specs.declared.cost.Tally.{Tally}
 use Rattle.pl_keyed.specs.declared.pages.Pages.{Pages}
 use Rattle.pl_keyed.specs.declared.pages.urls.Named.{Named}
 use Rattle.pl_keyed.specs.KnownPages.{IsOriginPage, KnowsPages, names}
 use Rattle.pl_keyed.specs.KnownTags.{KnowsTags}
+use Rattle.pl_keyed.specs.NamedUrls.{is_named}
+use Rattle.pl_keyed.proofs.PageLookups.{not_in_front}
+use Rattle.pl_graft.specs.declared.cost.Tally.{Tally}
 use Rattle.pl_graft.specs.Ready.{IsReady}
 use Rattle.pl_graft.specs.Restored.{emptied}
-use Rattle.pl_keyed.specs.NamedUrls.{is_named}
 use Rattle.pl_graft.specs.Spared.{is_spared, stays, with_last, with_pages}
 use Rattle.pl_graft.specs.Tally.{IsTallyOf, first_weight, size, spared_weight}
-use Rattle.pl_keyed.proofs.PageLookups.{not_in_front}
 use Rattle.pl_graft.proofs.Slots.{live_page}
 
 -- ---- a page more

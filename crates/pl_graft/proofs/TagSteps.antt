@@ -25,11 +25,11 @@ use Rattle.pl_tree.specs.Refused.{tag_refusal}
 use Rattle.pl_tree.specs.Tagged.{new_items, tag_entry, tag_named, with_tagged}
 use Rattle.pl_keyed.specs.declared.tags.Entering.TheVariants.{Has, Known, New}
 use Rattle.pl_keyed.specs.declared.tags.TagFolder.{TagFolder}
+use Rattle.pl_keyed.specs.KnownTags.{IsEntering, last_of}
+use Rattle.pl_keyed.specs.TagRows.{TagEntry, TagRow, holds_in, row_with, tag_rows}
 use Rattle.pl_graft.specs.Gained.{Grows}
 use Rattle.pl_graft.specs.Import.{tagged_store, with_tag}
-use Rattle.pl_keyed.specs.KnownTags.{IsEntering, last_of}
 use Rattle.pl_graft.specs.Standing.{HasRoom}
-use Rattle.pl_keyed.specs.TagRows.{TagEntry, TagRow, holds_in, row_with, tag_rows}
 use Rattle.pl_graft.proofs.GoingOn.{grows_same}
 use Rattle.pl_graft.proofs.Ready.{IsReady, below_rows, held, last_entry, last_tag, named}
 

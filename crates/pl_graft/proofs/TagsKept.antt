@@ -14,13 +14,13 @@ use Rattle.pl_base.specs.Store.{Page, Store}
 use Rattle.pl_base.specs.Tree.{children_of}
 use Rattle.pl_base.proofs.ListLaws.{list_any-map}
 use Rattle.pl_tree.specs.Tagged.{tag_entry, tag_named}
+use Rattle.pl_keyed.specs.KnownTags.{KnowsTags}
+use Rattle.pl_keyed.specs.TagRows.{TagRow, entered, holds_in, row_with, tag_rows}
 use Rattle.pl_graft.specs.declared.grafting.Grafting.{Grafting}
 use Rattle.pl_graft.specs.Gained.{Grows, has_new_item}
 use Rattle.pl_graft.specs.Import.{entry_count, tagged_store, with_tag, with_tags}
-use Rattle.pl_keyed.specs.KnownTags.{KnowsTags}
 use Rattle.pl_graft.specs.Ready.{Takes}
 use Rattle.pl_graft.specs.Standing.{GoesOn, HasRoom, IsStanding, KeepsFolders, is_gained}
-use Rattle.pl_keyed.specs.TagRows.{TagRow, entered, holds_in, row_with, tag_rows}
 use Rattle.pl_graft.proofs.GoingOn.{gained_as}
 use Rattle.pl_graft.proofs.NodeLaws.{pages_tag}
 use Rattle.pl_graft.proofs.NewItems.{tag_items}

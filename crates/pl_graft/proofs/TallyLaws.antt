@@ -18,17 +18,17 @@ use Rattle.pl_base.specs.Title.{cut_title}
 use Rattle.pl_base.specs.Visiting.{find_page, new_page, page_for, with_page_for}
 use Rattle.pl_nbread.specs.declared.tree.Node.{Node}
 use Rattle.pl_tree.specs.Tagged.{tag_entry, tag_named}
-use Rattle.pl_graft.specs.declared.cost.Tally.{Tally}
 use Rattle.pl_keyed.specs.declared.pages.Pages.{Pages}
 use Rattle.pl_keyed.specs.declared.tags.Entering.{Entering}
 use Rattle.pl_keyed.specs.declared.tags.Entering.TheVariants.{Has, Known, New}
 use Rattle.pl_keyed.specs.declared.tags.Tags.{Tags}
-use Rattle.pl_graft.specs.Import.{node_row, page_of, tagged_store, with_item_of, with_node, with_page_of, with_row}
-use Rattle.pl_graft.specs.Import.{with_tag, with_tags, with_tags_of}
 use Rattle.pl_keyed.specs.KnownPages.{IsOriginPage, KnowsPages, with_page}
 use Rattle.pl_keyed.specs.KnownTags.{AreBelow, IsEntering, KnowsTags}
-use Rattle.pl_graft.specs.Ready.{IsReady, Takes}
 use Rattle.pl_keyed.specs.TagRows.{TagRow, entered, holds_in, row_with, tag_rows}
+use Rattle.pl_graft.specs.declared.cost.Tally.{Tally}
+use Rattle.pl_graft.specs.Import.{node_row, page_of, tagged_store, with_item_of, with_node, with_page_of, with_row}
+use Rattle.pl_graft.specs.Import.{with_tag, with_tags, with_tags_of}
+use Rattle.pl_graft.specs.Ready.{IsReady, Takes}
 use Rattle.pl_graft.specs.Tally.{IsTallyOf}
 use Rattle.pl_graft.proofs.FoundPages.{found_store, knows_for}
 use Rattle.pl_graft.proofs.NodeLaws.{IsFormed, kind_fits, page_there, pages_tag, pages_tags, takes_page_of}

@@ -14,13 +14,13 @@ use Rattle.pl_base.specs.Store.{Item, Store}
 use Rattle.pl_base.specs.Title.{cut_title}
 use Rattle.pl_base.specs.Tree.{children_of}
 use Rattle.pl_nbread.specs.declared.tree.Node.{Node}
+use Rattle.pl_keyed.specs.KnownPages.{KnowsPages}
+use Rattle.pl_keyed.specs.KnownTags.{KnowsTags}
+use Rattle.pl_keyed.specs.TagRows.{tag_rows}
 use Rattle.pl_graft.specs.declared.grafting.Grafting.{Grafting}
 use Rattle.pl_graft.specs.Gained.{Grows, has_new_item}
 use Rattle.pl_graft.specs.Import.{entry_count, node_row, with_row}
-use Rattle.pl_keyed.specs.KnownPages.{KnowsPages}
-use Rattle.pl_keyed.specs.KnownTags.{KnowsTags}
 use Rattle.pl_graft.specs.Ready.{Takes}
-use Rattle.pl_keyed.specs.TagRows.{tag_rows}
 
 -- ids and slots suffice for it
 pub record HasRoom (store : Store) : Type 0 where

@@ -4,11 +4,11 @@ use Rattle.std.specs.List.{sum_by}
 use Rattle.pl_base.specs.Live.{live_slots}
 use Rattle.pl_base.specs.Store.{Store}
 use Rattle.pl_nbread.specs.declared.tree.Node.{Node}
-use Rattle.pl_graft.specs.declared.cost.Tally.{Tally}
 use Rattle.pl_keyed.specs.KnownPages.{KnowsPages}
 use Rattle.pl_keyed.specs.KnownTags.{KnowsTags}
-use Rattle.pl_graft.specs.Ready.{IsReady}
 use Rattle.pl_keyed.specs.TagRows.{tag_rows}
+use Rattle.pl_graft.specs.declared.cost.Tally.{Tally}
+use Rattle.pl_graft.specs.Ready.{IsReady}
 
 -- the tally knows the pages and tags of the store, its slots and its next ids
 pub record IsTallyOf (tally : Tally) (store : Store) : Type 0 where

@@ -22,10 +22,9 @@ ghost use Rattle.pl_graft.specs.Tally.{page_weight, tag_weight, tree_weight, wei
 
 mod anew;
 
-use pl_keyed::{Entered, Pages};
-use pl_keyed::{Entering, Tags};
 pub use anew::needed_anew;
 use pl_base::{NoMemory, Rows, Steps, chunks, cut_title};
+use pl_keyed::{Entered, Entering, Pages, Tags};
 use pl_link::Canon;
 use pl_nbread::{Node, Tree};
 use pl_words::{TagName, fold};

@@ -18,9 +18,8 @@ mod page;
 mod tag;
 
 use crate::cost::row_count;
-use pl_keyed::Pages;
-use pl_keyed::Tags;
 use pl_base::{ItemId, NoMemory, PageId, Rows, Seq, Steps};
+use pl_keyed::{Pages, Tags};
 use pl_nbread::Tree;
 use std::alloc::Global;
 use std::collections::BTreeSet;

@@ -4,7 +4,7 @@ use Rattle.std.proofs.Common.{Option, Some, None, ap, arith, bytes_eq, map, refl
 use Rattle.std.proofs.Common.{unwrap_or}
 use Rattle.std.specs.BTreeSet.{BTreeSet}
 use Rattle.std.specs.List.{AllByRecursion, AllPairs, filter_map}
-use Rattle.std.specs.Option.{IsSome, option_and_then, option_map}
+use Rattle.std.specs.Option.{option_and_then, option_map}
 use Rattle.std.proofs.lemmas.Bool.{false_from_ne_true}
 use Rattle.std.proofs.lemmas.List.{map-append}
 use Rattle.std.proofs.lemmas.List.Elements.{All-from_recursion, filter_map-append, recursion_from_All}

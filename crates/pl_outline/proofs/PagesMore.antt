@@ -26,8 +26,8 @@ use Rattle.pl_base.proofs.LookUps.{Apart, any_none, both, found_holds, found_pas
 use Rattle.pl_base.proofs.LookUps.{apart_increasing}
 use Rattle.pl_base.proofs.Truths.{same_tests}
 use Rattle.pl_tree.proofs.GoodStores.{ascends_push}
-use Rattle.pl_graft.specs.Ready.{IsReady}
 use Rattle.pl_keyed.specs.TagRows.{TagEntry, TagRow, entry_row, holds, tag_row, tag_rows}
+use Rattle.pl_graft.specs.Ready.{IsReady}
 use Rattle.pl_outline.proofs.Bare.{HasPages}
 use Rattle.pl_outline.proofs.TagMarks.{marks}
 

@@ -19,9 +19,9 @@ use Rattle.pl_base.proofs.LookUps.{Apart, found_any, found_holds, found_passes}
 use Rattle.pl_base.proofs.OneParent.{Once}
 use Rattle.pl_base.proofs.ChildrenRun.{children_once}
 use Rattle.pl_tree.proofs.GoodStores as stores
-use Rattle.pl_graft.specs.Ready.{IsReady}
 use Rattle.pl_keyed.specs.TagRows.{TagEntry, TagRow, entered, holds, holds_in, new_row, row_with, tag_row, tag_rows}
 use Rattle.pl_keyed.specs.TagRows.{with_entry, with_entry_in}
+use Rattle.pl_graft.specs.Ready.{IsReady}
 
 -- a page stands in a tag folder with the title
 abbrev pub marks : PageId → List ℕ → List TagRow → Bool

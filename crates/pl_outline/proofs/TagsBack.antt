@@ -23,9 +23,9 @@ use Rattle.pl_base.proofs.LookUps.{both}
 use Rattle.pl_marks.proofs.TagEntries.{Differ, differ_filter, differ_named, look, one_list, order_ascends, order_looks}
 use Rattle.pl_marks.proofs.TagEntries.{tag_entry, tags_found, titles_are}
 use Rattle.pl_nbread.specs.declared.tree.Node.{Node}
+use Rattle.pl_keyed.specs.TagRows.{TagEntry, TagRow, entry_row, holds, tag_row, tag_rows}
 use Rattle.pl_graft.specs.Import.{imported, with_list}
 use Rattle.pl_graft.specs.Ready.{IsReady}
-use Rattle.pl_keyed.specs.TagRows.{TagEntry, TagRow, entry_row, holds, tag_row, tag_rows}
 use Rattle.pl_graft.proofs.Ready.{takes_root}
 use Rattle.pl_outline.specs.Outline.{bookmarks, listed}
 use Rattle.pl_outline.proofs.Bare.{HasPages, bare, retagged, url_tags}

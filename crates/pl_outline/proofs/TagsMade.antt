@@ -18,10 +18,10 @@ use Rattle.pl_nbread.specs.declared.tree.Node.{Node}
 use Rattle.pl_tree.specs.Tagged.{tag_entry}
 use Rattle.pl_words.specs.TagName.{is_tag_name}
 use Rattle.pl_words.proofs.TagTests.{named_by_test}
+use Rattle.pl_keyed.specs.TagRows.{TagRow, tag_rows}
 use Rattle.pl_graft.specs.Import.{folder_of, folders_behind, node_row, page_of, tagged_store, with_item_of, with_node}
 use Rattle.pl_graft.specs.Import.{with_nodes, with_page_of, with_tag, with_tags, with_tags_of}
 use Rattle.pl_graft.specs.Ready.{IsReady, Takes}
-use Rattle.pl_keyed.specs.TagRows.{TagRow, tag_rows}
 use Rattle.pl_graft.proofs.ItemsKept.{items_page_of}
 use Rattle.pl_graft.proofs.NodeLaws.{IsFormed, behind_take, folder_takes, node_takes, page_there, pages_tag, there_tag}
 use Rattle.pl_graft.proofs.NodeLaws.{pages_tags, ready_item_of, ready_page_of, takes_node, takes_page_of}

@@ -2,13 +2,13 @@
 ghost use Rattle.std.specs.Prelude.{◌≡◌, ℕ, true, List, None, IfOk, IfSome, OnOk};
 ghost use Rattle.pl_base.specs.Rows.{IsOriginOf, has_page, store_of};
 ghost use Rattle.pl_base.specs.Visiting.{find_page, page_for, with_page_for};
-ghost use Rattle.pl_graft.specs.Gained.{Grows};
 ghost use Rattle.pl_keyed.specs.KnownPages.{IsOriginPage, page_id};
+ghost use Rattle.pl_graft.specs.Gained.{Grows};
 ghost use Rattle.pl_graft.specs.Standing.{GoesOn, HasRoom, IsStanding};
 
 use super::Grafting;
-use pl_keyed::Entered;
 use pl_base::{NoMemory, PageId, Rows, Slot, Steps};
+use pl_keyed::Entered;
 use pl_link::Canon;
 use std::sync::ledger::Ledger;
 

@@ -7,15 +7,15 @@ ghost use Rattle.pl_base.specs.Good.{HasGoodItems};
 ghost use Rattle.pl_base.specs.Rows.{has_page, store_of};
 ghost use Rattle.pl_base.specs.Store.{item_id};
 ghost use Rattle.pl_tree.specs.Tagged.{tag_entry};
+ghost use Rattle.pl_keyed.specs.KnownTags.{IsEntering};
+ghost use Rattle.pl_keyed.specs.TagRows.{tag_rows};
 ghost use Rattle.pl_graft.specs.Gained.{Grows};
 ghost use Rattle.pl_graft.specs.Import.{with_tag, with_tags};
-ghost use Rattle.pl_keyed.specs.KnownTags.{IsEntering};
 ghost use Rattle.pl_graft.specs.Standing.{GoesOn, HasRoom, IsStanding, KeepsFolders, is_gained};
-ghost use Rattle.pl_keyed.specs.TagRows.{tag_rows};
 
 use super::Grafting;
-use pl_keyed::Entering;
 use pl_base::{ItemId, Micros, NoMemory, PageId, Rows, Steps};
+use pl_keyed::Entering;
 use pl_tree::enter;
 use pl_words::{TagName, fold};
 use std::sync::ledger::Ledger;

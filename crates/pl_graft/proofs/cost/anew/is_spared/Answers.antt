@@ -1,8 +1,8 @@
 use Rattle.pl_base.specs.Removal.{is_standing}
 use Rattle.pl_base.specs.Rows.{store_of}
+use Rattle.pl_base.proofs.Truths.{or_first, or_second}
 use Rattle.pl_keyed.specs.KnownPages.{names}
 use Rattle.pl_graft.specs.Restored.{emptied}
-use Rattle.pl_base.proofs.Truths.{or_first, or_second}
 use Rattle.pl_graft.proofs.SparedSteps.{stands_alone}
 use Rattle.pl_graft.proofs.cost.anew.is_spared.Goals as goal
 

@@ -4,9 +4,9 @@ use Rattle.pl_base.specs.declared.id.Ids.{Ids}
 use Rattle.pl_base.specs.Fold.{folded}
 use Rattle.pl_base.specs.Rows.{Kept, store_of}
 use Rattle.pl_tree.specs.Tagged.{tag_entry}
-use Rattle.pl_graft.specs.declared.grafting.Grafting.{Grafting}
 use Rattle.pl_keyed.specs.KnownTags.{KnowsTags, IsEntering}
 use Rattle.pl_keyed.specs.TagRows.{entered, tag_rows}
+use Rattle.pl_graft.specs.declared.grafting.Grafting.{Grafting}
 use Rattle.pl_graft.proofs.Ready.{IsReady, ready, below_rows}
 use Rattle.pl_graft.proofs.TagsKept.{made_one, tag_folders, tag_goes_on, tag_standing}
 use Rattle.pl_graft.proofs.grafting.Grafting.tag.Goals as goal
