@@ -1,11 +1,11 @@
 -- Rows go on from step to step of an import.
-use Rattle.std.proofs.Common.{◌≡◌, ◌∙◌, ◌+◌, ◌++◌, ◌==◌, ℕ, List, [], ap, append_assoc, arith}
+use Rattle.std.proofs.Common.{◌≡◌, ◌∙◌, ◌+◌, ◌++◌, ◌==◌, ℕ, List, [], ap, arith}
 use Rattle.std.proofs.Common.{refl, sym}
 use Rattle.std.specs.List.{list_any}
 use Rattle.std.proofs.lemmas.List.{append-nil}
 use Rattle.std.proofs.lemmas.List.Elements.{All-append, All-nil}
 use Rattle.pl_base.specs.declared.id.PageId.{PageId}
-use Rattle.pl_base.specs.Rows.{Kept, KeptOrigin, KeptPage}
+use Rattle.pl_base.specs.Rows.{Kept, KeptOrigin}
 use Rattle.pl_base.specs.Store.{Item}
 use Rattle.pl_base.proofs.ListLaws.{append_twice}
 use Rattle.pl_base.proofs.OriginSums.{sums_still}

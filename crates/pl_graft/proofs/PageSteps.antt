@@ -1,5 +1,5 @@
 -- A page more in an import.
-use Rattle.std.proofs.Common.{◌≡◌, ◌∙◌, ◌<◌, ◌++◌, ◌==◌, ◌&&◌, ◌||◌, ℕ, Bool, true, false, List, [], ◌∷◌, Option}
+use Rattle.std.proofs.Common.{◌≡◌, ◌∙◌, ◌<◌, ◌++◌, ◌==◌, ◌&&◌, ℕ, Bool, true, false, List, [], ◌∷◌, Option}
 use Rattle.std.proofs.Common.{Err, Ok, Result, Some}
 use Rattle.std.proofs.Common.{None, ap, arith, bytes_eq, eq-eqb, if◌then◌else◌, map, refl, subst, sym}
 use Rattle.std.specs.List.{AllByRecursion, list_any}

@@ -1,13 +1,10 @@
 -- The tally of the pages that stay where a tree is to come.
 use Rattle.std.proofs.Common.{◌≡◌, ◌<◌, ◌≤◌, ◌∙◌, ◌+◌, ◌*◌, ◌^◌, ◌==◌, ◌||◌, ◌++◌, ℕ, Bool, true, false, List, []}
-use Rattle.std.proofs.Common.{◌∷◌, Option, Some, None, ap, arith, bytes_eq, filter, get_or, if◌then◌else◌}
-use Rattle.std.proofs.Common.{length, map, refl, subst, sym, take}
+use Rattle.std.proofs.Common.{◌∷◌, Option, Some, None, ap, arith, bytes_eq, filter, if◌then◌else◌}
+use Rattle.std.proofs.Common.{length, map, refl, subst, sym}
 use Rattle.std.specs.Option.{is_none, is_some, option_map}
-use Rattle.std.proofs.Math.Bool.{or_assoc}
-use Rattle.std.proofs.lemmas.Bool.{eqb-true, false≢true}
-use Rattle.std.proofs.lemmas.List.{append-nil, length-append, length-map, length_push, map-append, map_push, take_more}
+use Rattle.std.proofs.lemmas.List.{append-nil, length-append, length-map, length_push, map-append, map_push}
 use Rattle.std.proofs.lemmas.List.Elements.{All-from_recursion, filter-append, recursion_from_All}
-use Rattle.std.proofs.lemmas.List.Folds.{list_any-append}
 use Rattle.std.proofs.lemmas.List.Sums.{sum_by_push}
 use Rattle.std.proofs.lemmas.Option.{same_Some}
 use Rattle.pl_base.specs.declared.id.PageId.{PageId}
@@ -28,7 +25,6 @@ use Rattle.pl_base.proofs.Walk.{StandsAt}
 use Rattle.pl_history.proofs.GoodRows.{items_still}
 use Rattle.pl_history.proofs.StandingPages.{stands_by_item, stands_by_visit}
 use Rattle.pl_history.proofs.VisitRows.{grown_store}
-use Rattle.pl_nbread.specs.declared.tree.Node.{Node}
 use Rattle.pl_nbread.specs.declared.tree.Tree.{Tree}
 use Rattle.pl_keyed.specs.declared.pages.Pages.{Pages}
 use Rattle.pl_keyed.specs.declared.pages.urls.Named.{Named}
