@@ -50,6 +50,21 @@ below_behind ps qs pairs p q here there =
     let second : get_or (ps ++ qs) (length ps + there.0) q ≡ q = get_or-append-add ps qs there.0 q ∙ there.2 in
     omega (arith, less, ap (λ (r : Page). r.id.0) first, ap (λ (r : Page). r.id.0) second)
 
+-- a page with the id of an old page is that page
+same_pages_of : (old : Store) (next : Ids) (items : List Item) (added : List Page) → IsGood old
+    → AreBelow old.pages added → HaveSamePages old (without_idle_pages (with_rows next items (old.pages ++ added) old))
+same_pages_of old next items added good below p q here there same =
+    let mid : Store = with_rows next items (old.pages ++ added) old in
+    elim
+    (Contains-append_cases old.pages added q
+    (contains_unfiltered (λ (r : Page). is_standing mid r.id) mid.pages q there))
+    as (λ _. (q.url ≡ p.url) × (q.title ≡ p.title)) [
+      | inl before ↦
+          let one : q ≡ p = same_id old good p q here before same in
+          (ap (λ (r : Page). r.url) one, ap (λ (r : Page). r.title) one)
+      | inr come ↦ absurd (omega (arith, below p q here come, ap (λ (id : PageId). id.0) same))
+    ]
+
 module _ (ids : List PageId) (old : Store) (next : Ids) (items : List Item) (added : List Page) (good : IsGood old)
     (own : All (λ (p : Page). is_one_of ids p.id ≡ true) added) (below : AreBelow old.pages added)
     (alike : AreReferencesAlike ids old.items items) where
@@ -86,16 +101,6 @@ module _ (ids : List PageId) (old : Store) (next : Ids) (items : List Item) (add
             ∙ All-contains (λ (q : Page). is_one_of ids q.id ≡ true) added p own come))
       ]
 
-  -- an old page with the id of a page that stands, stands too
-  same_pages : IsGood left → HaveSamePages old left
-  same_pages still p q here there same =
-      let passes : stands q ≡ true = (All-contains (IsGoodPage left) left.pages q still.pages there).kept in
-      let both : Contains left.pages p =
-      contains_filter stands mid.pages p (Contains-append_left old.pages added p here)
-      (ap (is_standing mid) (sym same) ∙ passes) in
-      let one : q ≡ p = same_id left still p q both there same in
-      (ap (λ (r : Page). r.url) one, ap (λ (r : Page). r.title) one)
-
   behind : ComeBehind old left
   behind p q there absent here =
       elim (either p there) as (λ _. q.id.0 < p.id.0) [
@@ -116,9 +121,19 @@ module _ (ids : List PageId) (old : Store) (next : Ids) (items : List Item) (add
               views = λ p there other view of.
                   view_alike old next items left.pages p view good still (alike p.id other) of;
             };
-        pages = same_pages still;
+        pages = same_pages_of old next items added good below;
         behind = behind;
       }
+
+-- the ids of old pages are below the next one
+below_next : (old : Store) (added : List Page) → IsGood old → All (λ (p : Page). old.ids.page ≤ p.id.0) added
+    → AreBelow old.pages added
+below_next old added good above p q here there =
+    let low = All-contains (λ (r : Page). (0 < r.id.0) × (r.id.0 < old.ids.page)) old.pages p
+    (All-from_map (λ (id : ℕ). (0 < id) × (id < old.ids.page)) (λ (r : Page). r.id.0) old.pages good.page_ids.given)
+    here in
+    let high = All-contains (λ (r : Page). old.ids.page ≤ r.id.0) added q above there in
+    omega (arith, low.1, high)
 
 -- old and new are good stores. New is old with other items and next ids, with pages more behind,
 -- whose ids are the next ones or later, and then without the pages that nothing keeps
@@ -129,15 +144,15 @@ pub differ_by_items : (ids : List PageId) (old new : Store) (next : Ids) (items 
     → AreReferencesAlike ids old.items items → DifferOnlyOn ids old new
 differ_by_items ids old new next items added good still is own above alike =
     subst (DifferOnlyOn ids old) (sym is)
-    (differs ids old next items added good own below alike (subst IsGood is still))
-  where
-    below : AreBelow old.pages added
-    below p q here there =
-        let low = All-contains (λ (r : Page). (0 < r.id.0) × (r.id.0 < old.ids.page)) old.pages p
-        (All-from_map (λ (id : ℕ). (0 < id) × (id < old.ids.page)) (λ (r : Page). r.id.0) old.pages
-        good.page_ids.given) here in
-        let high = All-contains (λ (r : Page). old.ids.page ≤ r.id.0) added q above there in
-        omega (arith, low.1, high)
+    (differs ids old next items added good own (below_next old added good above) alike (subst IsGood is still))
+
+-- each page with an id of old is the one of old, whether or not new is known to be good
+pub same_pages_by_items : (old new : Store) (next : Ids) (items : List Item) (added : List Page) → IsGood old
+    → new ≡ without_idle_pages (record old { ids = next; items = items; pages = old.pages ++ added })
+    → All (λ (p : Page). old.ids.page ≤ p.id.0) added → HaveSamePages old new
+same_pages_by_items old new next items added good is above =
+    subst (HaveSamePages old) (sym is)
+    (same_pages_of old next items added good (below_next old added good above))
 
 -- the same where each page is kept, so that the ids of the new store tell that pages came behind
 pub differ_by_items_kept : (ids : List PageId) (old new : Store) (next : Ids) (items : List Item) (added : List Page)

@@ -289,7 +289,7 @@ imported_references : (tree : Tree) (store : Store) (page : PageId)
 imported_references tree store page below none =
     references_kept store.ids.item store.items (imported tree store).items below (imported_items tree store) page none
 
-imported_alike : (tree : Tree) (store : Store) (ids : List PageId)
+pub imported_alike : (tree : Tree) (store : Store) (ids : List PageId)
     → All (λ (i : Item). i.id.0 < store.ids.item) store.items
     → ((page : PageId) → has_new_item store.ids.item (imported tree store).items page ≡ true
     → is_one_of ids page ≡ true)

@@ -50,7 +50,7 @@ step_slots kept parent place url text title date slots cut s =
 
 -- ---- no cause to refuse it
 
-none_of : (a b c : Bool) (r s t : Refusal)
+pub none_of : (a b c : Bool) (r s t : Refusal)
     → (if a then Some r else if b then Some s else if c then Some t else None) ≡ None
     → (a ≡ false) × (b ≡ false) × (c ≡ false)
 none_of true b c r s t none = absurd (cc)

@@ -17,7 +17,7 @@ use Rattle.pl_bearing.proofs.ImportedReferences.{AddsPages, gained_alike, held_g
 use Rattle.pl_editing.proofs.ItemChanges.{came_by_items}
 
 -- what the import makes, by what it makes of pages and items
-imported_is : (tree : Tree) (store : Store) (a : AddsPages store (imported tree store)) → imported tree store
+pub imported_is : (tree : Tree) (store : Store) (a : AddsPages store (imported tree store)) → imported tree store
     ≡ record store {
       ids = (imported tree store).ids;
       items = (imported tree store).items;

@@ -9,7 +9,7 @@ use Rattle.std.proofs.Math.Bool.{or-false}
 use Rattle.std.proofs.lemmas.Bool.{and_from, eqb-true, false_from_ne_true, false≢true, le-leb, ne_eqb}
 use Rattle.std.proofs.lemmas.Bool.{or_left, or_parts, or_right}
 use Rattle.std.proofs.lemmas.List.{append_cancel_left, map-append}
-use Rattle.std.proofs.lemmas.List.Elements.{All-append, All-filter, All-from_recursion, All-map, recursion_from_All}
+use Rattle.std.proofs.lemmas.List.Elements.{All-append, All-filter, All-from_recursion, All-map, All-nil, recursion_from_All}
 use Rattle.std.proofs.lemmas.List.Folds.{list_any-append, list_any_at}
 use Rattle.std.proofs.lemmas.List.Kept.{AllPairs-filter, AllPairs-from_increasing}
 use Rattle.pl_base.specs.declared.date.Day.{Day}
@@ -24,12 +24,10 @@ use Rattle.pl_base.specs.Tree.{is_page}
 use Rattle.pl_base.proofs.ItemLaws.{bare}
 use Rattle.pl_base.proofs.ListLaws.{All-from_map, AllPairs-from_map, AllPairs-map, all_stay, list_any-map, weaker}
 use Rattle.pl_base.proofs.LookUps.{none_pass, rest_of}
-use Rattle.pl_base.proofs.OriginSums.{sums_of_sound}
 use Rattle.pl_base.proofs.PagesRun.{Ascend, ascend}
 use Rattle.pl_marks.specs.Refreshed.{IsRightPage}
 use Rattle.pl_history.specs.Settled.{AreSettledBut}
-use Rattle.pl_history.specs.Sound.{AreStanding, IsTypedRight}
-use Rattle.pl_history.proofs.GoodRows.{standing_of}
+use Rattle.pl_history.specs.Sound.{IsTypedRight}
 use Rattle.pl_history.proofs.ItemMarks.{has_reference, right_alike}
 use Rattle.pl_history.proofs.TakenVisits.{any-filter}
 use Rattle.pl_nbread.specs.declared.tree.Tree.{Tree}
@@ -37,6 +35,7 @@ use Rattle.pl_graft.specs.Gained.{Grows, IsBlank, gained, has_new_item}
 use Rattle.pl_graft.specs.Import.{imported}
 use Rattle.pl_bearing.proofs.AddedItems.{AddsItems}
 use Rattle.pl_bearing.proofs.ImportedReferences.{AddsPages, imported_items, imported_pages}
+use Rattle.pl_editing.proofs.ItemsGone.{settled_with}
 use Rattle.pl_editing.proofs.ListParts.{left, none_counted, right}
 
 -- ---- the items of a page
@@ -58,7 +57,7 @@ module _ (first : ℕ) (old items : List Item) (page : PageId) (a : AddsItems fi
   still_has has = references ∙ or_left (has_reference old page) (has_reference a.added page) has
 
   -- without a new item an item has it or not as before
-  has_as_before : has_new_item first items page ≡ false → has_reference items page ≡ has_reference old page
+  pub has_as_before : has_new_item first items page ≡ false → has_reference items page ≡ has_reference old page
   has_as_before none =
       let new : Item → Bool = λ (i : Item). nat_le first i.id.0 && is_page page i.page in
       let apart : (list_any new a.front ≡ false) × (list_any new a.added ≡ false) =
@@ -188,26 +187,41 @@ abbrev grown : Ids → List KeptPage → List KeptOrigin → List Item → Kept 
 grown ids added origins items kept =
     record kept { ids = ids; pages = kept.pages ++ added; origins = origins; items = items }
 
+-- of the pages that were not settled before each has a new item
+abbrev pub HaveNewItems : List PageId → Kept → List Item → Type 0
+HaveNewItems but old items =
+    All (λ (p : KeptPage). list_any (λ (id : PageId). p.page.id.0 == id.0) but ≡ true
+    → IsTrue (has_new_item old.ids.item items p.page.id)) old.pages
+
 module _ (old : Kept) (ids : Ids) (added : List KeptPage) (origins : List KeptOrigin) (items : List Item)
-    (sound : IsSound old) (a : AddsItems old.ids.item old.items items)
+    (but : List PageId) (before : AreSettledBut but old) (come : HaveNewItems but old items)
+    (a : AddsItems old.ids.item old.items items)
     (held : All (λ (p : KeptPage). IsTrue (has_new_item old.ids.item items p.page.id)) added) where
   -- each page stands there
   all_stand : All (λ (p : KeptPage). IsTrue (is_standing (store_of (grown ids added origins items old)) p.page.id))
       (old.pages ++ added)
   all_stand =
-      let standing : AreStanding old = standing_of old sound.good in
       let Stands : KeptPage → Type 0 =
       λ (p : KeptPage). IsTrue (is_visited (store_of old) p.page.id || has_reference items p.page.id) in
       All-append Stands old.pages added
       (λ k d within.
       let id : PageId = (get_or old.pages k d).page.id in
+      by_cases (list_any (λ (other : PageId). id.0 == other.0) but)
+      (λ among.
+      or_right (is_visited (store_of old) id) (has_reference items id)
+      (has_new old.ids.item items id (come k d within among)))
+      (λ other.
       stands (is_visited (store_of old) id) (has_reference old.items id) (has_reference items id)
-      (still_has old.ids.item old.items items id a) (standing.by_row k d within))
+      (still_has old.ids.item old.items items id a) (before.by_row k d within other)))
       (λ k d within.
       let id : PageId = (get_or added k d).page.id in
       or_right (is_visited (store_of old) id) (has_reference items id)
       (has_new old.ids.item items id (held k d within)))
     where
+      by_cases : {P : Type 0} (b : Bool) → (b ≡ true → P) → (b ≡ false → P) → P
+      by_cases true one other = one refl
+      by_cases false one other = other refl
+
       stands : (visited was now : Bool) → (was ≡ true → now ≡ true) → (visited || was) ≡ true → (visited || now) ≡ true
       stands true was now still some = refl
       stands false was now still some = still some
@@ -219,15 +233,14 @@ module _ (old : Kept) (ids : Ids) (added : List KeptPage) (origins : List KeptOr
       (grown ids added origins items old)
   settled h well sums blank good =
       let new : Kept = grown ids added origins items old in
-      let but : List PageId = gained (store_of old) (store_of new) in
+      let left_out : List PageId = gained (store_of old) (store_of new) in
       let new_item : PageId → Bool = has_new_item old.ids.item items in
-      let standing : AreStanding old = standing_of old sound.good in
       let below : All (λ (p : KeptPage). All (λ (v : Visit). v.page.0 < p.page.id.0) old.visits) added =
       visits_below old added h (ascend new well) in
       let Apart : KeptPage → Type 0 =
-      λ (p : KeptPage). list_any (λ (id : PageId). p.page.id.0 == id.0) but ≡ false → new_item p.page.id ≡ false in
+      λ (p : KeptPage). list_any (λ (id : PageId). p.page.id.0 == id.0) left_out ≡ false → new_item p.page.id ≡ false in
       let apart : All Apart (old.pages ++ added) =
-      All-from_map (λ (p : Page). list_any (λ (id : PageId). p.id.0 == id.0) but ≡ false → new_item p.id ≡ false)
+      All-from_map (λ (p : Page). list_any (λ (id : PageId). p.id.0 == id.0) left_out ≡ false → new_item p.id ≡ false)
       (λ (p : KeptPage). p.page) (old.pages ++ added)
       (not_among new_item (map (λ (p : KeptPage). p.page) (old.pages ++ added))) in
       record {
@@ -236,26 +249,26 @@ module _ (old : Kept) (ids : Ids) (added : List KeptPage) (origins : List KeptOr
         items = good;
         counts =
             All-append (λ (p : KeptPage). p.count ≡ visit_count (store_of new) p.page.id) old.pages added
-            sound.right.counts
+            before.counts
             (λ k d within.
             (blank k d within).count ∙ sym (not_visited old.visits (get_or added k d).page.id (below k d within)));
         right =
-            All-append (λ (p : KeptPage). list_any (λ (id : PageId). p.page.id.0 == id.0) but ≡ false
+            All-append (λ (p : KeptPage). list_any (λ (id : PageId). p.page.id.0 == id.0) left_out ≡ false
             → IsRightPage (store_of new) p) old.pages added
-            (right_alike old ids items but
+            (right_alike old ids items left_out
             (λ k d within other.
             has_as_before old.ids.item old.items items (get_or old.pages k d).page.id a
             (left Apart old.pages added apart k d within other))
-            (λ k d within _. (
-              sound.right.frecencies k d within,
-              sound.right.counts k d within,
-              sound.right.hidden k d within,
-            )))
+            (λ k d within other.
+            before.right k d within
+            (false_from_ne_true (list_any (λ (id : PageId). (get_or old.pages k d).page.id.0 == id.0) but)
+            (λ among.
+            false≢true (sym (left Apart old.pages added apart k d within other) ∙ come k d within among)))))
             (λ k d within other.
             absurd (false≢true (sym (right Apart old.pages added apart k d within other) ∙ held k d within)));
         by_row = λ k d within _. all_stand k d within;
         typed =
-            All-append (IsTypedRight new) old.pages added standing.typed
+            All-append (IsTypedRight new) old.pages added before.typed
             (λ k d within j e inside of _.
             absurd (omega (arith, ap (λ (i : PageId). i.0) of, below k d within j e inside)));
         sums = sums;
@@ -282,26 +295,43 @@ new_held tree old new is g =
     (sym (map-append page_of old.pages g.added) ∙ sym (ap (map page_of) g.pages) ∙ a.is) in
     All-from_map Held page_of g.added (subst (All Held) (sym same) a.held)
 
-new_items : (tree : Tree) (old new : Kept) → store_of new ≡ imported tree (store_of old)
+pub new_items : (tree : Tree) (old new : Kept) → store_of new ≡ imported tree (store_of old)
     → AddsItems old.ids.item old.items new.items
 new_items tree old new is =
     subst (λ (s : Store). AddsItems old.ids.item old.items s.items) (sym is) (imported_items tree (store_of old))
 
--- all is settled but the pages with a new item
+-- all is settled but the pages with a new item, where all was but some that got one
+pub grafted_settled : (tree : Tree) (old new : Kept) (but : List PageId) → IsWellKept old → IsWellKept new
+    → AreSettledBut but old → HaveNewItems but old new.items → store_of new ≡ imported tree (store_of old)
+    → Grows old new → HasGoodItems (store_of new) → AreSettledBut (gained (store_of old) (store_of new)) new
+grafted_settled tree old new but h well before come is g good =
+    let same : new ≡ grown new.ids g.added new.origins new.items old = grows_is old new g in
+    subst (λ (k : Kept). AreSettledBut (gained (store_of old) (store_of k)) k) (sym same)
+    (settled old new.ids g.added new.origins new.items but before come (new_items tree old new is)
+    (new_held tree old new is g) h (subst IsWellKept same well) (subst HaveSums same (g.sums before.sums)) g.blank
+    (subst (λ (k : Kept). HasGoodItems (store_of k)) same good))
+
+-- nothing is left to be settled of sound rows
+none_but : (old : Kept) → IsWellKept old → IsSound old → AreSettledBut [] old
+none_but old h sound =
+    let good = sound.good in
+    settled_with old old.items [] h sound (All-nil (λ (id : PageId). IsTrue (has_page old id)))
+    (λ i j d before within. absurd (omega arith)) (λ page _. refl)
+    (record { items = good.items; roots = good.roots; tree = good.tree; tags = good.tags })
+
+none_come : (old : Kept) (items : List Item) → HaveNewItems [] old items
+none_come old items k d within among = absurd (cc)
+
 pub imported_settled : (tree : Tree) (old new : Kept) → IsWellKept old → IsWellKept new → IsSound old
     → store_of new ≡ imported tree (store_of old) → Grows old new → HasGoodItems (store_of new)
     → AreSettledBut (gained (store_of old) (store_of new)) new
 imported_settled tree old new h well sound is g good =
-    let same : new ≡ grown new.ids g.added new.origins new.items old = grows_is old new g in
-    subst (λ (k : Kept). AreSettledBut (gained (store_of old) (store_of k)) k) (sym same)
-    (settled old new.ids g.added new.origins new.items sound (new_items tree old new is) (new_held tree old new is g) h
-    (subst IsWellKept same well) (subst HaveSums same (g.sums (sums_of_sound old h sound))) g.blank
-    (subst (λ (k : Kept). HasGoodItems (store_of k)) same good))
+    grafted_settled tree old new [] h well (none_but old h sound) (none_come old new.items) is g good
 
 -- no page goes
-pub imported_stands : (tree : Tree) (old new : Kept) → IsSound old → store_of new ≡ imported tree (store_of old)
-    → Grows old new → without_idle_pages (store_of new) ≡ store_of new
-imported_stands tree old new sound is g =
+pub imported_stands : (tree : Tree) (old new : Kept) → IsWellKept old → IsSound old
+    → store_of new ≡ imported tree (store_of old) → Grows old new → without_idle_pages (store_of new) ≡ store_of new
+imported_stands tree old new h sound is g =
     let mid : Kept = grown new.ids g.added new.origins new.items old in
     let stands : Page → Bool = λ (p : Page). is_standing (store_of mid) p.id in
     subst (λ (k : Kept). without_idle_pages (store_of k) ≡ store_of k) (sym (grows_is old new g))
@@ -309,5 +339,5 @@ imported_stands tree old new sound is g =
     (all_stay stands (store_of mid).pages
     (recursion_from_All (λ (p : Page). stands p ≡ true) (store_of mid).pages
     (All-map (λ (p : Page). stands p ≡ true) (λ (p : KeptPage). p.page) mid.pages
-    (all_stand old new.ids g.added new.origins new.items sound (new_items tree old new is)
-    (new_held tree old new is g))))))
+    (all_stand old new.ids g.added new.origins new.items [] (none_but old h sound) (none_come old new.items)
+    (new_items tree old new is) (new_held tree old new is g))))))

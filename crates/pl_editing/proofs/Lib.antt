@@ -11,8 +11,15 @@ mod ListParts
 mod LostItems
 mod NewPages
 mod OwnPages
+mod PageDropped
 mod PageSlots
+mod RestoreChanges
+mod RestoreSettled
+mod RestoreSteps
+mod SettledInFront
 mod TagAllowed
 mod TagMade
+mod TreeRoom
 mod UntagStep
 mod Untagged
+mod WaitingPages

@@ -11,8 +11,9 @@ use Rattle.std.proofs.lemmas.List.Kept.{AllPairs-from_increasing}
 use Rattle.pl_base.specs.declared.id.ItemId.{ItemId}
 use Rattle.pl_base.specs.declared.id.PageId.{PageId}
 use Rattle.pl_base.specs.Good.{HasGoodItems, IsGoodItem, has_page_at}
+use Rattle.pl_base.specs.Marks.{is_referenced}
 use Rattle.pl_base.specs.Rows.{IsSound, IsWellKept, Kept, KeptPage, has_page, store_of, with_items}
-use Rattle.pl_base.specs.Store.{Item, Page, Store}
+use Rattle.pl_base.specs.Store.{Item, Page, Store, roots}
 use Rattle.pl_base.specs.Tree.{is_page, leaving, lies_in}
 use Rattle.pl_base.proofs.ListLaws.{AllPairs-from_map, list_any-alike, list_any-map, weaker}
 use Rattle.pl_base.proofs.LookUps.{none_pass}
@@ -75,28 +76,31 @@ eqb_turned m n = choose (n == m) refl
 
 -- ---- the rows
 
-module _ (old : Kept) (item : ItemId) (lost : List PageId) (h : IsWellKept old) (sound : IsSound old)
-    (losers : (page : PageId) → list_any (λ (l : PageId). l.0 == page.0) lost ≡ loses_item old.items item page) where
+module _ (old : Kept) (items : List Item) (gone : Item → Bool) (lost : List PageId) (h : IsWellKept old)
+    (sound : IsSound old)
+    (losers : (page : PageId) → list_any (λ (l : PageId). l.0 == page.0) lost
+    ≡ list_any (λ (i : Item). gone i && is_page page i.page) old.items)
+    (still : (page : PageId) → list_any (λ (i : Item). gone i && is_page page i.page) old.items ≡ false
+    → has_reference items page ≡ has_reference old.items page) where
   -- an item has a page that is not among the losers as before
   same_items : (page : PageId) → list_any (λ (id : PageId). page.0 == id.0) lost ≡ false
-      → has_reference (with_removed item old.items) page ≡ has_reference old.items page
+      → has_reference items page ≡ has_reference old.items page
   same_items page apart =
-      referenced_still old.items item page
+      still page
       (sym (losers page)
       ∙ list_any-alike (λ (l : PageId). l.0 == page.0) (λ (l : PageId). page.0 == l.0) lost
       (λ l. eqb_turned l.0 page.0) ∙ apart)
 
   settled_but : IsStrictlyIncreasing (map (λ (page : PageId). page.0) lost)
-      → HasGoodItems (store_of (with_items (with_removed item old.items) old))
-      → AreSettledBut lost (with_items (with_removed item old.items) old)
+      → HasGoodItems (store_of (with_items items old)) → AreSettledBut lost (with_items items old)
   settled_but ascending good =
-      settled_with old (with_removed item old.items) lost h sound
+      settled_with old items lost h sound
       (All-from_recursion (λ (id : PageId). IsTrue (has_page old id)) lost
       (weaker (λ (id : PageId). list_any (λ (l : PageId). l.0 == id.0) lost ≡ true)
       (λ (id : PageId). IsTrue (has_page old id)) lost
       (λ id among.
       sym (list_any-map (λ (p : Page). p.id.0 == id.0) (λ (p : KeptPage). p.page) old.pages)
-      ∙ lost_there (store_of old) (λ (i : Item). lies_in old.items item i.id) id old.items
+      ∙ lost_there (store_of old) gone id old.items
       (recursion_from_All (IsGoodItem (store_of old)) old.items sound.good.items)
       (sym (losers id) ∙ among))
       (each_among lost)))
@@ -114,4 +118,15 @@ pub lost_settled : (old new : Kept) (item : ItemId) (lost : List PageId) → IsW
     → HasGoodItems (store_of new) → AreSettledBut lost new
 lost_settled old new item lost h sound is ascending losers good =
     subst (AreSettledBut lost) (sym is)
-    (settled_but old item lost h sound losers ascending (subst (λ (k : Kept). HasGoodItems (store_of k)) is good))
+    (settled_but old (with_removed item old.items) (λ (i : Item). lies_in old.items item i.id) lost h sound losers
+    (referenced_still old.items item) ascending (subst (λ (k : Kept). HasGoodItems (store_of k)) is good))
+
+-- once all bookmarks and tags went
+pub cleared_settled : (old new : Kept) (lost : List PageId) → IsWellKept old → IsSound old
+    → new ≡ with_items roots old → IsStrictlyIncreasing (map (λ (page : PageId). page.0) lost)
+    → ((page : PageId) → list_any (λ (l : PageId). l.0 == page.0) lost ≡ is_referenced (store_of old) page)
+    → HasGoodItems (store_of new) → AreSettledBut lost new
+cleared_settled old new lost h sound is ascending losers good =
+    subst (AreSettledBut lost) (sym is)
+    (settled_but old roots (λ (i : Item). true) lost h sound losers (λ page none. sym none) ascending
+    (subst (λ (k : Kept). HasGoodItems (store_of k)) is good))

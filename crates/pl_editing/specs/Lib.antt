@@ -1,3 +1,4 @@
 pub mod NewPage
 pub mod OwnPage
 pub mod Room
+pub mod Waiting

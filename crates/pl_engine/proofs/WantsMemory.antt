@@ -35,6 +35,7 @@ use Rattle.pl_step.specs.declared.command.Command.TheVariants.{Place as PlaceCom
 use Rattle.pl_step.specs.declared.command.Command.TheVariants.{Bar as BarCommand}
 use Rattle.pl_step.specs.declared.command.Command.TheVariants.{Fill as FillCommand}
 use Rattle.pl_step.specs.declared.command.Command.TheVariants.{Import as ImportCommand}
+use Rattle.pl_step.specs.declared.command.Command.TheVariants.{Restore as RestoreCommand}
 use Rattle.pl_step.specs.declared.reply.Reply.{Reply}
 use Rattle.pl_step.specs.declared.step_error.StepError.{StepError}
 use Rattle.pl_step.specs.Commands.{MayWantMemory}
@@ -79,6 +80,7 @@ may_want limit store (PlaceCommand query) accepted = tt
 may_want limit store (BarCommand most text) accepted = tt
 may_want limit store (FillCommand text) accepted = tt
 may_want limit store (ImportCommand tree) accepted = tt
+may_want limit store (RestoreCommand tree) accepted = tt
 
 -- a command that was performed is not refused
 pub accepted_by : {R : Type 0} (kept : R → Kept) (stands_on : R → List ℕ → Type 0) (outcome : Reply × Store)

@@ -15,7 +15,9 @@ ghost use Rattle.pl_visiting.specs.VisitPages.{AddsFewPages};
 
 use pl_base::{Rows, Steps};
 use pl_done::Done;
-use pl_editing::{bookmark, folder, import, move_item, remove, retitle, separator, tag, untag};
+use pl_editing::{
+    bookmark, folder, import, move_item, remove, restore, retitle, separator, tag, untag,
+};
 use pl_known::Known;
 use pl_step::{Command, Reply, StepError};
 use pl_told::{bar, fill, list, origin, page, place, query, stats};
@@ -131,5 +133,6 @@ pub fn perform<R: Rows, L: Ledger>(
         Command::Bar { max, text } => Ok(told(alloc, bar(alloc, rows, known, *max, text, steps)?)),
         Command::Fill { text } => Ok(told(alloc, fill(alloc, known, text, steps)?)),
         Command::Import(tree) => import(alloc, rows, known, limit, tree, steps),
+        Command::Restore(tree) => restore(alloc, rows, known, limit, tree, steps),
     }
 }

@@ -1,11 +1,11 @@
 -- The good store that each change of a good store leaves, where nothing refuses it.
 use Rattle.std.proofs.Common.{◌≡◌, ◌<◌, ◌≤◌, ◌+◌, ◌==◌, ◌&&◌, ◌||◌, ◌∙◌, ℕ, All, Bool, true, false, IsTrue, List}
-use Rattle.std.proofs.Common.{Option, Some, None, IfSome, ap, arith, bytes_eq, eq-eqb, get_or}
+use Rattle.std.proofs.Common.{[], ◌∷◌, Option, Some, None, IfSome, ap, arith, bytes_eq, eq-eqb, get_or}
 use Rattle.std.proofs.Common.{if◌then◌else◌, is_none, is_some, map, nat_lt, refl, subst, sym, unwrap_or}
 use Rattle.std.specs.Prelude.{◌↔◌}
 use Rattle.std.specs.Option.{IsSome, option_and_then}
-use Rattle.std.proofs.lemmas.Bool.{eqb-true, ltb-false, or_left}
-use Rattle.std.proofs.lemmas.List.Elements.{All-map, recursion_from_All}
+use Rattle.std.proofs.lemmas.Bool.{eqb-true, false≢true, ltb-false, or_left}
+use Rattle.std.proofs.lemmas.List.Elements.{All-from_recursion, All-map, recursion_from_All}
 use Rattle.pl_base.specs.declared.date.Day.{Day}
 use Rattle.pl_base.specs.declared.date.Micros.{Micros}
 use Rattle.pl_base.specs.declared.id.ItemId.{ItemId}
@@ -19,13 +19,14 @@ use Rattle.pl_base.specs.Good.{HasGoodItems, IsGood, IsGoodItem, IsTagName, IsTi
 use Rattle.pl_base.specs.Good.{is_visited}
 use Rattle.pl_base.specs.Marks.{is_referenced}
 use Rattle.pl_base.specs.Removal.{is_standing, visits_left, without_idle_pages, without_visits}
-use Rattle.pl_base.specs.Store.{Item, Page, Store, Visit, item_id}
+use Rattle.pl_base.specs.Store.{Item, Page, Store, Visit, item_id, roots}
 use Rattle.pl_base.specs.Tree.{child_items, is_page}
 use Rattle.pl_base.specs.Visiting.{after_visit, find_page, new_page, new_visit, page_for, visit_page, visited_page}
 use Rattle.pl_base.specs.Visiting.{visited_store, with_page_for}
 use Rattle.pl_base.proofs.ListLaws.{list_any_last, list_any_push}
 use Rattle.pl_base.proofs.LookUps.{found_holds, found_passes}
 use Rattle.pl_base.proofs.Truths.{or_more}
+use Rattle.pl_base.proofs.RootsLaws.{has_roots, no_tags, roots_are_good, roots_are_tree, roots_ascend}
 use Rattle.pl_tree.specs.declared.new_item.NewItem.{NewItem}
 use Rattle.pl_tree.specs.declared.place.Place.{Place}
 use Rattle.pl_tree.specs.declared.tree_change.TreeChange.TheVariants.{Insert}
@@ -36,6 +37,7 @@ use Rattle.pl_tree.proofs.StoreItems.{item_inserted}
 use Rattle.pl_history.proofs.GrownItems.{Adds, adds_tagged}
 use Rattle.pl_history.proofs.VisitRows.{grown_store}
 use Rattle.pl_graft.specs.Import.{imported}
+use Rattle.pl_graft.specs.Restored.{emptied, restored}
 use Rattle.pl_graft.proofs.Ready.{has_page_for}
 use Rattle.pl_nbread.specs.declared.tree.Tree.{Tree}
 use Rattle.pl_nbread.specs.WellFormed.{AreWellFormed}
@@ -303,10 +305,50 @@ module _ (store : Store) (good : IsGood store) where
       → nat_lt end_of_ids (imported tree store).ids.page ≡ false
       → nat_lt end_of_ids (imported tree store).ids.item ≡ false → IsGood (imported tree store)
   good_import tree whole texts pages items =
-      let g : IsGrown (imported tree store) =
-      grown_import tree store whole texts (record { loose = l; standing = s }) in
-      good_from (imported tree store) g.loose g.standing
+      let g : IsGrown true (imported tree store) =
+      grown_import tree store whole texts (record { loose = l; standing = λ _. s }) in
+      good_from (imported tree store) g.loose (g.standing refl)
       (record {
         page = ltb-false end_of_ids (imported tree store).ids.page pages;
         item = ltb-false end_of_ids (imported tree store).ids.item items;
+      })
+
+  -- ---- a restore
+
+  abbrev bare : Store
+  bare = emptied store
+
+  bare_loose : IsLoose bare
+  bare_loose =
+      let late = good.item_ids.next_first in
+      loose_items store store.ids.item roots l
+      (record {
+        ascending = roots_ascend;
+        given =
+            All-from_recursion (λ id. (0 < id) × (id < store.ids.item)) (1 ∷ 2 ∷ 3 ∷ 4 ∷ 5 ∷ 6 ∷ []) (
+              (omega arith, omega arith),
+              (
+                (omega arith, omega arith),
+                ((omega arith, omega arith), ((omega arith, omega arith), ((omega arith, omega arith), ((omega arith, omega arith), tt)))),
+              ),
+            );
+        next_first = late;
+      })
+      (record {
+        items = roots_are_good bare;
+        roots = has_roots store;
+        tree = roots_are_tree;
+        tags = no_tags store;
+      })
+
+  pub good_restore : (tree : Tree) → AreWellFormed tree → HasTreeTexts tree
+      → nat_lt end_of_ids (restored tree store).ids.page ≡ false
+      → nat_lt end_of_ids (restored tree store).ids.item ≡ false → IsGood (restored tree store)
+  good_restore tree whole texts pages items =
+      let g : IsGrown false (imported tree bare) =
+      grown_import tree bare whole texts (record { loose = bare_loose; standing = λ all. absurd (false≢true all) }) in
+      good_left (imported tree bare) g.loose
+      (record {
+        page = ltb-false end_of_ids (imported tree bare).ids.page pages;
+        item = ltb-false end_of_ids (imported tree bare).ids.item items;
       })

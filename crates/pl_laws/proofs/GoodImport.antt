@@ -43,10 +43,10 @@ use Rattle.pl_laws.proofs.GoodPages.{loose_page}
 use Rattle.pl_laws.proofs.GoodParts.{AreStanding, IsLoose, has_page}
 use Rattle.pl_laws.proofs.GoodTitles.{cut_is_title}
 
--- what is kept behind each node
-pub record IsGrown (store : Store) : Type 0 where
+-- what is kept behind each node: where each page stood before the import, each still does
+pub record IsGrown (stood : Bool) (store : Store) : Type 0 where
   pub loose : IsLoose store
-  pub standing : AreStanding store
+  pub standing : stood ≡ true → AreStanding store
 
 pub below_item : (store : Store) → IsLoose store → All (λ (i : Item). i.id.0 < store.ids.item) store.items
 below_item store l = each_below (λ (i : Item). i.id.0) 7 store.ids.item store.items l.item_ids
@@ -72,27 +72,28 @@ loose_tagged store page name date l named dated has none =
     (stores.tag_good store store.ids.item l.items l.item_ids.ascending (below_item store l) l.item_ids.next_first page
     name date (tagged_store page name date store).ids named dated has none)
 
-module _ (page : PageId) (date : Micros) (dated : IsDate date) where
-  grown_tag : (store : Store) (name : List ℕ) → IsGrown store → IsTagName name → IsTrue (has_page page store.pages)
-      → IsGrown (with_tag page date name store)
+module _ {stood : Bool} (page : PageId) (date : Micros) (dated : IsDate date) where
+  grown_tag : (store : Store) (name : List ℕ) → IsGrown stood store → IsTagName name
+      → IsTrue (has_page page store.pages) → IsGrown stood (with_tag page date name store)
   grown_tag store name g named has = choose (is_some (tag_entry page name store.items)) refl
     where
       choose : (b : Bool) → is_some (tag_entry page name store.items) ≡ b
-          → IsGrown (if b then store else tagged_store page name date store)
+          → IsGrown stood (if b then store else tagged_store page name date store)
       choose true is = g
       choose false is =
           record {
             loose = loose_tagged store page name date g.loose named dated has is;
             standing =
+                λ all.
                 stand_items store (store.ids.item + new_items name store.items)
                 (tagged_items store.ids.item page name date store.items)
                 (refer_more page store.items (tagged_items store.ids.item page name date store.items)
                 (adds_tagged store.ids.item page name date store.items))
-                g.standing;
+                (g.standing all);
           }
 
-  grown_tags : (names : List (List ℕ)) (store : Store) → IsGrown store → list_all is_tag_name names ≡ true
-      → IsTrue (has_page page store.pages) → IsGrown (with_tags page date names store)
+  grown_tags : (names : List (List ℕ)) (store : Store) → IsGrown stood store → list_all is_tag_name names ≡ true
+      → IsTrue (has_page page store.pages) → IsGrown stood (with_tags page date names store)
   grown_tags [] store g named has = g
   grown_tags (name ∷ names) store g named has =
       let parts = and_parts (is_tag_name name) (list_all is_tag_name names) named in
@@ -121,8 +122,8 @@ loose_page_of : (url : Option (List ℕ)) (store : Store) → IsLoose store → 
 loose_page_of None store l is = l
 loose_page_of (Some url) store l is = loose_page store url l is
 
-module _ (store : Store) (parent : ItemId) (node : Node) (g : IsGrown store) (takes : Takes store parent)
-    (f : IsFormed node) (texts : HasNodeTexts node) where
+module _ {stood : Bool} (store : Store) (parent : ItemId) (node : Node) (g : IsGrown stood store)
+    (takes : Takes store parent) (f : IsFormed node) (texts : HasNodeTexts node) where
   loose_item : IsLoose (with_item_of parent node store)
   loose_item =
       loose_row (with_page_of node.url store) parent (node_row parent (page_of node.url store) node)
@@ -130,8 +131,8 @@ module _ (store : Store) (parent : ItemId) (node : Node) (g : IsGrown store) (ta
       (cut_is_title node.title texts.1) f.added f.modified (kind_fits node.kind node.url store f.bookmark)
       (page_there node.url store)
 
-  standing_item : AreStanding (with_item_of parent node store)
-  standing_item = choose node.url
+  standing_item : stood ≡ true → AreStanding (with_item_of parent node store)
+  standing_item all = choose node.url
     where
       choose : (url : Option (List ℕ))
           → AreStanding (with_row parent (node_row parent (page_of url store) node) (cut_title node.title)
@@ -140,7 +141,7 @@ module _ (store : Store) (parent : ItemId) (node : Node) (g : IsGrown store) (ta
           let id : ItemId = item_id store.ids.item in
           let new : Item = new_item id (node_row parent None node) (cut_title node.title) in
           stand_items store (store.ids.item + 1) (with_child parent End id store.items ++ new ∷ [])
-          (refer_put store.items parent id End new) g.standing
+          (refer_put store.items parent id End new) (g.standing all)
       choose (Some url) =
           let mid : Store = with_page_for store url in
           let page : PageId = (page_for store url).id in
@@ -150,26 +151,26 @@ module _ (store : Store) (parent : ItemId) (node : Node) (g : IsGrown store) (ta
           (refer_put mid.items parent id End new)
           (list_any_last (λ (i : Item). is_page page i.page) (with_child parent End id mid.items) new
           (eq-eqb page.0 page.0 refl))
-          g.standing
+          (g.standing all)
 
-  grown_item : IsGrown (with_item_of parent node store)
+  grown_item : IsGrown stood (with_item_of parent node store)
   grown_item = record { loose = loose_item; standing = standing_item }
 
-  grown_node : IsGrown (with_node parent node store)
+  grown_node : IsGrown stood (with_node parent node store)
   grown_node = choose (page_of node.url store) (page_there node.url store)
     where
       choose : (page : Option PageId)
           → IfSome page (λ id. IsTrue (has_page_at (with_page_of node.url store) id))
-          → IsGrown (with_tags_of page node (with_item_of parent node store))
+          → IsGrown stood (with_tags_of page node (with_item_of parent node store))
       choose None there = grown_item
       choose (Some id) there =
           grown_tags id node.added f.added node.tags (with_item_of parent node store) grown_item f.tags there
 
 -- ---- lists of nodes
 
-grown_nodes : (root : ItemId) (nodes : List Node) (folders : List ItemId) (store : Store) → IsGrown store
-    → Takes store root → AllByRecursion (Takes store) folders → list_all is_formed nodes ≡ true
-    → AllByRecursion HasNodeTexts nodes → IsGrown (with_nodes root nodes folders store)
+grown_nodes : {stood : Bool} (root : ItemId) (nodes : List Node) (folders : List ItemId) (store : Store)
+    → IsGrown stood store → Takes store root → AllByRecursion (Takes store) folders → list_all is_formed nodes ≡ true
+    → AllByRecursion HasNodeTexts nodes → IsGrown stood (with_nodes root nodes folders store)
 grown_nodes root [] folders store g takes all whole texts = g
 grown_nodes root (node ∷ nodes) folders store g takes all whole texts =
     let parts = and_parts (is_formed node) (list_all is_formed nodes) whole in
@@ -186,14 +187,15 @@ grown_nodes root (node ∷ nodes) folders store g takes all whole texts =
     (takes_node store parent node r within f title) (node_takes store parent node r within f title))
     parts.1 texts.1
 
-grown_list : (n : ℕ) (nodes : List Node) (store : Store) → (n ≡ 2) ⊎ (n ≡ 3) ⊎ (n ≡ 5) ⊎ (n ≡ 6) → IsGrown store
-    → list_all is_formed nodes ≡ true → All HasNodeTexts nodes → IsGrown (with_list (item_id n) nodes store)
+grown_list : {stood : Bool} (n : ℕ) (nodes : List Node) (store : Store) → (n ≡ 2) ⊎ (n ≡ 3) ⊎ (n ≡ 5) ⊎ (n ≡ 6)
+    → IsGrown stood store → list_all is_formed nodes ≡ true → All HasNodeTexts nodes
+    → IsGrown stood (with_list (item_id n) nodes store)
 grown_list n nodes store is g whole texts =
     grown_nodes (item_id n) nodes [] store g (takes_root store n (ready store g.loose) is) tt whole
     (recursion_from_All HasNodeTexts nodes texts)
 
-pub grown_import : (tree : Tree) (store : Store) → AreWellFormed tree → HasTreeTexts tree → IsGrown store
-    → IsGrown (imported tree store)
+pub grown_import : {stood : Bool} (tree : Tree) (store : Store) → AreWellFormed tree → HasTreeTexts tree
+    → IsGrown stood store → IsGrown stood (imported tree store)
 grown_import tree store whole texts g =
     let first : Store = with_list (item_id 2) tree.menu store in
     let second : Store = with_list (item_id 3) tree.toolbar first in

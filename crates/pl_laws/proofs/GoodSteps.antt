@@ -34,13 +34,14 @@ use Rattle.pl_tree.specs.Tagged.{new_items, untagged_items}
 use Rattle.pl_tree.proofs.StoreItems.{item_moved, item_removed, item_retitled, tag_taken}
 use Rattle.pl_history.proofs.ItemMarks.{reference_changed, reference_moved}
 use Rattle.pl_graft.specs.Import.{imported, most_rows, row_count}
+use Rattle.pl_graft.specs.Restored.{restored}
 use Rattle.pl_nbread.specs.declared.tree.Tree.{Tree}
 use Rattle.pl_step.specs.Commands.{HasDates}
 use Rattle.pl_step.specs.Parsed.{Parsed}
 use Rattle.pl_step.specs.Run.{after}
 use Rattle.pl_step.specs.Step.{absent_visit, after_bookmark, after_insert, after_move, after_remove, after_retitle}
 use Rattle.pl_step.specs.Step.{after_tag, after_title, after_untag, day_refusal, forget_step, import_refusal}
-use Rattle.pl_step.specs.Step.{import_reply}
+use Rattle.pl_step.specs.Step.{import_reply, restore_reply}
 use Rattle.pl_step.specs.Step.{insert_refusal, insert_step, is_full, is_tagged, list_reply, new_bookmark, new_folder}
 use Rattle.pl_step.specs.Step.{new_separator, perform, removal_step, retitle_refusal, room_refusal}
 use Rattle.pl_step.specs.Step.{source_refusal, step, tag_refusal, title_refusal, unless_refused, untag_refusal}
@@ -71,10 +72,11 @@ use Rattle.pl_step.specs.declared.command.Command.TheVariants.{Place as PlaceCom
 use Rattle.pl_step.specs.declared.command.Command.TheVariants.{Bar as BarCommand}
 use Rattle.pl_step.specs.declared.command.Command.TheVariants.{Fill as FillCommand}
 use Rattle.pl_step.specs.declared.command.Command.TheVariants.{Import as ImportCommand}
+use Rattle.pl_step.specs.declared.command.Command.TheVariants.{Restore as RestoreCommand}
 use Rattle.pl_step.specs.declared.reply.Reply.{Reply}
 use Rattle.pl_step.specs.declared.reply.Reply.TheVariants.{Day as DayReply, Done, Item as ItemReply}
 use Rattle.pl_laws.proofs.GoodChanges.{good_bookmark, good_day, good_fewer, good_gone, good_import}
-use Rattle.pl_laws.proofs.GoodChanges.{good_insert, good_items, good_tag, good_title, good_visit}
+use Rattle.pl_laws.proofs.GoodChanges.{good_insert, good_items, good_restore, good_tag, good_title, good_visit}
 use Rattle.pl_laws.proofs.GoodItems.{numbers_moved, numbers_removed, numbers_retitled, numbers_untagged, refer_alike}
 use Rattle.pl_laws.proofs.GoodParts.{IsLoose, has_visit, loose}
 use Rattle.pl_laws.proofs.GoodTitles.{cut_is_title}
@@ -191,18 +193,27 @@ module _ (limit : ℕ) (store : Store) (good : IsGood store) where
       let c = none_first (nat_lt end_of_ids (store.ids.item + new_items name store.items)) (NoIds ItemIds) full b.1 in
       good_tag store good url texts.0 b.0 name date texts.1 dated a.0 c.0
 
-  good_imported : (tree : Tree) → HasDates (ImportCommand tree) → HasTexts (ImportCommand tree)
-      → import_refusal limit store tree (imported tree store) ≡ None → IsGood (imported tree store)
-  good_imported tree whole texts none =
-      let new : Store = imported tree store in
+  -- the ids of what a tree makes are not past the end
+  tree_ids : (tree : Tree) (new : Store) → import_refusal limit store tree new ≡ None
+      → (nat_lt end_of_ids new.ids.page ≡ false) × (nat_lt end_of_ids new.ids.item ≡ false)
+  tree_ids tree new none =
       let full : Option Refusal =
       if is_full limit (live_slots store) (live_slots new) then Some (Full (live_slots new)) else None in
       let items : Option Refusal = if nat_lt end_of_ids new.ids.item then Some (NoIds ItemIds) else full in
       let pages : Option Refusal = if nat_lt end_of_ids new.ids.page then Some (NoIds PageIds) else items in
       let a = none_first (nat_lt most_rows (row_count tree)) (TooMany (row_count tree)) pages none in
       let b = none_first (nat_lt end_of_ids new.ids.page) (NoIds PageIds) items a.1 in
-      let c = none_first (nat_lt end_of_ids new.ids.item) (NoIds ItemIds) full b.1 in
-      good_import store good tree whole texts b.0 c.0
+      (b.0, (none_first (nat_lt end_of_ids new.ids.item) (NoIds ItemIds) full b.1).0)
+
+  good_imported : (tree : Tree) → HasDates (ImportCommand tree) → HasTexts (ImportCommand tree)
+      → import_refusal limit store tree (imported tree store) ≡ None → IsGood (imported tree store)
+  good_imported tree whole texts none =
+      let ids = tree_ids tree (imported tree store) none in good_import store good tree whole texts ids.0 ids.1
+
+  good_restored : (tree : Tree) → HasDates (RestoreCommand tree) → HasTexts (RestoreCommand tree)
+      → import_refusal limit store tree (restored tree store) ≡ None → IsGood (restored tree store)
+  good_restored tree whole texts none =
+      let ids = tree_ids tree (restored tree store) none in good_restore store good tree whole texts ids.0 ids.1
 
 -- ---- the law
 
@@ -278,6 +289,9 @@ step_keeps_good limit store (FillCommand text) good dates texts = good
 step_keeps_good limit store (ImportCommand tree) good dates texts =
     unless (import_refusal limit store tree (imported tree store)) store
     (import_reply store tree, imported tree store) good (good_imported limit store good tree dates texts)
+step_keeps_good limit store (RestoreCommand tree) good dates texts =
+    unless (import_refusal limit store tree (restored tree store)) store
+    (restore_reply store tree, restored tree store) good (good_restored limit store good tree dates texts)
 
 pub entry_keeps_good : (limit : ℕ) (store : Store) (entry : Parsed Command) → IsGood store → IsEntry entry
     → IsGood (step limit store entry).1

@@ -34,6 +34,7 @@ use Rattle.pl_step.specs.declared.command.Command.TheVariants.{Place as PlaceCom
 use Rattle.pl_step.specs.declared.command.Command.TheVariants.{Bar as BarCommand}
 use Rattle.pl_step.specs.declared.command.Command.TheVariants.{Fill as FillCommand}
 use Rattle.pl_step.specs.declared.command.Command.TheVariants.{Import as ImportCommand}
+use Rattle.pl_step.specs.declared.command.Command.TheVariants.{Restore as RestoreCommand}
 
 -- a URL as the store has it
 abbrev pub IsUrl : List ℕ → Type 0
@@ -76,6 +77,7 @@ HasTexts (PlaceCommand query) = Unit {0}
 HasTexts (BarCommand most text) = Unit {0}
 HasTexts (FillCommand text) = Unit {0}
 HasTexts (ImportCommand tree) = HasTreeTexts tree
+HasTexts (RestoreCommand tree) = HasTreeTexts tree
 
 -- an entry of a script is refused, or is a command that holds what its types promise
 abbrev pub IsEntry : Parsed Command → Type 0

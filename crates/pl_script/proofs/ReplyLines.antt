@@ -22,7 +22,7 @@ use Rattle.pl_step.specs.declared.reply.ListRow.{ListRow}
 use Rattle.pl_step.specs.declared.reply.Reply.{Reply}
 use Rattle.pl_step.specs.declared.reply.Reply.TheVariants.{Day, Visit, Done, Page, Origin, Stats}
 use Rattle.pl_step.specs.declared.reply.Reply.TheVariants.{Removed, Item, Refused}
-use Rattle.pl_step.specs.declared.reply.Reply.TheVariants.{Rows, Place, Bar, Fill, NoFill, Imported}
+use Rattle.pl_step.specs.declared.reply.Reply.TheVariants.{Rows, Place, Bar, Fill, NoFill, Imported, Restored}
 use Rattle.pl_step.specs.declared.reply.Reply.TheVariants.{List as ListReply}
 use Rattle.pl_query.specs.declared.result_row.ResultRow.{ResultRow}
 use Rattle.pl_script.specs.Reply.{AreLinesOf, IsFoundAgain, IsOfferedAgain, IsReadAgain, IsToldAgain, TellsTexts}
@@ -198,6 +198,15 @@ of_bar (row ∷ rows) =
     let texts : Are (escaped row.url ∷ escaped row.title ∷ []) = (of_text row.url, (of_text row.title, tt)) in
     ((of_word (codes "page") refl, (of_number row.id.0, (of_signed row.frecency, texts))), of_bar rows)
 
+-- what is told of a tree that was taken in
+of_tree_counts : (items tags skipped : ℕ) → Are (codes "items" ∷ decimal items ∷ codes "tags" ∷ decimal tags
+    ∷ codes "skipped" ∷ decimal skipped ∷ [])
+of_tree_counts items tags skipped =
+    let left : Are (codes "skipped" ∷ decimal skipped ∷ []) = (of_word (codes "skipped") refl, (of_number skipped, tt)) in
+    let made : Are (codes "tags" ∷ decimal tags ∷ codes "skipped" ∷ decimal skipped ∷ []) =
+    (of_word (codes "tags") refl, (of_number tags, left)) in
+    (of_word (codes "items") refl, (of_number items, made))
+
 of_reply : (reply : Reply) → AreLines (reply_lines reply)
 of_reply (Day day changed) =
     let moved : Are (codes "changed" ∷ decimal changed ∷ []) =
@@ -251,11 +260,8 @@ of_reply (Place text) = ((of_word (codes "place") refl, (of_text text, tt)), tt)
 of_reply (Bar rows) = ((of_word (codes "rows") refl, (of_number (length rows), tt)), of_bar rows)
 of_reply (Fill group total) = ((of_word (codes "fill") refl, (of_text group, (of_number total, tt))), tt)
 of_reply NoFill = ((of_word (codes "nofill") refl, tt), tt)
-of_reply (Imported items tags skipped) =
-    let left : Are (codes "skipped" ∷ decimal skipped ∷ []) = (of_word (codes "skipped") refl, (of_number skipped, tt)) in
-    let made : Are (codes "tags" ∷ decimal tags ∷ codes "skipped" ∷ decimal skipped ∷ []) =
-    (of_word (codes "tags") refl, (of_number tags, left)) in
-    ((of_word (codes "imported") refl, (of_word (codes "items") refl, (of_number items, made))), tt)
+of_reply (Imported items tags skipped) = ((of_word (codes "imported") refl, of_tree_counts items tags skipped), tt)
+of_reply (Restored items tags skipped) = ((of_word (codes "restored") refl, of_tree_counts items tags skipped), tt)
 of_reply (Refused refusal) =
     ((of_word (codes "refused") refl, (of_number (refusal_number refusal), of_numbers (refusal_values refusal))), tt)
 

@@ -13,7 +13,7 @@ use Rattle.pl_step.specs.declared.reply.ListRow.{ListRow}
 use Rattle.pl_step.specs.declared.reply.Reply.{Reply}
 use Rattle.pl_step.specs.declared.reply.Reply.TheVariants.{Day, Visit, Done, Page, Origin, Stats}
 use Rattle.pl_step.specs.declared.reply.Reply.TheVariants.{Removed, Item}
-use Rattle.pl_step.specs.declared.reply.Reply.TheVariants.{Rows, Place, Bar, Fill, NoFill, Imported}
+use Rattle.pl_step.specs.declared.reply.Reply.TheVariants.{Rows, Place, Bar, Fill, NoFill, Imported, Restored}
 use Rattle.pl_step.specs.declared.reply.Reply.TheVariants.{Refused}
 use Rattle.pl_step.specs.declared.reply.Reply.TheVariants.{List as ListReply}
 use Rattle.pl_query.specs.declared.result_row.ResultRow.{ResultRow}
@@ -102,6 +102,9 @@ reply_fields NoFill = codes "nofill" ∷ []
 reply_fields (Imported items tags skipped) =
     codes "imported" ∷ codes "items" ∷ decimal items ∷ codes "tags" ∷ decimal tags
     ∷ codes "skipped" ∷ decimal skipped ∷ []
+reply_fields (Restored items tags skipped) =
+    codes "restored" ∷ codes "items" ∷ decimal items ∷ codes "tags" ∷ decimal tags
+    ∷ codes "skipped" ∷ decimal skipped ∷ []
 reply_fields (Refused refusal) =
     codes "refused" ∷ decimal (refusal_number refusal) ∷ map decimal (refusal_values refusal)
 
@@ -122,6 +125,7 @@ more_fields (Bar rows) = map bar_fields rows
 more_fields (Fill group total) = []
 more_fields NoFill = []
 more_fields (Imported items tags skipped) = []
+more_fields (Restored items tags skipped) = []
 more_fields (Refused refusal) = []
 
 -- the fields of each line of a reply
@@ -199,4 +203,5 @@ TellsTexts (Fill group total) text =
     map (λ fields. map text_of (take 1 (drop 1 fields))) (fields_in text) ≡ (Some group ∷ []) ∷ []
 TellsTexts NoFill text = Unit {0}
 TellsTexts (Imported items tags skipped) text = Unit {0}
+TellsTexts (Restored items tags skipped) text = Unit {0}
 TellsTexts (Refused refusal) text = Unit {0}

@@ -91,6 +91,13 @@ pub fn reply_text(alloc: Global, reply: &Reply) -> Result<Txt, NoMemory>
         } => Ok(Txt::from(format!(in alloc;
             "imported\titems\t{items}\ttags\t{tags}\tskipped\t{skipped}\n"
         )?)),
+        Reply::Restored {
+            items,
+            tags,
+            skipped,
+        } => Ok(Txt::from(format!(in alloc;
+            "restored\titems\t{items}\ttags\t{tags}\tskipped\t{skipped}\n"
+        )?)),
         Reply::Refused(refusal) => Ok(Txt::from(refusal_text(alloc, refusal)?)),
     }
 }

@@ -30,6 +30,7 @@ use Rattle.pl_step.specs.declared.command.Command.TheVariants.{Place as PlaceCom
 use Rattle.pl_step.specs.declared.command.Command.TheVariants.{Bar as BarCommand}
 use Rattle.pl_step.specs.declared.command.Command.TheVariants.{Fill as FillCommand}
 use Rattle.pl_step.specs.declared.command.Command.TheVariants.{Import as ImportCommand}
+use Rattle.pl_step.specs.declared.command.Command.TheVariants.{Restore as RestoreCommand}
 use Rattle.pl_step.specs.Refused.{is_refused}
 use Rattle.pl_step.specs.Step.{perform}
 
@@ -59,6 +60,7 @@ HasDates (PlaceCommand query) = Unit {0}
 HasDates (BarCommand most text) = Unit {0}
 HasDates (FillCommand text) = Unit {0}
 HasDates (ImportCommand tree) = AreWellFormed tree
+HasDates (RestoreCommand tree) = AreWellFormed tree
 
 -- any command may want memory but a move that is refused, and a visit that is not recorded
 abbrev pub MayWantMemory : ℕ → Store → Command → Type 0
@@ -87,6 +89,7 @@ MayWantMemory limit store (PlaceCommand query) = Unit {0}
 MayWantMemory limit store (BarCommand most text) = Unit {0}
 MayWantMemory limit store (FillCommand text) = Unit {0}
 MayWantMemory limit store (ImportCommand tree) = Unit {0}
+MayWantMemory limit store (RestoreCommand tree) = Unit {0}
 
 -- a command of a kind that may change the store
 abbrev pub is_change : Command → Bool
@@ -114,3 +117,4 @@ is_change (PlaceCommand query) = false
 is_change (BarCommand most text) = false
 is_change (FillCommand text) = false
 is_change (ImportCommand tree) = true
+is_change (RestoreCommand tree) = true

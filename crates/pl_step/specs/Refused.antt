@@ -3,7 +3,7 @@ use Rattle.std.specs.Prelude.{Bool, true, false}
 use Rattle.pl_step.specs.declared.reply.Reply.{Reply}
 use Rattle.pl_step.specs.declared.reply.Reply.TheVariants.{Day, Visit, Done, Page, Origin, Stats}
 use Rattle.pl_step.specs.declared.reply.Reply.TheVariants.{Removed, Item, List, Rows, Place, Bar}
-use Rattle.pl_step.specs.declared.reply.Reply.TheVariants.{Fill, NoFill, Imported, Refused}
+use Rattle.pl_step.specs.declared.reply.Reply.TheVariants.{Fill, NoFill, Imported, Restored, Refused}
 
 -- the reply is a refusal
 abbrev pub is_refused : Reply → Bool
@@ -22,4 +22,5 @@ is_refused (Bar rows) = false
 is_refused (Fill group total) = false
 is_refused NoFill = false
 is_refused (Imported items tags skipped) = false
+is_refused (Restored items tags skipped) = false
 is_refused (Refused refusal) = true

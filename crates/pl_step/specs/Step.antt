@@ -46,6 +46,7 @@ use Rattle.pl_tree.specs.Tagged.{new_items, tag_entry, untagged_items}
 use Rattle.pl_bar.specs.AddressBar.{offered}
 use Rattle.pl_bar.specs.Filled.{filled}
 use Rattle.pl_graft.specs.Import.{imported, most_rows, row_count, tagged_store, tags_made}
+use Rattle.pl_graft.specs.Restored.{emptied, restored}
 use Rattle.pl_nbread.specs.declared.tree.Tree.{Tree}
 use Rattle.pl_place.specs.declared.query.Query.{Query}
 use Rattle.pl_place.specs.Canonical.{canonical}
@@ -75,6 +76,7 @@ use Rattle.pl_step.specs.declared.command.Command.TheVariants.{Place as PlaceCom
 use Rattle.pl_step.specs.declared.command.Command.TheVariants.{Bar as BarCommand}
 use Rattle.pl_step.specs.declared.command.Command.TheVariants.{Fill as FillCommand}
 use Rattle.pl_step.specs.declared.command.Command.TheVariants.{Import as ImportCommand}
+use Rattle.pl_step.specs.declared.command.Command.TheVariants.{Restore as RestoreCommand}
 use Rattle.pl_step.specs.declared.reply.BarRow.{BarRow}
 use Rattle.pl_step.specs.declared.reply.ListRow.{ListRow}
 use Rattle.pl_step.specs.declared.reply.Reply.{Reply}
@@ -89,6 +91,7 @@ use Rattle.pl_step.specs.declared.reply.Reply.TheVariants.{Rows as RowsReply, No
 use Rattle.pl_step.specs.declared.reply.Reply.TheVariants.{Place as PlaceReply}
 use Rattle.pl_step.specs.declared.reply.Reply.TheVariants.{Bar as BarReply, Fill as FillReply}
 use Rattle.pl_step.specs.declared.reply.Reply.TheVariants.{Imported as ImportedReply}
+use Rattle.pl_step.specs.declared.reply.Reply.TheVariants.{Restored as RestoredReply}
 use Rattle.pl_step.specs.Parsed.{Parsed}
 
 -- a refused command changes nothing
@@ -347,21 +350,31 @@ abbrev pub group_reply : Option (List ℕ × ℕ) → Reply
 group_reply None = NoFill
 group_reply (Some group) = FillReply group.0 group.1
 
--- ---- an import
+-- ---- an import, and a restore
 
--- the first cause to refuse the import of a tree, whose store this is afterwards: too many rows,
--- the ids of pages and of items, the slots
-abbrev pub import_refusal : ℕ → Store → Tree → Store → Option Refusal
-import_refusal limit store tree after =
-    if nat_lt most_rows (row_count tree) then Some (TooMany (row_count tree)) else
+-- ids for the pages of the store that is to be are wanting, ids for its items, or slots
+abbrev pub tree_room : ℕ → Store → Store → Option Refusal
+tree_room limit store after =
     if nat_lt end_of_ids after.ids.page then Some (NoIds PageKind) else
     if nat_lt end_of_ids after.ids.item then Some (NoIds ItemKind) else
     if is_full limit (live_slots store) (live_slots after) then Some (Full (live_slots after))
     else None
 
+-- the first cause to refuse the import or the restore of a tree, whose store this is afterwards:
+-- too many rows, the ids of pages and of items, the slots
+abbrev pub import_refusal : ℕ → Store → Tree → Store → Option Refusal
+import_refusal limit store tree after =
+    if nat_lt most_rows (row_count tree) then Some (TooMany (row_count tree))
+    else tree_room limit store after
+
 -- the reply tells how many rows the tree has, how many tags pages got, and what was left out of it
 abbrev pub import_reply : Store → Tree → Reply
 import_reply store tree = ImportedReply (row_count tree) (tags_made tree store) tree.skipped
+
+-- the same of a restore: each tag is new
+abbrev pub restore_reply : Store → Tree → Reply
+restore_reply store tree =
+    RestoredReply (row_count tree) (tags_made tree (emptied store)) tree.skipped
 
 -- ---- the step
 
@@ -419,6 +432,9 @@ perform limit store (FillCommand text) = (group_reply (filled (scored_pages stor
 perform limit store (ImportCommand tree) =
     unless_refused (import_refusal limit store tree (imported tree store)) store
     (import_reply store tree, imported tree store)
+perform limit store (RestoreCommand tree) =
+    unless_refused (import_refusal limit store tree (restored tree store)) store
+    (restore_reply store tree, restored tree store)
 
 -- the reply to an entry of the script, and the store after it
 abbrev pub step : ℕ → Store → Parsed Command → Reply × Store

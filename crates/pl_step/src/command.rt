@@ -126,6 +126,8 @@ pub enum Command {
     },
     /// The bookmarks of a tree, behind those of each root. Its lists are well formed.
     Import(Tree),
+    /// A tree in place of all bookmarks and tags. Its lists are well formed.
+    Restore(Tree),
 }
 
 impl Command {
@@ -149,7 +151,8 @@ impl Command {
             | Command::Remove { .. }
             | Command::Tag { .. }
             | Command::Untag { .. }
-            | Command::Import(_) => true,
+            | Command::Import(_)
+            | Command::Restore(_) => true,
             Command::Page { .. }
             | Command::Origin { .. }
             | Command::Stats

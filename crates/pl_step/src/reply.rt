@@ -95,6 +95,16 @@ pub enum Reply {
         /// Bookmarks that were left out, since their address is no URL of the store.
         skipped: u32,
     },
+    /// How much took the place of all bookmarks and tags.
+    Restored {
+        /// Bookmarks, folders and separators.
+        items: u32,
+        /// Tags that pages got.
+        tags: u32,
+        /// Values of the backup that were left out, since they are no nodes or their address is no
+        /// URL of the store.
+        skipped: u32,
+    },
     Refused(Refusal),
 }
 

@@ -8,7 +8,7 @@ use Rattle.pl_base.specs.Store.{Store}
 use Rattle.pl_visiting.specs.VisitPages.{AddsFewPages}
 use Rattle.pl_gate.specs.Gate.{commit_bytes}
 use Rattle.pl_step.specs.declared.command.Command.{Command}
-use Rattle.pl_step.specs.declared.command.Command.TheVariants.{Bar, Bookmark, Day, Expire, Fill, Folder, Forget, Import}
+use Rattle.pl_step.specs.declared.command.Command.TheVariants.{Bar, Bookmark, Day, Expire, Fill, Folder, Forget, Import, Restore}
 use Rattle.pl_step.specs.declared.command.Command.TheVariants.{List as ListItem, Move, Origin, Page, Place, Query}
 use Rattle.pl_step.specs.declared.command.Command.TheVariants.{Remove, Retitle, Separator, Stats, Tag, Title, Trim}
 use Rattle.pl_step.specs.declared.command.Command.TheVariants.{Untag, Unvisit, Visit}
@@ -56,6 +56,7 @@ few_listed (Place query) store old new none adds = tt
 few_listed (Bar most text) store old new none adds = tt
 few_listed (Fill text) store old new none adds = tt
 few_listed (Import tree) store old new none adds = tt
+few_listed (Restore tree) store old new none adds = tt
 
 -- ---- bytes
 
@@ -77,6 +78,7 @@ told_refusal (reply.Bar rows) is = absurd (cc)
 told_refusal (reply.Fill group total) is = absurd (cc)
 told_refusal reply.NoFill is = absurd (cc)
 told_refusal (reply.Imported items tags skipped) is = absurd (cc)
+told_refusal (reply.Restored items tags skipped) is = absurd (cc)
 
 -- where nothing changes no byte is written
 no_bytes : (prepared : Prepared) → writes_nothing prepared → bytes_to_write prepared ≤ 0

@@ -72,6 +72,7 @@ told_day (reply_of.Bar rows) drill = refl
 told_day (reply_of.Fill group total) drill = refl
 told_day reply_of.NoFill drill = refl
 told_day (reply_of.Imported items tags skipped) drill = refl
+told_day (reply_of.Restored items tags skipped) drill = refl
 told_day (reply_of.Refused refusal) drill = refl
 
 told_all_day : (all : List Reply) (drill : Drill) → (told_all all drill).day ≡ drill.day

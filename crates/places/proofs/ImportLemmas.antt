@@ -136,6 +136,7 @@ not_refused (reply_of.Bar rows) none = refl
 not_refused (reply_of.Fill group total) none = refl
 not_refused reply_of.NoFill none = refl
 not_refused (reply_of.Imported items tags skipped) none = refl
+not_refused (reply_of.Restored items tags skipped) none = refl
 not_refused (reply_of.Refused refusal) none = absurd (none refusal refl)
 
 -- ---- the commit

@@ -49,6 +49,7 @@ told (replies.Bar rows) drill = drill
 told (replies.Fill group total) drill = drill
 told replies.NoFill drill = drill
 told (replies.Imported items tags skipped) drill = drill
+told (replies.Restored items tags skipped) drill = drill
 told (replies.Refused refusal) drill = drill
 
 -- the same of replies in order

@@ -88,7 +88,8 @@ item_changes-requires-clause-came g c =
     c.in_ok-settle_gained.ensures.sound.good (subst HasGoodItems c.in_ok-grafted.ensures.store c.in_ok-grafted.ensures.good)
     c.requires.knows
     (c.in_ok-settle_gained.ensures.store
-    ∙ imported_stands c.args.tree.now (g.R.Rows.kept c.args.rows.now) (g.R.Rows.kept c.graft.new.rows) c.requires.sound
+    ∙ imported_stands c.args.tree.now (g.R.Rows.kept c.args.rows.now) (g.R.Rows.kept c.graft.new.rows)
+    (g.met.R.Rows.well_kept c.args.rows.now) c.requires.sound
     c.in_ok-grafted.ensures.store c.in_ok-grafted.ensures.grows
     ∙ c.in_ok-grafted.ensures.store))
 
@@ -103,7 +104,8 @@ returns g c =
                 c.in_ok-grafted.grafted.items c.in_ok-grafted.grafted.tags c.in_ok-refusal.ensures c.in_default.is
                 c.in_ok-grafted.ensures.items c.in_ok-grafted.ensures.tags
                 (c.in_ok-settle_gained.ensures.store
-                ∙ imported_stands c.args.tree.now (g.R.Rows.kept c.args.rows.now) (g.R.Rows.kept c.graft.new.rows) c.requires.sound
+                ∙ imported_stands c.args.tree.now (g.R.Rows.kept c.args.rows.now) (g.R.Rows.kept c.graft.new.rows)
+                (g.met.R.Rows.well_kept c.args.rows.now) c.requires.sound
                 c.in_ok-grafted.ensures.store c.in_ok-grafted.ensures.grows
                 ∙ c.in_ok-grafted.ensures.store);
             accepted = refl;

@@ -4,7 +4,7 @@ use Rattle.std.specs.List.{All, join_with_byte}
 use Rattle.std.specs.Prelude.{codes, decimal}
 use Rattle.std.specs.Fmt.{signed_decimal}
 use Rattle.std.proofs.lemmas.Int.{to_z-of_z}
-use Rattle.pl_step.specs.declared.reply.Reply.TheVariants.{Day, Visit, Removed, Item, Imported}
+use Rattle.pl_step.specs.declared.reply.Reply.TheVariants.{Day, Visit, Removed, Item, Imported, Restored}
 use Rattle.pl_step.specs.declared.reply.Reply.TheVariants.{Rows, Place, Bar, Fill}
 use Rattle.pl_step.specs.declared.reply.Reply.TheVariants.{List as ListReply, Refused}
 use Rattle.pl_script.specs.Script.{escaped}
@@ -143,6 +143,19 @@ returns-in_ok-format-in-Imported c =
       reads_back = read_again c.args.reply.now c.from-in-Imported.result exact;
       texts = rw c.in-Imported.is tt;
       never_empty = never_empty c.args.reply.now c.from-in-Imported.result exact;
+    }
+
+pub returns-in_ok-format-in-Restored : goal.returns-in_ok-format-in-Restored
+returns-in_ok-format-in-Restored c =
+    let exact : c.from-in-Restored.result ≡ reply_text c.args.reply.now =
+    rw c.in-Restored.is
+    (alone (reply_fields (Restored c.in-Restored.items c.in-Restored.tags c.in-Restored.skipped)) c.from-in-Restored.result
+    (c.from-in-Restored.ensures ∙ simp append_assoc (c.in_ok-format-in-Restored.ensures.ok))) in
+    record {
+      exact = exact;
+      reads_back = read_again c.args.reply.now c.from-in-Restored.result exact;
+      texts = rw c.in-Restored.is tt;
+      never_empty = never_empty c.args.reply.now c.from-in-Restored.result exact;
     }
 
 -- three texts, and three fields behind them
