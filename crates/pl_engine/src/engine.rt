@@ -1,11 +1,14 @@
 ghost use Rattle.std.specs.Prelude.{◌≡◌, ◌≤◌, ◌↔◌, ℕ, List, Some, false, length, IfOk, IfSome};
 ghost use Rattle.std.specs.Prelude.{IsErr, OnOk};
 ghost use Rattle.std.specs.List.{All};
+ghost use Rattle.pl_base.specs.Good.{IsGood};
 ghost use Rattle.pl_base.specs.Live.{slot_limit};
 ghost use Rattle.pl_base.specs.Rows.{IsSound, store_of};
+ghost use Rattle.pl_base.specs.Store.{Store};
 ghost use Rattle.pl_base.specs.Touched.{IsWithin, MayDiffer, bytes_before, changed};
 ghost use Rattle.pl_base.specs.Touched.{page_numbers};
 ghost use Rattle.pl_nbwrite.specs.Plain.{IsPlain};
+ghost use Rattle.pl_outline.specs.BroughtBack.{IsBroughtBack};
 ghost use Rattle.pl_outline.specs.Outline.{bookmarks, whole};
 ghost use Rattle.pl_outline.specs.Whole.{IsWhole};
 ghost use Rattle.pl_known.specs.Known.{Knows};
@@ -200,6 +203,7 @@ impl<R: Rows + Drop> Engine<R> {
     pub fn whole_tree<L: Ledger>(&self, steps: &mut Steps<L>) -> Result<Tree, NoMemory>
         ensures tree { IfOk result (λ tree. tree ≡ whole (store_of (R.kept self.now.rows))) }
         ensures whole { IfOk result IsWhole }
+        ensures restores { IfOk result (λ tree. (first : Store) → IsGood first → IsBroughtBack tree first) }
     {
         whole_tree(self.alloc, &self.rows, steps)
     }

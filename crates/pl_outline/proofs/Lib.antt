@@ -1,7 +1,9 @@
-mod Appended
 mod Bare
+mod FirstStores
 pub mod Generations
+mod IdlePages
 mod ImportedBare
+mod KeptNodes
 mod ListAdded
 mod NodeAdded
 mod OneMore
@@ -12,6 +14,7 @@ mod PlainNodes
 mod PlainTrees
 mod PreorderLaws
 mod Preorders
+mod RestStays
 mod Returned
 mod ShownNodes
 mod Spines
@@ -21,4 +24,3 @@ mod TagsBelow
 mod TagsKnown
 mod TagsMade
 mod TagsOnce
-mod TreeTold

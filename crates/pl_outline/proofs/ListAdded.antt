@@ -6,12 +6,11 @@ use Rattle.std.proofs.lemmas.Bool.{and_parts, eqb-true}
 use Rattle.std.proofs.lemmas.List.{append-nil, length-append, length-take}
 use Rattle.std.proofs.lemmas.List.Elements.{recursion_from_All}
 use Rattle.pl_base.specs.declared.id.ItemId.{ItemId}
-use Rattle.pl_base.specs.Good.{longest_title}
+use Rattle.pl_base.specs.Good.{IsTitle}
 use Rattle.pl_base.specs.Store.{Store, item_id}
 use Rattle.pl_nbread.specs.declared.tree.Node.{Node}
 use Rattle.pl_nbread.specs.WellFormed.{begins, is_folder, is_formed}
 use Rattle.pl_nbread.specs.Listed.{IsListed}
-use Rattle.pl_nbwrite.specs.Plain.{IsKept}
 use Rattle.pl_graft.specs.Import.{folder_of, folders_behind, with_list, with_node, with_nodes}
 use Rattle.pl_graft.specs.OpenFolders.{Begins, MayGoOn}
 use Rattle.pl_graft.specs.Ready.{IsReady}
@@ -40,30 +39,29 @@ count_behind false id depth folders within =
 
 module _ (n : ℕ) (is : IsRootNumber n) where
   nodes_added : (nodes : List Node) (folders : List ItemId) (store : Store) → GoesOn store n folders
-      → MayGoOn (length folders + 1) nodes → AllByRecursion IsKept nodes
-      → AllByRecursion (λ (k : Node). length k.title ≤ longest_title) nodes
+      → MayGoOn (length folders + 1) nodes → AllByRecursion (λ (k : Node). IsTitle k.title) nodes
       → AreAdded store (with_nodes (item_id n) nodes folders store) n nodes
-  nodes_added [] folders store g may kept short =
+  nodes_added [] folders store g may titles =
       record {
         ready = g.ready;
         pages = g.pages;
         below = sym (append-nil (below_of store (item_id n)));
         others = λ m root other. refl;
       }
-  nodes_added (node ∷ nodes) folders store g may kept short =
+  nodes_added (node ∷ nodes) folders store g may titles =
       let next : Store = with_node (folder_of (item_id n) folders node) node store in
       let behind : List ItemId = folders_behind folders node (item_id store.ids.item) in
       let deep : node.depth ≤ length folders = omega (arith, may.begins) in
       let whole : is_formed node ≡ true =
       (and_parts (is_formed node) (list_all is_formed nodes) may.formed).0 in
       let one : IsAdded store next n folders node =
-      node_added store n is folders g node deep (formed node whole) kept.0 short.0 in
+      node_added store n is folders g node deep (formed node whole) titles.0 in
       let left : MayGoOn (length behind + 1) nodes =
       subst (λ (k : ℕ). MayGoOn k nodes)
       (count_behind (is_folder node.kind) (item_id store.ids.item) node.depth folders deep)
       (may_go_on (length folders + 1) node nodes may) in
       let rest : AreAdded next (with_nodes (item_id n) nodes behind next) n nodes =
-      nodes_added nodes behind next one.goes_on left kept.1 short.1 in
+      nodes_added nodes behind next one.goes_on left titles.1 in
       record {
         ready = rest.ready;
         pages = rest.pages;
@@ -87,5 +85,4 @@ module _ (n : ℕ) (is : IsRootNumber n) where
   list_added nodes store ready pages storable =
       nodes_added nodes [] store
       (record { ready = ready; pages = pages; takes = (takes_root store n ready is, tt); spine = tt })
-      (begins_at nodes storable.listed) (recursion_from_All IsKept nodes storable.kept)
-      (recursion_from_All (λ (k : Node). length k.title ≤ longest_title) nodes storable.short)
+      (begins_at nodes storable.listed) (recursion_from_All (λ (k : Node). IsTitle k.title) nodes storable.titles)

@@ -7,10 +7,9 @@ use Rattle.std.specs.List.Sorted.{IsStrictlyIncreasing}
 use Rattle.std.proofs.Math.Seq.{take-nil}
 use Rattle.std.proofs.lemmas.List.{append-nil, length-take}
 use Rattle.std.proofs.lemmas.List.Elements.{recursion_from_All}
-use Rattle.std.proofs.lemmas.Str.{IsUtf8-from_is_utf8}
 use Rattle.pl_base.specs.declared.id.ItemId.{ItemId}
 use Rattle.pl_base.specs.declared.item.ItemRow.{ItemRow}
-use Rattle.pl_base.specs.Good.{IsGoodItem, IsTitle, longest_title}
+use Rattle.pl_base.specs.Good.{IsGoodItem, IsTitle}
 use Rattle.pl_base.specs.Store.{Item, Page, Store, item_id}
 use Rattle.pl_base.specs.Title.{cut_title}
 use Rattle.pl_base.specs.Tree.{children_of, item_at, new_item}
@@ -19,7 +18,6 @@ use Rattle.pl_base.proofs.LookUps.{found_holds}
 use Rattle.pl_base.proofs.ItemLookUps.{folder_kind}
 use Rattle.pl_nbread.specs.declared.tree.Node.{Node}
 use Rattle.pl_nbread.specs.WellFormed.{is_folder}
-use Rattle.pl_nbwrite.specs.Plain.{IsKept}
 use Rattle.pl_graft.specs.Import.{folders_behind, innermost, node_row, page_of, with_item_of, with_node}
 use Rattle.pl_graft.specs.Import.{with_page_of, with_row}
 use Rattle.pl_graft.specs.Ready.{IsReady, Takes}
@@ -31,7 +29,7 @@ use Rattle.pl_outline.specs.Outline.{preorder}
 use Rattle.pl_outline.proofs.Bare.{HasPages, bare}
 use Rattle.pl_outline.proofs.OneMore.{children_here, children_other, one_behind, same_below}
 use Rattle.pl_outline.proofs.Preorders.{enough, shown_alike}
-use Rattle.pl_outline.proofs.ShownNodes.{pages_more_of, short_title, shown, shown_grown, shown_new, shown_page}
+use Rattle.pl_outline.proofs.ShownNodes.{pages_more_of, shown, shown_grown, shown_new, shown_page, whole_title}
 use Rattle.pl_outline.proofs.Spines.{IsLast, IsRootNumber, IsTaking, Spine, found_below, inner_taking}
 use Rattle.pl_outline.proofs.Spines.{innermost_newest, none_yet, off_apart, off_closed, off_root, spine_take, taking}
 use Rattle.pl_outline.proofs.Spines.{IsOff, way_down}
@@ -218,8 +216,7 @@ pub record IsAdded (store new : Store) (n : ℕ) (folders : List ItemId) (node :
       (m : ℕ) → IsRootNumber m → m ≢ n → below_of new (item_id m) ≡ below_of store (item_id m)
 
 module _ (store : Store) (n : ℕ) (is : IsRootNumber n) (folders : List ItemId) (g : GoesOn store n folders)
-    (node : Node) (deep : node.depth ≤ length folders) (f : IsFormed node) (kept : IsKept node)
-    (short : length node.title ≤ longest_title) where
+    (node : Node) (deep : node.depth ≤ length folders) (f : IsFormed node) (title : IsTitle node.title) where
   abbrev top : ItemId
   top = item_id n
 
@@ -256,12 +253,10 @@ module _ (store : Store) (n : ℕ) (is : IsRootNumber n) (folders : List ItemId)
   paged : GoesOn page n open_now
   paged = page_goes_on node.url store n open_now first
 
-  titled : IsTitle (cut_title node.title)
-  titled = subst IsTitle (sym (short_title node.title short)) (IsUtf8-from_is_utf8 node.title kept.title, short)
-
   item_ready : IsReady item
   item_ready =
-      ready_item_of store last node g.ready (folder_takes store top folders node g.takes.0 g.takes.1) f titled
+      ready_item_of store last node g.ready (folder_takes store top folders node g.takes.0 g.takes.1) f
+      (whole_title node.title title)
 
   last_taking : Takes page last
   last_taking = takes_page_of node.url store last (folder_takes store top folders node g.takes.0 g.takes.1)
@@ -305,7 +300,7 @@ module _ (store : Store) (n : ℕ) (is : IsRootNumber n) (folders : List ItemId)
             (page_below node.url store g.ready top)
             ∙ ap (λ (d : ℕ).
             below_of store top ++ shown page.pages d (new_item made line (cut_title node.title)) ∷ []) depth
-            ∙ ap (λ (k : Node). below_of store top ++ k ∷ []) (shown_new store last made node g.pages f kept short);
+            ∙ ap (λ (k : Node). below_of store top ++ k ∷ []) (shown_new store last made node g.pages title.1);
         others =
             λ m root other. stays.below (item_id m) (takes_root item m item_ready root)
             ∙ row_other page n is open_now paged line (cut_title node.title) item_ready m root other

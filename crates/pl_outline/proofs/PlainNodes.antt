@@ -1,5 +1,5 @@
 -- A node of a good store is well formed, and a file and a store keep it as it is.
-use Rattle.std.proofs.Common.{◌≡◌, ◌≤◌, ◌==◌, ◌∙◌, ◌⊎◌, inl, inr, ℕ, Bool, true, false, not, List, [], ◌∷◌}
+use Rattle.std.proofs.Common.{◌≡◌, ◌==◌, ◌∙◌, ◌⊎◌, inl, inr, ℕ, Bool, true, false, not, List, [], ◌∷◌}
 use Rattle.std.proofs.Common.{IfSome, IsTrue, Option, Some, None, ap, arith, eq-eqb, find}
 use Rattle.std.proofs.Common.{if◌then◌else◌, is_some}
 use Rattle.std.proofs.Common.{le-leb, length, refl, subst, sym}
@@ -16,7 +16,7 @@ use Rattle.pl_base.specs.declared.item.ItemKind.{ItemKind}
 use Rattle.pl_base.specs.declared.item.ItemKind.TheVariants.{Bookmark, Folder, Separator}
 use Rattle.pl_base.specs.Address.{canon}
 use Rattle.pl_base.specs.Date.{IsDate, last_date}
-use Rattle.pl_base.specs.Good.{IsGood, IsGoodItem, IsGoodPage, has_page_at, longest_title}
+use Rattle.pl_base.specs.Good.{IsGood, IsGoodItem, IsGoodPage, IsTitle, has_page_at}
 use Rattle.pl_base.specs.Store.{Item, Page, Store, page_url}
 use Rattle.pl_base.proofs.ListLaws.{found_in}
 use Rattle.pl_base.proofs.OriginLaws.{store_url-from_canon}
@@ -173,10 +173,10 @@ module _ (store : Store) (good : IsGood store) (depth : ℕ) (i : Item) (own : I
   node_formed =
       by_kind store depth i (λ (n : Node). is_formed n ≡ true) (λ _. titled_formed) (λ _. titled_formed) (λ _. refl)
 
-  pub node_short : length (node_of store depth i).title ≤ longest_title
-  node_short =
-      by_kind store depth i (λ (n : Node). length n.title ≤ longest_title) (λ _. own.title.1) (λ _. own.title.1)
-      (λ _. omega arith)
+  pub node_titled : IsTitle (node_of store depth i).title
+  node_titled =
+      by_kind store depth i (λ (n : Node). IsTitle n.title) (λ _. own.title) (λ _. own.title)
+      (λ _. (IsUtf8-nil, omega arith))
 
   folder_shown : i.kind ≡ Folder → is_folder (node_of store depth i).kind ≡ true
   folder_shown folder =

@@ -1,10 +1,10 @@
--- The bookmarks of a good store are kept by a file, and each of their lists by a store too; its whole
--- tree is whole.
-use Rattle.std.proofs.Common.{◌≡◌, ◌≤◌, ◌==◌, ◌⊎◌, ℕ, true, All, List, [], length, refl}
+-- The bookmarks of a good store are kept by a file, and its whole tree is whole. A store keeps the lists
+-- of both.
+use Rattle.std.proofs.Common.{◌≡◌, ◌==◌, ◌⊎◌, ℕ, true, All, List, [], length, refl}
 use Rattle.std.proofs.lemmas.List.Elements.{All-from_recursion, recursion_from_All}
 use Rattle.std.proofs.lemmas.List.Sums.{list_all-from_AllPass}
 use Rattle.pl_base.specs.declared.id.ItemId.{ItemId}
-use Rattle.pl_base.specs.Good.{IsGood, IsGoodItem, longest_title}
+use Rattle.pl_base.specs.Good.{IsGood, IsGoodItem, IsTitle}
 use Rattle.pl_base.specs.Store.{Item, Store, item_id}
 use Rattle.pl_base.proofs.LookUps.{found_holds}
 use Rattle.pl_nbread.specs.declared.tree.Node.{Node}
@@ -13,19 +13,19 @@ use Rattle.pl_nbread.specs.WellFormed.{is_folder, is_formed}
 use Rattle.pl_nbwrite.specs.Plain.{IsKept, IsPlain}
 use Rattle.pl_outline.specs.Outline.{all_below, bookmarks, listed, node_of, whole, whole_node}
 use Rattle.pl_outline.specs.Whole.{IsWhole, IsWholeNode}
-use Rattle.pl_outline.proofs.Bare.{AreStorable}
-use Rattle.pl_outline.proofs.PlainNodes.{node_depth, node_formed, node_holds, node_kept, node_short}
+use Rattle.pl_outline.proofs.Bare.{AreStorable, whole_below}
+use Rattle.pl_outline.proofs.PlainNodes.{node_depth, node_formed, node_holds, node_kept, node_titled}
 use Rattle.pl_outline.proofs.PlainNodes.{whole_formed, whole_holds, whole_is}
 use Rattle.pl_outline.proofs.PreorderLaws.{IsFound, all_shown, begins_below, preorder_below}
 
-module _ (store : Store) (good : IsGood store) where
+module _ (store : Store) (items : All (IsGoodItem store) store.items) where
   found_good : (i : Item) → IsFound store.items i → IsGoodItem store i
   found_good i found =
       found_holds (IsGoodItem store) (λ (j : Item). j.id.0 == i.id.0) store.items i
-      (recursion_from_All (IsGoodItem store) store.items good.items) found
+      (recursion_from_All (IsGoodItem store) store.items items) found
 
   -- what is shown of each good item holds of all that is shown below a root
-  all_listed : (show : ℕ → Item → Node) (P : Node → Type 0)
+  pub all_listed : (show : ℕ → Item → Node) (P : Node → Type 0)
       → ((depth : ℕ) (i : Item) → IsGoodItem store i → P (show depth i)) → (root : ItemId)
       → All P (all_below show store.items root)
   all_listed show P holds root =
@@ -49,33 +49,46 @@ module _ (store : Store) (good : IsGood store) where
             list_all-from_AllPass is_formed nodes (all_listed show (λ (n : Node). is_formed n ≡ true) formed root);
       }
 
-  root_storable : (root : ItemId) → AreStorable (listed store root)
-  root_storable root =
+module _ (store : Store) (good : IsGood store) where
+  -- a store keeps what stands in a root
+  pub storable : (root : ItemId) → AreStorable (listed store root)
+  storable root =
       record {
         listed =
-            root_listed (node_of store) (node_depth store) (node_holds store good) (node_formed store good) root;
-        kept = all_listed (node_of store) IsKept (node_kept store good) root;
-        short =
-            all_listed (node_of store) (λ (n : Node). length n.title ≤ longest_title)
-            (λ depth i own. node_short store good depth i own) root;
+            root_listed store good.items (node_of store) (node_depth store) (node_holds store good)
+            (node_formed store good) root;
+        titles =
+            all_listed store good.items (node_of store) (λ (n : Node). IsTitle n.title) (node_titled store good) root;
       }
 
-  whole_listed : (root : ItemId) → IsListed (all_below (whole_node store) store.items root)
-  whole_listed root =
-      root_listed (whole_node store) (λ depth i. refl) (whole_holds store good) (whole_formed store good) root
+  -- and all of it
+  pub whole_storable : (root : ItemId) → AreStorable (whole_below store root)
+  whole_storable root =
+      record {
+        listed =
+            root_listed store good.items (whole_node store) (λ depth i. refl) (whole_holds store good)
+            (whole_formed store good) root;
+        titles =
+            all_listed store good.items (whole_node store) (λ (n : Node). IsTitle n.title) (λ depth i own. own.title)
+            root;
+      }
 
-  whole_nodes : (root : ItemId) → All IsWholeNode (all_below (whole_node store) store.items root)
-  whole_nodes root = all_listed (whole_node store) IsWholeNode (whole_is store good) root
+  -- a file keeps it
+  file_keeps : (root : ItemId) → All IsKept (listed store root)
+  file_keeps root = all_listed store good.items (node_of store) IsKept (node_kept store good) root
+
+  whole_nodes : (root : ItemId) → All IsWholeNode (whole_below store root)
+  whole_nodes root = all_listed store good.items (whole_node store) IsWholeNode (whole_is store good) root
 
   -- the whole tree is one that is whole
   pub whole_tree_is : IsWhole (whole store)
   whole_tree_is =
       record {
         listed = record {
-          menu = whole_listed (item_id 2);
-          toolbar = whole_listed (item_id 3);
-          unfiled = whole_listed (item_id 5);
-          mobile = whole_listed (item_id 6);
+          menu = (whole_storable (item_id 2)).listed;
+          toolbar = (whole_storable (item_id 3)).listed;
+          unfiled = (whole_storable (item_id 5)).listed;
+          mobile = (whole_storable (item_id 6)).listed;
         };
         menu = whole_nodes (item_id 2);
         toolbar = whole_nodes (item_id 3);
@@ -84,27 +97,19 @@ module _ (store : Store) (good : IsGood store) where
         skipped = refl;
       }
 
--- a file and a store keep what stands in a root
-pub storable : (store : Store) → IsGood store → (n : ℕ) → AreStorable (listed store (item_id n))
-storable store good n = root_storable store good (item_id n)
-
--- a file keeps the bookmarks
-pub plain : (store : Store) → IsGood store → IsPlain (bookmarks store)
-plain store good =
-    let menu = storable store good 2 in
-    let toolbar = storable store good 3 in
-    let unfiled = storable store good 5 in
-    let mobile = storable store good 6 in
-    record {
-      listed = record {
-        menu = menu.listed;
-        toolbar = toolbar.listed;
-        unfiled = unfiled.listed;
-        mobile = mobile.listed;
-      };
-      menu = menu.kept;
-      toolbar = toolbar.kept;
-      unfiled = unfiled.kept;
-      mobile = mobile.kept;
-      skipped = refl;
-    }
+  -- a file keeps the bookmarks
+  pub plain : IsPlain (bookmarks store)
+  plain =
+      record {
+        listed = record {
+          menu = (storable (item_id 2)).listed;
+          toolbar = (storable (item_id 3)).listed;
+          unfiled = (storable (item_id 5)).listed;
+          mobile = (storable (item_id 6)).listed;
+        };
+        menu = file_keeps (item_id 2);
+        toolbar = file_keeps (item_id 3);
+        unfiled = file_keeps (item_id 5);
+        mobile = file_keeps (item_id 6);
+        skipped = refl;
+      }

@@ -1,34 +1,28 @@
 -- What is shown of an item without its tags, by the pages alone.
-use Rattle.std.proofs.Common.{◌≡◌, ◌∙◌, ◌<◌, ◌≤◌, ◌+◌, ◌*◌, ◌/◌, ◌++◌, ◌==◌, ◌||◌, ◌&&◌, ℕ, All, Bool, true, false}
+use Rattle.std.proofs.Common.{◌≡◌, ◌∙◌, ◌<◌, ◌≤◌, ◌+◌, ◌++◌, ◌==◌, ◌||◌, ℕ, All, Bool, true, false}
 use Rattle.std.proofs.Common.{List, [], ◌∷◌, Option, Some, None, IfSome, ap, arith, bytes_eq, eq-eqb, find}
 use Rattle.std.proofs.Common.{if◌then◌else◌, length, map, refl, subst, suc, sym}
-use Rattle.std.specs.Prelude.{IsTrue, not}
+use Rattle.std.specs.Prelude.{IsTrue}
 use Rattle.std.specs.List.{AllByRecursion, AllPairs, list_any}
-use Rattle.std.specs.Option.{is_none, is_some, option_and_then, option_map, unwrap_or}
-use Rattle.std.proofs.lemmas.Bool.{and_parts, eqb-true, le-leb, ne_eqb}
+use Rattle.std.specs.Option.{is_none, option_and_then, option_map, unwrap_or}
+use Rattle.std.proofs.lemmas.Bool.{le-leb, ne_eqb}
 use Rattle.std.proofs.lemmas.List.Elements.{recursion_from_All}
 use Rattle.std.proofs.lemmas.List.Kept.{AllPairs-from_increasing}
 use Rattle.std.proofs.lemmas.Slice.Eq.{bytes_eq-Decides}
-use Rattle.pl_base.specs.declared.date.Micros.{Micros}
 use Rattle.pl_base.specs.declared.id.ItemId.{ItemId}
 use Rattle.pl_base.specs.declared.id.PageId.{PageId}
-use Rattle.pl_base.specs.declared.item.ItemKind.{ItemKind}
-use Rattle.pl_base.specs.declared.item.ItemKind.TheVariants.{Bookmark, Folder, Separator}
-use Rattle.pl_base.specs.Good.{has_page_at, longest_title}
+use Rattle.pl_base.specs.Good.{IsTitle, has_page_at, longest_title}
 use Rattle.pl_base.specs.Store.{Item, Page, Store}
 use Rattle.pl_base.specs.Title.{cut_title}
 use Rattle.pl_base.specs.Tree.{new_item}
 use Rattle.pl_base.specs.Visiting.{find_page, new_page, page_for, with_page_for}
 use Rattle.pl_base.proofs.ListLaws.{AllPairs-from_map}
 use Rattle.pl_base.proofs.LookUps.{found_holds, found_passes}
-use Rattle.pl_base.proofs.Truths.{no_length}
 use Rattle.pl_nbread.specs.declared.tree.Node.{Node}
-use Rattle.pl_nbwrite.specs.Plain.{IsKept, is_bare, is_whole}
 use Rattle.pl_graft.specs.Import.{node_row, page_of, with_page_of}
-use Rattle.pl_graft.proofs.NodeLaws.{IsFormed}
 use Rattle.pl_tree.specs.declared.place.Place.TheVariants.{End}
 use Rattle.pl_tree.specs.Changes.{put}
-use Rattle.pl_outline.specs.Outline.{node_of, separator_node, whole_seconds}
+use Rattle.pl_outline.specs.Outline.{whole_node}
 use Rattle.pl_outline.proofs.Bare.{HasPages, bare}
 use Rattle.pl_outline.proofs.OneMore.{grown}
 use Rattle.pl_outline.proofs.PagesMore.{has_pages_for}
@@ -39,52 +33,36 @@ use Rattle.pl_outline.proofs.PagesMore.{has_pages_for}
 abbrev url_in : List Page → PageId → Option (List ℕ)
 url_in pages id = option_map (λ (p : Page). p.url) (find (λ (p : Page). p.id.0 == id.0) pages)
 
-titled : List Page → ℕ → Item → Node
-titled pages d i =
+-- an item with this address and this title
+abbrev made : ℕ → Item → Option (List ℕ) → List ℕ → Node
+made d i url title =
     record {
       depth = d;
       kind = i.kind;
-      url = option_and_then (url_in pages) i.page;
-      title = i.title;
-      added = whole_seconds i.added;
-      modified = whole_seconds i.modified;
+      url = url;
+      title = title;
+      added = i.added;
+      modified = i.modified;
       tags = [];
     }
 
-shown_by : ItemKind → List Page → ℕ → Item → Node
-shown_by Bookmark pages d i = titled pages d i
-shown_by Folder pages d i = titled pages d i
-shown_by Separator pages d i = separator_node d
-
 -- the node of an item without its tags
 pub shown : List Page → ℕ → Item → Node
-shown pages d i = shown_by i.kind pages d i
+shown pages d i = made d i (option_and_then (url_in pages) i.page) i.title
 
-pub shown_is : (store : Store) (d : ℕ) (i : Item) → bare (node_of store d i) ≡ shown store.pages d i
-unfolding shown shown_by titled
-shown_is store d i = choose i.kind
-  where
-    choose : (k : ItemKind)
-        → bare (node_of store d (record i { kind = k })) ≡ shown store.pages d (record i { kind = k })
-    choose Bookmark = refl
-    choose Folder = refl
-    choose Separator = refl
+pub shown_is : (store : Store) (d : ℕ) (i : Item) → bare (whole_node store d i) ≡ shown store.pages d i
+unfolding shown
+shown_is store d i = refl
 
 -- children are not shown
 pub shown_grown : (pages : List Page) (p id : ItemId) (d : ℕ) (i : Item)
     → shown pages d (grown p id i) ≡ shown pages d i
-unfolding shown shown_by titled
+unfolding shown
 shown_grown pages p id d i = choose (i.id.0 == p.0)
   where
-    other : (k : ItemKind) (cs : List ItemId)
-        → shown pages d (record i { kind = k; children = cs }) ≡ shown pages d (record i { kind = k })
-    other Bookmark cs = refl
-    other Folder cs = refl
-    other Separator cs = refl
-
     choose : (b : Bool)
         → shown pages d (if b then record i { children = put End id i.children } else i) ≡ shown pages d i
-    choose true = other i.kind (put End id i.children)
+    choose true = refl
     choose false = refl
 
 -- ---- a page more
@@ -126,25 +104,13 @@ same_urls (Some u) store id there = same_url store u id there
 pub shown_page : (url : Option (List ℕ)) (store : Store) (d : ℕ) (i : Item)
     → IfSome i.page (λ id. IsTrue (has_page_at store id))
     → shown (with_page_of url store).pages d i ≡ shown store.pages d i
-unfolding shown shown_by titled
-shown_page url store d i there = choose i.kind
+unfolding shown
+shown_page url store d i there = ap (λ (u : Option (List ℕ)). made d i u i.title) (same i.page there)
   where
     same : (o : Option PageId) → IfSome o (λ id. IsTrue (has_page_at store id))
         → option_and_then (url_in (with_page_of url store).pages) o ≡ option_and_then (url_in store.pages) o
     same None has = refl
     same (Some id) has = same_urls url store id has
-
-    of_titled : (j : Item) → j.page ≡ i.page
-        → titled (with_page_of url store).pages d j ≡ titled store.pages d j
-    of_titled j e =
-        ap (λ (u : Option (List ℕ)). record (titled store.pages d j) { url = u })
-        (same j.page (subst (λ (o : Option PageId). IfSome o (λ id. IsTrue (has_page_at store id))) (sym e) there))
-
-    choose : (k : ItemKind)
-        → shown (with_page_of url store).pages d (record i { kind = k }) ≡ shown store.pages d (record i { kind = k })
-    choose Bookmark = of_titled (record i { kind = Bookmark }) refl
-    choose Folder = of_titled (record i { kind = Folder }) refl
-    choose Separator = refl
 
 -- ---- pages
 
@@ -228,59 +194,16 @@ pages_more_of (Some u) store h = has_pages_for store u h
 pub short_title : (title : List ℕ) → length title ≤ longest_title → cut_title title ≡ title
 short_title title short = rw (le-leb (length title) longest_title short) refl
 
-whole_date : (date : Micros) → is_whole date ≡ true → whole_seconds date ≡ date
-whole_date date is =
-    ap (λ (n : ℕ). let m : Micros = record { 0 = n } in m) (eqb-true (date.0 / 1_000_000 * 1_000_000) date.0 is)
+-- a title that is short is not cut
+pub whole_title : (title : List ℕ) → IsTitle title → IsTitle (cut_title title)
+whole_title title is = subst IsTitle (sym (short_title title is.1)) is
 
-pub shown_new : (store : Store) (parent id : ItemId) (node : Node) → HasPages store → IsFormed node → IsKept node
+pub shown_new : (store : Store) (parent id : ItemId) (node : Node) → HasPages store
     → length node.title ≤ longest_title
     → shown (with_page_of node.url store).pages node.depth
     (new_item id (node_row parent (page_of node.url store) node) (cut_title node.title)) ≡ bare node
-unfolding shown shown_by titled
-shown_new store parent id node h formed kept short = choose node.kind refl
-  where
-    of_titled : (k : ItemKind) → node.kind ≡ k
-        → titled (with_page_of node.url store).pages node.depth
-        (record (new_item id (node_row parent (page_of node.url store) node) (cut_title node.title)) { kind = k })
-        ≡ bare node
-    of_titled k is =
-        let made : ItemKind → Option (List ℕ) → List ℕ → Micros → Micros → Node = λ l u t a m.
-        record { depth = node.depth; kind = l; url = u; title = t; added = a; modified = m; tags = [] } in
-        ap (λ u. made k u (cut_title node.title) (whole_seconds node.added) (whole_seconds node.modified))
-        (url_fits node.url store h)
-        ∙ ap (λ t. made k node.url t (whole_seconds node.added) (whole_seconds node.modified))
-        (short_title node.title short)
-        ∙ ap (λ a. made k node.url node.title a (whole_seconds node.modified)) (whole_date node.added kept.added)
-        ∙ ap (λ m. made k node.url node.title node.added m) (whole_date node.modified kept.modified)
-        ∙ ap (λ l. made l node.url node.title node.added node.modified) (sym is)
-
-    of_separator : node.kind ≡ Separator → separator_node node.depth ≡ bare node
-    of_separator is =
-        let made : ItemKind → Option (List ℕ) → List ℕ → Micros → Micros → Node = λ l u t a m.
-        record { depth = node.depth; kind = l; url = u; title = t; added = a; modified = m; tags = [] } in
-        let at : ℕ → Micros = λ n. record { 0 = n } in
-        let b : is_bare Separator node ≡ true = subst (λ (k : ItemKind). is_bare k node ≡ true) is kept.bare in
-        let p = and_parts ((length node.tags == 0) && (length node.title == 0) && (node.added.0 == 0))
-        (node.modified.0 == 0) b in
-        let q = and_parts ((length node.tags == 0) && (length node.title == 0)) (node.added.0 == 0) p.0 in
-        let s = and_parts (length node.tags == 0) (length node.title == 0) q.0 in
-        ap (λ u. made Separator u [] (at 0) (at 0)) (sym no_url)
-        ∙ ap (λ t. made Separator node.url t (at 0) (at 0)) (sym (no_length node.title s.1))
-        ∙ ap (λ n. made Separator node.url node.title (at n) (at 0)) (sym (eqb-true node.added.0 0 q.1))
-        ∙ ap (λ n. made Separator node.url node.title node.added (at n)) (sym (eqb-true node.modified.0 0 p.1))
-        ∙ ap (λ l. made l node.url node.title node.added node.modified) (sym is)
-      where
-        no_url : node.url ≡ None
-        no_url = none node.url (rw is at formed.bookmark)
-          where
-            none : (u : Option (List ℕ)) → not (is_some u) ≡ true → u ≡ None
-            none None is = refl
-            none (Some x) is = absurd (cc)
-
-    choose : (k : ItemKind) → node.kind ≡ k
-        → shown (with_page_of node.url store).pages node.depth
-        (record (new_item id (node_row parent (page_of node.url store) node) (cut_title node.title)) { kind = k })
-        ≡ bare node
-    choose Bookmark is = of_titled Bookmark is
-    choose Folder is = of_titled Folder is
-    choose Separator is = of_separator is
+unfolding shown
+shown_new store parent id node h short =
+    let new : Item = new_item id (node_row parent (page_of node.url store) node) (cut_title node.title) in
+    ap (λ (u : Option (List ℕ)). made node.depth new u (cut_title node.title)) (url_fits node.url store h)
+    ∙ ap (made node.depth new node.url) (short_title node.title short)

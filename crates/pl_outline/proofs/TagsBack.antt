@@ -1,37 +1,36 @@
--- An import of a store's bookmarks into the store before its first command gives each page the tags
--- that it had.
-use Rattle.std.proofs.Common.{◌≡◌, ◌∙◌, ◌⊎◌, ◌<◌, ◌&&◌, ◌||◌, inl, inr, ℕ, All, Bool, true, false}
-use Rattle.std.proofs.Common.{List, [], ◌∷◌, Option, Some, None, ap, arith, bytes_eq, filter, if◌then◌else◌}
+-- An import of a tree into a store without bookmarks gives each URL the tags that the nodes have for it.
+use Rattle.std.proofs.Common.{◌≡◌, ◌∙◌, ◌&&◌, ◌||◌, inl, inr, ℕ, Bool, true, false}
+use Rattle.std.proofs.Common.{List, [], ◌∷◌, Option, Some, None, ap, bytes_eq, filter, if◌then◌else◌}
 use Rattle.std.proofs.Common.{map, refl, subst, sym}
 use Rattle.std.specs.List.{AllByRecursion, list_any}
 use Rattle.std.proofs.lemmas.Bool.{false≢true, or_left, or_right}
-use Rattle.std.proofs.lemmas.List.Elements.{All-from_recursion, All-nil, recursion_from_All}
 use Rattle.std.proofs.lemmas.List.Sorted.{list_any-IsPermutation}
 use Rattle.std.proofs.lemmas.Option.{none-some, same_Some}
 use Rattle.std.proofs.lemmas.Slice.Eq.{bytes_eq-Decides}
 use Rattle.pl_base.specs.declared.id.PageId.{PageId}
 use Rattle.pl_base.specs.Fold.{folded}
-use Rattle.pl_base.specs.Good.{HasTags, IsGood}
-use Rattle.pl_base.specs.Store.{Item, Page, Store, item_id, opening, roots}
+use Rattle.pl_base.specs.Good.{HasTags}
+use Rattle.pl_base.specs.Store.{Item, Store, item_id}
 use Rattle.pl_base.specs.Tags.{by_fold, has_tag, is_before, page_tags, tags_of}
 use Rattle.pl_base.specs.Tree.{child_items, is_page}
 use Rattle.pl_base.specs.Visiting.{page_for}
-use Rattle.pl_base.proofs.ListLaws.{All-from_map, any-and, list_any-map, map-map, weaker}
-use Rattle.pl_base.proofs.RootsLaws.{has_roots, no_tags, roots_are_good, roots_are_tree, roots_ascend}
+use Rattle.pl_base.proofs.ListLaws.{any-and, list_any-map, weaker}
 use Rattle.pl_base.proofs.SortLaws.{sorted_moves}
 use Rattle.pl_base.proofs.LookUps.{both}
 use Rattle.pl_marks.proofs.TagEntries.{Differ, differ_filter, differ_named, look, one_list, order_ascends, order_looks}
 use Rattle.pl_marks.proofs.TagEntries.{tag_entry, tags_found, titles_are}
 use Rattle.pl_nbread.specs.declared.tree.Node.{Node}
+use Rattle.pl_nbread.specs.declared.tree.Tree.{Tree}
+use Rattle.pl_keyed.specs.NamedUrls.{has_url, is_named, is_url}
 use Rattle.pl_keyed.specs.TagRows.{TagEntry, TagRow, entry_row, holds, tag_row, tag_rows}
 use Rattle.pl_graft.specs.Import.{imported, with_list}
-use Rattle.pl_graft.specs.Ready.{IsReady}
 use Rattle.pl_graft.proofs.Ready.{takes_root}
-use Rattle.pl_outline.specs.Outline.{bookmarks, listed}
-use Rattle.pl_outline.proofs.Bare.{HasPages, bare, retagged, url_tags}
-use Rattle.pl_outline.proofs.OwnTags.{HasOwn, IsKnown, listed_retagged, may_come, own_listed}
-use Rattle.pl_outline.proofs.TagMarks.{has_text, marks}
-use Rattle.pl_outline.proofs.TagsMade.{Behind, Stands, is_url, nodes_behind, told, url_marks}
+use Rattle.pl_outline.proofs.Bare.{AreStorable, url_tags}
+use Rattle.pl_outline.proofs.FirstStores.{IsFirst}
+use Rattle.pl_outline.proofs.OwnTags.{HasOwn, IsKnown, MayReturn}
+use Rattle.pl_outline.proofs.Spines.{IsRootNumber}
+use Rattle.pl_outline.proofs.TagMarks.{AreKnown, has_text, marks}
+use Rattle.pl_outline.proofs.TagsMade.{Behind, MayCome, Stands, nodes_behind, told, url_marks}
 
 shared : (a b c : Bool) → ((a && c) || (b && c)) ≡ ((a || b) && c)
 shared true b true = refl
@@ -180,13 +179,9 @@ same_tags a b url tags_a tags_b same =
 
 -- ---- what the nodes of a store tell of a URL
 
--- a node has the URL
-abbrev has_url : List ℕ → List Node → Bool
-has_url url nodes = list_any (λ (n : Node). is_url url n.url) nodes
-
 module _ (store : Store) where
   told_own : (url title : List ℕ) (nodes : List Node) → AllByRecursion (HasOwn store) nodes
-      → told url title nodes ≡ (has_url url nodes && has_text title (url_tags store (Some url)))
+      → told url title nodes ≡ (has_url nodes url && has_text title (url_tags store (Some url)))
   told_own url title nodes all =
       each nodes all
       ∙ any-and (λ (n : Node). is_url url n.url) (has_text title (url_tags store (Some url))) nodes
@@ -222,199 +217,113 @@ module _ (store : Store) where
 
 -- each node's URL is one of those that the nodes have
 urls_there : (nodes : List Node)
-    → AllByRecursion (λ (b : Node). (url : List ℕ) → b.url ≡ Some url → has_url url nodes ≡ true) nodes
+    → AllByRecursion (λ (b : Node). (url : List ℕ) → b.url ≡ Some url → has_url nodes url ≡ true) nodes
 urls_there [] = tt
 urls_there (b ∷ bs) = (
-  λ url is. or_left (is_url url b.url) (has_url url bs) (ap (is_url url) is ∙ text_is url),
-  weaker (λ (c : Node). (url : List ℕ) → c.url ≡ Some url → has_url url bs ≡ true)
-      (λ (c : Node). (url : List ℕ) → c.url ≡ Some url → has_url url (b ∷ bs) ≡ true) bs
-      (λ c there url is. or_right (is_url url b.url) (has_url url bs) (there url is)) (urls_there bs),
+  λ url is. or_left (is_url url b.url) (has_url bs url) (ap (is_url url) is ∙ text_is url),
+  weaker (λ (c : Node). (url : List ℕ) → c.url ≡ Some url → has_url bs url ≡ true)
+      (λ (c : Node). (url : List ℕ) → c.url ≡ Some url → has_url (b ∷ bs) url ≡ true) bs
+      (λ c there url is. or_right (is_url url b.url) (has_url bs url) (there url is)) (urls_there bs),
 )
 
 -- ---- the import
 
-pub good_pages : (store : Store) → IsGood store → HasPages store
-good_pages store good =
-    record {
-      ascending = good.page_ids.ascending;
-      below =
-          λ k d within.
-          (All-from_map (λ id. (0 < id) × (id < store.ids.page)) (λ (p : Page). p.id.0) store.pages
-          good.page_ids.given k d within).1;
-      urls = good.urls;
-    }
+-- a list that may return
+pub record AllMayReturn (store : Store) (nodes : List Node) : Type 0 where
+  pub storable : AreStorable nodes
+  pub each : AllByRecursion (MayReturn store) nodes
 
-opening_stands : (Known : List ℕ → Type 0) → Stands Known opening
-opening_stands Known =
-    record {
-      ready = record {
-        good = record {
-          items = roots_are_good opening;
-          roots = has_roots opening;
-          tree = roots_are_tree;
-          tags = no_tags opening;
-        };
-        ascending = roots_ascend;
-        below =
-            All-from_recursion (λ (i : Item). i.id.0 < 7) roots
-            (omega arith, (omega arith, (omega arith, (omega arith, (omega arith, (omega arith, tt))))));
-        first = omega arith;
-      };
-      pages = record {
-        ascending = λ k within. absurd (omega arith);
-        below = All-nil _;
-        urls = λ i j d before within same. absurd (omega arith);
-      };
-      titles = tt;
-    }
+-- a tree whose lists may return
+pub record TreeMayReturn (store : Store) (tree : Tree) : Type 0 where
+  pub menu : AllMayReturn store tree.menu
+  pub toolbar : AllMayReturn store tree.toolbar
+  pub unfiled : AllMayReturn store tree.unfiled
+  pub mobile : AllMayReturn store tree.mobile
 
-abbrev IsRoot : ℕ → Type 0
-IsRoot n = (n ≡ 2) ⊎ (n ≡ 3) ⊎ (n ≡ 5) ⊎ (n ≡ 6)
-
-module _ (store : Store) (good : IsGood store) where
+module _ (store : Store) (tags : HasTags store) (tree : Tree) (may : TreeMayReturn store tree) (start : Store)
+    (first : IsFirst start) where
   one_title : (a b : List ℕ) → IsKnown store a → IsKnown store b → folded a ≡ folded b → a ≡ b
-  one_title a b first second same =
-      same_Some a b (sym first ∙ ap (λ (q : List ℕ). look q (map tag_entry (tags_of store))) same ∙ second)
+  one_title a b known other same =
+      same_Some a b (sym known ∙ ap (λ (q : List ℕ). look q (map tag_entry (tags_of store))) same ∙ other)
 
-  list_behind : (old : Store) → Stands (IsKnown store) old → (n : ℕ) → IsRoot n
-      → Behind (IsKnown store) old (with_list (item_id n) (listed store (item_id n)) old) (listed store (item_id n))
-  list_behind old s n is =
-      nodes_behind (IsKnown store) one_title (item_id n) (listed store (item_id n)) [] old s
-      (takes_root old n s.ready is) tt (may_come store good (item_id n))
+  start_stands : Stands (IsKnown store) start
+  start_stands =
+      record {
+        ready = first.ready;
+        pages = first.pages;
+        titles = subst (λ (js : List Item). AreKnown (IsKnown store) (tag_rows js)) (sym first.items) tt;
+      }
+
+  list_behind : (old : Store) → Stands (IsKnown store) old → (n : ℕ) → IsRootNumber n → (nodes : List Node)
+      → AllMayReturn store nodes → Behind (IsKnown store) old (with_list (item_id n) nodes old) nodes
+  list_behind old s n is nodes m =
+      nodes_behind (IsKnown store) one_title (item_id n) nodes [] old s (takes_root old n s.ready is) tt
+      (weaker (MayReturn store) (MayCome (IsKnown store)) nodes (λ b r. r.comes) m.each)
 
   -- the store with the first lists
   abbrev menu_in : Store
-  menu_in = with_list (item_id 2) (listed store (item_id 2)) opening
+  menu_in = with_list (item_id 2) tree.menu start
 
   abbrev toolbar_in : Store
-  toolbar_in = with_list (item_id 3) (listed store (item_id 3)) menu_in
+  toolbar_in = with_list (item_id 3) tree.toolbar menu_in
 
   abbrev unfiled_in : Store
-  unfiled_in = with_list (item_id 5) (listed store (item_id 5)) toolbar_in
+  unfiled_in = with_list (item_id 5) tree.unfiled toolbar_in
 
-  abbrev all_in : Store
-  all_in = with_list (item_id 6) (listed store (item_id 6)) unfiled_in
+  menu_behind : Behind (IsKnown store) start menu_in tree.menu
+  menu_behind = list_behind start start_stands 2 (inl refl) tree.menu may.menu
 
-  menu_behind : Behind (IsKnown store) opening menu_in (listed store (item_id 2))
-  menu_behind = list_behind opening (opening_stands (IsKnown store)) 2 (inl refl)
+  toolbar_behind : Behind (IsKnown store) menu_in toolbar_in tree.toolbar
+  toolbar_behind = list_behind menu_in menu_behind.stands 3 (inr (inl refl)) tree.toolbar may.toolbar
 
-  toolbar_behind : Behind (IsKnown store) menu_in toolbar_in (listed store (item_id 3))
-  toolbar_behind = list_behind menu_in menu_behind.stands 3 (inr (inl refl))
+  unfiled_behind : Behind (IsKnown store) toolbar_in unfiled_in tree.unfiled
+  unfiled_behind = list_behind toolbar_in toolbar_behind.stands 5 (inr (inr (inl refl))) tree.unfiled may.unfiled
 
-  unfiled_behind : Behind (IsKnown store) toolbar_in unfiled_in (listed store (item_id 5))
-  unfiled_behind = list_behind toolbar_in toolbar_behind.stands 5 (inr (inr (inl refl)))
-
-  all_behind : Behind (IsKnown store) unfiled_in all_in (listed store (item_id 6))
-  all_behind = list_behind unfiled_in unfiled_behind.stands 6 (inr (inr (inr refl)))
-
-  -- one of the nodes has the URL
-  abbrev is_listed : List ℕ → Bool
-  is_listed url =
-      ((has_url url (listed store (item_id 2)) || has_url url (listed store (item_id 3)))
-      || has_url url (listed store (item_id 5)))
-      || has_url url (listed store (item_id 6))
-
-  own_told : (url title : List ℕ) (n : ℕ)
-      → told url title (listed store (item_id n))
-      ≡ (has_url url (listed store (item_id n)) && has_text title (url_tags store (Some url)))
-  own_told url title n =
-      told_own store url title (listed store (item_id n))
-      (own_listed store good.items (good_pages store good) (item_id n))
+  pub all_behind : Behind (IsKnown store) unfiled_in (imported tree start) tree.mobile
+  all_behind = list_behind unfiled_in unfiled_behind.stands 6 (inr (inr (inr refl))) tree.mobile may.mobile
 
   all_marked : (url title : List ℕ)
-      → url_marks all_in url title ≡ (is_listed url && has_text title (url_tags store (Some url)))
+      → url_marks (imported tree start) url title ≡ (is_named tree url && has_text title (url_tags store (Some url)))
   all_marked url title =
-      step all_in unfiled_in 6 all_behind
-      ((has_url url (listed store (item_id 2)) || has_url url (listed store (item_id 3)))
-      || has_url url (listed store (item_id 5)))
-      (step unfiled_in toolbar_in 5 unfiled_behind
-      (has_url url (listed store (item_id 2)) || has_url url (listed store (item_id 3)))
-      (step toolbar_in menu_in 3 toolbar_behind (has_url url (listed store (item_id 2)))
-      (menu_behind.marked url title ∙ own_told url title 2)))
+      step (imported tree start) unfiled_in tree.mobile all_behind may.mobile
+      (has_url tree.menu url || has_url tree.toolbar url || has_url tree.unfiled url)
+      (step unfiled_in toolbar_in tree.unfiled unfiled_behind may.unfiled
+      (has_url tree.menu url || has_url tree.toolbar url)
+      (step toolbar_in menu_in tree.toolbar toolbar_behind may.toolbar (has_url tree.menu url)
+      (step menu_in start tree.menu menu_behind may.menu false none)))
     where
-      step : (new old : Store) (n : ℕ) → Behind (IsKnown store) old new (listed store (item_id n)) → (b : Bool)
-          → url_marks old url title ≡ (b && has_text title (url_tags store (Some url)))
+      none : url_marks start url title ≡ false
+      none = ap (λ (js : List Item). marks (page_for start url).id title (tag_rows js)) first.items
+
+      step : (new old : Store) (nodes : List Node) → Behind (IsKnown store) old new nodes → AllMayReturn store nodes
+          → (b : Bool) → url_marks old url title ≡ (b && has_text title (url_tags store (Some url)))
           → url_marks new url title
-          ≡ ((b || has_url url (listed store (item_id n))) && has_text title (url_tags store (Some url)))
-      step new old n behind b so_far =
+          ≡ ((b || has_url nodes url) && has_text title (url_tags store (Some url)))
+      step new old nodes behind m b so_far =
           behind.marked url title
-          ∙ ap (λ (t : Bool). t || told url title (listed store (item_id n))) so_far
-          ∙ ap (λ (t : Bool). (b && has_text title (url_tags store (Some url))) || t) (own_told url title n)
-          ∙ shared b (has_url url (listed store (item_id n))) (has_text title (url_tags store (Some url)))
+          ∙ ap (λ (t : Bool). t || told url title nodes) so_far
+          ∙ ap (λ (t : Bool). (b && has_text title (url_tags store (Some url))) || t)
+          (told_own store url title nodes (weaker (MayReturn store) (HasOwn store) nodes (λ n r. r.own) m.each))
+          ∙ shared b (has_url nodes url) (has_text title (url_tags store (Some url)))
 
-  is_listed_at : (url : List ℕ) (n : ℕ) → IsRoot n → has_url url (listed store (item_id n)) ≡ true
-      → is_listed url ≡ true
-  is_listed_at url n root has =
-      elim root as (λ _. is_listed url ≡ true) [
-        | inl is ↦
-            or_left ((at 2 || at 3) || at 5) (at 6)
-            (or_left (at 2 || at 3) (at 5) (or_left (at 2) (at 3) (at_root 2 is)))
-        | inr (inl is) ↦
-            or_left ((at 2 || at 3) || at 5) (at 6)
-            (or_left (at 2 || at 3) (at 5) (or_right (at 2) (at 3) (at_root 3 is)))
-        | inr (inr (inl is)) ↦
-            or_left ((at 2 || at 3) || at 5) (at 6) (or_right (at 2 || at 3) (at 5) (at_root 5 is))
-        | inr (inr (inr is)) ↦ or_right ((at 2 || at 3) || at 5) (at 6) (at_root 6 is)
-      ]
-    where
-      at : ℕ → Bool
-      at m = has_url url (listed store (item_id m))
-
-      at_root : (m : ℕ) → n ≡ m → has_url url (listed store (item_id m)) ≡ true
-      at_root m same = subst (λ (k : ℕ). has_url url (listed store (item_id k)) ≡ true) same has
-
-  back_at : (url : List ℕ) → is_listed url ≡ true → url_tags all_in (Some url) ≡ url_tags store (Some url)
+  -- a URL that the tree names has the tags that it had
+  back_at : (url : List ℕ) → is_named tree url ≡ true
+      → url_tags (imported tree start) (Some url) ≡ url_tags store (Some url)
   back_at url is =
-      same_tags all_in store url all_behind.stands.ready.good.tags good.tags
+      same_tags (imported tree start) store url all_behind.stands.ready.good.tags tags
       (λ title. all_marked url title
       ∙ ap (λ (b : Bool). b && has_text title (url_tags store (Some url))) is)
 
--- after the import each page has the tags that it had
-pub tags_back : (store : Store) → IsGood store → (n : ℕ) → (n ≡ 2) ⊎ (n ≡ 3) ⊎ (n ≡ 5) ⊎ (n ≡ 6)
-    → All (λ (b : Node). url_tags (imported (bookmarks store) opening) b.url ≡ b.tags) (listed store (item_id n))
-tags_back store good n root =
-    All-from_recursion (λ (b : Node). url_tags (imported (bookmarks store) opening) b.url ≡ b.tags)
-    (listed store (item_id n))
-    (both (λ (b : Node). b.tags ≡ url_tags store b.url)
-    (λ (b : Node). (url : List ℕ) → b.url ≡ Some url → has_url url (listed store (item_id n)) ≡ true)
-    (λ (b : Node). url_tags (imported (bookmarks store) opening) b.url ≡ b.tags) (listed store (item_id n))
-    (λ b own there. back b.url there ∙ sym own)
-    (own_listed store good.items (good_pages store good) (item_id n))
-    (urls_there (listed store (item_id n))))
-  where
-    back : (o : Option (List ℕ))
-        → ((url : List ℕ) → o ≡ Some url → has_url url (listed store (item_id n)) ≡ true)
-        → url_tags (imported (bookmarks store) opening) o ≡ url_tags store o
-    back None there = refl
-    back (Some url) there = back_at store good url (is_listed_at store good url n root (there url refl))
-
--- ---- the tree after the import
-
-pub back_ready : (store : Store) → IsGood store → IsReady (imported (bookmarks store) opening)
-back_ready store good = (all_behind store good).stands.ready
-
-pub back_pages : (store : Store) → IsGood store → HasPages (imported (bookmarks store) opening)
-back_pages store good = (all_behind store good).stands.pages
-
--- a list is the same again where its nodes are but for their tags
-pub listed_back : (store : Store) → IsGood store → (n : ℕ) → (n ≡ 2) ⊎ (n ≡ 3) ⊎ (n ≡ 5) ⊎ (n ≡ 6)
-    → map bare (listed (imported (bookmarks store) opening) (item_id n)) ≡ map bare (listed store (item_id n))
-    → listed (imported (bookmarks store) opening) (item_id n) ≡ listed store (item_id n)
-listed_back store good n root same =
-    listed_retagged new (back_ready store good) (back_pages store good) n
-    ∙ sym (map-map (retagged new) bare (listed new (item_id n)))
-    ∙ ap (map (retagged new)) same
-    ∙ map-map (retagged new) bare (listed store (item_id n))
-    ∙ each (listed store (item_id n))
-    (recursion_from_All (λ (b : Node). url_tags new b.url ≡ b.tags) (listed store (item_id n))
-    (tags_back store good n root))
-  where
-    new : Store
-    new = imported (bookmarks store) opening
-
-    each : (nodes : List Node) → AllByRecursion (λ (b : Node). url_tags new b.url ≡ b.tags) nodes
-        → map (retagged new) nodes ≡ nodes
-    each [] all = refl
-    each (b ∷ bs) all =
-        ap (λ (tags : List (List ℕ)). let c : Node = record b { tags = tags } in c ∷ map (retagged new) bs) all.0
-        ∙ ap (λ (cs : List Node). b ∷ cs) (each bs all.1)
+  -- each node of a list has the tags that the store has for its URL behind the import
+  pub tags_back : (nodes : List Node) → ((url : List ℕ) → has_url nodes url ≡ true → is_named tree url ≡ true)
+      → AllMayReturn store nodes
+      → AllByRecursion (λ (b : Node). url_tags (imported tree start) b.url ≡ b.tags) nodes
+  tags_back nodes names m =
+      both (MayReturn store) (λ (b : Node). (url : List ℕ) → b.url ≡ Some url → has_url nodes url ≡ true)
+      (λ (b : Node). url_tags (imported tree start) b.url ≡ b.tags) nodes
+      (λ b r there. back b.url there ∙ sym r.own) m.each (urls_there nodes)
+    where
+      back : (o : Option (List ℕ)) → ((url : List ℕ) → o ≡ Some url → has_url nodes url ≡ true)
+          → url_tags (imported tree start) o ≡ url_tags store o
+      back None there = refl
+      back (Some url) there = back_at url (names url (there url refl))

@@ -18,6 +18,7 @@ use Rattle.pl_nbread.specs.declared.tree.Node.{Node}
 use Rattle.pl_tree.specs.Tagged.{tag_entry}
 use Rattle.pl_words.specs.TagName.{is_tag_name}
 use Rattle.pl_words.proofs.TagTests.{named_by_test}
+use Rattle.pl_keyed.specs.NamedUrls.{is_url}
 use Rattle.pl_keyed.specs.TagRows.{TagRow, tag_rows}
 use Rattle.pl_graft.specs.Import.{folder_of, folders_behind, node_row, page_of, tagged_store, with_item_of, with_node}
 use Rattle.pl_graft.specs.Import.{with_nodes, with_page_of, with_tag, with_tags, with_tags_of}
@@ -35,11 +36,6 @@ use Rattle.pl_outline.proofs.ShownNodes.{pages_more_of}
 -- a URL has a tag
 abbrev pub url_marks : Store → List ℕ → List ℕ → Bool
 url_marks store url title = marks (page_for store url).id title (tag_rows store.items)
-
--- there is a URL, and it is this one
-abbrev pub is_url : List ℕ → Option (List ℕ) → Bool
-is_url url None = false
-is_url url (Some other) = bytes_eq other url
 
 -- one of the nodes has the URL and the tag
 abbrev pub told : List ℕ → List ℕ → List Node → Bool

@@ -1,3 +1,4 @@
+pub mod BroughtBack
 pub mod KnownTags
 pub mod Outline
 pub mod Pile

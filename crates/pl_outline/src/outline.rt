@@ -2,9 +2,10 @@
 ghost use Rattle.std.specs.Prelude.{◌≡◌, ◌++◌, IfOk, OnOk};
 ghost use Rattle.pl_base.specs.Good.{IsGood};
 ghost use Rattle.pl_base.specs.Rows.{store_of};
-ghost use Rattle.pl_base.specs.Store.{opening};
+ghost use Rattle.pl_base.specs.Store.{Store, opening};
 ghost use Rattle.pl_graft.specs.Import.{imported};
 ghost use Rattle.pl_nbwrite.specs.Plain.{IsPlain};
+ghost use Rattle.pl_outline.specs.BroughtBack.{IsBroughtBack};
 ghost use Rattle.pl_outline.specs.KnownTags.{KnowsTags};
 ghost use Rattle.pl_outline.specs.Outline as spec;
 ghost use Rattle.pl_outline.specs.Outline.{all_below, bookmarks, whole};
@@ -119,6 +120,10 @@ pub fn whole_tree<R: Rows, L: Ledger>(
     requires { IsGood (store_of (R.kept rows.now)) }
     ensures tree { IfOk result (λ tree. tree ≡ whole (store_of (R.kept rows.now))) }
     ensures whole { IfOk result IsWhole }
+
+    // A restore that puts it in place of the bookmarks of any good store gives a store with just
+    // this tree.
+    ensures restores { IfOk result (λ tree. (first : Store) → IsGood first → IsBroughtBack tree first) }
 {
     shown_tree(alloc, rows, Shown::Whole, steps)
 }

@@ -24,9 +24,12 @@ pub struct Reader {
 
 impl Reader {
     ghost use Rattle.std.specs.Prelude.{◌≡◌, ◌≤◌, ℕ, IfOk};
+    ghost use Rattle.pl_base.specs.Good.{IsGood};
     ghost use Rattle.pl_base.specs.Live.{slot_limit};
+    ghost use Rattle.pl_base.specs.Store.{Store};
     ghost use Rattle.pl_engine.specs.Returns.{Returns};
     ghost use Rattle.pl_nbwrite.specs.Plain.{IsPlain};
+    ghost use Rattle.pl_outline.specs.BroughtBack.{IsBroughtBack};
     ghost use Rattle.pl_outline.specs.Outline.{bookmarks, whole};
     ghost use Rattle.pl_outline.specs.Whole.{IsWhole};
     ghost use Rattle.pl_store.specs.Session.{reader_store, session_limit};
@@ -44,6 +47,7 @@ impl Reader {
     pub fn whole_tree(&self) -> Result<Tree, NoMemory>
         ensures tree { IfOk result (λ tree. tree ≡ whole (reader_store self.now)) }
         ensures whole { IfOk result IsWhole }
+        ensures restores { IfOk result (λ tree. (first : Store) → IsGood first → IsBroughtBack tree first) }
     {
         uncounted::whole_tree_of::<Brand>(Blank::new(1), self.alloc, &self.rows)
     }

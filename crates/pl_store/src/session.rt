@@ -32,9 +32,12 @@ pub struct Prepared {
 
 impl Session {
     ghost use Rattle.std.specs.Prelude.{◌≡◌, ◌≤◌, ℕ, false, IfOk, IfSome};
+    ghost use Rattle.pl_base.specs.Good.{IsGood};
+    ghost use Rattle.pl_base.specs.Store.{Store};
     ghost use Rattle.pl_engine.specs.Idle.{IsIdle};
     ghost use Rattle.pl_engine.specs.Returns.{Returns};
     ghost use Rattle.pl_nbwrite.specs.Plain.{IsPlain};
+    ghost use Rattle.pl_outline.specs.BroughtBack.{IsBroughtBack};
     ghost use Rattle.pl_outline.specs.Outline.{bookmarks, whole};
     ghost use Rattle.pl_outline.specs.Whole.{IsWhole};
     ghost use Rattle.pl_step.specs.Commands.{HasDates, is_change};
@@ -56,6 +59,7 @@ impl Session {
     pub fn whole_tree(&self) -> Result<Tree, NoMemory>
         ensures tree { IfOk result (λ tree. tree ≡ whole (session_store self.now)) }
         ensures whole { IfOk result IsWhole }
+        ensures restores { IfOk result (λ tree. (first : Store) → IsGood first → IsBroughtBack tree first) }
     {
         uncounted::whole_tree::<Brand>(Blank::new(1), &self.engine)
     }

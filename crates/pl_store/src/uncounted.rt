@@ -12,6 +12,7 @@ ghost use Rattle.pl_engine.specs.Returns.{Returns};
 ghost use Rattle.pl_visiting.specs.VisitPages.{AddsFewPages};
 ghost use Rattle.pl_linked.specs.Linked.{IsBase, bytes_of, kept_of, pending_of};
 ghost use Rattle.pl_nbwrite.specs.Plain.{IsPlain};
+ghost use Rattle.pl_outline.specs.BroughtBack.{IsBroughtBack};
 ghost use Rattle.pl_outline.specs.Outline.{bookmarks, whole};
 ghost use Rattle.pl_outline.specs.Whole.{IsWhole};
 ghost use Rattle.pl_reading.specs.File.{FileStandsFor, stored_bytes};
@@ -150,6 +151,7 @@ pub(crate) fn whole_tree_of<L: Ledger>(
     requires good { IsGood (store_of (kept_of rows.now)) }
     ensures tree { IfOk result (λ tree. tree ≡ whole (store_of (kept_of rows.now))) }
     ensures whole { IfOk result IsWhole }
+    ensures restores { IfOk result (λ tree. (first : Store) → IsGood first → IsBroughtBack tree first) }
 {
     pl_outline::whole_tree(alloc, rows, &mut Steps::<L>::none(blank))
 }
@@ -169,6 +171,7 @@ pub(crate) fn whole_tree<L: Ledger>(blank: Blank, engine: &Engine<Linked>) -> Re
     requires blank { IsBlankOf L.Ledger blank }
     ensures tree { IfOk result (λ tree. tree ≡ whole (store_of (kept_of engine.now.rows))) }
     ensures whole { IfOk result IsWhole }
+    ensures restores { IfOk result (λ tree. (first : Store) → IsGood first → IsBroughtBack tree first) }
 {
     engine.whole_tree(&mut Steps::<L>::none(blank))
 }

@@ -7,7 +7,7 @@ use Rattle.pl_nbread.specs.declared.tree.Tree.{Tree}
 use Rattle.pl_nbwrite.specs.Plain.{IsPlain}
 use Rattle.pl_outline.specs.Outline.{bookmarks}
 use Rattle.pl_outline.proofs.PlainTrees.{plain}
-use Rattle.pl_outline.proofs.Returned.{returned}
+use Rattle.pl_outline.proofs.Returned.{bookmarks_returned}
 use Rattle.pl_outline.proofs.outline.tree.Goals as goal
 
 pub returns-clause-plain : goal.returns-clause-plain
@@ -21,4 +21,4 @@ returns-clause-returns g c =
     let store : Store = store_of (g.R.Rows.kept c.args.rows.now) in
     let comes_back : Tree → Type 0 = λ tree. bookmarks (imported tree opening) ≡ tree in
     IfOk-weaker c.shown_tree.result (λ tree. tree ≡ bookmarks store) comes_back
-    (λ tree is. subst comes_back (sym is) (returned store c.requires)) c.shown_tree.ensures
+    (λ tree is. subst comes_back (sym is) (bookmarks_returned store c.requires)) c.shown_tree.ensures
