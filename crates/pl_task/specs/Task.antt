@@ -6,7 +6,8 @@ use Rattle.pl_base.specs.NumberText.{number_32_of, number_of}
 use Rattle.pl_drill.specs.Drill.{most_lines}
 use Rattle.pl_nbread.specs.BookmarkFile.{file_limit}
 use Rattle.pl_task.specs.declared.task.Task.{Task}
-use Rattle.pl_task.specs.declared.task.Task.TheVariants.{Try, New, Run, Import, Export, Backup, Drill}
+use Rattle.pl_task.specs.declared.task.Task.TheVariants.{Try, New, Run, Import, Export, Backup}
+use Rattle.pl_task.specs.declared.task.Task.TheVariants.{Restore, Drill}
 
 -- the bytes of the words
 abbrev pub spelled : List (Bor (List ℕ)) → List (List ℕ)
@@ -23,7 +24,8 @@ task_on_file word =
     if bytes_eq word (codes "run") then Some Run else
     if bytes_eq word (codes "import") then Some Import else
     if bytes_eq word (codes "export") then Some Export else
-    if bytes_eq word (codes "backup") then Some Backup else None
+    if bytes_eq word (codes "backup") then Some Backup else
+    if bytes_eq word (codes "restore") then Some Restore else None
 
 -- a drill of this many lines from this seed, where there are some and not too many
 abbrev pub drill_task : Option ℕ → Option ℕ → Option Task
@@ -64,6 +66,7 @@ opens_store Run = true
 opens_store Import = true
 opens_store Export = true
 opens_store Backup = true
+opens_store Restore = true
 opens_store (Drill count seed) = true
 
 -- how many bytes its input stays below, if it reads any
@@ -74,4 +77,5 @@ input_limit Run = Some script_limit
 input_limit Import = Some file_limit
 input_limit Export = None
 input_limit Backup = None
+input_limit Restore = Some file_limit
 input_limit (Drill count seed) = None

@@ -22,6 +22,8 @@ pub enum Task {
     Export,
     /// The JSON backup of the bookmarks of the store of a file.
     Backup,
+    /// A JSON backup in place of the bookmarks of the store of a file.
+    Restore,
     /// So many generated lines, drawn from a seed, on the store of a file.
     Drill(u32, u64),
 }
@@ -61,6 +63,7 @@ impl Task {
             "import" => Some(Task::Import),
             "export" => Some(Task::Export),
             "backup" => Some(Task::Backup),
+            "restore" => Some(Task::Restore),
             _ => None,
         }
     }
