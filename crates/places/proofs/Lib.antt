@@ -6,7 +6,7 @@ pub mod DrillLemmas
 mod EndingLemmas
 mod EntryLemmas
 mod ExportLemmas
-mod ImportLemmas
+mod IntakeLemmas
 mod LineLemmas
 mod LongLines
 mod OpeningLemmas
@@ -14,6 +14,7 @@ mod PieceLemmas
 pub mod ProgressLemmas
 mod RefusalLemmas
 mod ReportLemmas
+mod RestoreLemmas
 mod SaidLemmas
 mod SayingLemmas
 mod StopLemmas

@@ -40,30 +40,30 @@ Becomes answer.NoMemory e = e ≡ stop.NoMemory
 
 -- ---- tasks
 
--- which refusals an import may have: more rows than it may, no ids for pages or for items, more
--- slots than a store may take
-abbrev pub RefusesImport : Refusal → Type 0
-RefusesImport (refusals.TooMany rows) = most_rows < rows
-RefusesImport (refusals.NoIds Page) = ⊤
-RefusesImport (refusals.NoIds Visit) = ⊥
-RefusesImport (refusals.NoIds Item) = ⊤
-RefusesImport (refusals.Full slots) = slot_limit < slots
-RefusesImport refusals.BadUrl = ⊥
-RefusesImport refusals.NotRecorded = ⊥
-RefusesImport (refusals.NoVisit id) = ⊥
-RefusesImport refusals.NoPage = ⊥
-RefusesImport (refusals.NoItem id) = ⊥
-RefusesImport (refusals.NotAFolder id) = ⊥
-RefusesImport (refusals.Fixed id) = ⊥
-RefusesImport (refusals.BadPlace position len) = ⊥
-RefusesImport (refusals.Inside id) = ⊥
-RefusesImport (refusals.DayBack kept) = ⊥
-RefusesImport (refusals.BadQuery piece) = ⊥
-RefusesImport (refusals.BadLine column) = ⊥
-RefusesImport refusals.DupTag = ⊥
-RefusesImport refusals.BadDate = ⊥
-RefusesImport refusals.BadTag = ⊥
-RefusesImport refusals.NoTag = ⊥
+-- which refusals an import or a restore may have: more rows than it may, no ids for pages or for
+-- items, more slots than a store may take
+abbrev pub RefusesIntake : Refusal → Type 0
+RefusesIntake (refusals.TooMany rows) = most_rows < rows
+RefusesIntake (refusals.NoIds Page) = ⊤
+RefusesIntake (refusals.NoIds Visit) = ⊥
+RefusesIntake (refusals.NoIds Item) = ⊤
+RefusesIntake (refusals.Full slots) = slot_limit < slots
+RefusesIntake refusals.BadUrl = ⊥
+RefusesIntake refusals.NotRecorded = ⊥
+RefusesIntake (refusals.NoVisit id) = ⊥
+RefusesIntake refusals.NoPage = ⊥
+RefusesIntake (refusals.NoItem id) = ⊥
+RefusesIntake (refusals.NotAFolder id) = ⊥
+RefusesIntake (refusals.Fixed id) = ⊥
+RefusesIntake (refusals.BadPlace position len) = ⊥
+RefusesIntake (refusals.Inside id) = ⊥
+RefusesIntake (refusals.DayBack kept) = ⊥
+RefusesIntake (refusals.BadQuery piece) = ⊥
+RefusesIntake (refusals.BadLine column) = ⊥
+RefusesIntake refusals.DupTag = ⊥
+RefusesIntake refusals.BadDate = ⊥
+RefusesIntake refusals.BadTag = ⊥
+RefusesIntake refusals.NoTag = ⊥
 
 -- which tasks may end so
 abbrev pub EndsTask : Task → Status → Type 0
@@ -77,7 +77,9 @@ EndsTask task status.NotAStore = IsTrue (opens_store task)
 EndsTask task (status.NotEmpty len) = task ≡ tasks.New
 EndsTask task (status.NotBookmarks at) = task ≡ tasks.Import
 EndsTask task (status.TooLong limit) = input_limit task ≡ Some limit
-EndsTask task (status.ImportRefused refusal) = (task ≡ tasks.Import) × RefusesImport refusal
+EndsTask task (status.IntakeRefused refusal) =
+    ((task ≡ tasks.Import) ⊎ (task ≡ tasks.Restore)) × RefusesIntake refusal
+EndsTask task (status.NotBackup fault) = task ≡ tasks.Restore
 
 -- which words may end so, by what they ask for
 abbrev pub MayEnd : Option Task → Status → Type 0
@@ -159,7 +161,8 @@ EndsScript status.Usage start bytes before left said = ⊥
 EndsScript status.NotAStore start bytes before left said = ⊥
 EndsScript (status.NotEmpty len) start bytes before left said = ⊥
 EndsScript (status.NotBookmarks at) start bytes before left said = ⊥
-EndsScript (status.ImportRefused refusal) start bytes before left said = ⊥
+EndsScript (status.IntakeRefused refusal) start bytes before left said = ⊥
+EndsScript (status.NotBackup fault) start bytes before left said = ⊥
 
 -- ---- what was written
 
@@ -240,7 +243,8 @@ module _ {D : Type 0} (desk : desks.Ghosts D) where
   LeavesAtEnd status.NotAStore is_file first start bytes before left now = ⊥
   LeavesAtEnd (status.NotEmpty len) is_file first start bytes before left now = ⊥
   LeavesAtEnd (status.NotBookmarks at) is_file first start bytes before left now = ⊥
-  LeavesAtEnd (status.ImportRefused refusal) is_file first start bytes before left now = ⊥
+  LeavesAtEnd (status.IntakeRefused refusal) is_file first start bytes before left now = ⊥
+  LeavesAtEnd (status.NotBackup fault) is_file first start bytes before left now = ⊥
 
   -- ---- a new store
 
@@ -269,7 +273,8 @@ module _ {D : Type 0} (desk : desks.Ghosts D) where
   EndsNew status.NotAStore old new = ⊥
   EndsNew (status.NotBookmarks at) old new = ⊥
   EndsNew (status.TooLong limit) old new = ⊥
-  EndsNew (status.ImportRefused refusal) old new = ⊥
+  EndsNew (status.IntakeRefused refusal) old new = ⊥
+  EndsNew (status.NotBackup fault) old new = ⊥
 
 -- ---- a file that is no store
 

@@ -3,12 +3,13 @@ pub mod Completeness
 pub mod Drilling
 pub mod Ending
 pub mod Exporting
-pub mod Importing
 pub mod Limits
 pub mod Lines
 pub mod Progress
 pub mod Reporting
+pub mod Restoring
 pub mod Said
 pub mod Serving
 pub mod Status
 pub mod Stops
+pub mod TakingIn

@@ -1,6 +1,9 @@
 -- Exit statuses.
 use Rattle.std.specs.Prelude.{◌≡◌, ⊤, ℕ, Option, Some, None, Result, Ok, Err}
+use Rattle.pl_backup.specs.BackupTree.{fault_number}
 use Rattle.pl_base.specs.Refusal.{refusal_number}
+use Rattle.pl_intake.specs.declared.error.IntakeError.{IntakeError}
+use Rattle.pl_intake.specs.declared.error.IntakeError.TheVariants as intake
 use Rattle.pl_store.specs.declared.ended.Ended.{Ended}
 use Rattle.pl_store.specs.declared.ended.Ended.TheVariants as ended
 use Rattle.places.specs.declared.answer_error.AnswerError.{AnswerError}
@@ -9,7 +12,7 @@ use Rattle.places.specs.declared.status.Status.{Status}
 use Rattle.places.specs.declared.status.Status.TheVariants.{Done, Usage, ReadFault, SayFault}
 use Rattle.places.specs.declared.status.Status.TheVariants.{DeviceFault, NoMemory, NotAStore}
 use Rattle.places.specs.declared.status.Status.TheVariants.{NotEmpty, NotBookmarks, TooLong}
-use Rattle.places.specs.declared.status.Status.TheVariants.{ImportRefused}
+use Rattle.places.specs.declared.status.Status.TheVariants.{IntakeRefused, NotBackup}
 use Rattle.places.specs.declared.stop.Stop.{Stop}
 use Rattle.places.specs.declared.stop.Stop.TheVariants as stop
 use Rattle.pl_task.specs.Task.{script_limit}
@@ -26,7 +29,8 @@ status_number NotAStore = 7
 status_number (NotEmpty len) = 8
 status_number (NotBookmarks at) = 9
 status_number (TooLong read) = 10
-status_number (ImportRefused refusal) = 11
+status_number (IntakeRefused refusal) = 11
+status_number (NotBackup fault) = 13
 
 -- the number that a status tells besides
 abbrev pub status_value : Status → Option ℕ
@@ -40,7 +44,8 @@ status_value NotAStore = None
 status_value (NotEmpty len) = Some len
 status_value (NotBookmarks at) = Some at
 status_value (TooLong read) = Some read
-status_value (ImportRefused refusal) = Some (refusal_number refusal)
+status_value (IntakeRefused refusal) = Some (refusal_number refusal)
+status_value (NotBackup fault) = Some (fault_number fault)
 
 -- the status of a run that stopped
 abbrev pub EndsIn : Stop → Status → Type 0
@@ -62,13 +67,19 @@ without_session ended.NoMemory = NoMemory
 without_session ended.NotAStore = NotAStore
 without_session (ended.NotEmpty len) = NotEmpty len
 
--- the status of an import whose answer failed
+-- the status of an intake whose input holds no tree
+abbrev pub intake_status : IntakeError → Status
+intake_status (intake.NotBookmarks at) = NotBookmarks at
+intake_status (intake.NotBackup fault) = NotBackup fault
+intake_status intake.NoMemory = NoMemory
+
+-- the status of an intake whose answer failed
 abbrev pub answer_status : AnswerError → Status
 answer_status answer.SayFault = SayFault
 answer_status answer.DeviceFault = DeviceFault
 answer_status answer.NoMemory = NoMemory
 
--- the status that an import stopped with, or Done
+-- the status that an intake stopped with, or Done
 abbrev pub done_or : Result ⊤ Status → Status
 done_or (Ok done) = Done
 done_or (Err status) = status

@@ -10,8 +10,8 @@ mod answer_error;
 mod backup;
 mod drill;
 mod export;
-mod import;
 mod input;
+mod intake;
 mod make_store;
 mod report;
 mod run_script;
@@ -34,17 +34,19 @@ ghost use Rattle.places.specs.Drilling.{EndsDrill, OfDrill, ShowsDrill};
 ghost use Rattle.places.specs.Ending.{EndsNew, EndsScript, EndsUnopened, LeavesAtEnd, MayEnd};
 ghost use Rattle.places.specs.Ending.{OfRun, OfScript, WritesRead};
 ghost use Rattle.places.specs.Exporting.{ComesBack, export_text};
-ghost use Rattle.places.specs.Importing.{EndsImport, OfImport, ShowsImport};
 ghost use Rattle.places.specs.Reporting.{EndsReport, OfReport, ShowsReport, stored_backup};
+ghost use Rattle.places.specs.Restoring.{BringsBack};
 ghost use Rattle.places.specs.Stops.{ShowsAnswered, ShowsRun, ShowsUnopened};
+ghost use Rattle.places.specs.TakingIn.{EndsIntake, OfIntake, ShowsIntake};
 ghost use Rattle.pl_task.specs.Task.{asked_of, input_limit, opens_store};
 
 use crate::drill::drill_stored;
-use crate::import::import_stored;
+use crate::intake::intake_stored;
 use crate::make_store::make_store;
 use crate::report::{Report, report_stored};
 use crate::script::{run_stored, try_script};
 use pl_desk::{Desk, Source};
+use pl_intake::Intake;
 use pl_task::Task;
 pub use status::Status;
 use std::alloc::Global;
@@ -55,9 +57,11 @@ use std::alloc::Global;
 /// line as it comes, and the file of `run` holds a command before a byte of its reply is said.
 /// `import` puts the bookmark file of the input into the store that the file holds, as one command,
 /// and says its reply. `export` says the bookmark file of the store that the file holds, and
-/// `backup` its JSON backup. `drill` runs a line that says the day and so many generated ones, each
-/// committed as those of `run` are, and says a summary once the file holds them all. `NoMemory` may
-/// come at any place: then nothing of its command was said or is in the file.
+/// `backup` its JSON backup. `restore` puts the JSON backup of the input in the place of the
+/// bookmarks of the store that the file holds, as `import` does. `drill` runs a line that says the
+/// day and so many generated ones, each committed as those of `run` are, and says a summary once
+/// the file holds them all. `NoMemory` may come at any place: then nothing of its command was said
+/// or is in the file.
 pub fn run<S: Source, D: Desk>(alloc: Global, words: &[&str], input: &mut S, desk: &mut D) -> Status
     // Which words may end so. Others are refused, and then nothing is called.
     ensures status { MayEnd (asked_of words.now) result }
@@ -104,14 +108,28 @@ pub fn run<S: Source, D: Desk>(alloc: Global, words: &[&str], input: &mut S, des
     // at any other end but a failed line or file nothing was said, and the file holds the store
     // before. A stop at any moment leaves one of the two, and the one after it where a byte of the
     // reply was said.
-    ensures imports { OfImport S.Source D.Desk (asked_of words.now) input.old desk.old
-        (λ start bytes before.
-        EndsImport D.Desk result desk.old start bytes before (S.left input.new) desk.new) }
-    ensures import_stops { OfImport S.Source D.Desk (asked_of words.now) input.old desk.old
-        (λ start bytes before.
+    ensures imports { OfIntake S.Source D.Desk Intake.Import (asked_of words.now) input.old desk.old
+        (λ start bytes before. EndsIntake D.Desk Intake.Import
+        result desk.old start bytes before (S.left input.new) desk.new) }
+    ensures import_stops { OfIntake S.Source D.Desk Intake.Import (asked_of words.now)
+        input.old desk.old (λ start bytes before.
         ShowsThen D.Desk (result ≡ Status.DeviceFault) desk.old desk.new
         (ShowsUnopened D.Desk desk.old before)
-        (ShowsImport D.Desk start bytes before)) }
+        (ShowsIntake D.Desk Intake.Import start bytes before)) }
+
+    // A restore is one command too, and leaves and shows the same. Done, it brings back the whole
+    // tree of a good store from that store's backup, where no node stands too deep.
+    ensures restores { OfIntake S.Source D.Desk Intake.Restore (asked_of words.now)
+        input.old desk.old (λ start bytes before. EndsIntake D.Desk Intake.Restore
+        result desk.old start bytes before (S.left input.new) desk.new) }
+    ensures restore_stops { OfIntake S.Source D.Desk Intake.Restore (asked_of words.now)
+        input.old desk.old (λ start bytes before.
+        ShowsThen D.Desk (result ≡ Status.DeviceFault) desk.old desk.new
+        (ShowsUnopened D.Desk desk.old before)
+        (ShowsIntake D.Desk Intake.Restore start bytes before)) }
+    ensures restore_returns { result ≡ Status.Done
+        → OfIntake S.Source D.Desk Intake.Restore (asked_of words.now) input.old desk.old
+        (λ start bytes before. BringsBack start bytes) }
 
     // `export` says the bookmark file of the store, which the file stands for throughout; into a
     // file in which no stop left a change it writes no byte. What it says holds all bookmarks of
@@ -188,9 +206,10 @@ pub fn run<S: Source, D: Desk>(alloc: Global, words: &[&str], input: &mut S, des
         Task::Try => try_script(alloc, input, desk),
         Task::New => make_store(alloc, desk),
         Task::Run => run_stored(alloc, input, desk),
-        Task::Import => import_stored(alloc, input, desk),
+        Task::Import => intake_stored(alloc, Intake::Import, input, desk),
         Task::Export => report_stored(alloc, Report::Export, desk),
         Task::Backup => report_stored(alloc, Report::Backup, desk),
+        Task::Restore => intake_stored(alloc, Intake::Restore, input, desk),
         Task::Drill(count, seed) => drill_stored(alloc, count, seed, desk),
     }
 }

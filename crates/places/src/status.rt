@@ -3,7 +3,9 @@ ghost use Rattle.places.specs.Status.{status_number, status_value};
 
 use crate::answer_error::AnswerError;
 use crate::stop::Stop;
+use pl_backup::Fault;
 use pl_base::{NoMemory as OutOfMemory, Refusal};
+use pl_intake::IntakeError;
 use pl_store::Ended;
 use pl_task::SCRIPT_LIMIT;
 use std::alloc::AllocError;
@@ -30,8 +32,10 @@ pub enum Status {
     NotBookmarks(u64),
     /// The bytes read reached this limit.
     TooLong(u64),
-    /// The bookmarks were not imported, for this reason.
-    ImportRefused(Refusal),
+    /// The bookmarks were not brought into the store, for this reason.
+    IntakeRefused(Refusal),
+    /// The bytes of the input are no backup, for this reason.
+    NotBackup(Fault),
 }
 
 impl Status {
@@ -50,11 +54,12 @@ impl Status {
             Status::NotEmpty(_) => 8,
             Status::NotBookmarks(_) => 9,
             Status::TooLong(_) => 10,
-            Status::ImportRefused(_) => 11,
+            Status::IntakeRefused(_) => 11,
+            Status::NotBackup(_) => 13,
         }
     }
 
-    /// The number that the status tells besides: of a refusal its own number.
+    /// The number that the status tells besides: of a refusal and a fault its own number.
     pub fn value(&self) -> Option<u64>
         ensures { result ≡ status_value self.now }
     {
@@ -62,7 +67,8 @@ impl Status {
             Status::NotEmpty(value) | Status::NotBookmarks(value) | Status::TooLong(value) => {
                 Some(*value)
             }
-            Status::ImportRefused(refusal) => Some(u64::from(refusal.number())),
+            Status::IntakeRefused(refusal) => Some(u64::from(refusal.number())),
+            Status::NotBackup(fault) => Some(fault.number()),
             Status::Done
             | Status::Usage
             | Status::ReadFault
@@ -117,6 +123,21 @@ impl From<AnswerError> for Status {
             AnswerError::SayFault => Status::SayFault,
             AnswerError::DeviceFault => Status::DeviceFault,
             AnswerError::NoMemory => Status::NoMemory,
+        }
+    }
+}
+
+impl From<IntakeError> for Status {
+    ghost use Rattle.std.specs.Prelude.{◌≡◌};
+    ghost use Rattle.places.specs.Status.{intake_status};
+
+    ghost from_gives = { λ error status. status ≡ intake_status error };
+
+    fn from(error: IntakeError) -> Self {
+        match error {
+            IntakeError::NotBookmarks(at) => Status::NotBookmarks(at),
+            IntakeError::NotBackup(fault) => Status::NotBackup(fault),
+            IntakeError::NoMemory => Status::NoMemory,
         }
     }
 }

@@ -5,11 +5,15 @@ use Rattle.pl_task.specs.declared.task.Task.{Task}
 use Rattle.pl_task.specs.declared.task.Task.TheVariants as tasks
 use Rattle.places.specs.Ending.{BeginsWith}
 use Rattle.pl_task.specs.Task.{asked_of, spelled}
+use Rattle.pl_intake.specs.declared.intake.Intake.TheVariants.{Import, Restore}
+use Rattle.places.specs.declared.status.Status.{Status}
 use Rattle.places.specs.Exporting.{export_text}
 use Rattle.places.specs.Reporting.{stored_backup}
-use Rattle.places.proofs.CompletenessLemmas.{drill_done, import_done, new_done, none_failed, of_task}
+use Rattle.places.specs.TakingIn.{EndsIntake}
+use Rattle.places.proofs.CompletenessLemmas.{drill_done, intake_complete, new_done, none_failed, of_task}
 use Rattle.places.proofs.CompletenessLemmas.{report_complete, script_done}
 use Rattle.places.proofs.DrillLemmas.{few_lines, same_drill}
+use Rattle.places.proofs.RestoreLemmas.{brings_back}
 use Rattle.places.proofs.OpeningLemmas.{begins_in_memory, begins_on_file, says_at_end}
 use Rattle.places.proofs.run.Goals as goal
 
@@ -58,7 +62,18 @@ returns-in-Run-clause-stops g c = λ kind start begins bytes before told begun.
 
 pub returns-in-Import-clause-import_stops : goal.returns-in-Import-clause-import_stops
 returns-in-Import-clause-import_stops g c = λ asked start held bytes before told begun.
-    c.import_stored.ensures.stops held.0 start held.1 held.2 bytes before told begun
+    c.intake_stored.ensures.stops held.0 start held.1 held.2 bytes before told begun
+
+pub returns-in-Restore-clause-restore_stops : goal.returns-in-Restore-clause-restore_stops
+returns-in-Restore-clause-restore_stops g c = λ asked start held bytes before told begun.
+    c.intake_stored-in-Restore.ensures.stops held.0 start held.1 held.2 bytes before told begun
+
+pub returns-in-Restore-clause-restore_returns : goal.returns-in-Restore-clause-restore_returns
+returns-in-Restore-clause-restore_returns g c = λ done asked start held bytes before told begun. let desk = g.D.Desk in
+    brings_back start bytes held.0 held.2
+    (subst (λ (s : Status). EndsIntake desk Restore s c.args.desk.now start bytes before
+    (g.S.Source.left c.intake_stored-in-Restore.new.input) c.intake_stored-in-Restore.new.desk) done
+    (c.intake_stored-in-Restore.ensures.ends held.0 start held.1 held.2 bytes before told begun)).0.0
 
 pub returns-in-Export-clause-export_stops : goal.returns-in-Export-clause-export_stops
 returns-in-Export-clause-export_stops g c = λ asked start held before begun.
@@ -145,21 +160,25 @@ returns-in-Run-clause-complete g c = λ task wanted nothing.
 
 pub returns-in-Import-clause-complete : goal.returns-in-Import-clause-complete
 returns-in-Import-clause-complete g c = λ task wanted nothing.
-    let source = g.S.Source in let desk = g.D.Desk in let did = c.import_stored.ensures in
-    let old = c.args.desk.now in let new = c.import_stored.new.desk in
+    let source = g.S.Source in let desk = g.D.Desk in let did = c.intake_stored.ensures in
+    let old = c.args.desk.now in let new = c.intake_stored.new.desk in
     let asked : asked_of c.args.words.now ≡ Some tasks.Import =
     sym c.of.ensures ∙ c.in-Some.is ∙ ap (λ (t : Task). Some t) c.in-Import.is in
     let fails = of_task source desk tasks.Import task (asked_of c.args.words.now) c.args.input.now old
-    c.import_stored.new.input new asked wanted nothing in
-    let say = none_failed (desk.line_faults old) (desk.line_faults new) did.counted.says fails.says in
-    let call = none_failed (desk.device_faults old) (desk.device_faults new) did.counted.device fails.calls in
-    let said = some_there (desk.said old) fails.told in
-    let read = none_failed (source.faults c.args.input.now) (source.faults c.import_stored.new.input) did.reads_counted
-    fails.reads in
-    let left = source.left c.import_stored.new.input in let start = fails.needs.0 in let held = fails.needs.1 in
-    let file = fails.needs.2 in
-    import_done desk c.import_stored.result old start file.0 said.0 left new file.2 read say call
-    (did.ends held.0 start held.1 held.2 file.0 said.0 file.1 said.1)
+    c.intake_stored.new.input new asked wanted nothing in
+    intake_complete desk source Import tasks.Import c.intake_stored.result c.args.input.now old c.intake_stored.new.input new did.reads_counted
+    did.counted did.ends fails.needs fails
+
+pub returns-in-Restore-clause-complete : goal.returns-in-Restore-clause-complete
+returns-in-Restore-clause-complete g c = λ task wanted nothing.
+    let source = g.S.Source in let desk = g.D.Desk in let did = c.intake_stored-in-Restore.ensures in
+    let old = c.args.desk.now in let new = c.intake_stored-in-Restore.new.desk in
+    let asked : asked_of c.args.words.now ≡ Some tasks.Restore =
+    sym c.of.ensures ∙ c.in-Some.is ∙ ap (λ (t : Task). Some t) c.in-Restore.is in
+    let fails = of_task source desk tasks.Restore task (asked_of c.args.words.now) c.args.input.now old
+    c.intake_stored-in-Restore.new.input new asked wanted nothing in
+    intake_complete desk source Restore tasks.Restore c.intake_stored-in-Restore.result c.args.input.now old c.intake_stored-in-Restore.new.input new did.reads_counted
+    did.counted did.ends fails.needs fails
 
 pub returns-in-Export-clause-complete : goal.returns-in-Export-clause-complete
 returns-in-Export-clause-complete g c = λ task wanted nothing.
@@ -212,7 +231,11 @@ returns-in-Run-clause-ends g c = λ kind start begins bytes before told begun.
 
 pub returns-in-Import-clause-imports : goal.returns-in-Import-clause-imports
 returns-in-Import-clause-imports g c = λ asked start held bytes before told begun.
-    c.import_stored.ensures.ends held.0 start held.1 held.2 bytes before told begun
+    c.intake_stored.ensures.ends held.0 start held.1 held.2 bytes before told begun
+
+pub returns-in-Restore-clause-restores : goal.returns-in-Restore-clause-restores
+returns-in-Restore-clause-restores g c = λ asked start held bytes before told begun.
+    c.intake_stored-in-Restore.ensures.ends held.0 start held.1 held.2 bytes before told begun
 
 pub returns-in-Export-clause-exports : goal.returns-in-Export-clause-exports
 returns-in-Export-clause-exports g c = λ asked start held before begun.

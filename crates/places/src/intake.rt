@@ -1,47 +1,49 @@
-// The bookmarks of the input, imported into the store of the file.
-ghost use Rattle.std.specs.Prelude.{◌≡◌, ◌<◌, ℕ, List, Some, None, [], Err, length, true, IfOk};
-ghost use Rattle.std.specs.Prelude.{IfErr};
+// What the input holds, brought into the store of the file: an import or a restore.
+ghost use Rattle.std.specs.Prelude.{◌≡◌, ◌<◌, ℕ, List, Some, [], Err, length, true, IfOk, IfErr};
 ghost use Rattle.pl_base.specs.Live.{slot_limit};
 ghost use Rattle.pl_base.specs.Store.{Store};
 ghost use Rattle.pl_desk.specs.Counts.{CountsAt};
 ghost use Rattle.pl_desk.specs.Settling.{ShowsThen};
 ghost use Rattle.pl_desk.specs.Shown.{ShowsOnly};
-ghost use Rattle.pl_nbread.specs.BookmarkFile.{file_limit, offset};
-ghost use Rattle.pl_nbread.specs.BookmarkTree.{tree_of};
-ghost use Rattle.pl_nbread.specs.WellFormed.{AreWellFormed};
+ghost use Rattle.pl_nbread.specs.BookmarkFile.{file_limit};
 ghost use Rattle.pl_step.specs.Commands.{HasDates};
 ghost use Rattle.pl_store.specs.Ending.{KeepsFinished, RefusesFile, StandsForNone};
 ghost use Rattle.pl_store.specs.Keeper.{IsKept, is_file, keeper_limit, keeper_store};
 ghost use Rattle.pl_store.specs.Session.{Stands};
 ghost use Rattle.places.specs.Ending.{EndsTask, EndsUnopened, IfTold};
-ghost use Rattle.places.specs.Importing.{EndsImport, Imports, IsImport, LeavesRead, ShowsImport};
-ghost use Rattle.places.specs.Importing.{StopsCommit, StopsImport, StopsParsing, StopsReading};
 ghost use Rattle.places.specs.Status.{done_or};
 ghost use Rattle.places.specs.Stops.{ShowsUnopened};
 ghost use Rattle.places.specs.Serving.{CountsFaults};
+ghost use Rattle.places.specs.TakingIn.{BringsIn, EndsIntake, IsIntake, LeavesRead, ShowsIntake};
+ghost use Rattle.places.specs.TakingIn.{StopsCommit, StopsIntake, StopsReading, intake_task};
 
 use crate::answer::conclude;
 use crate::input::{PIECE, next_piece};
 use crate::status::Status;
 use pl_desk::{Desk, Source};
-use pl_nbread::{FILE_LIMIT, ReadError, Tree, read};
+use pl_intake::Intake;
+use pl_nbread::FILE_LIMIT;
 use pl_step::{Command, Reply};
 use pl_store::{Keeper, SLOT_LIMIT, reopen};
-use pl_task::Task;
 use std::alloc::Global;
 
-/// Imports the bookmark file that the input holds into the store that the desk's file stands for.
-pub fn import_stored<S: Source, D: Desk>(alloc: Global, input: &mut S, desk: &mut D) -> Status
-    ensures status { EndsTask Task.Import result }
+/// Brings what the input holds into the store that the desk's file stands for.
+pub fn intake_stored<S: Source, D: Desk>(
+    alloc: Global,
+    intake: Intake,
+    input: &mut S,
+    desk: &mut D,
+) -> Status
+    ensures status { EndsTask (intake_task intake) result }
     ensures ends { (file : List ℕ) (start : Store) → D.held desk.old ≡ Some file → Stands file start
         → IfTold (S.left input.old) (D.said desk.old) (λ bytes before.
-        EndsImport D.Desk result desk.old start bytes before (S.left input.new) desk.new) }
+        EndsIntake D.Desk intake result desk.old start bytes before (S.left input.new) desk.new) }
     ensures stops { (file : List ℕ) (start : Store) → D.held desk.old ≡ Some file
         → Stands file start
         → IfTold (S.left input.old) (D.said desk.old) (λ bytes before.
         ShowsThen D.Desk (result ≡ Status.DeviceFault) desk.old desk.new
         (ShowsUnopened D.Desk desk.old before)
-        (ShowsImport D.Desk start bytes before)) }
+        (ShowsIntake D.Desk intake start bytes before)) }
     ensures refused { result ≡ Status.NotAStore
         → RefusesFile D.Desk desk.old desk.new × KeepsFinished D.Desk desk.old desk.new }
     ensures not_run { result ≡ Status.NotAStore
@@ -54,7 +56,7 @@ pub fn import_stored<S: Source, D: Desk>(alloc: Global, input: &mut S, desk: &mu
         (result ≡ Status.DeviceFault) desk.old desk.new }
 {
     match reopen(alloc, desk, SLOT_LIMIT) {
-        Ok(session) => status_of(import(alloc, Keeper::File(session), input, desk)),
+        Ok(session) => status_of(take_in(alloc, intake, Keeper::File(session), input, desk)),
         Err(ended) => Status::from(ended),
     }
 }
@@ -68,9 +70,10 @@ fn status_of(ended: Result<(), Status>) -> Status
     }
 }
 
-// Reads the input to its end, and imports it.
-fn import<S: Source, D: Desk>(
+// Reads the input to its end, and brings in what it holds.
+fn take_in<S: Source, D: Desk>(
     alloc: Global,
+    intake: Intake,
     keeper: Keeper,
     input: &mut S,
     desk: &mut D,
@@ -78,26 +81,25 @@ fn import<S: Source, D: Desk>(
     requires limit { keeper_limit keeper ≡ slot_limit }
     requires file { is_file keeper ≡ true }
     ensures ends { IfTold (S.left input.old) (D.said desk.old) (λ bytes before. (first : D)
-        → IsKept D.Desk keeper first desk.old → EndsImport D.Desk (done_or result) first
+        → IsKept D.Desk keeper first desk.old → EndsIntake D.Desk intake (done_or result) first
         (keeper_store keeper) bytes before (S.left input.new) desk.new) }
     ensures shows { IfTold (S.left input.old) (D.said desk.old) (λ bytes before. (first : D)
         → IsKept D.Desk keeper first desk.old → ShowsOnly D.Desk desk.old desk.new
-        (ShowsImport D.Desk (keeper_store keeper) bytes before)) }
-    ensures stops { IfErr result StopsImport }
+        (ShowsIntake D.Desk intake (keeper_store keeper) bytes before)) }
+    ensures stops { IfErr result (StopsIntake intake) }
     ensures reads_counted { CountsAt (result ≡ Err Status.ReadFault) (S.faults input.old)
         (S.faults input.new) }
     ensures counted { CountsFaults D.Desk (result ≡ Err Status.SayFault)
         (result ≡ Err Status.DeviceFault) desk.old desk.new }
 {
     let bytes = read_all(alloc, input)?;
-    let tree = tree_of(alloc, &bytes)?;
-    let command = Command::Import(tree);
+    let command = intake.read(alloc, &bytes)?;
     let committed = commit(alloc, keeper, &command, desk);
     drop(command);
     committed
 }
 
-// The whole input, which has to stay below the limit of a bookmark file.
+// The whole input, which has to stay below the limit of a bookmark file, and of a backup too.
 fn read_all<S: Source>(alloc: Global, input: &mut S) -> Result<Vec<u8>, Status>
     ensures whole { IfOk result (λ read. (bytes : List ℕ) → S.left input.old ≡ Some bytes
         → (read.items ≡ bytes) × (S.left input.new ≡ Some [])) }
@@ -121,40 +123,26 @@ fn read_all<S: Source>(alloc: Global, input: &mut S) -> Result<Vec<u8>, Status>
     }
 }
 
-// The tree that a bookmark file holds.
-fn tree_of(alloc: Global, bytes: &[u8]) -> Result<Tree, Status>
-    requires short { length bytes.now < file_limit }
-    ensures tree { IfOk result (λ tree. tree ≡ tree_of bytes.now) }
-    ensures bookmarks { IfOk result (λ _. offset bytes.now ≡ None) }
-    ensures formed { IfOk result AreWellFormed }
-    ensures stops { IfErr result (StopsParsing bytes.now) }
-{
-    match read(alloc, bytes) {
-        Ok(tree) => Ok(tree),
-        Err(ReadError::NotBookmarks(at)) => Err(Status::NotBookmarks(at)),
-        Err(ReadError::NoMemory) => Err(Status::NoMemory),
-    }
-}
-
-// Performs the import, unless it is refused, and says its reply behind the file's taking it.
+// Performs the command, unless it is refused, and says its reply behind the file's taking it.
 fn commit<D: Desk>(
     alloc: Global,
     keeper: Keeper,
     command: &Command,
     desk: &mut D,
 ) -> Result<(), Status>
-    requires import { IsImport command.now }
+    requires intake { IsIntake command.now }
     requires dates { HasDates command.now }
     requires limit { keeper_limit keeper ≡ slot_limit }
     requires file { is_file keeper ≡ true }
-    ensures ends { (bytes before : List ℕ) (first : D) → Imports command.now bytes
-        → D.said desk.old ≡ Some before → IsKept D.Desk keeper first desk.old
-        → EndsImport D.Desk (done_or result) first (keeper_store keeper) bytes before (Some [])
-        desk.new }
-    ensures shows { (bytes before : List ℕ) (first : D) → Imports command.now bytes
-        → D.said desk.old ≡ Some before → IsKept D.Desk keeper first desk.old
-        → ShowsOnly D.Desk desk.old desk.new
-        (ShowsImport D.Desk (keeper_store keeper) bytes before) }
+    ensures ends { (intake : Intake) (bytes before : List ℕ) (first : D)
+        → BringsIn intake command.now bytes → D.said desk.old ≡ Some before
+        → IsKept D.Desk keeper first desk.old
+        → EndsIntake D.Desk intake (done_or result) first (keeper_store keeper) bytes before
+        (Some []) desk.new }
+    ensures shows { (intake : Intake) (bytes before : List ℕ) (first : D)
+        → BringsIn intake command.now bytes → D.said desk.old ≡ Some before
+        → IsKept D.Desk keeper first desk.old → ShowsOnly D.Desk desk.old desk.new
+        (ShowsIntake D.Desk intake (keeper_store keeper) bytes before) }
     ensures stops { IfErr result StopsCommit }
     ensures counted { CountsFaults D.Desk (result ≡ Err Status.SayFault)
         (result ≡ Err Status.DeviceFault) desk.old desk.new }
@@ -162,7 +150,7 @@ fn commit<D: Desk>(
     let (ready, reply) = keeper.prepare(command)?;
     if let Reply::Refused(refusal) = reply {
         drop(reply);
-        return Err(Status::ImportRefused(refusal));
+        return Err(Status::IntakeRefused(refusal));
     }
     let concluded = conclude(alloc, ready, &reply, desk);
     drop(reply);

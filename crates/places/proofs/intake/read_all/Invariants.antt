@@ -1,7 +1,7 @@
 use Rattle.std.specs.Option.{option_map}
 use Rattle.std.proofs.Common.{◌≡◌, ◌<◌, ◌-◌, ◌++◌, length}
 use Rattle.pl_nbread.specs.BookmarkFile.{file_limit}
-use Rattle.places.proofs.import.read_all.Given as goal
+use Rattle.places.proofs.intake.read_all.Given as goal
 
 -- the bytes so far are a front of the input, and fewer than the limit
 abbrev pub invariant-loop-bytes : goal.invariant-loop-bytes

@@ -1,21 +1,21 @@
 use Rattle.std.proofs.lemmas.Result.{err_from_is_err_and}
 use Rattle.pl_store.specs.Keeper.{keeper_store}
 use Rattle.places.proofs.AnswerCounts.{stood}
-use Rattle.places.proofs.ImportLemmas.{ends_parsing, ends_read, imports_tree, reads_none, shows_begun, stays}
-use Rattle.places.proofs.import.import.Goals as goal
+use Rattle.places.proofs.IntakeLemmas.{brings_in, ends_parsing, ends_read, reads_none, shows_begun, stays}
+use Rattle.places.proofs.intake.take_in.Goals as goal
 
 -- a reading that stopped
 pub returns-in_err-bytes-clause-ends : goal.returns-in_err-bytes-clause-ends
 returns-in_err-bytes-clause-ends g c =
     let p = err_from_is_err_and c.from_residual.result c.from_residual.ensures.1 in
     rw (p.1, p.2) (λ bytes before told begun first kept. let desk = g.D.Desk in
-    ends_read desk _ first (keeper_store c.args.keeper) bytes before (g.S.Source.left c.read_all.new.input)
+    ends_read desk c.args.intake _ first (keeper_store c.args.keeper) bytes before (g.S.Source.left c.read_all.new.input)
     c.args.desk.now (c.in_err-bytes.ensures.left bytes told)
     (stays desk c.args.keeper first c.args.desk.now before c.requires.file begun kept))
 
 pub returns-in_err-bytes-clause-shows : goal.returns-in_err-bytes-clause-shows
 returns-in_err-bytes-clause-shows g c bytes before told begun first kept =
-    shows_begun g.D.Desk g.met.D.Desk.only_now c.args.keeper first c.args.desk.now bytes before c.requires.file begun
+    shows_begun g.D.Desk c.args.intake g.met.D.Desk.only_now c.args.keeper first c.args.desk.now bytes before c.requires.file begun
     kept
 
 pub returns-in_err-bytes-clause-reads_counted : goal.returns-in_err-bytes-clause-reads_counted
@@ -29,36 +29,36 @@ returns-in_err-bytes-clause-reads_counted g c =
     })
 
 -- bytes that hold no tree
-pub returns-in_err-tree-clause-ends : goal.returns-in_err-tree-clause-ends
-returns-in_err-tree-clause-ends g c =
-    let p = err_from_is_err_and c.from_residual-in_err-tree.result c.from_residual-in_err-tree.ensures.1 in
+pub returns-in_err-command-clause-ends : goal.returns-in_err-command-clause-ends
+returns-in_err-command-clause-ends g c =
+    let p = err_from_is_err_and c.from_residual-in_err-command.result c.from_residual-in_err-command.ensures.1 in
     rw (p.1, p.2) (λ bytes before told begun first kept. let desk = g.D.Desk in
     let whole = c.in_ok-bytes.ensures.whole bytes told in
-    ends_parsing desk _ first (keeper_store c.args.keeper) c.in_ok-bytes.bytes.items bytes before
+    ends_parsing desk c.args.intake _ first (keeper_store c.args.keeper) c.in_ok-bytes.bytes.items bytes before
     (g.S.Source.left c.read_all.new.input) c.args.desk.now
-    (rw c.deref.ensures.value at c.in_err-tree.ensures.stops) whole c.in_ok-bytes.ensures.short
+    (rw c.deref.ensures.value at c.in_err-command.ensures.stops) whole c.in_ok-bytes.ensures.short
     (stays desk c.args.keeper first c.args.desk.now before c.requires.file begun kept))
 
-pub returns-in_err-tree-clause-shows : goal.returns-in_err-tree-clause-shows
-returns-in_err-tree-clause-shows g c bytes before told begun first kept =
-    shows_begun g.D.Desk g.met.D.Desk.only_now c.args.keeper first c.args.desk.now bytes before c.requires.file begun
+pub returns-in_err-command-clause-shows : goal.returns-in_err-command-clause-shows
+returns-in_err-command-clause-shows g c bytes before told begun first kept =
+    shows_begun g.D.Desk c.args.intake g.met.D.Desk.only_now c.args.keeper first c.args.desk.now bytes before c.requires.file begun
     kept
 
 -- the commit
 pub returns-clause-ends : goal.returns-clause-ends
 returns-clause-ends g c bytes before told begun first kept =
     let whole = c.in_ok-bytes.ensures.whole bytes told in
-    rw whole.1 (c.commit-committed.ensures.ends bytes before first
-    (imports_tree c.in_ok-tree.tree c.in_ok-bytes.bytes.items bytes whole.0
-    (rw c.deref.ensures.value at c.in_ok-tree.ensures.tree) (rw c.deref.ensures.value at c.in_ok-tree.ensures.bookmarks)
+    rw whole.1 (c.commit-committed.ensures.ends c.args.intake bytes before first
+    (brings_in c.args.intake c.in_ok-command.command c.in_ok-bytes.bytes.items bytes whole.0
+    (rw c.deref.ensures.value at c.in_ok-command.ensures.command) (rw c.deref.ensures.value at c.in_ok-command.ensures.holds)
     c.in_ok-bytes.ensures.short) begun kept)
 
 pub returns-clause-shows : goal.returns-clause-shows
 returns-clause-shows g c bytes before told begun first kept =
     let whole = c.in_ok-bytes.ensures.whole bytes told in
-    c.commit-committed.ensures.shows bytes before first
-    (imports_tree c.in_ok-tree.tree c.in_ok-bytes.bytes.items bytes whole.0
-    (rw c.deref.ensures.value at c.in_ok-tree.ensures.tree) (rw c.deref.ensures.value at c.in_ok-tree.ensures.bookmarks)
+    c.commit-committed.ensures.shows c.args.intake bytes before first
+    (brings_in c.args.intake c.in_ok-command.command c.in_ok-bytes.bytes.items bytes whole.0
+    (rw c.deref.ensures.value at c.in_ok-command.ensures.command) (rw c.deref.ensures.value at c.in_ok-command.ensures.holds)
     c.in_ok-bytes.ensures.short) begun kept
 
 pub returns-clause-reads_counted : goal.returns-clause-reads_counted

@@ -1,8 +1,8 @@
 use Rattle.std.proofs.Common.{◌≡◌, ◌<◌, arith, inl, inr, refl}
 use Rattle.std.proofs.lemmas.Result.{err_from_is_err_and}
 use Rattle.pl_nbread.specs.BookmarkFile.{file_limit}
-use Rattle.places.proofs.ImportLemmas.{read_more}
-use Rattle.places.proofs.import.read_all.Goals as goal
+use Rattle.places.proofs.IntakeLemmas.{read_more}
+use Rattle.places.proofs.intake.read_all.Goals as goal
 
 -- the limit is reached
 pub returns-then-len-clause-left : goal.returns-then-len-clause-left

@@ -1,5 +1,5 @@
--- An import from the reading of its input to the reply that is said of it.
-use Rattle.std.specs.Prelude.{⊤, IfErr}
+-- An intake from the reading of its input to the reply that is said of it.
+use Rattle.std.specs.Prelude.{⊤, ◌≢◌, ◌⊎◌, IfErr, IsSome}
 use Rattle.std.specs.Option.{option_map}
 use Rattle.std.proofs.Common.{◌≡◌, ◌<◌, ◌+◌, true, false, ℕ, List, [], ◌∷◌, ◌++◌, length, take}
 use Rattle.std.proofs.Common.{Some, None, Option, Result, Ok, Err, refl, ap, sym, subst, ◌∙◌, append_assoc, append-nil}
@@ -15,12 +15,14 @@ use Rattle.pl_desk.proofs.SettlingLaws.{left_settled, shows_then_less}
 use Rattle.pl_desk.specs.Settling.{Settles, ShowsThen}
 use Rattle.pl_desk.specs.Shown.{ShowsOnly, Unsaid}
 use Rattle.pl_desk.specs.declared.desk.Desk.{Ghosts}
-use Rattle.pl_nbread.specs.BookmarkFile.{file_limit, offset}
-use Rattle.pl_nbread.specs.BookmarkTree.{tree_of}
-use Rattle.pl_nbread.specs.declared.tree.Tree.{Tree}
+use Rattle.pl_intake.specs.Intake.{HoldsNone, HoldsTree, intake_of}
+use Rattle.pl_intake.specs.declared.error.IntakeError.{IntakeError}
+use Rattle.pl_intake.specs.declared.error.IntakeError.TheVariants as errors
+use Rattle.pl_intake.specs.declared.intake.Intake.{Intake}
+use Rattle.pl_intake.specs.declared.intake.Intake.TheVariants.{Import, Restore}
+use Rattle.pl_nbread.specs.BookmarkFile.{file_limit}
 use Rattle.pl_script.specs.Reply.{reply_text}
 use Rattle.pl_step.specs.declared.command.Command.{Command}
-use Rattle.pl_step.specs.declared.command.Command.TheVariants.{Import}
 use Rattle.pl_step.specs.declared.reply.Reply.{Reply}
 use Rattle.pl_step.specs.declared.reply.Reply.TheVariants as reply_of
 use Rattle.pl_step.specs.Refused.{is_refused}
@@ -38,13 +40,14 @@ use Rattle.places.specs.declared.answer_error.AnswerError.TheVariants as answer
 use Rattle.places.specs.declared.status.Status.{Status}
 use Rattle.places.specs.declared.status.Status.TheVariants as status
 use Rattle.pl_task.specs.declared.task.Task.TheVariants as tasks
+use Rattle.pl_task.specs.Task.{input_limit, opens_store}
 use Rattle.places.specs.Ending.{EndsTask}
-use Rattle.places.specs.Importing.{EndsImport, Imports, IsTaken, LeavesRead, LeavesStart, ReadsFront, ShowsImport}
-use Rattle.places.specs.Importing.{StopsCommit, StopsImport, StopsParsing, StopsReading, after_import, import_of}
-use Rattle.places.specs.Importing.{import_text}
 use Rattle.places.specs.Said.{Says, SaysOfAnswer}
-use Rattle.places.specs.Status.{answer_status, done_or, without_session}
+use Rattle.places.specs.Status.{answer_status, done_or, intake_status, without_session}
 use Rattle.places.specs.Stops.{LeavesOfAnswer, ShowsTaking, ShowsUnopened}
+use Rattle.places.specs.TakingIn.{BringsIn, EndsIntake, IsTaken, LeavesRead, LeavesStart, ReadsFront, ShowsIntake}
+use Rattle.places.specs.TakingIn.{StopsCommit, StopsIntake, StopsParsing, StopsReading, after_intake, intake_task}
+use Rattle.places.specs.TakingIn.{intake_text}
 
 -- ---- reading
 
@@ -73,29 +76,38 @@ read_more HasLength items piece bytes first left left' so_far taken told long =
     (subst HasLength (sym (length-append items piece)) long)
 
 -- an end by its status
-ends_as : {D : Type 0} (desk : Ghosts D) (first : D) (start : Store) (bytes before : List ℕ) (left : Option (List ℕ))
-    (now : D) {t s : Status} → t ≡ s → EndsImport desk t first start bytes before left now
-    → EndsImport desk s first start bytes before left now
-ends_as desk first start bytes before left now is ends =
-    subst (λ (u : Status). EndsImport desk u first start bytes before left now) is ends
+ends_as : {D : Type 0} (desk : Ghosts D) (intake : Intake) (first : D) (start : Store) (bytes before : List ℕ)
+    (left : Option (List ℕ)) (now : D) {t s : Status} → t ≡ s
+    → EndsIntake desk intake t first start bytes before left now
+    → EndsIntake desk intake s first start bytes before left now
+ends_as desk intake first start bytes before left now is ends =
+    subst (λ (u : Status). EndsIntake desk intake u first start bytes before left now) is ends
 
 -- a reading that stopped, beside a file that holds the store before
-pub ends_read : {D : Type 0} (desk : Ghosts D) (s : Status) (first : D) (start : Store) (bytes before : List ℕ)
-    (left : Option (List ℕ)) (now : D) → LeavesRead s bytes left → LeavesStart desk first start before now
-    → EndsImport desk s first start bytes before left now
-ends_read desk s first start bytes before left now leaves stays =
+pub ends_read : {D : Type 0} (desk : Ghosts D) (intake : Intake) (s : Status) (first : D) (start : Store)
+    (bytes before : List ℕ) (left : Option (List ℕ)) (now : D) → LeavesRead s bytes left
+    → LeavesStart desk first start before now → EndsIntake desk intake s first start bytes before left now
+ends_read desk intake s first start bytes before left now leaves stays =
     ⊎_elim (λ below. ⊎_elim
-    (λ fault. ends_as desk first start bytes before left now (sym fault) (below.1, stays))
-    (λ memory. ends_as desk first start bytes before left now (sym memory) (below.1, stays)) below.0)
-    (λ full. ends_as desk first start bytes before left now (sym full.0) (refl, full.1, stays)) leaves
+    (λ fault. ends_as desk intake first start bytes before left now (sym fault) (below.1, stays))
+    (λ memory. ends_as desk intake first start bytes before left now (sym memory) (below.1, stays)) below.0)
+    (λ full. ends_as desk intake first start bytes before left now (sym full.0) (refl, full.1, stays)) leaves
 
 -- bytes that were read whole, and hold no tree, or one that there was no memory for
-pub ends_parsing : {D : Type 0} (desk : Ghosts D) (s : Status) (first : D) (start : Store)
-    (items bytes before : List ℕ) (left : Option (List ℕ)) (now : D) → StopsParsing items s
+pub ends_parsing : {D : Type 0} (desk : Ghosts D) (intake : Intake) (s : Status) (first : D) (start : Store)
+    (items bytes before : List ℕ) (left : Option (List ℕ)) (now : D) → StopsParsing intake items s
     → (items ≡ bytes) × (left ≡ Some []) → length items < file_limit → LeavesStart desk first start before now
-    → EndsImport desk s first start bytes before left now
-ends_parsing desk s first start items bytes before left now stops whole short stays =
-    ⊎_elim (λ memory. ends_as desk first start bytes before left now (sym memory) (
+    → EndsIntake desk intake s first start bytes before left now
+ends_parsing {D} desk intake s first start items bytes before left now stops whole short stays =
+    ends_as desk intake first start bytes before left now (sym stops.1) (by_error stops.0 stops.2)
+  where
+    by_error : (error : IntakeError) → HoldsNone intake items error
+        → EndsIntake desk intake (intake_status error) first start bytes before left now
+    by_error (errors.NotBookmarks at) none =
+        (none.0, rw whole.0 at none.1, whole.1, rw whole.0 at short, stays)
+    by_error (errors.NotBackup fault) none =
+        (none.0, rw whole.0 at none.1, whole.1, rw whole.0 at short, stays)
+    by_error errors.NoMemory none = (
       record {
         read = bytes;
         rest = [];
@@ -104,17 +116,16 @@ ends_parsing desk s first start items bytes before left now stops whole short st
         length = rw whole.0 at short;
       },
       stays,
-    ))
-    (λ none. ends_as desk first start bytes before left now (sym none.1)
-    (whole.1, rw whole.0 at short, rw whole.0 at none.2, stays)) stops
+    )
 
--- the import of their tree
-pub imports_tree : (tree : Tree) (items bytes : List ℕ) → items ≡ bytes → tree ≡ tree_of items → offset items ≡ None
-    → length items < file_limit → Imports (Import tree) bytes
-imports_tree tree items bytes whole is bookmarks short = record {
-  is = ap (λ (t : Tree). Import t) (is ∙ ap (λ (b : List ℕ). tree_of b) whole);
+-- the command of what they hold
+pub brings_in : (intake : Intake) (command : Command) (items bytes : List ℕ) → items ≡ bytes
+    → command ≡ intake_of intake items → HoldsTree intake items → length items < file_limit
+    → BringsIn intake command bytes
+brings_in intake command items bytes whole is holds short = record {
+  is = is ∙ ap (λ (b : List ℕ). intake_of intake b) whole;
   short = rw whole at short;
-  bookmarks = rw whole at bookmarks;
+  holds = subst (HoldsTree intake) whole holds;
 }
 
 -- ---- a reply that is no refusal
@@ -149,76 +160,77 @@ module _ {D : Type 0} (desk : Ghosts D) where
   stays keeper first now before file unsaid kept =
       (unsaid, rw file at (kept_keeps desk keeper first now kept))
 
+module _ {D : Type 0} (desk : Ghosts D) (intake : Intake) where
   -- before the first call
   pub shows_begun : OnlyNow desk → (keeper : Keeper) (first now : D) (bytes before : List ℕ) → is_file keeper ≡ true
       → desk.said now ≡ Some before → IsKept desk keeper first now
-      → ShowsOnly desk now now (ShowsImport desk (keeper_store keeper) bytes before)
+      → ShowsOnly desk now now (ShowsIntake desk intake (keeper_store keeper) bytes before)
   shows_begun only_now keeper first now bytes before file unsaid kept =
-      started desk now (ShowsImport desk (keeper_store keeper) bytes before)
+      started desk now (ShowsIntake desk intake (keeper_store keeper) bytes before)
       (λ shown line is_shown. let here = only_now now before shown line unsaid is_shown in
       inl (here.1, rw file at (kept_leaves desk keeper first now kept shown here.0)))
 
   -- nothing was done, for want of memory
   pub ends_unprepared : (keeper : Keeper) (command : Command) (bytes before : List ℕ) (first now : D)
-      → is_file keeper ≡ true → Imports command bytes → desk.said now ≡ Some before → IsKept desk keeper first now
-      → EndsImport desk status.NoMemory first (keeper_store keeper) bytes before (Some []) now
-  ends_unprepared keeper command bytes before first now file imports unsaid kept = (
+      → is_file keeper ≡ true → BringsIn intake command bytes → desk.said now ≡ Some before → IsKept desk keeper first now
+      → EndsIntake desk intake status.NoMemory first (keeper_store keeper) bytes before (Some []) now
+  ends_unprepared keeper command bytes before first now file brings unsaid kept = (
     record {
       read = bytes;
       rest = [];
       order = sym (append-nil bytes);
       rest_left = refl;
-      length = imports.short;
+      length = brings.short;
     },
-    stays keeper first now before file unsaid kept,
+    stays desk keeper first now before file unsaid kept,
   )
 
   module _ (keeper : Keeper) (command : Command) (bytes before : List ℕ) (first old new : D) (reply : Reply)
       (next : Store) (limit : keeper_limit keeper ≡ slot_limit) (file : is_file keeper ≡ true)
-      (imports : Imports command bytes) (unsaid : desk.said old ≡ Some before)
+      (brings : BringsIn intake command bytes) (unsaid : desk.said old ≡ Some before)
       (step : (reply, next) ≡ perform (keeper_limit keeper) (keeper_store keeper) command) where
-    is_step : (reply, next) ≡ perform slot_limit (keeper_store keeper) (import_of bytes)
+    is_step : (reply, next) ≡ perform slot_limit (keeper_store keeper) (intake_of intake bytes)
     is_step = step ∙ ap (λ (l : ℕ). perform l (keeper_store keeper) command) limit
-        ∙ ap (λ (c : Command). perform slot_limit (keeper_store keeper) c) imports.is
+        ∙ ap (λ (c : Command). perform slot_limit (keeper_store keeper) c) brings.is
 
-    is_reply : reply ≡ (perform slot_limit (keeper_store keeper) (import_of bytes)).0
+    is_reply : reply ≡ (perform slot_limit (keeper_store keeper) (intake_of intake bytes)).0
     is_reply = ap (λ (d : Reply × Store). d.0) is_step
 
-    is_next : next ≡ after_import (keeper_store keeper) bytes
+    is_next : next ≡ after_intake intake (keeper_store keeper) bytes
     is_next = ap (λ (d : Reply × Store). d.1) is_step
 
-    is_taken : is_refused reply ≡ false → IsTaken (keeper_store keeper) bytes
+    is_taken : is_refused reply ≡ false → IsTaken intake (keeper_store keeper) bytes
     is_taken allowed = record {
-      short = imports.short;
-      bookmarks = imports.bookmarks;
+      short = brings.short;
+      holds = brings.holds;
       allowed = sym (ap (λ (r : Reply). is_refused r) is_reply) ∙ allowed;
     }
 
     -- it is refused
     pub ends_refused : (refusal : Refusal) → reply ≡ reply_of.Refused refusal → IsKept desk keeper first old
-        → EndsImport desk (status.ImportRefused refusal) first (keeper_store keeper) bytes before (Some []) old
+        → EndsIntake desk intake (status.IntakeRefused refusal) first (keeper_store keeper) bytes before (Some []) old
     ends_refused refusal is kept =
-        (refl, imports.short, imports.bookmarks, sym is_reply ∙ is, stays keeper first old before file unsaid kept)
+        (brings.holds, sym is_reply ∙ is, refl, brings.short, stays desk keeper first old before file unsaid kept)
 
     -- the reply was said
     pub ends_said : is_refused reply ≡ false → Says (desk.said old) (reply_text reply) (desk.said new)
         → Keeps desk true first next new
-        → EndsImport desk status.Done first (keeper_store keeper) bytes before (Some []) new
+        → EndsIntake desk intake status.Done first (keeper_store keeper) bytes before (Some []) new
     ends_said allowed says keeps = (
       (is_taken allowed, refl),
       rw (unsaid, is_reply) at says,
       subst (λ (s : Store). Keeps desk true first s new) is_next keeps,
     )
 
-    -- what the reply says is the import's
-    is_text : reply_text reply ≡ import_text (keeper_store keeper) bytes
+    -- what the reply says is what is said of the command
+    is_text : reply_text reply ≡ intake_text intake (keeper_store keeper) bytes
     is_text = ap (λ (r : Reply). reply_text r) is_reply
 
     -- the reply was not said whole, or the file failed, or there was no memory for it
     pub ends_failed : (e : AnswerError) → is_refused reply ≡ false
         → SaysOfAnswer e (reply ∷ []) (desk.said old) (desk.said new)
         → LeavesOfAnswer desk e (is_file keeper) first (keeper_store keeper) next new
-        → EndsImport desk (answer_status e) first (keeper_store keeper) bytes before (Some []) new
+        → EndsIntake desk intake (answer_status e) first (keeper_store keeper) bytes before (Some []) new
     ends_failed answer.SayFault allowed says leaves =
         let whole = append-nil (reply_text reply) ∙ is_text in (
           (is_taken allowed, refl),
@@ -233,7 +245,7 @@ module _ {D : Type 0} (desk : Ghosts D) where
         rest = [];
         order = sym (append-nil bytes);
         rest_left = refl;
-        length = imports.short;
+        length = brings.short;
       },
       (says ∙ unsaid, rw file at leaves),
     )
@@ -242,11 +254,11 @@ module _ {D : Type 0} (desk : Ghosts D) where
     pub shows_taking : is_refused reply ≡ false
         → ShowsOnly desk old new (ShowsTaking desk (is_file keeper) first (keeper_store keeper) next (reply_text reply)
         before)
-        → ShowsOnly desk old new (ShowsImport desk (keeper_store keeper) bytes before)
+        → ShowsOnly desk old new (ShowsIntake desk intake (keeper_store keeper) bytes before)
     shows_taking allowed shows =
         shows_less desk old new
         (ShowsTaking desk (is_file keeper) first (keeper_store keeper) next (reply_text reply) before)
-        (ShowsImport desk (keeper_store keeper) bytes before) shows
+        (ShowsIntake desk intake (keeper_store keeper) bytes before) shows
         (λ shown line has.
         ⊎_elim (λ taken. inr (
           is_taken allowed,
@@ -260,15 +272,15 @@ module _ {D : Type 0} (desk : Ghosts D) where
 
 -- ---- the opening
 
-module _ {D : Type 0} (desk : Ghosts D) where
-  -- until the file is settled nothing is imported, and from then on nothing yet
+module _ {D : Type 0} (desk : Ghosts D) (intake : Intake) where
+  -- until the file is settled nothing is brought in, and from then on nothing yet
   pub shows_opened : {Fault Fault' : Type 0} (file : List ℕ) (start : Store) (bytes before : List ℕ) (old new : D)
       → Stands file start → desk.said old ≡ Some before → Settles desk Fault old new (StandsAlike file)
       → (Fault → Fault')
-      → ShowsThen desk Fault' old new (ShowsUnopened desk old before) (ShowsImport desk start bytes before)
+      → ShowsThen desk Fault' old new (ShowsUnopened desk old before) (ShowsIntake desk intake start bytes before)
   shows_opened file start bytes before old new stands is settles fault =
       shows_then_less desk old new (Unsaid desk old (desk.may_leave old)) (Unsaid desk old (StandsAlike file))
-      (ShowsUnopened desk old before) (ShowsImport desk start bytes before) settles fault
+      (ShowsUnopened desk old before) (ShowsIntake desk intake start bytes before) settles fault
       (λ later line shows. (shows.0, sym (same_Some before line (sym is ∙ shows.1))))
       (λ later line shows. inl (sym (same_Some before line (sym is ∙ shows.1)), (shows.0 start).0 stands))
 
@@ -277,10 +289,10 @@ module _ {D : Type 0} (desk : Ghosts D) where
       (left : Option (List ℕ)) (old new : D)
       → CountsNow desk → s ≡ without_session e → desk.held old ≡ Some file → Opens desk slot_limit (Err e) old new
       → Stands file start → left ≡ Some bytes → desk.said new ≡ desk.said old → desk.said old ≡ Some before
-      → Settles desk Fault old new (StandsAlike file) → EndsImport desk s old start bytes before left new
+      → Settles desk Fault old new (StandsAlike file) → EndsIntake desk intake s old start bytes before left new
   ends_unopened ended.DeviceFault s file start bytes before left old new counts_now is held opens stands told kept begun
       settles =
-      subst (λ (t : Status). EndsImport desk t old start bytes before left new) (sym is)
+      subst (λ (t : Status). EndsIntake desk intake t old start bytes before left new) (sym is)
       (⊎_elim (λ open_. inl (record { unread = told; unsaid = kept ∙ begun; as_before = open_ }))
       (λ settled. inr (inl (record {
         unread = told;
@@ -289,7 +301,7 @@ module _ {D : Type 0} (desk : Ghosts D) where
       }))) (left_settled desk counts_now old new (StandsAlike file) before (kept ∙ begun) settles))
   ends_unopened ended.NoMemory s file start bytes before left old new counts_now is held opens stands told kept begun
       settles =
-      subst (λ (t : Status). EndsImport desk t old start bytes before left new) (sym is) (
+      subst (λ (t : Status). EndsIntake desk intake t old start bytes before left new) (sym is) (
         record { read = []; rest = bytes; order = refl; rest_left = told; length = omega arith },
         (
           kept ∙ begun,
@@ -339,33 +351,66 @@ device_as answer.DeviceFault before after counted = rose_at before after refl co
 device_as answer.NoMemory before after counted =
     stood before after (λ same. absurd (cc)) (counted.stands (λ same. absurd (cc)))
 
--- how an import may stop
-some_import : (s : Status) → StopsImport s → EndsTask tasks.Import s × (s ≡ status.NotAStore → ⊥)
-some_import s stops =
-    ⊎_elim reading (⊎_elim (λ none. turned (sym none.1) (refl, λ same. absurd (cc))) commit) stops
+-- what a task of either kind may do
+pub opens : (intake : Intake) → opens_store (intake_task intake) ≡ true
+opens Import = refl
+opens Restore = refl
+
+limited : (intake : Intake) → input_limit (intake_task intake) ≡ Some file_limit
+limited Import = refl
+limited Restore = refl
+
+reads : (intake : Intake) → IsSome (input_limit (intake_task intake))
+reads Import = refl
+reads Restore = refl
+
+has_file : (intake : Intake) → intake_task intake ≢ tasks.Try
+has_file Import same = absurd (cc)
+has_file Restore same = absurd (cc)
+
+of_two : (intake : Intake) → (intake_task intake ≡ tasks.Import) ⊎ (intake_task intake ≡ tasks.Restore)
+of_two Import = inl refl
+of_two Restore = inr refl
+
+-- how an intake may stop
+some_intake : (intake : Intake) (s : Status) → StopsIntake intake s
+    → EndsTask (intake_task intake) s × (s ≡ status.NotAStore → ⊥)
+some_intake intake s stops = ⊎_elim reading (⊎_elim parsing commit) stops
   where
-    turned : {t : Status} → t ≡ s → EndsTask tasks.Import t × (t ≡ status.NotAStore → ⊥)
-        → EndsTask tasks.Import s × (s ≡ status.NotAStore → ⊥)
-    turned {t} is may = subst (λ (u : Status). EndsTask tasks.Import u × (u ≡ status.NotAStore → ⊥)) is may
+    abbrev May : Status → Type 0
+    May t = EndsTask (intake_task intake) t × (t ≡ status.NotAStore → ⊥)
 
-    reading : StopsReading s → EndsTask tasks.Import s × (s ≡ status.NotAStore → ⊥)
+    turned : {t : Status} → t ≡ s → May t → May s
+    turned {t} is may = subst May is may
+
+    reading : StopsReading s → May s
     reading =
-        ⊎_elim (λ is. turned (sym is) (refl, λ same. absurd (cc)))
+        ⊎_elim (λ is. turned (sym is) (reads intake, λ same. absurd (cc)))
         (⊎_elim (λ is. turned (sym is) (tt, λ same. absurd (cc)))
-        (λ is. turned (sym is) (refl, λ same. absurd (cc))))
+        (λ is. turned (sym is) (limited intake, λ same. absurd (cc))))
 
-    commit : StopsCommit s → EndsTask tasks.Import s × (s ≡ status.NotAStore → ⊥)
+    by_error : (error : IntakeError) (bytes : List ℕ) → HoldsNone intake bytes error → May (intake_status error)
+    by_error (errors.NotBookmarks at) bytes none = (ap intake_task none.0, λ same. absurd (cc))
+    by_error (errors.NotBackup fault) bytes none = (ap intake_task none.0, λ same. absurd (cc))
+    by_error errors.NoMemory bytes none = (tt, λ same. absurd (cc))
+
+    parsing : (bytes : List ℕ) × StopsParsing intake bytes s → May s
+    parsing none = turned (sym none.2) (by_error none.1 none.0 none.3)
+
+    commit : StopsCommit s → May s
     commit =
         ⊎_elim (λ is. turned (sym is) (tt, λ same. absurd (cc)))
         (⊎_elim (λ is. turned (sym is) (tt, λ same. absurd (cc)))
-        (⊎_elim (λ is. turned (sym is) (λ same. absurd (cc), λ same. absurd (cc)))
-        (λ refused. turned (sym refused.1) ((refl, refused.2), λ same. absurd (cc)))))
+        (⊎_elim (λ is. turned (sym is) (has_file intake, λ same. absurd (cc)))
+        (λ refused. turned (sym refused.1) ((of_two intake, refused.2), λ same. absurd (cc)))))
 
--- an import's run may end so, and never as a file that is no store
-pub import_may_end : (end : Result ⊤ Status) → IfErr end StopsImport → EndsTask tasks.Import (done_or end)
-import_may_end (Ok done) stops = tt
-import_may_end (Err s) stops = (some_import s stops).0
+-- the run of an intake may end so, and never as a file that is no store
+pub intake_may_end : (intake : Intake) (end : Result ⊤ Status) → IfErr end (StopsIntake intake)
+    → EndsTask (intake_task intake) (done_or end)
+intake_may_end intake (Ok done) stops = tt
+intake_may_end intake (Err s) stops = (some_intake intake s stops).0
 
-pub import_opened : (end : Result ⊤ Status) → IfErr end StopsImport → done_or end ≡ status.NotAStore → ⊥
-import_opened (Ok done) stops is = absurd (cc)
-import_opened (Err s) stops is = (some_import s stops).1 is
+pub intake_opened : (intake : Intake) (end : Result ⊤ Status) → IfErr end (StopsIntake intake)
+    → done_or end ≡ status.NotAStore → ⊥
+intake_opened intake (Ok done) stops is = absurd (cc)
+intake_opened intake (Err s) stops is = (some_intake intake s stops).1 is
