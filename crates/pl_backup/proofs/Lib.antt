@@ -16,7 +16,7 @@ mod RootTexts
 mod StringWeights
 mod TokenWeights
 mod TreeFormed
-mod TreeRead
+pub mod TreeRead
 mod TreeRows
 mod ValueWeights
 mod ValuesRead

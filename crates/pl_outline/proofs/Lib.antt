@@ -11,11 +11,11 @@ mod OwnTags
 mod PagesMore
 mod PileLaws
 mod PlainNodes
-mod PlainTrees
+pub mod PlainTrees
 mod PreorderLaws
 mod Preorders
 mod RestStays
-mod Returned
+pub mod Returned
 mod ShownNodes
 mod Spines
 mod TagMarks
