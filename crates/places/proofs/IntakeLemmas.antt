@@ -372,32 +372,33 @@ of_two : (intake : Intake) → (intake_task intake ≡ tasks.Import) ⊎ (intake
 of_two Import = inl refl
 of_two Restore = inr refl
 
+-- the task may end so, and not as a file that is no store
+abbrev MayStop : Intake → Status → Type 0
+MayStop intake s = EndsTask (intake_task intake) s × (s ≡ status.NotAStore → ⊥)
+
 -- how an intake may stop
-some_intake : (intake : Intake) (s : Status) → StopsIntake intake s
-    → EndsTask (intake_task intake) s × (s ≡ status.NotAStore → ⊥)
+some_intake : (intake : Intake) (s : Status) → StopsIntake intake s → MayStop intake s
 some_intake intake s stops = ⊎_elim reading (⊎_elim parsing commit) stops
   where
-    abbrev May : Status → Type 0
-    May t = EndsTask (intake_task intake) t × (t ≡ status.NotAStore → ⊥)
+    turned : {t : Status} → t ≡ s → MayStop intake t → MayStop intake s
+    turned {t} is may = subst (MayStop intake) is may
 
-    turned : {t : Status} → t ≡ s → May t → May s
-    turned {t} is may = subst May is may
-
-    reading : StopsReading s → May s
+    reading : StopsReading s → MayStop intake s
     reading =
         ⊎_elim (λ is. turned (sym is) (reads intake, λ same. absurd (cc)))
         (⊎_elim (λ is. turned (sym is) (tt, λ same. absurd (cc)))
         (λ is. turned (sym is) (limited intake, λ same. absurd (cc))))
 
-    by_error : (error : IntakeError) (bytes : List ℕ) → HoldsNone intake bytes error → May (intake_status error)
+    by_error : (error : IntakeError) (bytes : List ℕ) → HoldsNone intake bytes error
+        → MayStop intake (intake_status error)
     by_error (errors.NotBookmarks at) bytes none = (ap intake_task none.0, λ same. absurd (cc))
     by_error (errors.NotBackup fault) bytes none = (ap intake_task none.0, λ same. absurd (cc))
     by_error errors.NoMemory bytes none = (tt, λ same. absurd (cc))
 
-    parsing : (bytes : List ℕ) × StopsParsing intake bytes s → May s
+    parsing : (bytes : List ℕ) × StopsParsing intake bytes s → MayStop intake s
     parsing none = turned (sym none.2) (by_error none.1 none.0 none.3)
 
-    commit : StopsCommit s → May s
+    commit : StopsCommit s → MayStop intake s
     commit =
         ⊎_elim (λ is. turned (sym is) (tt, λ same. absurd (cc)))
         (⊎_elim (λ is. turned (sym is) (tt, λ same. absurd (cc)))
