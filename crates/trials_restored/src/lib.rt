@@ -1,5 +1,5 @@
-//! Tests of a restore of bookmarks, by public names: what it takes, told beforehand, and the rows
-//! that lose all bookmarks before it. There is nothing else here, since a crate with tests of its
+//! Tests of a restore of bookmarks, by public names: what it takes, told beforehand, the rows that
+//! lose all bookmarks before it, and the stores behind it. There is nothing else here, since a crate with tests of its
 //! own is proved twice.
 #![tactic(auto)]
 
@@ -9,5 +9,9 @@ mod cases;
 mod cleared;
 #[cfg(test)]
 mod costs;
+#[cfg(test)]
+mod restores;
+#[cfg(test)]
+mod room;
 #[cfg(test)]
 mod stores;

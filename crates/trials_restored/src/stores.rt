@@ -4,9 +4,9 @@ ghost use Rattle.pl_base.specs.Good.{IsGood};
 ghost use Rattle.pl_base.specs.Rows.{IsSound, store_of};
 ghost use Rattle.pl_step.specs.Commands.{HasDates};
 
-use pl_base::{NoMemory, Rows, SLOT_LIMIT, Steps};
+use pl_base::{NoMemory, Rows, SLOT_LIMIT, Steps, Txt};
 use pl_engine::{Engine, Parts};
-use pl_script::{LineError, line};
+use pl_script::{LineError, line, reply_text};
 use pl_step::{Command, Reply};
 use std::alloc::Global;
 use std::sync::ledger::Ledger;
@@ -41,6 +41,22 @@ fn after<R: Rows + Drop, L: Ledger>(
     Ok(engine)
 }
 
+/// The engine over rows behind lines that are not refused.
+pub fn engine_behind<R: Rows + Drop, L: Ledger>(
+    alloc: Global,
+    rows: R,
+    lines: &[&str],
+    steps: &mut Steps<L>,
+) -> Result<Engine<R>, Fail>
+    requires sound { IsSound (R.kept rows) }
+{
+    let mut engine = Engine::over(alloc, rows, SLOT_LIMIT, steps)?;
+    for text in lines {
+        engine = after(alloc, engine, text, steps)?;
+    }
+    Ok(engine)
+}
+
 /// The rows behind lines that are not refused.
 pub fn rows_behind<R: Rows + Drop, L: Ledger>(
     alloc: Global,
@@ -51,10 +67,34 @@ pub fn rows_behind<R: Rows + Drop, L: Ledger>(
     requires sound { IsSound (R.kept rows) }
     ensures good { IfOk result (λ rows. IsGood (store_of (R.kept rows))) }
 {
-    let mut engine = Engine::over(alloc, rows, SLOT_LIMIT, steps)?;
-    for text in lines {
-        engine = after(alloc, engine, text, steps)?;
-    }
-    let Parts { rows, .. } = engine.parts();
+    let Parts { rows, .. } = engine_behind(alloc, rows, lines, steps)?.parts();
     Ok(rows)
+}
+
+/// The engine after a command, and the text of its reply.
+pub fn told<R: Rows + Drop, L: Ledger>(
+    alloc: Global,
+    engine: Engine<R>,
+    command: &Command,
+    steps: &mut Steps<L>,
+) -> Result<(Engine<R>, Txt), Fail>
+    requires { HasDates command.now }
+{
+    let (engine, reply) = engine.apply(command, steps)?;
+    let told = reply_text(alloc, &reply);
+    drop(reply);
+    Ok((engine, told?))
+}
+
+/// The engine after a line, and the text of the reply.
+pub fn told_line<R: Rows + Drop, L: Ledger>(
+    alloc: Global,
+    engine: Engine<R>,
+    text: &str,
+    steps: &mut Steps<L>,
+) -> Result<(Engine<R>, Txt), Fail> {
+    let command = command(alloc, text)?;
+    let told = told(alloc, engine, &command, steps);
+    drop(command);
+    told
 }
