@@ -381,15 +381,17 @@ drill_opened (Err answer.NoMemory) is = absurd (cc)
 
 -- ---- the words
 
-no_drill : (a b c d e : Bool) (count seed : ℕ)
+no_drill : (a b c d e f : Bool) (count seed : ℕ)
     → (if a then Some tasks.New else if b then Some tasks.Run else if c then Some tasks.Import else
-    if d then Some tasks.Export else if e then Some tasks.Backup else None) ≡ Some (tasks.Drill count seed) → ⊥
-no_drill true b c d e count seed is = absurd (cc)
-no_drill false true c d e count seed is = absurd (cc)
-no_drill false false true d e count seed is = absurd (cc)
-no_drill false false false true e count seed is = absurd (cc)
-no_drill false false false false true count seed is = absurd (cc)
-no_drill false false false false false count seed is = absurd (cc)
+    if d then Some tasks.Export else if e then Some tasks.Backup else if f then Some tasks.Restore else None)
+    ≡ Some (tasks.Drill count seed) → ⊥
+no_drill true b c d e f count seed is = absurd (cc)
+no_drill false true c d e f count seed is = absurd (cc)
+no_drill false false true d e f count seed is = absurd (cc)
+no_drill false false false true e f count seed is = absurd (cc)
+no_drill false false false false true f count seed is = absurd (cc)
+no_drill false false false false false true count seed is = absurd (cc)
+no_drill false false false false false false count seed is = absurd (cc)
 
 not_alone : (a : Bool) (count seed : ℕ)
     → (if a then Some tasks.Try else None) ≡ Some (tasks.Drill count seed) → ⊥
@@ -422,7 +424,7 @@ few_lines [] count seed is = absurd (cc)
 few_lines (word ∷ []) count seed is = absurd (not_alone (bytes_eq word (codes "try")) count seed is)
 few_lines (word ∷ path ∷ []) count seed is =
     absurd (no_drill (bytes_eq word (codes "new")) (bytes_eq word (codes "run")) (bytes_eq word (codes "import"))
-    (bytes_eq word (codes "export")) (bytes_eq word (codes "backup")) count seed is)
+    (bytes_eq word (codes "export")) (bytes_eq word (codes "backup")) (bytes_eq word (codes "restore")) count seed is)
 few_lines (word ∷ path ∷ n ∷ []) count seed is = absurd (cc)
 few_lines (word ∷ path ∷ n ∷ given ∷ []) count seed is =
     few_named (bytes_eq word (codes "drill")) (number_32_of n) (number_of given) count seed is

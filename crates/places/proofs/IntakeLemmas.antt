@@ -43,6 +43,7 @@ use Rattle.pl_task.specs.declared.task.Task.TheVariants as tasks
 use Rattle.pl_task.specs.Task.{input_limit, opens_store}
 use Rattle.places.specs.Ending.{EndsTask}
 use Rattle.places.specs.Said.{Says, SaysOfAnswer}
+use Rattle.places.specs.Serving.{CountsFaults}
 use Rattle.places.specs.Status.{answer_status, done_or, intake_status, without_session}
 use Rattle.places.specs.Stops.{LeavesOfAnswer, ShowsTaking, ShowsUnopened}
 use Rattle.places.specs.TakingIn.{BringsIn, EndsIntake, IsTaken, LeavesRead, LeavesStart, ReadsFront, ShowsIntake}
@@ -104,9 +105,9 @@ ends_parsing {D} desk intake s first start items bytes before left now stops who
     by_error : (error : IntakeError) → HoldsNone intake items error
         → EndsIntake desk intake (intake_status error) first start bytes before left now
     by_error (errors.NotBookmarks at) none =
-        (none.0, rw whole.0 at none.1, whole.1, rw whole.0 at short, stays)
+        (none.0, rw whole.0 at none.1, (whole.1, rw whole.0 at short, stays))
     by_error (errors.NotBackup fault) none =
-        (none.0, rw whole.0 at none.1, whole.1, rw whole.0 at short, stays)
+        (none.0, rw whole.0 at none.1, (whole.1, rw whole.0 at short, stays))
     by_error errors.NoMemory none = (
       record {
         read = bytes;
@@ -210,7 +211,7 @@ module _ {D : Type 0} (desk : Ghosts D) (intake : Intake) where
     pub ends_refused : (refusal : Refusal) → reply ≡ reply_of.Refused refusal → IsKept desk keeper first old
         → EndsIntake desk intake (status.IntakeRefused refusal) first (keeper_store keeper) bytes before (Some []) old
     ends_refused refusal is kept =
-        (brings.holds, sym is_reply ∙ is, refl, brings.short, stays desk keeper first old before file unsaid kept)
+        (brings.holds, sym is_reply ∙ is, (refl, brings.short, stays desk keeper first old before file unsaid kept))
 
     -- the reply was said
     pub ends_said : is_refused reply ≡ false → Says (desk.said old) (reply_text reply) (desk.said new)
@@ -351,6 +352,33 @@ device_as answer.DeviceFault before after counted = rose_at before after refl co
 device_as answer.NoMemory before after counted =
     stood before after (λ same. absurd (cc)) (counted.stands (λ same. absurd (cc)))
 
+-- bytes that hold no tree are no fault of the outside
+pub no_read : {X : Type 0} (error : IntakeError)
+    → ◌≡◌ {A = Result X Status} (Err (intake_status error)) (Err status.ReadFault) → ⊥
+no_read (errors.NotBookmarks at) same = absurd (cc)
+no_read (errors.NotBackup fault) same = absurd (cc)
+no_read errors.NoMemory same = absurd (cc)
+
+no_say : {X : Type 0} (error : IntakeError)
+    → ◌≡◌ {A = Result X Status} (Err (intake_status error)) (Err status.SayFault) → ⊥
+no_say (errors.NotBookmarks at) same = absurd (cc)
+no_say (errors.NotBackup fault) same = absurd (cc)
+no_say errors.NoMemory same = absurd (cc)
+
+no_call : {X : Type 0} (error : IntakeError)
+    → ◌≡◌ {A = Result X Status} (Err (intake_status error)) (Err status.DeviceFault) → ⊥
+no_call (errors.NotBookmarks at) same = absurd (cc)
+no_call (errors.NotBackup fault) same = absurd (cc)
+no_call errors.NoMemory same = absurd (cc)
+
+pub none_counted : {D X : Type 0} (desk : Ghosts D) (error : IntakeError) (now : D)
+    → CountsFaults desk (◌≡◌ {A = Result X Status} (Err (intake_status error)) (Err status.SayFault))
+    (◌≡◌ {A = Result X Status} (Err (intake_status error)) (Err status.DeviceFault)) now now
+none_counted desk error now = record {
+  says = stood (desk.line_faults now) (desk.line_faults now) (no_say error) refl;
+  device = stood (desk.device_faults now) (desk.device_faults now) (no_call error) refl;
+}
+
 -- what a task of either kind may do
 pub opens : (intake : Intake) → opens_store (intake_task intake) ≡ true
 opens Import = refl
@@ -396,7 +424,7 @@ some_intake intake s stops = ⊎_elim reading (⊎_elim parsing commit) stops
     by_error errors.NoMemory bytes none = (tt, λ same. absurd (cc))
 
     parsing : (bytes : List ℕ) × StopsParsing intake bytes s → MayStop intake s
-    parsing none = turned (sym none.2) (by_error none.1 none.0 none.3)
+    parsing none = turned (sym none.1.1) (by_error none.1.0 none.0 none.1.2)
 
     commit : StopsCommit s → MayStop intake s
     commit =

@@ -1,7 +1,8 @@
 use Rattle.std.proofs.lemmas.Result.{err_from_is_err_and}
 use Rattle.pl_store.specs.Keeper.{keeper_store}
 use Rattle.places.proofs.AnswerCounts.{stood}
-use Rattle.places.proofs.IntakeLemmas.{brings_in, ends_parsing, ends_read, reads_none, shows_begun, stays}
+use Rattle.std.proofs.Common.{inl, inr, refl}
+use Rattle.places.proofs.IntakeLemmas.{brings_in, ends_parsing, ends_read, no_read, none_counted, reads_none, shows_begun, stays}
 use Rattle.places.proofs.intake.take_in.Goals as goal
 
 -- a reading that stopped
@@ -36,13 +37,32 @@ returns-in_err-command-clause-ends g c =
     let whole = c.in_ok-bytes.ensures.whole bytes told in
     ends_parsing desk c.args.intake _ first (keeper_store c.args.keeper) c.in_ok-bytes.bytes.items bytes before
     (g.S.Source.left c.read_all.new.input) c.args.desk.now
-    (rw c.deref.ensures.value at c.in_err-command.ensures.stops) whole c.in_ok-bytes.ensures.short
+    (c.in_err-command.field-0.0, refl, rw c.deref.ensures.value at c.in_err-command.ensures.none) whole c.in_ok-bytes.ensures.short
     (stays desk c.args.keeper first c.args.desk.now before c.requires.file begun kept))
 
 pub returns-in_err-command-clause-shows : goal.returns-in_err-command-clause-shows
 returns-in_err-command-clause-shows g c bytes before told begun first kept =
     shows_begun g.D.Desk c.args.intake g.met.D.Desk.only_now c.args.keeper first c.args.desk.now bytes before c.requires.file begun
     kept
+
+pub returns-in_err-command-clause-stops : goal.returns-in_err-command-clause-stops
+returns-in_err-command-clause-stops g c =
+    let p = err_from_is_err_and c.from_residual-in_err-command.result c.from_residual-in_err-command.ensures.1 in
+    rw (p.1, p.2) (inr (inl (
+      c.in_ok-bytes.bytes.items,
+      (c.in_err-command.field-0.0, refl, rw c.deref.ensures.value at c.in_err-command.ensures.none),
+    )))
+
+pub returns-in_err-command-clause-reads_counted : goal.returns-in_err-command-clause-reads_counted
+returns-in_err-command-clause-reads_counted g c = let faults = g.S.Source.faults in
+    let p = err_from_is_err_and c.from_residual-in_err-command.result c.from_residual-in_err-command.ensures.1 in
+    rw (p.1, p.2) (stood (faults c.args.input.now) (faults c.read_all.new.input) (no_read c.in_err-command.field-0.0)
+    (c.in_ok-bytes.ensures.counted.stands (λ same. absurd (cc))))
+
+pub returns-in_err-command-clause-counted : goal.returns-in_err-command-clause-counted
+returns-in_err-command-clause-counted g c =
+    let p = err_from_is_err_and c.from_residual-in_err-command.result c.from_residual-in_err-command.ensures.1 in
+    rw (p.1, p.2) (none_counted g.D.Desk c.in_err-command.field-0.0 c.args.desk.now)
 
 -- the commit
 pub returns-clause-ends : goal.returns-clause-ends
