@@ -79,7 +79,7 @@ script_done task status.NotAStore start bytes before left said limited below may
 script_done task (status.NotEmpty len) start bytes before left said limited below may read say call ends = absurd ends
 script_done task (status.NotBookmarks at) start bytes before left said limited below may read say call ends =
     absurd ends
-script_done task (status.IntakeRefused refusal) start bytes before left said limited below may read say call ends =
+script_done task (status.ImportRefused refusal) start bytes before left said limited below may read say call ends =
     absurd ends
 script_done task (status.NotBackup fault) start bytes before left said limited below may read say call ends =
     absurd ends
@@ -104,7 +104,7 @@ module _ {D : Type 0} (desk : desks.Ghosts D) where
       let held : backup_tree bytes ≡ Ok (tree_in Restore bytes) =
       subst (λ (i : Intake). HoldsTree i bytes) ends.0 taken.holds in
       let none = ends.1 in absurd (cc)
-  intake_done intake (status.IntakeRefused refusal) first start bytes before left now taken read say call ends =
+  intake_done intake (status.ImportRefused refusal) first start bytes before left now taken read say call ends =
       absurd (true≢false (sym (ap (λ (r : Reply). is_refused r) ends.1) ∙ taken.allowed))
   intake_done intake status.Usage first start bytes before left now taken read say call ends = absurd ends
   intake_done intake status.NotAStore first start bytes before left now taken read say call ends = absurd ends
@@ -142,7 +142,7 @@ module _ {D : Type 0} (desk : desks.Ghosts D) where
   report_done (status.NotEmpty len) text first start before now say call ends = absurd ends
   report_done (status.NotBookmarks at) text first start before now say call ends = absurd ends
   report_done (status.TooLong limit) text first start before now say call ends = absurd ends
-  report_done (status.IntakeRefused refusal) text first start before now say call ends = absurd ends
+  report_done (status.ImportRefused refusal) text first start before now say call ends = absurd ends
   report_done (status.NotBackup fault) text first start before now say call ends = absurd ends
 
   -- of the report that a task asks for, where nothing outside fails it
@@ -173,7 +173,7 @@ module _ {D : Type 0} (desk : desks.Ghosts D) where
   drill_done (status.NotEmpty len) count seed first start before now say call ends = absurd ends
   drill_done (status.NotBookmarks at) count seed first start before now say call ends = absurd ends
   drill_done (status.TooLong limit) count seed first start before now say call ends = absurd ends
-  drill_done (status.IntakeRefused refusal) count seed first start before now say call ends = absurd ends
+  drill_done (status.ImportRefused refusal) count seed first start before now say call ends = absurd ends
   drill_done (status.NotBackup fault) count seed first start before now say call ends = absurd ends
 
   -- of `new` on an empty file
@@ -191,5 +191,5 @@ module _ {D : Type 0} (desk : desks.Ghosts D) where
   new_done status.NotAStore old new empty say call ends = absurd ends
   new_done (status.NotBookmarks at) old new empty say call ends = absurd ends
   new_done (status.TooLong limit) old new empty say call ends = absurd ends
-  new_done (status.IntakeRefused refusal) old new empty say call ends = absurd ends
+  new_done (status.ImportRefused refusal) old new empty say call ends = absurd ends
   new_done (status.NotBackup fault) old new empty say call ends = absurd ends

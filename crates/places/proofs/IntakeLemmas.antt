@@ -209,7 +209,7 @@ module _ {D : Type 0} (desk : Ghosts D) (intake : Intake) where
 
     -- it is refused
     pub ends_refused : (refusal : Refusal) → reply ≡ reply_of.Refused refusal → IsKept desk keeper first old
-        → EndsIntake desk intake (status.IntakeRefused refusal) first (keeper_store keeper) bytes before (Some []) old
+        → EndsIntake desk intake (status.ImportRefused refusal) first (keeper_store keeper) bytes before (Some []) old
     ends_refused refusal is kept =
         (brings.holds, sym is_reply ∙ is, (refl, brings.short, stays desk keeper first old before file unsaid kept))
 

@@ -150,7 +150,7 @@ says_at_end desk status.NoMemory kind first start bytes before left now leaves =
 says_at_end desk status.NotAStore kind first start bytes before left now leaves = leaves
 says_at_end desk (status.NotEmpty len) kind first start bytes before left now leaves = leaves
 says_at_end desk (status.NotBookmarks at) kind first start bytes before left now leaves = leaves
-says_at_end desk (status.IntakeRefused refusal) kind first start bytes before left now leaves = leaves
+says_at_end desk (status.ImportRefused refusal) kind first start bytes before left now leaves = leaves
 says_at_end desk (status.NotBackup fault) kind first start bytes before left now leaves = leaves
 says_at_end desk (status.TooLong limit) kind first start bytes before left now leaves = (leaves.says, leaves.read)
 

@@ -195,5 +195,5 @@ module _ {D : Type 0} (desk : desks.Ghosts D) where
   EndsDrill (status.NotEmpty len) count seed first start before now = ⊥
   EndsDrill (status.NotBookmarks at) count seed first start before now = ⊥
   EndsDrill (status.TooLong limit) count seed first start before now = ⊥
-  EndsDrill (status.IntakeRefused refusal) count seed first start before now = ⊥
+  EndsDrill (status.ImportRefused refusal) count seed first start before now = ⊥
   EndsDrill (status.NotBackup fault) count seed first start before now = ⊥

@@ -77,7 +77,7 @@ EndsTask task status.NotAStore = IsTrue (opens_store task)
 EndsTask task (status.NotEmpty len) = task ≡ tasks.New
 EndsTask task (status.NotBookmarks at) = task ≡ tasks.Import
 EndsTask task (status.TooLong limit) = input_limit task ≡ Some limit
-EndsTask task (status.IntakeRefused refusal) =
+EndsTask task (status.ImportRefused refusal) =
     ((task ≡ tasks.Import) ⊎ (task ≡ tasks.Restore)) × RefusesIntake refusal
 EndsTask task (status.NotBackup fault) = task ≡ tasks.Restore
 
@@ -161,7 +161,7 @@ EndsScript status.Usage start bytes before left said = ⊥
 EndsScript status.NotAStore start bytes before left said = ⊥
 EndsScript (status.NotEmpty len) start bytes before left said = ⊥
 EndsScript (status.NotBookmarks at) start bytes before left said = ⊥
-EndsScript (status.IntakeRefused refusal) start bytes before left said = ⊥
+EndsScript (status.ImportRefused refusal) start bytes before left said = ⊥
 EndsScript (status.NotBackup fault) start bytes before left said = ⊥
 
 -- ---- what was written
@@ -243,7 +243,7 @@ module _ {D : Type 0} (desk : desks.Ghosts D) where
   LeavesAtEnd status.NotAStore is_file first start bytes before left now = ⊥
   LeavesAtEnd (status.NotEmpty len) is_file first start bytes before left now = ⊥
   LeavesAtEnd (status.NotBookmarks at) is_file first start bytes before left now = ⊥
-  LeavesAtEnd (status.IntakeRefused refusal) is_file first start bytes before left now = ⊥
+  LeavesAtEnd (status.ImportRefused refusal) is_file first start bytes before left now = ⊥
   LeavesAtEnd (status.NotBackup fault) is_file first start bytes before left now = ⊥
 
   -- ---- a new store
@@ -273,7 +273,7 @@ module _ {D : Type 0} (desk : desks.Ghosts D) where
   EndsNew status.NotAStore old new = ⊥
   EndsNew (status.NotBookmarks at) old new = ⊥
   EndsNew (status.TooLong limit) old new = ⊥
-  EndsNew (status.IntakeRefused refusal) old new = ⊥
+  EndsNew (status.ImportRefused refusal) old new = ⊥
   EndsNew (status.NotBackup fault) old new = ⊥
 
 -- ---- a file that is no store

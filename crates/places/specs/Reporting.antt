@@ -67,5 +67,5 @@ module _ {D : Type 0} (desk : desks.Ghosts D) where
   EndsReport (status.NotEmpty len) text first start before now = ⊥
   EndsReport (status.NotBookmarks at) text first start before now = ⊥
   EndsReport (status.TooLong limit) text first start before now = ⊥
-  EndsReport (status.IntakeRefused refusal) text first start before now = ⊥
+  EndsReport (status.ImportRefused refusal) text first start before now = ⊥
   EndsReport (status.NotBackup fault) text first start before now = ⊥

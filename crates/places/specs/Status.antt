@@ -12,7 +12,7 @@ use Rattle.places.specs.declared.status.Status.{Status}
 use Rattle.places.specs.declared.status.Status.TheVariants.{Done, Usage, ReadFault, SayFault}
 use Rattle.places.specs.declared.status.Status.TheVariants.{DeviceFault, NoMemory, NotAStore}
 use Rattle.places.specs.declared.status.Status.TheVariants.{NotEmpty, NotBookmarks, TooLong}
-use Rattle.places.specs.declared.status.Status.TheVariants.{IntakeRefused, NotBackup}
+use Rattle.places.specs.declared.status.Status.TheVariants.{ImportRefused, NotBackup}
 use Rattle.places.specs.declared.stop.Stop.{Stop}
 use Rattle.places.specs.declared.stop.Stop.TheVariants as stop
 use Rattle.pl_task.specs.Task.{script_limit}
@@ -29,7 +29,7 @@ status_number NotAStore = 7
 status_number (NotEmpty len) = 8
 status_number (NotBookmarks at) = 9
 status_number (TooLong read) = 10
-status_number (IntakeRefused refusal) = 11
+status_number (ImportRefused refusal) = 11
 status_number (NotBackup fault) = 13
 
 -- the number that a status tells besides
@@ -44,7 +44,7 @@ status_value NotAStore = None
 status_value (NotEmpty len) = Some len
 status_value (NotBookmarks at) = Some at
 status_value (TooLong read) = Some read
-status_value (IntakeRefused refusal) = Some (refusal_number refusal)
+status_value (ImportRefused refusal) = Some (refusal_number refusal)
 status_value (NotBackup fault) = Some (fault_number fault)
 
 -- the status of a run that stopped

@@ -98,7 +98,7 @@ StopsParsing intake bytes s =
 abbrev pub StopsCommit : Status → Type 0
 StopsCommit s =
     (s ≡ status.NoMemory) ⊎ (s ≡ status.SayFault) ⊎ (s ≡ status.DeviceFault)
-    ⊎ ((refusal : Refusal) × (s ≡ status.IntakeRefused refusal) × RefusesIntake refusal)
+    ⊎ ((refusal : Refusal) × (s ≡ status.ImportRefused refusal) × RefusesIntake refusal)
 
 -- any of these
 abbrev pub StopsIntake : Intake → Status → Type 0
@@ -175,7 +175,7 @@ module _ {D : Type 0} (desk : desks.Ghosts D) where
   EndsIntake intake (status.NotBackup fault) first start bytes before left now =
       (intake ≡ Restore) × (backup_tree bytes ≡ Err fault)
       × LeavesWhole first start bytes before left now
-  EndsIntake intake (status.IntakeRefused refusal) first start bytes before left now =
+  EndsIntake intake (status.ImportRefused refusal) first start bytes before left now =
       HoldsTree intake bytes
       × ((perform slot_limit start (intake_of intake bytes)).0 ≡ Refused refusal)
       × LeavesWhole first start bytes before left now

@@ -150,7 +150,7 @@ fn commit<D: Desk>(
     let (ready, reply) = keeper.prepare(command)?;
     if let Reply::Refused(refusal) = reply {
         drop(reply);
-        return Err(Status::IntakeRefused(refusal));
+        return Err(Status::ImportRefused(refusal));
     }
     let concluded = conclude(alloc, ready, &reply, desk);
     drop(reply);

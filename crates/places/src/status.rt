@@ -32,8 +32,8 @@ pub enum Status {
     NotBookmarks(u64),
     /// The bytes read reached this limit.
     TooLong(u64),
-    /// The bookmarks were not brought into the store, for this reason.
-    IntakeRefused(Refusal),
+    /// The import, or the restore, was refused for this reason.
+    ImportRefused(Refusal),
     /// The bytes of the input are no backup, for this reason.
     NotBackup(Fault),
 }
@@ -54,7 +54,7 @@ impl Status {
             Status::NotEmpty(_) => 8,
             Status::NotBookmarks(_) => 9,
             Status::TooLong(_) => 10,
-            Status::IntakeRefused(_) => 11,
+            Status::ImportRefused(_) => 11,
             Status::NotBackup(_) => 13,
         }
     }
@@ -67,7 +67,7 @@ impl Status {
             Status::NotEmpty(value) | Status::NotBookmarks(value) | Status::TooLong(value) => {
                 Some(*value)
             }
-            Status::IntakeRefused(refusal) => Some(u64::from(refusal.number())),
+            Status::ImportRefused(refusal) => Some(u64::from(refusal.number())),
             Status::NotBackup(fault) => Some(fault.number()),
             Status::Done
             | Status::Usage

@@ -4,7 +4,8 @@
 //! input, one a line, on the store that the file holds. `places try` does so on a store in memory.
 //! `places import STORE` puts the bookmark file of its input into the store that the file holds,
 //! and `places export STORE` says the bookmarks of that store as such a file, `places backup STORE`
-//! as a JSON backup. `places drill STORE N SEED` runs generated lines on it.
+//! as a JSON backup. `places restore STORE` puts such a backup in their place. `places drill STORE
+//! N SEED` runs generated lines on it.
 #![tactic(auto)]
 
 use pl_file::{FileDesk, StreamSource};

@@ -1,4 +1,4 @@
-// The words of a backup, those of a restore, which are none yet, and a store without a bookmark.
+// The words of a backup, and a store without a bookmark.
 use crate::desks::expect_roots;
 use pl_desk::MemDesk;
 use places::Status;
@@ -10,7 +10,6 @@ const WORDS: &[(&[&str], &[u8], Status)] = &[
     (&["backup"], b"", Status::Usage),
     (&["backup", "s", "t"], b"", Status::Usage),
     (&["Backup", "s"], b"", Status::Usage),
-    (&["restore", "s"], b"", Status::Usage),
     (&["backup", "s"], b"", Status::NotAStore),
     (&["backup", "s"], &[0; 4096], Status::NotAStore),
 ];

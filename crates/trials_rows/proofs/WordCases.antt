@@ -4,14 +4,15 @@ use Rattle.std.proofs.Common.{◌≡◌, ◌++◌, true, false, [], ◌∷◌, N
 use Rattle.std.specs.Prelude.{codes}
 use Rattle.std.specs.Fmt.{digits}
 use Rattle.url.proofs.OnLiterals.{url_on_literals}
+use Rattle.pl_backup.specs.declared.error.Fault.TheVariants.{NoChildren, NotJson}
 use Rattle.pl_base.specs.declared.id.IdKind.TheVariants.{Item as ItemIds}
 use Rattle.pl_base.specs.declared.refusal.Refusal.TheVariants.{Full, NoIds, TooMany}
 use Rattle.pl_base.specs.Store.{Store, opening}
 use Rattle.pl_step.specs.declared.command.Command.TheVariants.{Stats}
 use Rattle.places.specs.declared.status.Status.TheVariants.{DeviceFault, Done, ImportRefused, NoMemory, NotAStore}
-use Rattle.places.specs.declared.status.Status.TheVariants.{NotBookmarks, NotEmpty, ReadFault, SayFault, TooLong}
-use Rattle.places.specs.declared.status.Status.TheVariants.{Usage}
-use Rattle.pl_task.specs.declared.task.Task.TheVariants.{Backup, Drill, Export, Import, New, Run, Try}
+use Rattle.places.specs.declared.status.Status.TheVariants.{NotBackup, NotBookmarks, NotEmpty, ReadFault, SayFault}
+use Rattle.places.specs.declared.status.Status.TheVariants.{TooLong, Usage}
+use Rattle.pl_task.specs.declared.task.Task.TheVariants.{Backup, Drill, Export, Import, New, Restore, Run, Try}
 use Rattle.places.specs.Drilling.{summary}
 use Rattle.places.specs.Exporting.{export_text}
 use Rattle.places.specs.Lines.{ended_lines, open_line}
@@ -25,8 +26,8 @@ use Rattle.pl_task.specs.Task.{input_limit, opens_store, task_of}
 forms :
     map task_of
     ((codes "try" ∷ []) ∷ (codes "new" ∷ codes "s" ∷ []) ∷ (codes "run" ∷ [] ∷ []) ∷ (codes "import" ∷ codes "s" ∷ [])
-    ∷ (codes "export" ∷ codes "try" ∷ []) ∷ (codes "backup" ∷ codes "s" ∷ []) ∷ [])
-    ≡ Some Try ∷ Some New ∷ Some Run ∷ Some Import ∷ Some Export ∷ Some Backup ∷ []
+    ∷ (codes "export" ∷ codes "try" ∷ []) ∷ (codes "backup" ∷ codes "s" ∷ []) ∷ (codes "restore" ∷ codes "s" ∷ []) ∷ [])
+    ≡ Some Try ∷ Some New ∷ Some Run ∷ Some Import ∷ Some Export ∷ Some Backup ∷ Some Restore ∷ []
 forms = refl
 
 -- the least and the greatest numbers of a drill
@@ -41,7 +42,7 @@ no_forms :
     map task_of
     ([] ∷ ([] ∷ []) ∷ (codes "Try" ∷ []) ∷ (codes "try" ∷ codes "s" ∷ []) ∷ (codes "new" ∷ []) ∷ (codes "run" ∷ [])
     ∷ (codes "run" ∷ codes "s" ∷ codes "t" ∷ []) ∷ (codes "drill" ∷ codes "s" ∷ [])
-    ∷ (codes "backup" ∷ []) ∷ (codes "restore" ∷ codes "s" ∷ []) ∷ [])
+    ∷ (codes "backup" ∷ []) ∷ (codes "restore" ∷ []) ∷ [])
     ≡ None ∷ None ∷ None ∷ None ∷ None ∷ None ∷ None ∷ None ∷ None ∷ None ∷ []
 no_forms = refl
 
@@ -53,12 +54,12 @@ no_drills :
     ≡ None ∷ None ∷ None ∷ None ∷ None ∷ None ∷ None ∷ []
 no_drills = refl
 
-inputs : map input_limit (Try ∷ New ∷ Run ∷ Import ∷ Export ∷ Backup ∷ Drill 1 0 ∷ [])
-    ≡ Some 2_147_483_648 ∷ None ∷ Some 2_147_483_648 ∷ Some 16_777_216 ∷ None ∷ None ∷ None ∷ []
+inputs : map input_limit (Try ∷ New ∷ Run ∷ Import ∷ Export ∷ Backup ∷ Restore ∷ Drill 1 0 ∷ [])
+    ≡ Some 2_147_483_648 ∷ None ∷ Some 2_147_483_648 ∷ Some 16_777_216 ∷ None ∷ None ∷ Some 16_777_216 ∷ None ∷ []
 inputs = refl
 
-stores : map opens_store (Try ∷ New ∷ Run ∷ Import ∷ Export ∷ Backup ∷ Drill 1 0 ∷ [])
-    ≡ false ∷ false ∷ true ∷ true ∷ true ∷ true ∷ true ∷ []
+stores : map opens_store (Try ∷ New ∷ Run ∷ Import ∷ Export ∷ Backup ∷ Restore ∷ Drill 1 0 ∷ [])
+    ≡ false ∷ false ∷ true ∷ true ∷ true ∷ true ∷ true ∷ true ∷ []
 stores = refl
 
 -- ---- statuses
@@ -66,8 +67,8 @@ stores = refl
 numbers :
     map status_number
     (Done ∷ Usage ∷ ReadFault ∷ SayFault ∷ DeviceFault ∷ NoMemory ∷ NotAStore ∷ NotEmpty 1 ∷ NotBookmarks 0
-    ∷ TooLong 16_777_216 ∷ ImportRefused (Full 29) ∷ [])
-    ≡ 0 ∷ 2 ∷ 3 ∷ 4 ∷ 5 ∷ 6 ∷ 7 ∷ 8 ∷ 9 ∷ 10 ∷ 11 ∷ []
+    ∷ TooLong 16_777_216 ∷ ImportRefused (Full 29) ∷ NotBackup NotJson ∷ [])
+    ≡ 0 ∷ 2 ∷ 3 ∷ 4 ∷ 5 ∷ 6 ∷ 7 ∷ 8 ∷ 9 ∷ 10 ∷ 11 ∷ 13 ∷ []
 numbers = refl
 
 no_values : map status_value (Done ∷ Usage ∷ ReadFault ∷ SayFault ∷ DeviceFault ∷ NoMemory ∷ NotAStore ∷ [])
@@ -78,8 +79,8 @@ no_values = refl
 values :
     map status_value
     (NotEmpty 1 ∷ NotBookmarks 0 ∷ TooLong 16_777_216 ∷ ImportRefused (Full 29) ∷ ImportRefused (NoIds ItemIds)
-    ∷ ImportRefused (TooMany 50_001) ∷ [])
-    ≡ Some 1 ∷ Some 0 ∷ Some 16_777_216 ∷ Some 12 ∷ Some 13 ∷ Some 19 ∷ []
+    ∷ ImportRefused (TooMany 50_001) ∷ NotBackup NotJson ∷ NotBackup NoChildren ∷ [])
+    ≡ Some 1 ∷ Some 0 ∷ Some 16_777_216 ∷ Some 12 ∷ Some 13 ∷ Some 19 ∷ Some 1 ∷ Some 2 ∷ []
 values = refl
 
 -- ---- how far the input was read
