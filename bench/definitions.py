@@ -46,7 +46,7 @@ CHAPTERS = {
         pl_slot/Links pl_text pl_rail/owner pl_rail/Rails pl_base/Rows pl_record/Records pl_record/Chains pl_record/Form
         pl_reading pl_store/Session pl_store/Keeper pl_store/Ending""",
     "The run": """pl_task/task pl_task/Task places/status places/answer_error places/Said places/Lines places/Progress
-        places/Stops places/Ending pl_visiting pl_store/Bounds places/Bounded places/Importing places/Exporting
+        places/Stops places/Ending pl_visiting pl_store/Bounds places/Bounded places/TakingIn places/Restoring pl_intake places/Exporting
         places/Reporting pl_drill/draws pl_drill/drill pl_drill/Drill places/Drilling places/Completeness""",
 }
 
