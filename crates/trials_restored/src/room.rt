@@ -101,17 +101,20 @@ fn separators(alloc: Global, count: usize) -> Result<String, Fail> {
     Ok(format!(in alloc; "{first}{{\"typeCode\":3}}")?)
 }
 
+// How many rows a tree has, and the reply.
+const ROWS: &[(usize, &str)] = &[
+    (49_999, "restored\titems\t49999\ttags\t0\tskipped\t0\n"),
+    (50_000, "restored\titems\t50000\ttags\t0\tskipped\t0\n"),
+    (50_001, "refused\t19\t50001\n"),
+];
+
 #[test]
 fn more_rows_than_fifty_thousand_are_refused(rt: HostRuntime) -> Result<(), Fail> {
     let alloc = rt.alloc();
-    let most = separators(alloc, 50_000)?;
-    let said = reply(alloc, Flat::opening(alloc)?, SLOT_LIMIT, most.as_str())?;
-    assert_eq!(rt;
-        said.as_str(),
-        "restored\titems\t50000\ttags\t0\tskipped\t0\n"
-    );
-    let more = separators(alloc, 50_001)?;
-    let said = reply(alloc, Flat::opening(alloc)?, SLOT_LIMIT, more.as_str())?;
-    assert_eq!(rt; said.as_str(), "refused\t19\t50001\n");
+    for (count, ends) in ROWS {
+        let rows = separators(alloc, *count)?;
+        let said = reply(alloc, Flat::opening(alloc)?, SLOT_LIMIT, rows.as_str())?;
+        assert_eq!(rt; said.as_str(), *ends);
+    }
     Ok(())
 }
