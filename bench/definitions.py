@@ -37,17 +37,17 @@ CHAPTERS = {
     "Lines, steps and replies": """pl_base/refusal pl_base/Refusal pl_step/command pl_step/Parsed pl_script/word
         pl_script/DayText pl_script/TagText pl_script/Script pl_step/reply pl_step/Refused pl_step/Commands pl_step/Step
         pl_step/Run pl_script/Reply""",
-    "Import, export, backup": """pl_nbread/tree pl_nbread/open_list pl_nbread/BookmarkFile pl_nbread/Tokens
+    "Import, export, backup, restore": """pl_nbread/tree pl_nbread/open_list pl_nbread/BookmarkFile pl_nbread/Tokens
         pl_nbread/References pl_nbread/Parts pl_nbread/BookmarkTree pl_nbread/WellFormed pl_graft pl_outline pl_nbwrite
-        pl_backup""",
+        pl_backup pl_intake""",
     "The desk, stops and the form of the file": """pl_desk/failed pl_desk/Counts pl_desk/source pl_desk/Desk
         pl_desk/desk pl_desk/Shown pl_desk/Calls pl_desk/Settling pl_base/Touched pl_gate pl_sheets pl_slot/kind
         pl_slot/SlotKind pl_slot/row pl_slot/Slot pl_slot/SlotReading pl_slot/Header pl_slot/Arena pl_slot/links
         pl_slot/Links pl_text pl_rail/owner pl_rail/Rails pl_base/Rows pl_record/Records pl_record/Chains pl_record/Form
         pl_reading pl_store/Session pl_store/Keeper pl_store/Ending""",
     "The run": """pl_task/task pl_task/Task places/status places/answer_error places/Said places/Lines places/Progress
-        places/Stops places/Ending pl_visiting pl_store/Bounds places/Bounded places/TakingIn places/Restoring pl_intake places/Exporting
-        places/Reporting pl_drill/draws pl_drill/drill pl_drill/Drill places/Drilling places/Completeness""",
+        places/Stops places/Ending pl_visiting pl_store/Bounds places/Bounded places/TakingIn places/Exporting
+        places/Reporting places/Restoring pl_drill/draws pl_drill/drill pl_drill/Drill places/Drilling places/Completeness""",
 }
 
 CRATES = pathlib.Path(__file__).resolve().parent.parent / "crates"
