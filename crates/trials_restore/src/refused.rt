@@ -84,7 +84,7 @@ fn refuses_more_rows_than_fifty_thousand(rt: HostRuntime) -> Result<(), Fail> {
         "{{\"children\":[{{\"root\":\"mobileFolder\",\"children\":[{{\"typeCode\":3}}{rows}]}}]}}"
     )?;
     let status = refused(&rt, alloc, &desk, RESTORE, text.as_str().as_bytes())?;
-    assert_eq!(rt; status, Status::IntakeRefused(Refusal::TooMany(50_001)));
+    assert_eq!(rt; status, Status::ImportRefused(Refusal::TooMany(50_001)));
     Ok(())
 }
 
