@@ -32,33 +32,22 @@ fn restore_of(alloc: Global, toolbar: &str) -> Result<Command, Fail>
     Ok(Command::Restore(tree))
 }
 
-fn reply_in<L: Ledger>(
+// The reply to a restore on rows that may take so many slots.
+fn reply<L: Ledger>(
     alloc: Global,
     rows: Flat,
     limit: u32,
     toolbar: &str,
-    blank: Blank,
+    steps: &mut Steps<L>,
 ) -> Result<Txt, Fail>
     requires sound { IsSound (kept_of rows) }
     requires limit { limit ≤ slot_limit }
-    requires name { blank.name ≡ L.name }
-    requires parts { blank.parts ≡ L.parts }
-    requires some { 0 < blank.parts }
 {
-    let mut steps = Steps::<L>::none(blank);
-    let engine = Engine::over(alloc, rows, limit, &mut steps)?;
+    let engine = Engine::over(alloc, rows, limit, steps)?;
     let command = restore_of(alloc, toolbar)?;
-    let done = told(alloc, engine, &command, &mut steps);
+    let done = told(alloc, engine, &command, steps);
     drop(command);
     Ok(done?.1)
-}
-
-// The reply to a restore on rows that may take so many slots.
-fn reply(alloc: Global, rows: Flat, limit: u32, toolbar: &str) -> Result<Txt, Fail>
-    requires sound { IsSound (kept_of rows) }
-    requires limit { limit ≤ slot_limit }
-{
-    reply_in::<Brand>(alloc, rows, limit, toolbar, Blank::new(1))
 }
 
 // The id that is never given.
@@ -80,41 +69,59 @@ const CASES: &[(u32, u32, u32, &str)] = &[
     (END - 2, END - 4, 15, "refused\t12\t16\n"),
 ];
 
-#[test]
-fn ids_and_slots_are_asked_for_first(rt: HostRuntime) -> Result<(), Fail> {
+fn check_ids_and_slots<L: Ledger>(rt: &impl Abort, alloc: Global, blank: Blank) -> Result<(), Fail>
+    requires name { blank.name ≡ L.name }
+    requires parts { blank.parts ≡ L.parts }
+    requires some { 0 < blank.parts }
+{
+    let mut steps = Steps::<L>::none(blank);
     for (page, item, limit, ends) in CASES {
         let ids = Ids {
             page: *page,
             visit: 1,
             item: *item,
         };
-        let rows = Flat::with_ids(rt.alloc(), ids)?;
-        let said = reply(rt.alloc(), rows, *limit, TOOLBAR)?;
+        let rows = Flat::with_ids(alloc, ids)?;
+        let said = reply(alloc, rows, *limit, TOOLBAR, &mut steps)?;
         assert_eq!(rt; said.as_str(), *ends);
     }
     Ok(())
 }
 
-// So many separators.
-fn separators(alloc: Global, count: usize) -> Result<String, Fail> {
-    let first = "{\"typeCode\":3},".repeat(alloc, count - 1)?;
-    Ok(format!(in alloc; "{first}{{\"typeCode\":3}}")?)
+#[test]
+fn ids_and_slots_are_asked_for_first(rt: HostRuntime) -> Result<(), Fail> {
+    check_ids_and_slots::<Brand>(&rt, rt.alloc(), Blank::new(1))
 }
 
-// How many rows a tree has, and the reply.
+// A separator, and so many more.
+fn separators(alloc: Global, more: usize) -> Result<String, Fail> {
+    let others = ",{\"typeCode\":3}".repeat(alloc, more)?;
+    Ok(format!(in alloc; "{{\"typeCode\":3}}{others}")?)
+}
+
+// How many rows a tree has beside its first one, and the reply.
 const ROWS: &[(usize, &str)] = &[
-    (49_999, "restored\titems\t49999\ttags\t0\tskipped\t0\n"),
-    (50_000, "restored\titems\t50000\ttags\t0\tskipped\t0\n"),
-    (50_001, "refused\t19\t50001\n"),
+    (49_998, "restored\titems\t49999\ttags\t0\tskipped\t0\n"),
+    (49_999, "restored\titems\t50000\ttags\t0\tskipped\t0\n"),
+    (50_000, "refused\t19\t50001\n"),
 ];
+
+fn check_rows<L: Ledger>(rt: &impl Abort, alloc: Global, blank: Blank) -> Result<(), Fail>
+    requires name { blank.name ≡ L.name }
+    requires parts { blank.parts ≡ L.parts }
+    requires some { 0 < blank.parts }
+{
+    let mut steps = Steps::<L>::none(blank);
+    for (more, ends) in ROWS {
+        let rows = separators(alloc, *more)?;
+        let opening = Flat::opening(alloc)?;
+        let said = reply(alloc, opening, SLOT_LIMIT, rows.as_str(), &mut steps)?;
+        assert_eq!(rt; said.as_str(), *ends);
+    }
+    Ok(())
+}
 
 #[test]
 fn more_rows_than_fifty_thousand_are_refused(rt: HostRuntime) -> Result<(), Fail> {
-    let alloc = rt.alloc();
-    for (count, ends) in ROWS {
-        let rows = separators(alloc, *count)?;
-        let said = reply(alloc, Flat::opening(alloc)?, SLOT_LIMIT, rows.as_str())?;
-        assert_eq!(rt; said.as_str(), *ends);
-    }
-    Ok(())
+    check_rows::<Brand>(&rt, rt.alloc(), Blank::new(1))
 }
