@@ -7,8 +7,8 @@ Each form of words has its run with ample memory first, in which `refused.c` cou
 two runs on the same files: one in which this allocation alone is refused, and one in which each later one is too. Such a
 run has to end with status 6 or to say the same as the first; or with status 5, where a call of the file wanted the memory.
 At 6 and 5 `run` and `try` may have said whole replies and nothing else, the others nothing. The file has to hold the rows
-after just as many lines then, by the reader of `linked_file.py`, or at 5 after one more: after an import none of it or all,
-after an export or a backup all that was there, after a drill some of its lines. It needs a C compiler, and a program that
+after just as many lines then, by the reader of `linked_file.py`, or at 5 after one more: after an import or a restore none of it
+or all, after an export or a backup all that was there, after a drill some of its lines. It needs a C compiler, and a program that
 takes its memory from the system's C library. A file in memory, whose own growth may be refused too, is no part of it.
 """
 import collections
@@ -134,6 +134,9 @@ def main():
         refuse_all(bench, "import", ["import", "FILE"], store, BOOKMARKS, unsaid([first], [there]))
         refuse_all(bench, "export", ["export", "FILE"], imported, b"", unsaid([there]))
         refuse_all(bench, "backup", ["backup", "FILE"], imported, b"", unsaid([there]))
+        backup = bench.run(["backup", "FILE"], imported, b"")[1]
+        restored = bench.rows(bench.run(["restore", "FILE"], imported, backup)[2])
+        refuse_all(bench, "restore", ["restore", "FILE"], imported, backup, unsaid([there], [restored]))
         refuse_all(bench, "drill", ["drill", "FILE", str(DRILL_LINES), str(SEED)], store, b"", unsaid(drilled))
 
 
